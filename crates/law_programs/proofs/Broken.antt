@@ -1,31 +1,22 @@
 -- Each code that the rules of an instruction list is of a rule that it breaks.
-use Rattle.std.proofs.Common.{◌≡◌, ◌≢◌, ℕ, ◌+◌, Bool, true, false, not, ◌&&◌, ◌⊎◌, inl, inr, ℤ, pos, negsuc, ◌+ℤ◌, [], ◌∷◌, Option, Some, None, nat_eq, refl, sym, ap, subst, ◌∙◌}
-use Rattle.std.specs.Prelude.{if◌then◌else◌, nat_le, is_none}
-use Rattle.std.specs.List.{All}
-use Rattle.std.specs.Option.{IsSomeAnd}
+use Rattle.std.proofs.Common.{◌≡◌, ◌≢◌, ℕ, ◌+◌, Bool, true, false, not, ◌&&◌, ◌⊎◌, inl, inr, ℤ, pos, negsuc, ◌+ℤ◌, [], ◌∷◌, Option, Some, None, nat_eq, refl, sym, ap, subst, ◌∙◌, if◌then◌else◌, nat_le, is_none, All, IsSomeAnd}
 use Rattle.std.proofs.Math.IntN.{+ℤ_idr}
 use Rattle.std.proofs.lemmas.List.Elements.{All-nil, All-append}
 use Rattle.std.proofs.lemmas.Bool.Decides.{Decides-eqb, Decides-not, Decides-or, not_from_Decides}
 use Rattle.pb_isa.specs.declared.insn.Insn.{Insn}
-use Rattle.pb_isa.specs.declared.insn.Insn.TheVariants.{Alu, MovSx, Neg, LoadImm, Load, StoreImm, Store, Jump, JumpIf, Call, Exit}
 use Rattle.pb_isa.specs.declared.insn.AluOp.{AluOp}
-use Rattle.pb_isa.specs.declared.insn.AluOp.TheVariants.{Add, Sub, Mov}
 use Rattle.pb_isa.specs.declared.insn.Width.{Width}
-use Rattle.pb_isa.specs.declared.insn.Width.TheVariants.{Bits32, Bits64}
 use Rattle.pb_isa.specs.declared.insn.Operand.{Operand}
-use Rattle.pb_isa.specs.declared.insn.Operand.TheVariants as operands
 use Rattle.pb_isa.specs.declared.insn.Reg.{Reg}
 use Rattle.pb_isa.specs.Registers.{number}
 use Rattle.pb_isa.specs.Helpers.{Helper, Read, Write, Delete, Start, declared_helper}
 use Rattle.pb_isa.specs.Programs.{JudgedOf}
 use Rattle.pb_isa.specs.Slots.{slots, insn_at}
 use Rattle.pb_kinds.specs.declared.frame.Kind.{Kind}
-use Rattle.pb_kinds.specs.declared.frame.Kind.TheVariants.{Unset, Number, Stack, Record}
 use Rattle.pb_kinds.specs.declared.frame.Frame.{Frame}
 use Rattle.pb_kinds.specs.Frames.{kind_of, is_unset, is_number_kind, is_pointer}
 use Rattle.pb_kinds.specs.Ranges.{in_stack, in_record, are_written}
 use Rattle.pb_helpers.specs.declared.code.RuleCode.{RuleCode}
-use Rattle.pb_helpers.specs.declared.code.RuleCode.TheVariants.{ReadsUnset, WritesR10, PointerArithmetic, PointerStored, OutsideStack, UnwrittenByte, OutsideRecord, WritesRecord, ThroughNumber, NotDeclared, WrongArgument, BackwardJump, JumpOutside, JumpIntoPair, FallsOff, ExitsWithPointer, PointerCompared}
 use Rattle.pb_helpers.specs.Codes.{when}
 use Rattle.pb_helpers.specs.Arguments.{unset, stack_reads, stack_writes, filled_bytes, taken_bytes, is_cell, is_place, call_rules}
 use Rattle.pb_verify.specs.Rules.{at, sets, reads_operand, on_pointer, falls, numeric_rules, alu_rules, loads, stores, jump_rules, insn_rules}
@@ -42,12 +33,12 @@ some_and o x Q e q = subst (λ p. IsSomeAnd p Q) (sym e) q
 
 -- where the rules' test finds a pointer, one operand is it
 pub pointing : (f : Frame) (d : Reg) (x : Operand) → on_pointer f d x ≡ true → (r : ℕ) × ((r ≡ number d) ⊎ IsOperand x r) × IsPointer (kind_of f r)
-pointing f d (operands.Imm k) e =
+pointing f d (Operand.Imm k) e =
     let h = (Decides-or (is_pointer (at f d)) false (Decides-pointer (at f d)) ((λ (e : false ≡ true). let z : ⊥ = cc in z), (λ (z : ⊥). absurd z))).0 e in
-    elim h as (λ _. (r : ℕ) × ((r ≡ number d) ⊎ IsOperand (operands.Imm k) r) × IsPointer (kind_of f r)) [ inl p ↦ (number d, inl refl, p) | inr z ↦ absurd z ]
-pointing f d (operands.Reg s) e =
+    elim h as (λ _. (r : ℕ) × ((r ≡ number d) ⊎ IsOperand (Operand.Imm k) r) × IsPointer (kind_of f r)) [ inl p ↦ (number d, inl refl, p) | inr z ↦ absurd z ]
+pointing f d (Operand.Reg s) e =
     let h = (Decides-or (is_pointer (at f d)) (is_pointer (at f s)) (Decides-pointer (at f d)) (Decides-pointer (at f s))).0 e in
-    elim h as (λ _. (r : ℕ) × ((r ≡ number d) ⊎ IsOperand (operands.Reg s) r) × IsPointer (kind_of f r)) [ inl p ↦ (number d, inl refl, p) | inr p ↦ (number s, inr refl, p) ]
+    elim h as (λ _. (r : ℕ) × ((r ≡ number d) ⊎ IsOperand (Operand.Reg s) r) × IsPointer (kind_of f r)) [ inl p ↦ (number d, inl refl, p) | inr p ↦ (number s, inr refl, p) ]
 
 module _ (j : JudgedOf) (n : ℕ) (f : Frame) (i : Insn) where
   abbrev Broken : RuleCode → Type 0
@@ -56,93 +47,93 @@ module _ (j : JudgedOf) (n : ℕ) (f : Frame) (i : Insn) where
   -- ---- registers
 
   unset_breaks : (r : ℕ) → ReadsRegister j i r → All Broken (unset f r)
-  unset_breaks r h = each_when Broken (is_unset (kind_of f r)) ReadsUnset (λ e. (r, h, (Decides-unset (kind_of f r)).0 e))
+  unset_breaks r h = each_when Broken (is_unset (kind_of f r)) RuleCode.ReadsUnset (λ e. (r, h, (Decides-unset (kind_of f r)).0 e))
 
   operand_breaks : (x : Operand) → ((r : ℕ) → IsOperand x r → ReadsRegister j i r) → All Broken (reads_operand f x)
-  operand_breaks (operands.Imm k) h = All-nil Broken
-  operand_breaks (operands.Reg s) h = unset_breaks (number s) (h (number s) refl)
+  operand_breaks (Operand.Imm k) h = All-nil Broken
+  operand_breaks (Operand.Reg s) h = unset_breaks (number s) (h (number s) refl)
 
   sets_breaks : (d : Reg) → (10 ≡ number d → SetsRegister i 10) → All Broken (sets d)
-  sets_breaks d h = each_when Broken (nat_eq (number d) 10) WritesR10 (λ e. h (sym ((Decides-eqb (number d) 10).0 e)))
+  sets_breaks d h = each_when Broken (nat_eq (number d) 10) RuleCode.WritesR10 (λ e. h (sym ((Decides-eqb (number d) 10).0 e)))
 
   falls_breaks : (m : ℕ) → next_slot n i ≡ Some m → All Broken (falls j.program.insns m)
-  falls_breaks m h = each_when Broken (nat_eq m (slots j.program.insns)) FallsOff (λ e. h ∙ ap Some ((Decides-eqb m (slots j.program.insns)).0 e))
+  falls_breaks m h = each_when Broken (nat_eq m (slots j.program.insns)) RuleCode.FallsOff (λ e. h ∙ ap Some ((Decides-eqb m (slots j.program.insns)).0 e))
 
   numeric_breaks : (d : Reg) (x : Operand) → ((r : ℕ) → (r ≡ number d) ⊎ IsOperand x r → ReadsRegister j i r) → (10 ≡ number d → SetsRegister i 10) → IsArithmetic i → All Broken (numeric_rules f d x)
   numeric_breaks d x reading setting arithmetic =
       let a = unset_breaks (number d) (reading (number d) (inl refl)) in
       let b = operand_breaks x (λ r h. reading r (inr h)) in
       let s = sets_breaks d setting in
-      let p = each_when Broken (on_pointer f d x) PointerArithmetic (λ e. let q = pointing f d x e in (arithmetic, (q.0, reading q.0 q.1, q.2))) in
+      let p = each_when Broken (on_pointer f d x) RuleCode.PointerArithmetic (λ e. let q = pointing f d x e in (arithmetic, (q.0, reading q.0 q.1, q.2))) in
       search (All-append, a, b, s, p)
 
   -- ---- memory
 
-  stack_reads_breaks : (t : Touch) (k : ℤ) → Touches j i t → IsReading t.how → kind_of f t.base ≡ Stack k → All Broken (stack_reads f (k +ℤ t.offset) t.bytes)
+  stack_reads_breaks : (t : Touch) (k : ℤ) → Touches j i t → IsReading t.how → kind_of f t.base ≡ Kind.Stack k → All Broken (stack_reads f (k +ℤ t.offset) t.bytes)
   stack_reads_breaks t k h reading is = by (in_stack (k +ℤ t.offset) t.bytes) refl
     where
-      by : (b : Bool) → in_stack (k +ℤ t.offset) t.bytes ≡ b → All Broken (if b then when (not (are_written f (k +ℤ t.offset) t.bytes)) UnwrittenByte else OutsideStack ∷ [])
-      by true e = each_when Broken (not (are_written f (k +ℤ t.offset) t.bytes)) UnwrittenByte (λ u. (t, k, h, reading, is, (Decides-stack (k +ℤ t.offset) t.bytes).0 e, unwritten f (k +ℤ t.offset) t.bytes u))
-      by false e = each_one Broken OutsideStack (t, k, h, is, not_from_Decides _ (Decides-stack (k +ℤ t.offset) t.bytes) e)
+      by : (b : Bool) → in_stack (k +ℤ t.offset) t.bytes ≡ b → All Broken (if b then when (not (are_written f (k +ℤ t.offset) t.bytes)) RuleCode.UnwrittenByte else RuleCode.OutsideStack ∷ [])
+      by true e = each_when Broken (not (are_written f (k +ℤ t.offset) t.bytes)) RuleCode.UnwrittenByte (λ u. (t, k, h, reading, is, (Decides-stack (k +ℤ t.offset) t.bytes).0 e, unwritten f (k +ℤ t.offset) t.bytes u))
+      by false e = each_one Broken RuleCode.OutsideStack (t, k, h, is, not_from_Decides _ (Decides-stack (k +ℤ t.offset) t.bytes) e)
 
-  stack_writes_breaks : (t : Touch) (k : ℤ) → Touches j i t → kind_of f t.base ≡ Stack k → All Broken (stack_writes (k +ℤ t.offset) t.bytes)
-  stack_writes_breaks t k h is = each_when Broken (not (in_stack (k +ℤ t.offset) t.bytes)) OutsideStack (λ e. (t, k, h, is, (Decides-not _ (Decides-stack (k +ℤ t.offset) t.bytes)).0 e))
+  stack_writes_breaks : (t : Touch) (k : ℤ) → Touches j i t → kind_of f t.base ≡ Kind.Stack k → All Broken (stack_writes (k +ℤ t.offset) t.bytes)
+  stack_writes_breaks t k h is = each_when Broken (not (in_stack (k +ℤ t.offset) t.bytes)) RuleCode.OutsideStack (λ e. (t, k, h, is, (Decides-not _ (Decides-stack (k +ℤ t.offset) t.bytes)).0 e))
 
   loads_breaks : (t : Touch) (k : Kind) → Touches j i t → t.how ≡ Loading → kind_of f t.base ≡ k → All Broken (loads j.record_size f k t.offset t.bytes)
-  loads_breaks t Unset h how is = All-nil Broken
-  loads_breaks t Number h how is = each_one Broken ThroughNumber (t, h, inl how, is)
-  loads_breaks t (Stack k) h how is = stack_reads_breaks t k h (inl how) is
-  loads_breaks t (Record k) h how is = each_when Broken (not (in_record j.record_size (k +ℤ t.offset) t.bytes)) OutsideRecord (λ e. (t, k, h, how, is, (Decides-not _ (Decides-record j.record_size (k +ℤ t.offset) t.bytes)).0 e))
+  loads_breaks t Kind.Unset h how is = All-nil Broken
+  loads_breaks t Kind.Number h how is = each_one Broken RuleCode.ThroughNumber (t, h, inl how, is)
+  loads_breaks t (Kind.Stack k) h how is = stack_reads_breaks t k h (inl how) is
+  loads_breaks t (Kind.Record k) h how is = each_when Broken (not (in_record j.record_size (k +ℤ t.offset) t.bytes)) RuleCode.OutsideRecord (λ e. (t, k, h, how, is, (Decides-not _ (Decides-record j.record_size (k +ℤ t.offset) t.bytes)).0 e))
 
   stores_breaks : (t : Touch) (k : Kind) → Touches j i t → t.how ≡ Storing → kind_of f t.base ≡ k → All Broken (stores k t.offset t.bytes)
-  stores_breaks t Unset h how is = All-nil Broken
-  stores_breaks t Number h how is = each_one Broken ThroughNumber (t, h, inr how, is)
-  stores_breaks t (Stack k) h how is = stack_writes_breaks t k h is
-  stores_breaks t (Record k) h how is = each_one Broken WritesRecord (t, k, h, how, is)
+  stores_breaks t Kind.Unset h how is = All-nil Broken
+  stores_breaks t Kind.Number h how is = each_one Broken RuleCode.ThroughNumber (t, h, inr how, is)
+  stores_breaks t (Kind.Stack k) h how is = stack_writes_breaks t k h is
+  stores_breaks t (Kind.Record k) h how is = each_one Broken RuleCode.WritesRecord (t, k, h, how, is)
 
   -- ---- jumps
 
   jump_breaks : (o : ℤ) → jump_offset i ≡ Some o → All Broken (jump_rules j.program.insns n o)
-  jump_breaks (negsuc z) h = each_one Broken BackwardJump (some_and (jump_offset i) (negsuc z) _ h (z, refl))
+  jump_breaks (negsuc z) h = each_one Broken RuleCode.BackwardJump (some_and (jump_offset i) (negsuc z) _ h (z, refl))
   jump_breaks (pos z) h = by (nat_le (slots j.program.insns) (n + 1 + z)) refl
     where
-      by : (b : Bool) → nat_le (slots j.program.insns) (n + 1 + z) ≡ b → All Broken (if b then JumpOutside ∷ [] else when (is_none (insn_at j.program.insns (n + 1 + z))) JumpIntoPair)
-      by true e = each_one Broken JumpOutside (n + 1 + z, some_and (jump_offset i) (pos z) _ h (z, refl, refl), le_from _ _ e)
-      by false e = each_when Broken (is_none (insn_at j.program.insns (n + 1 + z))) JumpIntoPair (λ u. (n + 1 + z, some_and (jump_offset i) (pos z) _ h (z, refl, refl), lt_from _ _ e, (Decides-none (insn_at j.program.insns (n + 1 + z))).0 u))
+      by : (b : Bool) → nat_le (slots j.program.insns) (n + 1 + z) ≡ b → All Broken (if b then RuleCode.JumpOutside ∷ [] else when (is_none (insn_at j.program.insns (n + 1 + z))) RuleCode.JumpIntoPair)
+      by true e = each_one Broken RuleCode.JumpOutside (n + 1 + z, some_and (jump_offset i) (pos z) _ h (z, refl, refl), le_from _ _ e)
+      by false e = each_when Broken (is_none (insn_at j.program.insns (n + 1 + z))) RuleCode.JumpIntoPair (λ u. (n + 1 + z, some_and (jump_offset i) (pos z) _ h (z, refl, refl), lt_from _ _ e, (Decides-none (insn_at j.program.insns (n + 1 + z))).0 u))
 
 -- ---- arithmetic
 
 -- an operation that takes numbers alone
-computes : (j : JudgedOf) (n : ℕ) (f : Frame) (op : AluOp) (w : Width) (d : Reg) (x : Operand) → op ≢ Mov → ¬ (KeepsPointers op w x) → All (λ c. Breaks c j n f (Alu op w d x)) (numeric_rules f d x)
-computes j n f op w d x other none = numeric_breaks j n f (Alu op w d x) d x (λ r h. elim h as (λ _. ReadsRegister j (Alu op w d x) r) [ inl e ↦ inl (other, e) | inr e ↦ inr e ]) (λ e. e) none
+computes : (j : JudgedOf) (n : ℕ) (f : Frame) (op : AluOp) (w : Width) (d : Reg) (x : Operand) → op ≢ AluOp.Mov → ¬ (KeepsPointers op w x) → All (λ c. Breaks c j n f (Insn.Alu op w d x)) (numeric_rules f d x)
+computes j n f op w d x other none = numeric_breaks j n f (Insn.Alu op w d x) d x (λ r h. elim h as (λ _. ReadsRegister j (Insn.Alu op w d x) r) [ inl e ↦ inl (other, e) | inr e ↦ inr e ]) (λ e. e) none
 
 -- so is each of a move, a sum or a difference
-alu_breaks : (j : JudgedOf) (n : ℕ) (f : Frame) (op : AluOp) (w : Width) (d : Reg) (x : Operand) → All (λ c. Breaks c j n f (Alu op w d x)) (alu_rules f op w d x)
-alu_breaks j n f Mov Bits64 d (operands.Imm k) = sets_breaks j n f (Alu Mov Bits64 d (operands.Imm k)) d (λ e. e)
-alu_breaks j n f Mov Bits32 d (operands.Imm k) = sets_breaks j n f (Alu Mov Bits32 d (operands.Imm k)) d (λ e. e)
-alu_breaks j n f Mov Bits64 d (operands.Reg r) =
-    let i = Alu Mov Bits64 d (operands.Reg r) in
+alu_breaks : (j : JudgedOf) (n : ℕ) (f : Frame) (op : AluOp) (w : Width) (d : Reg) (x : Operand) → All (λ c. Breaks c j n f (Insn.Alu op w d x)) (alu_rules f op w d x)
+alu_breaks j n f AluOp.Mov Width.Bits64 d (Operand.Imm k) = sets_breaks j n f (Insn.Alu AluOp.Mov Width.Bits64 d (Operand.Imm k)) d (λ e. e)
+alu_breaks j n f AluOp.Mov Width.Bits32 d (Operand.Imm k) = sets_breaks j n f (Insn.Alu AluOp.Mov Width.Bits32 d (Operand.Imm k)) d (λ e. e)
+alu_breaks j n f AluOp.Mov Width.Bits64 d (Operand.Reg r) =
+    let i = Insn.Alu AluOp.Mov Width.Bits64 d (Operand.Reg r) in
     let a = unset_breaks j n f i (number r) (inr refl) in
     let s = sets_breaks j n f i d (λ e. e) in
     search (All-append, a, s)
-alu_breaks j n f Mov Bits32 d (operands.Reg r) =
-    let i = Alu Mov Bits32 d (operands.Reg r) in
+alu_breaks j n f AluOp.Mov Width.Bits32 d (Operand.Reg r) =
+    let i = Insn.Alu AluOp.Mov Width.Bits32 d (Operand.Reg r) in
     let a = unset_breaks j n f i (number r) (inr refl) in
     let s = sets_breaks j n f i d (λ e. e) in
-    let p = each_when (Broken j n f i) (is_pointer (at f r)) PointerArithmetic (λ e. ((λ h. h), (number r, inr refl, (Decides-pointer (at f r)).0 e))) in
+    let p = each_when (Broken j n f i) (is_pointer (at f r)) RuleCode.PointerArithmetic (λ e. ((λ h. h), (number r, inr refl, (Decides-pointer (at f r)).0 e))) in
     search (All-append, a, s, p)
-alu_breaks j n f Add Bits64 d (operands.Imm k) =
-    let i = Alu Add Bits64 d (operands.Imm k) in
+alu_breaks j n f AluOp.Add Width.Bits64 d (Operand.Imm k) =
+    let i = Insn.Alu AluOp.Add Width.Bits64 d (Operand.Imm k) in
     let a = unset_breaks j n f i (number d) (inl ((λ e. cc), refl)) in
     let s = sets_breaks j n f i d (λ e. e) in
     search (All-append, a, s)
-alu_breaks j n f Sub Bits64 d (operands.Imm k) =
-    let i = Alu Sub Bits64 d (operands.Imm k) in
+alu_breaks j n f AluOp.Sub Width.Bits64 d (Operand.Imm k) =
+    let i = Insn.Alu AluOp.Sub Width.Bits64 d (Operand.Imm k) in
     let a = unset_breaks j n f i (number d) (inl ((λ e. cc), refl)) in
     let s = sets_breaks j n f i d (λ e. e) in
     search (All-append, a, s)
-alu_breaks j n f Add Bits64 d (operands.Reg r) = computes j n f Add Bits64 d (operands.Reg r) (λ e. cc) (λ h. h)
-alu_breaks j n f Sub Bits64 d (operands.Reg r) = computes j n f Sub Bits64 d (operands.Reg r) (λ e. cc) (λ h. h)
+alu_breaks j n f AluOp.Add Width.Bits64 d (Operand.Reg r) = computes j n f AluOp.Add Width.Bits64 d (Operand.Reg r) (λ e. cc) (λ h. h)
+alu_breaks j n f AluOp.Sub Width.Bits64 d (Operand.Reg r) = computes j n f AluOp.Sub Width.Bits64 d (Operand.Reg r) (λ e. cc) (λ h. h)
 alu_breaks j n f op w d x = computes j n f op w d x (λ e. cc) (λ h. h)
 
 -- ---- helpers
@@ -170,102 +161,102 @@ module _ (j : JudgedOf) (n : ℕ) (f : Frame) (k : ℤ) where
   of_declared : (h : Helper) (Q : Helper → Type 0) → declared_helper j.helpers k ≡ Some h → Q h → IsSomeAnd (declared_helper j.helpers k) Q
   of_declared h Q e q = some_and (declared_helper j.helpers k) h Q e q
 
-  filled_breaks : (p : Kind) → declared_helper j.helpers k ≡ Some Read → kind_of f 3 ≡ p → All (λ c. Breaks c j n f (Call k)) (filled_bytes p)
-  filled_breaks (Stack z) e is =
+  filled_breaks : (p : Kind) → declared_helper j.helpers k ≡ Some Read → kind_of f 3 ≡ p → All (λ c. Breaks c j n f (Insn.Call k)) (filled_bytes p)
+  filled_breaks (Kind.Stack z) e is =
       let t = touch Filling 3 (pos 0) 32 in
-      subst (λ y. All (λ c. Breaks c j n f (Call k)) (stack_writes y 32)) (+ℤ_idr z) (stack_writes_breaks j n f (Call k) t z (of_declared Read (λ h. HelperTouches h t) e refl) is)
-  filled_breaks _ e is = All-nil (λ c. Breaks c j n f (Call k))
+      subst (λ y. All (λ c. Breaks c j n f (Insn.Call k)) (stack_writes y 32)) (+ℤ_idr z) (stack_writes_breaks j n f (Insn.Call k) t z (of_declared Read (λ h. HelperTouches h t) e refl) is)
+  filled_breaks _ e is = All-nil (λ c. Breaks c j n f (Insn.Call k))
 
-  taken_breaks : (p : Kind) → declared_helper j.helpers k ≡ Some Write → kind_of f 3 ≡ p → All (λ c. Breaks c j n f (Call k)) (taken_bytes f p)
-  taken_breaks (Stack z) e is =
+  taken_breaks : (p : Kind) → declared_helper j.helpers k ≡ Some Write → kind_of f 3 ≡ p → All (λ c. Breaks c j n f (Insn.Call k)) (taken_bytes f p)
+  taken_breaks (Kind.Stack z) e is =
       let t = touch Taking 3 (pos 0) 32 in
-      subst (λ y. All (λ c. Breaks c j n f (Call k)) (stack_reads f y 32)) (+ℤ_idr z) (stack_reads_breaks j n f (Call k) t z (of_declared Write (λ h. HelperTouches h t) e refl) (inr refl) is)
-  taken_breaks _ e is = All-nil (λ c. Breaks c j n f (Call k))
+      subst (λ y. All (λ c. Breaks c j n f (Insn.Call k)) (stack_reads f y 32)) (+ℤ_idr z) (stack_reads_breaks j n f (Insn.Call k) t z (of_declared Write (λ h. HelperTouches h t) e refl) (inr refl) is)
+  taken_breaks _ e is = All-nil (λ c. Breaks c j n f (Insn.Call k))
 
-  argument_breaks : (h : Helper) (r : ℕ) → declared_helper j.helpers k ≡ Some h → IsCellArgument h r ⊎ IsPlaceArgument h r → All (λ c. Breaks c j n f (Call k)) (unset f r)
-  argument_breaks h r e a = unset_breaks j n f (Call k) r (of_declared h (λ h. IsCellArgument h r ⊎ IsPlaceArgument h r) e a)
+  argument_breaks : (h : Helper) (r : ℕ) → declared_helper j.helpers k ≡ Some h → IsCellArgument h r ⊎ IsPlaceArgument h r → All (λ c. Breaks c j n f (Insn.Call k)) (unset f r)
+  argument_breaks h r e a = unset_breaks j n f (Insn.Call k) r (of_declared h (λ h. IsCellArgument h r ⊎ IsPlaceArgument h r) e a)
 
-  call_breaks : (o : Option Helper) → declared_helper j.helpers k ≡ o → All (λ c. Breaks c j n f (Call k)) (call_rules f o)
-  call_breaks None e = each_one (λ c. Breaks c j n f (Call k)) NotDeclared e
+  call_breaks : (o : Option Helper) → declared_helper j.helpers k ≡ o → All (λ c. Breaks c j n f (Insn.Call k)) (call_rules f o)
+  call_breaks None e = each_one (λ c. Breaks c j n f (Insn.Call k)) RuleCode.NotDeclared e
   call_breaks (Some Read) e =
       let a = argument_breaks Read 1 e (inl (inl refl)) in
       let b = argument_breaks Read 2 e (inl (inr refl)) in
       let c = argument_breaks Read 3 e (inr refl) in
       let d = filled_breaks (kind_of f 3) e refl in
-      let w = each_when (λ c. Breaks c j n f (Call k)) (not (is_cell f && is_place (kind_of f 3))) WrongArgument (λ u. of_declared Read (λ h. (r : ℕ) × IsWrong f h r) e (wrong_place f Read (inl refl) (inr refl) refl u)) in
+      let w = each_when (λ c. Breaks c j n f (Insn.Call k)) (not (is_cell f && is_place (kind_of f 3))) RuleCode.WrongArgument (λ u. of_declared Read (λ h. (r : ℕ) × IsWrong f h r) e (wrong_place f Read (inl refl) (inr refl) refl u)) in
       search (All-append, a, b, c, d, w)
   call_breaks (Some Write) e =
       let a = argument_breaks Write 1 e (inl (inl refl)) in
       let b = argument_breaks Write 2 e (inl (inr refl)) in
       let c = argument_breaks Write 3 e (inr refl) in
       let d = taken_breaks (kind_of f 3) e refl in
-      let w = each_when (λ c. Breaks c j n f (Call k)) (not (is_cell f && is_place (kind_of f 3))) WrongArgument (λ u. of_declared Write (λ h. (r : ℕ) × IsWrong f h r) e (wrong_place f Write (inl refl) (inr refl) refl u)) in
+      let w = each_when (λ c. Breaks c j n f (Insn.Call k)) (not (is_cell f && is_place (kind_of f 3))) RuleCode.WrongArgument (λ u. of_declared Write (λ h. (r : ℕ) × IsWrong f h r) e (wrong_place f Write (inl refl) (inr refl) refl u)) in
       search (All-append, a, b, c, d, w)
   call_breaks (Some Delete) e =
       let a = argument_breaks Delete 1 e (inl (inl refl)) in
       let b = argument_breaks Delete 2 e (inl (inr refl)) in
-      let w = each_when (λ c. Breaks c j n f (Call k)) (not (is_cell f)) WrongArgument (λ u. of_declared Delete (λ h. (r : ℕ) × IsWrong f h r) e (wrong_cell f Delete (inl refl) (inr refl) u)) in
+      let w = each_when (λ c. Breaks c j n f (Insn.Call k)) (not (is_cell f)) RuleCode.WrongArgument (λ u. of_declared Delete (λ h. (r : ℕ) × IsWrong f h r) e (wrong_cell f Delete (inl refl) (inr refl) u)) in
       search (All-append, a, b, w)
-  call_breaks (Some Start) e = All-nil (λ c. Breaks c j n f (Call k))
+  call_breaks (Some Start) e = All-nil (λ c. Breaks c j n f (Insn.Call k))
 
 -- ---- all instructions
 
 -- every instruction, by its kind
 pub all_broken : (j : JudgedOf) (n : ℕ) (f : Frame) (i : Insn) → All (λ c. Breaks c j n f i) (insn_rules j n f i)
-all_broken j n f (Alu op w d x) =
+all_broken j n f (Insn.Alu op w d x) =
     let a = alu_breaks j n f op w d x in
-    let b = falls_breaks j n f (Alu op w d x) (n + 1) refl in
+    let b = falls_breaks j n f (Insn.Alu op w d x) (n + 1) refl in
     search (All-append, a, b)
-all_broken j n f (MovSx w z d r) =
-    let i = MovSx w z d r in
+all_broken j n f (Insn.MovSx w z d r) =
+    let i = Insn.MovSx w z d r in
     let a = unset_breaks j n f i (number r) refl in
     let s = sets_breaks j n f i d (λ e. e) in
-    let p = each_when (Broken j n f i) (is_pointer (at f r)) PointerArithmetic (λ e. (tt, (number r, refl, (Decides-pointer (at f r)).0 e))) in
+    let p = each_when (Broken j n f i) (is_pointer (at f r)) RuleCode.PointerArithmetic (λ e. (tt, (number r, refl, (Decides-pointer (at f r)).0 e))) in
     let b = falls_breaks j n f i (n + 1) refl in
     search (All-append, a, s, p, b)
-all_broken j n f (Neg w d) =
-    let a = numeric_breaks j n f (Neg w d) d (operands.Imm (pos 0)) (λ r h. elim h as (λ _. r ≡ number d) [ inl e ↦ e | inr e ↦ absurd e ]) (λ e. e) tt in
-    let b = falls_breaks j n f (Neg w d) (n + 1) refl in
+all_broken j n f (Insn.Neg w d) =
+    let a = numeric_breaks j n f (Insn.Neg w d) d (Operand.Imm (pos 0)) (λ r h. elim h as (λ _. r ≡ number d) [ inl e ↦ e | inr e ↦ absurd e ]) (λ e. e) tt in
+    let b = falls_breaks j n f (Insn.Neg w d) (n + 1) refl in
     search (All-append, a, b)
-all_broken j n f (LoadImm d v) =
-    let a = sets_breaks j n f (LoadImm d v) d (λ e. e) in
-    let b = falls_breaks j n f (LoadImm d v) (n + 2) refl in
+all_broken j n f (Insn.LoadImm d v) =
+    let a = sets_breaks j n f (Insn.LoadImm d v) d (λ e. e) in
+    let b = falls_breaks j n f (Insn.LoadImm d v) (n + 2) refl in
     search (All-append, a, b)
-all_broken j n f (Load z x d r o) =
-    let i = Load z x d r o in
+all_broken j n f (Insn.Load z x d r o) =
+    let i = Insn.Load z x d r o in
     let a = unset_breaks j n f i (number r) refl in
     let s = sets_breaks j n f i d (λ e. e) in
     let m = subst (λ b. All (Broken j n f i) (loads j.record_size f (at f r) o b)) (bytes_are z) (loads_breaks j n f i (touch Loading (number r) o (size_bytes z)) (at f r) refl refl refl) in
     let b = falls_breaks j n f i (n + 1) refl in
     search (All-append, a, s, m, b)
-all_broken j n f (StoreImm z d o k) =
-    let i = StoreImm z d o k in
+all_broken j n f (Insn.StoreImm z d o k) =
+    let i = Insn.StoreImm z d o k in
     let a = unset_breaks j n f i (number d) refl in
     let m = subst (λ b. All (Broken j n f i) (stores (at f d) o b)) (bytes_are z) (stores_breaks j n f i (touch Storing (number d) o (size_bytes z)) (at f d) refl refl refl) in
     let b = falls_breaks j n f i (n + 1) refl in
     search (All-append, a, m, b)
-all_broken j n f (Store z d r o) =
-    let i = Store z d r o in
+all_broken j n f (Insn.Store z d r o) =
+    let i = Insn.Store z d r o in
     let a = unset_breaks j n f i (number d) (inl refl) in
     let c = unset_breaks j n f i (number r) (inr refl) in
-    let p = each_when (Broken j n f i) (is_pointer (at f r)) PointerStored (λ e. (number r, refl, (Decides-pointer (at f r)).0 e)) in
+    let p = each_when (Broken j n f i) (is_pointer (at f r)) RuleCode.PointerStored (λ e. (number r, refl, (Decides-pointer (at f r)).0 e)) in
     let m = subst (λ b. All (Broken j n f i) (stores (at f d) o b)) (bytes_are z) (stores_breaks j n f i (touch Storing (number d) o (size_bytes z)) (at f d) refl refl refl) in
     let b = falls_breaks j n f i (n + 1) refl in
     search (All-append, a, c, p, m, b)
-all_broken j n f (Jump o) = jump_breaks j n f (Jump o) o refl
-all_broken j n f (JumpIf c w d x o) =
-    let i = JumpIf c w d x o in
+all_broken j n f (Insn.Jump o) = jump_breaks j n f (Insn.Jump o) o refl
+all_broken j n f (Insn.JumpIf c w d x o) =
+    let i = Insn.JumpIf c w d x o in
     let a = unset_breaks j n f i (number d) (inl refl) in
     let s = operand_breaks j n f i x (λ r h. inr h) in
     let g = jump_breaks j n f i o refl in
     let b = falls_breaks j n f i (n + 1) refl in
-    let p = each_when (Broken j n f i) (on_pointer f d x) PointerCompared (λ e. let q = pointing f d x e in (tt, (q.0, q.1, q.2))) in
+    let p = each_when (Broken j n f i) (on_pointer f d x) RuleCode.PointerCompared (λ e. let q = pointing f d x e in (tt, (q.0, q.1, q.2))) in
     search (All-append, a, s, g, b, p)
-all_broken j n f (Call k) =
+all_broken j n f (Insn.Call k) =
     let a = call_breaks j n f k (declared_helper j.helpers k) refl in
-    let b = falls_breaks j n f (Call k) (n + 1) refl in
+    let b = falls_breaks j n f (Insn.Call k) (n + 1) refl in
     search (All-append, a, b)
-all_broken j n f Exit =
-    let a = unset_breaks j n f Exit 0 refl in
-    let p = each_when (Broken j n f Exit) (is_pointer (kind_of f 0)) ExitsWithPointer (λ e. (tt, (0, refl, (Decides-pointer (kind_of f 0)).0 e))) in
+all_broken j n f Insn.Exit =
+    let a = unset_breaks j n f Insn.Exit 0 refl in
+    let p = each_when (Broken j n f Insn.Exit) (is_pointer (kind_of f 0)) RuleCode.ExitsWithPointer (λ e. (tt, (0, refl, (Decides-pointer (kind_of f 0)).0 e))) in
     search (All-append, a, p)

@@ -1,19 +1,15 @@
 -- The rules by code.
-use Rattle.std.proofs.Common.{◌≡◌, ℕ, ◌+◌, inl, inr, pos, ◌+ℤ◌, Option, Some, None, ap, subst}
-use Rattle.std.specs.List.{Contains}
-use Rattle.std.specs.Option.{IsSomeAnd}
+use Rattle.std.proofs.Common.{◌≡◌, ℕ, ◌+◌, inl, inr, pos, ◌+ℤ◌, Option, Some, None, ap, subst, Contains, IsSomeAnd}
 use Rattle.std.proofs.lemmas.List.Elements.{All-contains, Contains-append_left, Contains-append_right}
 use Rattle.pb_isa.specs.declared.insn.Insn.{Insn}
-use Rattle.pb_isa.specs.declared.insn.Insn.TheVariants.{Alu, MovSx, Neg, LoadImm, Load, StoreImm, Store, Jump, JumpIf, Call, Exit}
-use Rattle.pb_isa.specs.declared.insn.Operand.TheVariants as operands
+use Rattle.pb_isa.specs.declared.insn.Operand.{Operand}
 use Rattle.pb_isa.specs.Registers.{number}
 use Rattle.pb_isa.specs.Helpers.{Helper, Read, Write, Delete, Start, declared_helper}
 use Rattle.pb_isa.specs.Programs.{JudgedOf}
-use Rattle.pb_kinds.specs.declared.frame.Kind.TheVariants.{Number, Stack, Record}
+use Rattle.pb_kinds.specs.declared.frame.Kind.{Kind}
 use Rattle.pb_kinds.specs.declared.frame.Frame.{Frame}
 use Rattle.pb_kinds.specs.Frames.{kind_of}
 use Rattle.pb_helpers.specs.declared.code.RuleCode.{RuleCode}
-use Rattle.pb_helpers.specs.declared.code.RuleCode.TheVariants.{ReadsUnset, WritesR10, PointerArithmetic, PointerStored, OutsideStack, UnwrittenByte, OutsideRecord, WritesRecord, ThroughNumber, NotDeclared, WrongArgument, BackwardJump, JumpOutside, JumpIntoPair, Unreachable, FallsOff, ExitsWithPointer, PointerCompared}
 use Rattle.pb_verify.specs.Rules.{at, loads, stores, insn_rules}
 use Rattle.law_programs.specs.Touches.{Touch, size_bytes, HelperTouches, Storing, IsReading, IsOfInstruction, LieInStack, LieInRecord, SomeUnwritten}
 use Rattle.law_programs.specs.Breaks.{Breaks, RulesAreByCode}
@@ -27,65 +23,65 @@ abbrev Lists : RuleCode → Type 0
 Lists c = (j : JudgedOf) (n : ℕ) (f : Frame) (i : Insn) → Breaks c j n f i → Contains (insn_rules j n f i) c
 
 -- 21: whatever register an instruction reads
-reads_unset : Lists ReadsUnset
-reads_unset j n f (Alu op w d x) (r, inl h, e) =
+reads_unset : Lists RuleCode.ReadsUnset
+reads_unset j n f (Insn.Alu op w d x) (r, inl h, e) =
     let a = alu_unset f op w d x h.0 (unset_at f r (number d) h.1 e) in
     search (Contains-append_left, a)
-reads_unset j n f (Alu op w d (operands.Imm k)) (r, inr h, e) = absurd h
-reads_unset j n f (Alu op w d (operands.Reg s)) (r, inr h, e) =
+reads_unset j n f (Insn.Alu op w d (Operand.Imm k)) (r, inr h, e) = absurd h
+reads_unset j n f (Insn.Alu op w d (Operand.Reg s)) (r, inr h, e) =
     let a = alu_operand f op w d s (unset_at f r (number s) h e) in
     search (Contains-append_left, a)
-reads_unset j n f (MovSx w z d r) b = let e = unset_at f b.0 (number r) b.1 b.2 in search (Contains-append_left, stands)
-reads_unset j n f (Neg w d) b =
-    let a = numeric_unset f d (operands.Imm (pos 0)) (unset_at f b.0 (number d) b.1 b.2) in
+reads_unset j n f (Insn.MovSx w z d r) b = let e = unset_at f b.0 (number r) b.1 b.2 in search (Contains-append_left, stands)
+reads_unset j n f (Insn.Neg w d) b =
+    let a = numeric_unset f d (Operand.Imm (pos 0)) (unset_at f b.0 (number d) b.1 b.2) in
     search (Contains-append_left, a)
-reads_unset j n f (LoadImm d v) b = absurd b.1
-reads_unset j n f (Load z x d r o) b = let e = unset_at f b.0 (number r) b.1 b.2 in search (Contains-append_left, stands)
-reads_unset j n f (StoreImm z d o k) b = let e = unset_at f b.0 (number d) b.1 b.2 in search (Contains-append_left, stands)
-reads_unset j n f (Store z d s o) (r, inl h, e) = let u = unset_at f r (number d) h e in search (Contains-append_left, stands)
-reads_unset j n f (Store z d s o) (r, inr h, e) = let u = unset_at f r (number s) h e in search (Contains-append_left, Contains-append_right, stands)
-reads_unset j n f (Jump o) b = absurd b.1
-reads_unset j n f (JumpIf c w d x o) (r, inl h, e) = let u = unset_at f r (number d) h e in search (Contains-append_left, stands)
-reads_unset j n f (JumpIf c w d x o) (r, inr h, e) = let u = unset_operand f x r h e in search (Contains-append_left, Contains-append_right, u)
-reads_unset j n f (Call k) b = let a = call_unset f (declared_helper j.helpers k) b.0 b.1 b.2 in search (Contains-append_left, a)
-reads_unset j n f Exit b = let e = unset_at f b.0 0 b.1 b.2 in search (Contains-append_left, stands)
+reads_unset j n f (Insn.LoadImm d v) b = absurd b.1
+reads_unset j n f (Insn.Load z x d r o) b = let e = unset_at f b.0 (number r) b.1 b.2 in search (Contains-append_left, stands)
+reads_unset j n f (Insn.StoreImm z d o k) b = let e = unset_at f b.0 (number d) b.1 b.2 in search (Contains-append_left, stands)
+reads_unset j n f (Insn.Store z d s o) (r, inl h, e) = let u = unset_at f r (number d) h e in search (Contains-append_left, stands)
+reads_unset j n f (Insn.Store z d s o) (r, inr h, e) = let u = unset_at f r (number s) h e in search (Contains-append_left, Contains-append_right, stands)
+reads_unset j n f (Insn.Jump o) b = absurd b.1
+reads_unset j n f (Insn.JumpIf c w d x o) (r, inl h, e) = let u = unset_at f r (number d) h e in search (Contains-append_left, stands)
+reads_unset j n f (Insn.JumpIf c w d x o) (r, inr h, e) = let u = unset_operand f x r h e in search (Contains-append_left, Contains-append_right, u)
+reads_unset j n f (Insn.Call k) b = let a = call_unset f (declared_helper j.helpers k) b.0 b.1 b.2 in search (Contains-append_left, a)
+reads_unset j n f Insn.Exit b = let e = unset_at f b.0 0 b.1 b.2 in search (Contains-append_left, stands)
 
-writes_r10 : Lists WritesR10
-writes_r10 j n f (Alu op w d x) b = let a = alu_sets f op w d x (is_ten d b) in search (Contains-append_left, a)
-writes_r10 j n f (MovSx w z d r) b = let e = is_ten d b in search (Contains-append_left, Contains-append_right, stands)
-writes_r10 j n f (Neg w d) b = let a = numeric_sets f d (operands.Imm (pos 0)) (is_ten d b) in search (Contains-append_left, a)
-writes_r10 j n f (LoadImm d v) b = let e = is_ten d b in search (Contains-append_left, stands)
-writes_r10 j n f (Load z x d r o) b = let e = is_ten d b in search (Contains-append_left, Contains-append_right, stands)
+writes_r10 : Lists RuleCode.WritesR10
+writes_r10 j n f (Insn.Alu op w d x) b = let a = alu_sets f op w d x (is_ten d b) in search (Contains-append_left, a)
+writes_r10 j n f (Insn.MovSx w z d r) b = let e = is_ten d b in search (Contains-append_left, Contains-append_right, stands)
+writes_r10 j n f (Insn.Neg w d) b = let a = numeric_sets f d (Operand.Imm (pos 0)) (is_ten d b) in search (Contains-append_left, a)
+writes_r10 j n f (Insn.LoadImm d v) b = let e = is_ten d b in search (Contains-append_left, stands)
+writes_r10 j n f (Insn.Load z x d r o) b = let e = is_ten d b in search (Contains-append_left, Contains-append_right, stands)
 writes_r10 j n f _ b = absurd b
 
 -- 23: of arithmetic alone, on either side
-pointer_arithmetic : Lists PointerArithmetic
-pointer_arithmetic j n f (Alu op w d x) b = let a = alu_pointer f op w d x b.1.0 b.0 b.1.1 b.1.2 in search (Contains-append_left, a)
-pointer_arithmetic j n f (MovSx w z d r) b = let e = pointer_at f b.1.0 (number r) b.1.1 b.1.2 in search (Contains-append_left, Contains-append_right, stands)
-pointer_arithmetic j n f (Neg w d) b =
-    let a = numeric_pointer f d (operands.Imm (pos 0)) (pointing f d (operands.Imm (pos 0)) b.1.0 (inl b.1.1) b.1.2) in
+pointer_arithmetic : Lists RuleCode.PointerArithmetic
+pointer_arithmetic j n f (Insn.Alu op w d x) b = let a = alu_pointer f op w d x b.1.0 b.0 b.1.1 b.1.2 in search (Contains-append_left, a)
+pointer_arithmetic j n f (Insn.MovSx w z d r) b = let e = pointer_at f b.1.0 (number r) b.1.1 b.1.2 in search (Contains-append_left, Contains-append_right, stands)
+pointer_arithmetic j n f (Insn.Neg w d) b =
+    let a = numeric_pointer f d (Operand.Imm (pos 0)) (pointing f d (Operand.Imm (pos 0)) b.1.0 (inl b.1.1) b.1.2) in
     search (Contains-append_left, a)
 pointer_arithmetic j n f _ b = absurd b.0
 
-pointer_stored : Lists PointerStored
-pointer_stored j n f (Store z d s o) b = let e = pointer_at f b.0 (number s) b.1 b.2 in search (Contains-append_left, Contains-append_right, stands)
+pointer_stored : Lists RuleCode.PointerStored
+pointer_stored j n f (Insn.Store z d s o) b = let e = pointer_at f b.0 (number s) b.1 b.2 in search (Contains-append_left, Contains-append_right, stands)
 pointer_stored j n f _ b = absurd b.1
 
 -- 25: of loads, stores and helpers alike
-outside_stack : Lists OutsideStack
-outside_stack j n f (Load z x d r o) (t, k, h, is, out) =
-    let q = subst (λ (u : Touch). (kind_of f u.base ≡ Stack k) × ¬ (LieInStack (k +ℤ u.offset) u.bytes)) h (is, out) in
-    let a = subst (λ b. Contains (loads j.record_size f (at f r) o b) OutsideStack) (bytes_are z) (loads_outside j.record_size f (at f r) o (size_bytes z) k q.0 q.1) in
+outside_stack : Lists RuleCode.OutsideStack
+outside_stack j n f (Insn.Load z x d r o) (t, k, h, is, out) =
+    let q = subst (λ (u : Touch). (kind_of f u.base ≡ Kind.Stack k) × ¬ (LieInStack (k +ℤ u.offset) u.bytes)) h (is, out) in
+    let a = subst (λ b. Contains (loads j.record_size f (at f r) o b) RuleCode.OutsideStack) (bytes_are z) (loads_outside j.record_size f (at f r) o (size_bytes z) k q.0 q.1) in
     search (Contains-append_left, Contains-append_right, a)
-outside_stack j n f (StoreImm z d o v) (t, k, h, is, out) =
-    let q = subst (λ (u : Touch). (kind_of f u.base ≡ Stack k) × ¬ (LieInStack (k +ℤ u.offset) u.bytes)) h (is, out) in
-    let a = subst (λ b. Contains (stores (at f d) o b) OutsideStack) (bytes_are z) (stores_outside j.record_size f (at f d) o (size_bytes z) k q.0 q.1) in
+outside_stack j n f (Insn.StoreImm z d o v) (t, k, h, is, out) =
+    let q = subst (λ (u : Touch). (kind_of f u.base ≡ Kind.Stack k) × ¬ (LieInStack (k +ℤ u.offset) u.bytes)) h (is, out) in
+    let a = subst (λ b. Contains (stores (at f d) o b) RuleCode.OutsideStack) (bytes_are z) (stores_outside j.record_size f (at f d) o (size_bytes z) k q.0 q.1) in
     search (Contains-append_left, Contains-append_right, a)
-outside_stack j n f (Store z d s o) (t, k, h, is, out) =
-    let q = subst (λ (u : Touch). (kind_of f u.base ≡ Stack k) × ¬ (LieInStack (k +ℤ u.offset) u.bytes)) h (is, out) in
-    let a = subst (λ b. Contains (stores (at f d) o b) OutsideStack) (bytes_are z) (stores_outside j.record_size f (at f d) o (size_bytes z) k q.0 q.1) in
+outside_stack j n f (Insn.Store z d s o) (t, k, h, is, out) =
+    let q = subst (λ (u : Touch). (kind_of f u.base ≡ Kind.Stack k) × ¬ (LieInStack (k +ℤ u.offset) u.bytes)) h (is, out) in
+    let a = subst (λ b. Contains (stores (at f d) o b) RuleCode.OutsideStack) (bytes_are z) (stores_outside j.record_size f (at f d) o (size_bytes z) k q.0 q.1) in
     search (Contains-append_left, Contains-append_right, a)
-outside_stack j n f (Call v) (t, k, h, is, out) = let a = call_outside f (declared_helper j.helpers v) t k h is out in search (Contains-append_left, a)
+outside_stack j n f (Insn.Call v) (t, k, h, is, out) = let a = call_outside f (declared_helper j.helpers v) t k h is out in search (Contains-append_left, a)
 outside_stack j n f _ b = absurd b.2
 
 -- a store reads no byte
@@ -102,110 +98,110 @@ not_loading (Some Delete) t h how = absurd h
 not_loading (Some Start) t h how = absurd h
 
 -- 26: of loads, and of the value that a write takes
-unwritten_byte : Lists UnwrittenByte
-unwritten_byte j n f (Load z x d r o) (t, k, h, reading, is, lie, some) =
-    let q = subst (λ (u : Touch). (kind_of f u.base ≡ Stack k) × LieInStack (k +ℤ u.offset) u.bytes × SomeUnwritten f (k +ℤ u.offset) u.bytes) h (is, lie, some) in
-    let a = subst (λ b. Contains (loads j.record_size f (at f r) o b) UnwrittenByte) (bytes_are z) (loads_unwritten j.record_size f (at f r) o (size_bytes z) k q.0 q.1 q.2) in
+unwritten_byte : Lists RuleCode.UnwrittenByte
+unwritten_byte j n f (Insn.Load z x d r o) (t, k, h, reading, is, lie, some) =
+    let q = subst (λ (u : Touch). (kind_of f u.base ≡ Kind.Stack k) × LieInStack (k +ℤ u.offset) u.bytes × SomeUnwritten f (k +ℤ u.offset) u.bytes) h (is, lie, some) in
+    let a = subst (λ b. Contains (loads j.record_size f (at f r) o b) RuleCode.UnwrittenByte) (bytes_are z) (loads_unwritten j.record_size f (at f r) o (size_bytes z) k q.0 q.1 q.2) in
     search (Contains-append_left, Contains-append_right, a)
-unwritten_byte j n f (StoreImm z d o v) (t, k, h, reading, is, lie, some) = absurd (not_storing t (ap (λ (u : Touch). u.how) h) reading)
-unwritten_byte j n f (Store z d s o) (t, k, h, reading, is, lie, some) = absurd (not_storing t (ap (λ (u : Touch). u.how) h) reading)
-unwritten_byte j n f (Call v) (t, k, h, reading, is, lie, some) = let a = call_unwritten f (declared_helper j.helpers v) t k h reading is lie some in search (Contains-append_left, a)
+unwritten_byte j n f (Insn.StoreImm z d o v) (t, k, h, reading, is, lie, some) = absurd (not_storing t (ap (λ (u : Touch). u.how) h) reading)
+unwritten_byte j n f (Insn.Store z d s o) (t, k, h, reading, is, lie, some) = absurd (not_storing t (ap (λ (u : Touch). u.how) h) reading)
+unwritten_byte j n f (Insn.Call v) (t, k, h, reading, is, lie, some) = let a = call_unwritten f (declared_helper j.helpers v) t k h reading is lie some in search (Contains-append_left, a)
 unwritten_byte j n f _ b = absurd b.2
 
-outside_record : Lists OutsideRecord
-outside_record j n f (Load z x d r o) (t, k, h, how, is, out) =
-    let q = subst (λ (u : Touch). (kind_of f u.base ≡ Record k) × ¬ (LieInRecord j.record_size (k +ℤ u.offset) u.bytes)) h (is, out) in
-    let a = subst (λ b. Contains (loads j.record_size f (at f r) o b) OutsideRecord) (bytes_are z) (loads_beyond j.record_size f (at f r) o (size_bytes z) k q.0 q.1) in
+outside_record : Lists RuleCode.OutsideRecord
+outside_record j n f (Insn.Load z x d r o) (t, k, h, how, is, out) =
+    let q = subst (λ (u : Touch). (kind_of f u.base ≡ Kind.Record k) × ¬ (LieInRecord j.record_size (k +ℤ u.offset) u.bytes)) h (is, out) in
+    let a = subst (λ b. Contains (loads j.record_size f (at f r) o b) RuleCode.OutsideRecord) (bytes_are z) (loads_beyond j.record_size f (at f r) o (size_bytes z) k q.0 q.1) in
     search (Contains-append_left, Contains-append_right, a)
-outside_record j n f (StoreImm z d o v) (t, k, h, how, is, out) = let e = ap (λ (u : Touch). u.how) h in cc
-outside_record j n f (Store z d s o) (t, k, h, how, is, out) = let e = ap (λ (u : Touch). u.how) h in cc
-outside_record j n f (Call v) (t, k, h, how, is, out) = absurd (not_loading (declared_helper j.helpers v) t h (inl how))
+outside_record j n f (Insn.StoreImm z d o v) (t, k, h, how, is, out) = let e = ap (λ (u : Touch). u.how) h in cc
+outside_record j n f (Insn.Store z d s o) (t, k, h, how, is, out) = let e = ap (λ (u : Touch). u.how) h in cc
+outside_record j n f (Insn.Call v) (t, k, h, how, is, out) = absurd (not_loading (declared_helper j.helpers v) t h (inl how))
 outside_record j n f _ b = absurd b.2
 
-writes_record : Lists WritesRecord
-writes_record j n f (Load z x d r o) (t, k, h, how, is) = let e = ap (λ (u : Touch). u.how) h in cc
-writes_record j n f (StoreImm z d o v) (t, k, h, how, is) =
-    let a = subst (λ b. Contains (stores (at f d) o b) WritesRecord) (bytes_are z) (stores_record j.record_size f (at f d) o (size_bytes z) k (subst (λ (u : Touch). kind_of f u.base ≡ Record k) h is)) in
+writes_record : Lists RuleCode.WritesRecord
+writes_record j n f (Insn.Load z x d r o) (t, k, h, how, is) = let e = ap (λ (u : Touch). u.how) h in cc
+writes_record j n f (Insn.StoreImm z d o v) (t, k, h, how, is) =
+    let a = subst (λ b. Contains (stores (at f d) o b) RuleCode.WritesRecord) (bytes_are z) (stores_record j.record_size f (at f d) o (size_bytes z) k (subst (λ (u : Touch). kind_of f u.base ≡ Kind.Record k) h is)) in
     search (Contains-append_left, Contains-append_right, a)
-writes_record j n f (Store z d s o) (t, k, h, how, is) =
-    let a = subst (λ b. Contains (stores (at f d) o b) WritesRecord) (bytes_are z) (stores_record j.record_size f (at f d) o (size_bytes z) k (subst (λ (u : Touch). kind_of f u.base ≡ Record k) h is)) in
+writes_record j n f (Insn.Store z d s o) (t, k, h, how, is) =
+    let a = subst (λ b. Contains (stores (at f d) o b) RuleCode.WritesRecord) (bytes_are z) (stores_record j.record_size f (at f d) o (size_bytes z) k (subst (λ (u : Touch). kind_of f u.base ≡ Kind.Record k) h is)) in
     search (Contains-append_left, Contains-append_right, a)
-writes_record j n f (Call v) (t, k, h, how, is) = absurd (not_loading (declared_helper j.helpers v) t h (inr how))
+writes_record j n f (Insn.Call v) (t, k, h, how, is) = absurd (not_loading (declared_helper j.helpers v) t h (inr how))
 writes_record j n f _ b = absurd b.2
 
-through_number : Lists ThroughNumber
-through_number j n f (Load z x d r o) (t, h, how, is) =
-    let a = subst (λ b. Contains (loads j.record_size f (at f r) o b) ThroughNumber) (bytes_are z) (loads_number j.record_size f (at f r) o (size_bytes z) (subst (λ (u : Touch). kind_of f u.base ≡ Number) h is)) in
+through_number : Lists RuleCode.ThroughNumber
+through_number j n f (Insn.Load z x d r o) (t, h, how, is) =
+    let a = subst (λ b. Contains (loads j.record_size f (at f r) o b) RuleCode.ThroughNumber) (bytes_are z) (loads_number j.record_size f (at f r) o (size_bytes z) (subst (λ (u : Touch). kind_of f u.base ≡ Kind.Number) h is)) in
     search (Contains-append_left, Contains-append_right, a)
-through_number j n f (StoreImm z d o v) (t, h, how, is) =
-    let a = subst (λ b. Contains (stores (at f d) o b) ThroughNumber) (bytes_are z) (stores_number j.record_size f (at f d) o (size_bytes z) (subst (λ (u : Touch). kind_of f u.base ≡ Number) h is)) in
+through_number j n f (Insn.StoreImm z d o v) (t, h, how, is) =
+    let a = subst (λ b. Contains (stores (at f d) o b) RuleCode.ThroughNumber) (bytes_are z) (stores_number j.record_size f (at f d) o (size_bytes z) (subst (λ (u : Touch). kind_of f u.base ≡ Kind.Number) h is)) in
     search (Contains-append_left, Contains-append_right, a)
-through_number j n f (Store z d s o) (t, h, how, is) =
-    let a = subst (λ b. Contains (stores (at f d) o b) ThroughNumber) (bytes_are z) (stores_number j.record_size f (at f d) o (size_bytes z) (subst (λ (u : Touch). kind_of f u.base ≡ Number) h is)) in
+through_number j n f (Insn.Store z d s o) (t, h, how, is) =
+    let a = subst (λ b. Contains (stores (at f d) o b) RuleCode.ThroughNumber) (bytes_are z) (stores_number j.record_size f (at f d) o (size_bytes z) (subst (λ (u : Touch). kind_of f u.base ≡ Kind.Number) h is)) in
     search (Contains-append_left, Contains-append_right, a)
-through_number j n f (Call v) (t, h, how, is) = absurd (not_loading (declared_helper j.helpers v) t h how)
+through_number j n f (Insn.Call v) (t, h, how, is) = absurd (not_loading (declared_helper j.helpers v) t h how)
 through_number j n f _ b = absurd b.1
 
-not_declared : Lists NotDeclared
-not_declared j n f (Call k) b = let a = call_undeclared f (declared_helper j.helpers k) b in search (Contains-append_left, a)
+not_declared : Lists RuleCode.NotDeclared
+not_declared j n f (Insn.Call k) b = let a = call_undeclared f (declared_helper j.helpers k) b in search (Contains-append_left, a)
 not_declared j n f _ b = absurd b
 
 -- 31: of a declared helper, for its row, column or place
-wrong_argument : Lists WrongArgument
-wrong_argument j n f (Call k) b = let a = call_wrong f (declared_helper j.helpers k) b in search (Contains-append_left, a)
+wrong_argument : Lists RuleCode.WrongArgument
+wrong_argument j n f (Insn.Call k) b = let a = call_wrong f (declared_helper j.helpers k) b in search (Contains-append_left, a)
 wrong_argument j n f _ b = absurd b
 
-backward_jump : Lists BackwardJump
-backward_jump j n f (Jump o) b = jumps_back j.program.insns n o b.0 b.1
-backward_jump j n f (JumpIf c w d x o) b = let a = jumps_back j.program.insns n o b.0 b.1 in search (Contains-append_left, Contains-append_right, a)
+backward_jump : Lists RuleCode.BackwardJump
+backward_jump j n f (Insn.Jump o) b = jumps_back j.program.insns n o b.0 b.1
+backward_jump j n f (Insn.JumpIf c w d x o) b = let a = jumps_back j.program.insns n o b.0 b.1 in search (Contains-append_left, Contains-append_right, a)
 backward_jump j n f _ b = absurd b
 
-jump_outside : Lists JumpOutside
-jump_outside j n f (Jump o) (t, h, past) = jumps_outside j.program.insns n o t h.0 h.1 h.2 past
-jump_outside j n f (JumpIf c w d x o) (t, h, past) = let a = jumps_outside j.program.insns n o t h.0 h.1 h.2 past in search (Contains-append_left, Contains-append_right, a)
+jump_outside : Lists RuleCode.JumpOutside
+jump_outside j n f (Insn.Jump o) (t, h, past) = jumps_outside j.program.insns n o t h.0 h.1 h.2 past
+jump_outside j n f (Insn.JumpIf c w d x o) (t, h, past) = let a = jumps_outside j.program.insns n o t h.0 h.1 h.2 past in search (Contains-append_left, Contains-append_right, a)
 jump_outside j n f _ b = absurd b.1
 
 -- 34: the second slot of a pair has no instruction
-jump_into_pair : Lists JumpIntoPair
-jump_into_pair j n f (Jump o) (t, h, inside, none) = jumps_into j.program.insns n o t h.0 h.1 h.2 inside none
-jump_into_pair j n f (JumpIf c w d x o) (t, h, inside, none) = let a = jumps_into j.program.insns n o t h.0 h.1 h.2 inside none in search (Contains-append_left, Contains-append_right, a)
+jump_into_pair : Lists RuleCode.JumpIntoPair
+jump_into_pair j n f (Insn.Jump o) (t, h, inside, none) = jumps_into j.program.insns n o t h.0 h.1 h.2 inside none
+jump_into_pair j n f (Insn.JumpIf c w d x o) (t, h, inside, none) = let a = jumps_into j.program.insns n o t h.0 h.1 h.2 inside none in search (Contains-append_left, Contains-append_right, a)
 jump_into_pair j n f _ b = absurd b.1
 
-falls_off : Lists FallsOff
-falls_off j n f (LoadImm d v) b = let a = falls_at j.program.insns (n + 2) b in search (Contains-append_right, a)
-falls_off j n f (Jump o) b = cc
-falls_off j n f (JumpIf c w d x o) b = let a = falls_at j.program.insns (n + 1) b in search (Contains-append_left, Contains-append_right, a)
-falls_off j n f Exit b = cc
+falls_off : Lists RuleCode.FallsOff
+falls_off j n f (Insn.LoadImm d v) b = let a = falls_at j.program.insns (n + 2) b in search (Contains-append_right, a)
+falls_off j n f (Insn.Jump o) b = cc
+falls_off j n f (Insn.JumpIf c w d x o) b = let a = falls_at j.program.insns (n + 1) b in search (Contains-append_left, Contains-append_right, a)
+falls_off j n f Insn.Exit b = cc
 falls_off j n f _ b = let a = falls_at j.program.insns (n + 1) b in search (Contains-append_right, a)
 
-exits_with_pointer : Lists ExitsWithPointer
-exits_with_pointer j n f Exit b = let e = pointer_at f b.1.0 0 b.1.1 b.1.2 in search (Contains-append_right, stands)
+exits_with_pointer : Lists RuleCode.ExitsWithPointer
+exits_with_pointer j n f Insn.Exit b = let e = pointer_at f b.1.0 0 b.1.1 b.1.2 in search (Contains-append_right, stands)
 exits_with_pointer j n f _ b = absurd b.0
 
-pointer_compared : Lists PointerCompared
-pointer_compared j n f (JumpIf c w d x o) b = let e = pointing f d x b.1.0 b.1.1 b.1.2 in search (Contains-append_left, Contains-append_right, stands)
+pointer_compared : Lists RuleCode.PointerCompared
+pointer_compared j n f (Insn.JumpIf c w d x o) b = let e = pointing f d x b.1.0 b.1.1 b.1.2 in search (Contains-append_left, Contains-append_right, stands)
 pointer_compared j n f _ b = absurd b.0
 
 -- each code, by its own lemma above
 listed : (c : RuleCode) → Lists c
-listed ReadsUnset = reads_unset
-listed WritesR10 = writes_r10
-listed PointerArithmetic = pointer_arithmetic
-listed PointerStored = pointer_stored
-listed OutsideStack = outside_stack
-listed UnwrittenByte = unwritten_byte
-listed OutsideRecord = outside_record
-listed WritesRecord = writes_record
-listed ThroughNumber = through_number
-listed NotDeclared = not_declared
-listed WrongArgument = wrong_argument
-listed BackwardJump = backward_jump
-listed JumpOutside = jump_outside
-listed JumpIntoPair = jump_into_pair
-listed Unreachable = λ j n f i b. absurd b
-listed FallsOff = falls_off
-listed ExitsWithPointer = exits_with_pointer
-listed PointerCompared = pointer_compared
+listed RuleCode.ReadsUnset = reads_unset
+listed RuleCode.WritesR10 = writes_r10
+listed RuleCode.PointerArithmetic = pointer_arithmetic
+listed RuleCode.PointerStored = pointer_stored
+listed RuleCode.OutsideStack = outside_stack
+listed RuleCode.UnwrittenByte = unwritten_byte
+listed RuleCode.OutsideRecord = outside_record
+listed RuleCode.WritesRecord = writes_record
+listed RuleCode.ThroughNumber = through_number
+listed RuleCode.NotDeclared = not_declared
+listed RuleCode.WrongArgument = wrong_argument
+listed RuleCode.BackwardJump = backward_jump
+listed RuleCode.JumpOutside = jump_outside
+listed RuleCode.JumpIntoPair = jump_into_pair
+listed RuleCode.Unreachable = λ j n f i b. absurd b
+listed RuleCode.FallsOff = falls_off
+listed RuleCode.ExitsWithPointer = exits_with_pointer
+listed RuleCode.PointerCompared = pointer_compared
 
 -- and no code is listed but those: by the lemmas of Broken
 pub rules_by_code : RulesAreByCode

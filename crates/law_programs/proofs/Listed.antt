@@ -1,28 +1,21 @@
 -- Each rule that an instruction breaks is among those that are listed.
-use Rattle.std.proofs.Common.{◌≡◌, ◌≢◌, ℕ, ◌+◌, ◌<◌, ◌≤◌, Bool, true, false, not, ◌&&◌, ◌||◌, ◌⊎◌, inl, inr, ℤ, pos, negsuc, ◌+ℤ◌, List, [], ◌∷◌, Option, Some, None, nat_eq, refl, sym, subst, arith}
-use Rattle.std.specs.Prelude.{if◌then◌else◌, nat_le, is_none, Decides}
-use Rattle.std.specs.List.{Contains}
-use Rattle.std.specs.Option.{IsSomeAnd}
+use Rattle.std.proofs.Common.{◌≡◌, ◌≢◌, ℕ, ◌+◌, ◌<◌, ◌≤◌, Bool, true, false, not, ◌&&◌, ◌||◌, ◌⊎◌, inl, inr, ℤ, pos, negsuc, ◌+ℤ◌, List, [], ◌∷◌, Option, Some, None, nat_eq, refl, sym, subst, arith, if◌then◌else◌, nat_le, is_none, Decides, Contains, IsSomeAnd}
 use Rattle.std.proofs.Math.IntN.{+ℤ_idr}
 use Rattle.std.proofs.lemmas.List.Elements.{Contains-append_left, Contains-append_right}
 use Rattle.std.proofs.lemmas.Bool.Decides.{Decides-eqb, Decides-not, Decides-and}
 use Rattle.pb_isa.specs.declared.insn.Insn.{Insn}
 use Rattle.pb_isa.specs.declared.insn.AluOp.{AluOp}
-use Rattle.pb_isa.specs.declared.insn.AluOp.TheVariants.{Add, Sub, Mov}
 use Rattle.pb_isa.specs.declared.insn.Width.{Width}
-use Rattle.pb_isa.specs.declared.insn.Width.TheVariants.{Bits32, Bits64}
 use Rattle.pb_isa.specs.declared.insn.Operand.{Operand}
-use Rattle.pb_isa.specs.declared.insn.Operand.TheVariants as operands
 use Rattle.pb_isa.specs.declared.insn.Reg.{Reg}
 use Rattle.pb_isa.specs.Registers.{number}
 use Rattle.pb_isa.specs.Helpers.{Helper, Read, Write, Delete, Start}
 use Rattle.pb_isa.specs.Slots.{slots, insn_at}
 use Rattle.pb_kinds.specs.declared.frame.Kind.{Kind}
-use Rattle.pb_kinds.specs.declared.frame.Kind.TheVariants.{Unset, Number, Stack, Record}
 use Rattle.pb_kinds.specs.declared.frame.Frame.{Frame}
 use Rattle.pb_kinds.specs.Frames.{kind_of, is_unset, is_pointer}
 use Rattle.pb_kinds.specs.Ranges.{in_stack, in_record, are_written}
-use Rattle.pb_helpers.specs.declared.code.RuleCode.TheVariants.{ReadsUnset, WritesR10, PointerArithmetic, OutsideStack, UnwrittenByte, OutsideRecord, WritesRecord, ThroughNumber, NotDeclared, WrongArgument, BackwardJump, JumpOutside, JumpIntoPair, FallsOff}
+use Rattle.pb_helpers.specs.declared.code.RuleCode.{RuleCode}
 use Rattle.pb_helpers.specs.Codes.{when}
 use Rattle.pb_helpers.specs.Arguments.{stack_reads, stack_writes, filled_bytes, taken_bytes, is_cell, is_place, call_rules}
 use Rattle.pb_verify.specs.Rules.{at, reads_operand, on_pointer, falls, numeric_rules, alu_rules, loads, stores, jump_rules}
@@ -34,8 +27,8 @@ use Rattle.law_programs.proofs.Tests.{Decides-unset, Decides-number, Decides-pla
 
 -- ---- registers
 
-pub unset_at : (f : Frame) (r s : ℕ) → r ≡ s → kind_of f r ≡ Unset → is_unset (kind_of f s) ≡ true
-unset_at f r s e h = (Decides-unset (kind_of f s)).1 (subst (λ q. kind_of f q ≡ Unset) e h)
+pub unset_at : (f : Frame) (r s : ℕ) → r ≡ s → kind_of f r ≡ Kind.Unset → is_unset (kind_of f s) ≡ true
+unset_at f r s e h = (Decides-unset (kind_of f s)).1 (subst (λ q. kind_of f q ≡ Kind.Unset) e h)
 
 pub pointer_at : (f : Frame) (r s : ℕ) → r ≡ s → IsPointer (kind_of f r) → is_pointer (kind_of f s) ≡ true
 pointer_at f r s e h = (Decides-pointer (kind_of f s)).1 (subst (λ q. IsPointer (kind_of f q)) e h)
@@ -44,14 +37,14 @@ pub is_ten : (d : Reg) → 10 ≡ number d → nat_eq (number d) 10 ≡ true
 is_ten d e = (Decides-eqb (number d) 10).1 (sym e)
 
 -- an unset operand is listed
-pub unset_operand : (f : Frame) (x : Operand) (r : ℕ) → IsOperand x r → kind_of f r ≡ Unset → Contains (reads_operand f x) ReadsUnset
-unset_operand f (operands.Imm k) r h e = absurd h
-unset_operand f (operands.Reg s) r h e = stands (is_unset (at f s)) ReadsUnset (unset_at f r (number s) h e)
+pub unset_operand : (f : Frame) (x : Operand) (r : ℕ) → IsOperand x r → kind_of f r ≡ Kind.Unset → Contains (reads_operand f x) RuleCode.ReadsUnset
+unset_operand f (Operand.Imm k) r h e = absurd h
+unset_operand f (Operand.Reg s) r h e = stands (is_unset (at f s)) RuleCode.ReadsUnset (unset_at f r (number s) h e)
 
 left_pointer : (f : Frame) (d : Reg) (x : Operand) → is_pointer (at f d) ≡ true → on_pointer f d x ≡ true
 left_pointer f d x e = rw e refl
 
-right_pointer : (f : Frame) (d : Reg) (s : Reg) → is_pointer (at f s) ≡ true → on_pointer f d (operands.Reg s) ≡ true
+right_pointer : (f : Frame) (d : Reg) (s : Reg) → is_pointer (at f s) ≡ true → on_pointer f d (Operand.Reg s) ≡ true
 right_pointer f d s e = by (is_pointer (at f d)) (is_pointer (at f s)) e
   where
     by : (a b : Bool) → b ≡ true → (a || b) ≡ true
@@ -61,118 +54,118 @@ right_pointer f d s e = by (is_pointer (at f d)) (is_pointer (at f s)) e
 -- an operand that is a pointer is found by the rules' test
 pub pointing : (f : Frame) (d : Reg) (x : Operand) (r : ℕ) → (r ≡ number d) ⊎ IsOperand x r → IsPointer (kind_of f r) → on_pointer f d x ≡ true
 pointing f d x r (inl e) h = left_pointer f d x (pointer_at f r (number d) e h)
-pointing f d (operands.Imm k) r (inr e) h = absurd e
-pointing f d (operands.Reg s) r (inr e) h = right_pointer f d s (pointer_at f r (number s) e h)
+pointing f d (Operand.Imm k) r (inr e) h = absurd e
+pointing f d (Operand.Reg s) r (inr e) h = right_pointer f d s (pointer_at f r (number s) e h)
 
-pub falls_at : (p : List Insn) (m : ℕ) → Some m ≡ Some (slots p) → Contains (falls p m) FallsOff
-falls_at p m h = let e : m ≡ slots p = cc in stands (nat_eq m (slots p)) FallsOff ((Decides-eqb m (slots p)).1 e)
+pub falls_at : (p : List Insn) (m : ℕ) → Some m ≡ Some (slots p) → Contains (falls p m) RuleCode.FallsOff
+falls_at p m h = let e : m ≡ slots p = cc in stands (nat_eq m (slots p)) RuleCode.FallsOff ((Decides-eqb m (slots p)).1 e)
 
 -- ---- arithmetic
 
-pub numeric_unset : (f : Frame) (d : Reg) (x : Operand) → is_unset (at f d) ≡ true → Contains (numeric_rules f d x) ReadsUnset
+pub numeric_unset : (f : Frame) (d : Reg) (x : Operand) → is_unset (at f d) ≡ true → Contains (numeric_rules f d x) RuleCode.ReadsUnset
 numeric_unset f d x e = search (Contains-append_left, Contains-append_right, stands)
 
-numeric_operand : (f : Frame) (d : Reg) (x : Operand) → Contains (reads_operand f x) ReadsUnset → Contains (numeric_rules f d x) ReadsUnset
+numeric_operand : (f : Frame) (d : Reg) (x : Operand) → Contains (reads_operand f x) RuleCode.ReadsUnset → Contains (numeric_rules f d x) RuleCode.ReadsUnset
 numeric_operand f d x h = search (Contains-append_left, Contains-append_right, h)
 
-pub numeric_sets : (f : Frame) (d : Reg) (x : Operand) → nat_eq (number d) 10 ≡ true → Contains (numeric_rules f d x) WritesR10
+pub numeric_sets : (f : Frame) (d : Reg) (x : Operand) → nat_eq (number d) 10 ≡ true → Contains (numeric_rules f d x) RuleCode.WritesR10
 numeric_sets f d x e = search (Contains-append_left, Contains-append_right, stands)
 
 -- a pointer on either side of an operation on numbers is listed
-pub numeric_pointer : (f : Frame) (d : Reg) (x : Operand) → on_pointer f d x ≡ true → Contains (numeric_rules f d x) PointerArithmetic
+pub numeric_pointer : (f : Frame) (d : Reg) (x : Operand) → on_pointer f d x ≡ true → Contains (numeric_rules f d x) RuleCode.PointerArithmetic
 numeric_pointer f d x e = search (Contains-append_left, Contains-append_right, stands)
 
 -- an unset destination is listed of every operation that reads it
-pub alu_unset : (f : Frame) (op : AluOp) (w : Width) (d : Reg) (x : Operand) → op ≢ Mov → is_unset (at f d) ≡ true → Contains (alu_rules f op w d x) ReadsUnset
-alu_unset f Mov w d x other e = absurd (other refl)
-alu_unset f Add Bits64 d (operands.Imm k) other e = search (Contains-append_left, Contains-append_right, stands)
-alu_unset f Sub Bits64 d (operands.Imm k) other e = search (Contains-append_left, Contains-append_right, stands)
-alu_unset f Add Bits64 d (operands.Reg s) other e = numeric_unset f d (operands.Reg s) e
-alu_unset f Sub Bits64 d (operands.Reg s) other e = numeric_unset f d (operands.Reg s) e
+pub alu_unset : (f : Frame) (op : AluOp) (w : Width) (d : Reg) (x : Operand) → op ≢ AluOp.Mov → is_unset (at f d) ≡ true → Contains (alu_rules f op w d x) RuleCode.ReadsUnset
+alu_unset f AluOp.Mov w d x other e = absurd (other refl)
+alu_unset f AluOp.Add Width.Bits64 d (Operand.Imm k) other e = search (Contains-append_left, Contains-append_right, stands)
+alu_unset f AluOp.Sub Width.Bits64 d (Operand.Imm k) other e = search (Contains-append_left, Contains-append_right, stands)
+alu_unset f AluOp.Add Width.Bits64 d (Operand.Reg s) other e = numeric_unset f d (Operand.Reg s) e
+alu_unset f AluOp.Sub Width.Bits64 d (Operand.Reg s) other e = numeric_unset f d (Operand.Reg s) e
 alu_unset f op w d x other e = numeric_unset f d x e
 
-pub alu_operand : (f : Frame) (op : AluOp) (w : Width) (d : Reg) (s : Reg) → is_unset (at f s) ≡ true → Contains (alu_rules f op w d (operands.Reg s)) ReadsUnset
-alu_operand f Mov Bits64 d s e = search (Contains-append_left, Contains-append_right, stands)
-alu_operand f Mov Bits32 d s e = search (Contains-append_left, Contains-append_right, stands)
-alu_operand f Add Bits64 d s e = numeric_operand f d (operands.Reg s) (stands (is_unset (at f s)) ReadsUnset e)
-alu_operand f Sub Bits64 d s e = numeric_operand f d (operands.Reg s) (stands (is_unset (at f s)) ReadsUnset e)
-alu_operand f op w d s e = numeric_operand f d (operands.Reg s) (stands (is_unset (at f s)) ReadsUnset e)
+pub alu_operand : (f : Frame) (op : AluOp) (w : Width) (d : Reg) (s : Reg) → is_unset (at f s) ≡ true → Contains (alu_rules f op w d (Operand.Reg s)) RuleCode.ReadsUnset
+alu_operand f AluOp.Mov Width.Bits64 d s e = search (Contains-append_left, Contains-append_right, stands)
+alu_operand f AluOp.Mov Width.Bits32 d s e = search (Contains-append_left, Contains-append_right, stands)
+alu_operand f AluOp.Add Width.Bits64 d s e = numeric_operand f d (Operand.Reg s) (stands (is_unset (at f s)) RuleCode.ReadsUnset e)
+alu_operand f AluOp.Sub Width.Bits64 d s e = numeric_operand f d (Operand.Reg s) (stands (is_unset (at f s)) RuleCode.ReadsUnset e)
+alu_operand f op w d s e = numeric_operand f d (Operand.Reg s) (stands (is_unset (at f s)) RuleCode.ReadsUnset e)
 
-pub alu_sets : (f : Frame) (op : AluOp) (w : Width) (d : Reg) (x : Operand) → nat_eq (number d) 10 ≡ true → Contains (alu_rules f op w d x) WritesR10
-alu_sets f Mov Bits64 d (operands.Imm k) e = stands (nat_eq (number d) 10) WritesR10 e
-alu_sets f Mov Bits32 d (operands.Imm k) e = stands (nat_eq (number d) 10) WritesR10 e
-alu_sets f Mov Bits64 d (operands.Reg s) e = search (Contains-append_left, Contains-append_right, stands)
-alu_sets f Mov Bits32 d (operands.Reg s) e = search (Contains-append_left, Contains-append_right, stands)
-alu_sets f Add Bits64 d (operands.Imm k) e = search (Contains-append_left, Contains-append_right, stands)
-alu_sets f Sub Bits64 d (operands.Imm k) e = search (Contains-append_left, Contains-append_right, stands)
-alu_sets f Add Bits64 d (operands.Reg s) e = numeric_sets f d (operands.Reg s) e
-alu_sets f Sub Bits64 d (operands.Reg s) e = numeric_sets f d (operands.Reg s) e
+pub alu_sets : (f : Frame) (op : AluOp) (w : Width) (d : Reg) (x : Operand) → nat_eq (number d) 10 ≡ true → Contains (alu_rules f op w d x) RuleCode.WritesR10
+alu_sets f AluOp.Mov Width.Bits64 d (Operand.Imm k) e = stands (nat_eq (number d) 10) RuleCode.WritesR10 e
+alu_sets f AluOp.Mov Width.Bits32 d (Operand.Imm k) e = stands (nat_eq (number d) 10) RuleCode.WritesR10 e
+alu_sets f AluOp.Mov Width.Bits64 d (Operand.Reg s) e = search (Contains-append_left, Contains-append_right, stands)
+alu_sets f AluOp.Mov Width.Bits32 d (Operand.Reg s) e = search (Contains-append_left, Contains-append_right, stands)
+alu_sets f AluOp.Add Width.Bits64 d (Operand.Imm k) e = search (Contains-append_left, Contains-append_right, stands)
+alu_sets f AluOp.Sub Width.Bits64 d (Operand.Imm k) e = search (Contains-append_left, Contains-append_right, stands)
+alu_sets f AluOp.Add Width.Bits64 d (Operand.Reg s) e = numeric_sets f d (Operand.Reg s) e
+alu_sets f AluOp.Sub Width.Bits64 d (Operand.Reg s) e = numeric_sets f d (Operand.Reg s) e
 alu_sets f op w d x e = numeric_sets f d x e
 
 -- the operands of an operation that takes numbers alone
-alu_operands : (f : Frame) (op : AluOp) (d : Reg) (x : Operand) (r : ℕ) → ((op ≢ Mov) × (r ≡ number d)) ⊎ IsOperand x r → IsPointer (kind_of f r) → on_pointer f d x ≡ true
+alu_operands : (f : Frame) (op : AluOp) (d : Reg) (x : Operand) (r : ℕ) → ((op ≢ AluOp.Mov) × (r ≡ number d)) ⊎ IsOperand x r → IsPointer (kind_of f r) → on_pointer f d x ≡ true
 alu_operands f op d x r (inl h) p = pointing f d x r (inl h.1) p
 alu_operands f op d x r (inr h) p = pointing f d x r (inr h) p
 
-pub alu_pointer : (f : Frame) (op : AluOp) (w : Width) (d : Reg) (x : Operand) (r : ℕ) → ¬ (KeepsPointers op w x) → ((op ≢ Mov) × (r ≡ number d)) ⊎ IsOperand x r → IsPointer (kind_of f r) → Contains (alu_rules f op w d x) PointerArithmetic
-alu_pointer f Mov Bits64 d x r none h p = absurd (none tt)
-alu_pointer f Mov Bits32 d (operands.Imm k) r none (inl h) p = absurd (h.0 refl)
-alu_pointer f Mov Bits32 d (operands.Imm k) r none (inr h) p = absurd h
-alu_pointer f Mov Bits32 d (operands.Reg s) r none (inl h) p = absurd (h.0 refl)
-alu_pointer f Mov Bits32 d (operands.Reg s) r none (inr h) p = let e = pointer_at f r (number s) h p in search (Contains-append_left, Contains-append_right, stands)
-alu_pointer f Add Bits64 d (operands.Imm k) r none h p = absurd (none tt)
-alu_pointer f Sub Bits64 d (operands.Imm k) r none h p = absurd (none tt)
-alu_pointer f Add Bits64 d (operands.Reg s) r none h p = numeric_pointer f d (operands.Reg s) (alu_operands f Add d (operands.Reg s) r h p)
-alu_pointer f Sub Bits64 d (operands.Reg s) r none h p = numeric_pointer f d (operands.Reg s) (alu_operands f Sub d (operands.Reg s) r h p)
+pub alu_pointer : (f : Frame) (op : AluOp) (w : Width) (d : Reg) (x : Operand) (r : ℕ) → ¬ (KeepsPointers op w x) → ((op ≢ AluOp.Mov) × (r ≡ number d)) ⊎ IsOperand x r → IsPointer (kind_of f r) → Contains (alu_rules f op w d x) RuleCode.PointerArithmetic
+alu_pointer f AluOp.Mov Width.Bits64 d x r none h p = absurd (none tt)
+alu_pointer f AluOp.Mov Width.Bits32 d (Operand.Imm k) r none (inl h) p = absurd (h.0 refl)
+alu_pointer f AluOp.Mov Width.Bits32 d (Operand.Imm k) r none (inr h) p = absurd h
+alu_pointer f AluOp.Mov Width.Bits32 d (Operand.Reg s) r none (inl h) p = absurd (h.0 refl)
+alu_pointer f AluOp.Mov Width.Bits32 d (Operand.Reg s) r none (inr h) p = let e = pointer_at f r (number s) h p in search (Contains-append_left, Contains-append_right, stands)
+alu_pointer f AluOp.Add Width.Bits64 d (Operand.Imm k) r none h p = absurd (none tt)
+alu_pointer f AluOp.Sub Width.Bits64 d (Operand.Imm k) r none h p = absurd (none tt)
+alu_pointer f AluOp.Add Width.Bits64 d (Operand.Reg s) r none h p = numeric_pointer f d (Operand.Reg s) (alu_operands f AluOp.Add d (Operand.Reg s) r h p)
+alu_pointer f AluOp.Sub Width.Bits64 d (Operand.Reg s) r none h p = numeric_pointer f d (Operand.Reg s) (alu_operands f AluOp.Sub d (Operand.Reg s) r h p)
 alu_pointer f op w d x r none h p = numeric_pointer f d x (alu_operands f op d x r h p)
 
 -- ---- memory
 
 -- bytes that don't lie in the stack are listed as 25, written or not
-reads_outside : (f : Frame) (z : ℤ) (n : ℕ) → ¬ (LieInStack z n) → Contains (stack_reads f z n) OutsideStack
+reads_outside : (f : Frame) (z : ℤ) (n : ℕ) → ¬ (LieInStack z n) → Contains (stack_reads f z n) RuleCode.OutsideStack
 reads_outside f z n out = by (in_stack z n) refl
   where
-    by : (b : Bool) → in_stack z n ≡ b → Contains (if b then when (not (are_written f z n)) UnwrittenByte else OutsideStack ∷ []) OutsideStack
+    by : (b : Bool) → in_stack z n ≡ b → Contains (if b then when (not (are_written f z n)) RuleCode.UnwrittenByte else RuleCode.OutsideStack ∷ []) RuleCode.OutsideStack
     by true e = absurd (out ((Decides-stack z n).0 e))
-    by false e = stands_one OutsideStack
+    by false e = stands_one RuleCode.OutsideStack
 
 -- and those that lie there, of which one isn't written, as 26
-reads_unwritten : (f : Frame) (z : ℤ) (n : ℕ) → LieInStack z n → SomeUnwritten f z n → Contains (stack_reads f z n) UnwrittenByte
+reads_unwritten : (f : Frame) (z : ℤ) (n : ℕ) → LieInStack z n → SomeUnwritten f z n → Contains (stack_reads f z n) RuleCode.UnwrittenByte
 reads_unwritten f z n lie some = by (in_stack z n) ((Decides-stack z n).1 lie)
   where
-    by : (b : Bool) → b ≡ true → Contains (if b then when (not (are_written f z n)) UnwrittenByte else OutsideStack ∷ []) UnwrittenByte
-    by true e = stands (not (are_written f z n)) UnwrittenByte (not_written f z n some)
+    by : (b : Bool) → b ≡ true → Contains (if b then when (not (are_written f z n)) RuleCode.UnwrittenByte else RuleCode.OutsideStack ∷ []) RuleCode.UnwrittenByte
+    by true e = stands (not (are_written f z n)) RuleCode.UnwrittenByte (not_written f z n some)
     by false e = cc
 
-writes_outside : (z : ℤ) (n : ℕ) → ¬ (LieInStack z n) → Contains (stack_writes z n) OutsideStack
-writes_outside z n out = stands (not (in_stack z n)) OutsideStack ((Decides-not (in_stack z n) (Decides-stack z n)).1 out)
+writes_outside : (z : ℤ) (n : ℕ) → ¬ (LieInStack z n) → Contains (stack_writes z n) RuleCode.OutsideStack
+writes_outside z n out = stands (not (in_stack z n)) RuleCode.OutsideStack ((Decides-not (in_stack z n) (Decides-stack z n)).1 out)
 
 module _ (size : ℕ) (f : Frame) (k : Kind) (o : ℤ) (n : ℕ) where
-  pub loads_outside : (z : ℤ) → k ≡ Stack z → ¬ (LieInStack (z +ℤ o) n) → Contains (loads size f k o n) OutsideStack
-  loads_outside z e out = subst (λ k. Contains (loads size f k o n) OutsideStack) (sym e) (reads_outside f (z +ℤ o) n out)
+  pub loads_outside : (z : ℤ) → k ≡ Kind.Stack z → ¬ (LieInStack (z +ℤ o) n) → Contains (loads size f k o n) RuleCode.OutsideStack
+  loads_outside z e out = subst (λ k. Contains (loads size f k o n) RuleCode.OutsideStack) (sym e) (reads_outside f (z +ℤ o) n out)
 
-  pub loads_unwritten : (z : ℤ) → k ≡ Stack z → LieInStack (z +ℤ o) n → SomeUnwritten f (z +ℤ o) n → Contains (loads size f k o n) UnwrittenByte
-  loads_unwritten z e lie some = subst (λ k. Contains (loads size f k o n) UnwrittenByte) (sym e) (reads_unwritten f (z +ℤ o) n lie some)
+  pub loads_unwritten : (z : ℤ) → k ≡ Kind.Stack z → LieInStack (z +ℤ o) n → SomeUnwritten f (z +ℤ o) n → Contains (loads size f k o n) RuleCode.UnwrittenByte
+  loads_unwritten z e lie some = subst (λ k. Contains (loads size f k o n) RuleCode.UnwrittenByte) (sym e) (reads_unwritten f (z +ℤ o) n lie some)
 
-  pub loads_beyond : (z : ℤ) → k ≡ Record z → ¬ (LieInRecord size (z +ℤ o) n) → Contains (loads size f k o n) OutsideRecord
-  loads_beyond z e out = subst (λ k. Contains (loads size f k o n) OutsideRecord) (sym e) (stands (not (in_record size (z +ℤ o) n)) OutsideRecord ((Decides-not (in_record size (z +ℤ o) n) (Decides-record size (z +ℤ o) n)).1 out))
+  pub loads_beyond : (z : ℤ) → k ≡ Kind.Record z → ¬ (LieInRecord size (z +ℤ o) n) → Contains (loads size f k o n) RuleCode.OutsideRecord
+  loads_beyond z e out = subst (λ k. Contains (loads size f k o n) RuleCode.OutsideRecord) (sym e) (stands (not (in_record size (z +ℤ o) n)) RuleCode.OutsideRecord ((Decides-not (in_record size (z +ℤ o) n) (Decides-record size (z +ℤ o) n)).1 out))
 
-  pub loads_number : k ≡ Number → Contains (loads size f k o n) ThroughNumber
-  loads_number e = subst (λ k. Contains (loads size f k o n) ThroughNumber) (sym e) (stands_one ThroughNumber)
+  pub loads_number : k ≡ Kind.Number → Contains (loads size f k o n) RuleCode.ThroughNumber
+  loads_number e = subst (λ k. Contains (loads size f k o n) RuleCode.ThroughNumber) (sym e) (stands_one RuleCode.ThroughNumber)
 
-  pub stores_outside : (z : ℤ) → k ≡ Stack z → ¬ (LieInStack (z +ℤ o) n) → Contains (stores k o n) OutsideStack
-  stores_outside z e out = subst (λ k. Contains (stores k o n) OutsideStack) (sym e) (writes_outside (z +ℤ o) n out)
+  pub stores_outside : (z : ℤ) → k ≡ Kind.Stack z → ¬ (LieInStack (z +ℤ o) n) → Contains (stores k o n) RuleCode.OutsideStack
+  stores_outside z e out = subst (λ k. Contains (stores k o n) RuleCode.OutsideStack) (sym e) (writes_outside (z +ℤ o) n out)
 
-  pub stores_record : (z : ℤ) → k ≡ Record z → Contains (stores k o n) WritesRecord
-  stores_record z e = subst (λ k. Contains (stores k o n) WritesRecord) (sym e) (stands_one WritesRecord)
+  pub stores_record : (z : ℤ) → k ≡ Kind.Record z → Contains (stores k o n) RuleCode.WritesRecord
+  stores_record z e = subst (λ k. Contains (stores k o n) RuleCode.WritesRecord) (sym e) (stands_one RuleCode.WritesRecord)
 
-  pub stores_number : k ≡ Number → Contains (stores k o n) ThroughNumber
-  stores_number e = subst (λ k. Contains (stores k o n) ThroughNumber) (sym e) (stands_one ThroughNumber)
+  pub stores_number : k ≡ Kind.Number → Contains (stores k o n) RuleCode.ThroughNumber
+  stores_number e = subst (λ k. Contains (stores k o n) RuleCode.ThroughNumber) (sym e) (stands_one RuleCode.ThroughNumber)
 
 -- ---- helpers
 
 -- an unset argument is listed, of each helper that takes it
-pub call_unset : (f : Frame) (o : Option Helper) (r : ℕ) → IsSomeAnd o (λ h. IsCellArgument h r ⊎ IsPlaceArgument h r) → kind_of f r ≡ Unset → Contains (call_rules f o) ReadsUnset
+pub call_unset : (f : Frame) (o : Option Helper) (r : ℕ) → IsSomeAnd o (λ h. IsCellArgument h r ⊎ IsPlaceArgument h r) → kind_of f r ≡ Kind.Unset → Contains (call_rules f o) RuleCode.ReadsUnset
 call_unset f None r h e = absurd h
 call_unset f (Some Read) r (inl (inl h)) e = let u = unset_at f r 1 h e in search (Contains-append_left, Contains-append_right, stands)
 call_unset f (Some Read) r (inl (inr h)) e = let u = unset_at f r 2 h e in search (Contains-append_left, Contains-append_right, stands)
@@ -186,48 +179,48 @@ call_unset f (Some Delete) r (inr h) e = absurd h
 call_unset f (Some Start) r (inl h) e = absurd h
 call_unset f (Some Start) r (inr h) e = absurd h
 
-pub call_outside : (f : Frame) (o : Option Helper) (t : Touch) (k : ℤ) → IsSomeAnd o (λ h. HelperTouches h t) → kind_of f t.base ≡ Stack k → ¬ (LieInStack (k +ℤ t.offset) t.bytes) → Contains (call_rules f o) OutsideStack
+pub call_outside : (f : Frame) (o : Option Helper) (t : Touch) (k : ℤ) → IsSomeAnd o (λ h. HelperTouches h t) → kind_of f t.base ≡ Kind.Stack k → ¬ (LieInStack (k +ℤ t.offset) t.bytes) → Contains (call_rules f o) RuleCode.OutsideStack
 call_outside f None t k h is out = absurd h
 call_outside f (Some Read) t k h is out =
-    let q = subst (λ (u : Touch). (kind_of f u.base ≡ Stack k) × ¬ (LieInStack (k +ℤ u.offset) u.bytes)) h (is, out) in
-    let here : Contains (filled_bytes (kind_of f 3)) OutsideStack = subst (λ p. Contains (filled_bytes p) OutsideStack) (sym q.0) (writes_outside k 32 (subst (λ y. ¬ (LieInStack y 32)) (+ℤ_idr k) q.1)) in
+    let q = subst (λ (u : Touch). (kind_of f u.base ≡ Kind.Stack k) × ¬ (LieInStack (k +ℤ u.offset) u.bytes)) h (is, out) in
+    let here : Contains (filled_bytes (kind_of f 3)) RuleCode.OutsideStack = subst (λ p. Contains (filled_bytes p) RuleCode.OutsideStack) (sym q.0) (writes_outside k 32 (subst (λ y. ¬ (LieInStack y 32)) (+ℤ_idr k) q.1)) in
     search (Contains-append_left, Contains-append_right, here)
 call_outside f (Some Write) t k h is out =
-    let q = subst (λ (u : Touch). (kind_of f u.base ≡ Stack k) × ¬ (LieInStack (k +ℤ u.offset) u.bytes)) h (is, out) in
-    let here : Contains (taken_bytes f (kind_of f 3)) OutsideStack = subst (λ p. Contains (taken_bytes f p) OutsideStack) (sym q.0) (reads_outside f k 32 (subst (λ y. ¬ (LieInStack y 32)) (+ℤ_idr k) q.1)) in
+    let q = subst (λ (u : Touch). (kind_of f u.base ≡ Kind.Stack k) × ¬ (LieInStack (k +ℤ u.offset) u.bytes)) h (is, out) in
+    let here : Contains (taken_bytes f (kind_of f 3)) RuleCode.OutsideStack = subst (λ p. Contains (taken_bytes f p) RuleCode.OutsideStack) (sym q.0) (reads_outside f k 32 (subst (λ y. ¬ (LieInStack y 32)) (+ℤ_idr k) q.1)) in
     search (Contains-append_left, Contains-append_right, here)
 call_outside f (Some Delete) t k h is out = absurd h
 call_outside f (Some Start) t k h is out = absurd h
 
-pub call_unwritten : (f : Frame) (o : Option Helper) (t : Touch) (k : ℤ) → IsSomeAnd o (λ h. HelperTouches h t) → IsReading t.how → kind_of f t.base ≡ Stack k → LieInStack (k +ℤ t.offset) t.bytes → SomeUnwritten f (k +ℤ t.offset) t.bytes → Contains (call_rules f o) UnwrittenByte
+pub call_unwritten : (f : Frame) (o : Option Helper) (t : Touch) (k : ℤ) → IsSomeAnd o (λ h. HelperTouches h t) → IsReading t.how → kind_of f t.base ≡ Kind.Stack k → LieInStack (k +ℤ t.offset) t.bytes → SomeUnwritten f (k +ℤ t.offset) t.bytes → Contains (call_rules f o) RuleCode.UnwrittenByte
 call_unwritten f None t k h reading is lie some = absurd h
 call_unwritten f (Some Read) t k h reading is lie some =
     let q = subst (λ (u : Touch). IsReading u.how) h reading in
-    elim q as (λ _. Contains (call_rules f (Some Read)) UnwrittenByte) [ inl e ↦ cc | inr e ↦ cc ]
+    elim q as (λ _. Contains (call_rules f (Some Read)) RuleCode.UnwrittenByte) [ inl e ↦ cc | inr e ↦ cc ]
 call_unwritten f (Some Write) t k h reading is lie some =
-    let q = subst (λ (u : Touch). (kind_of f u.base ≡ Stack k) × LieInStack (k +ℤ u.offset) u.bytes × SomeUnwritten f (k +ℤ u.offset) u.bytes) h (is, lie, some) in
-    let here : Contains (taken_bytes f (kind_of f 3)) UnwrittenByte = subst (λ p. Contains (taken_bytes f p) UnwrittenByte) (sym q.0) (reads_unwritten f k 32 (subst (λ y. LieInStack y 32) (+ℤ_idr k) q.1) (subst (λ y. SomeUnwritten f y 32) (+ℤ_idr k) q.2)) in
+    let q = subst (λ (u : Touch). (kind_of f u.base ≡ Kind.Stack k) × LieInStack (k +ℤ u.offset) u.bytes × SomeUnwritten f (k +ℤ u.offset) u.bytes) h (is, lie, some) in
+    let here : Contains (taken_bytes f (kind_of f 3)) RuleCode.UnwrittenByte = subst (λ p. Contains (taken_bytes f p) RuleCode.UnwrittenByte) (sym q.0) (reads_unwritten f k 32 (subst (λ y. LieInStack y 32) (+ℤ_idr k) q.1) (subst (λ y. SomeUnwritten f y 32) (+ℤ_idr k) q.2)) in
     search (Contains-append_left, Contains-append_right, here)
 call_unwritten f (Some Delete) t k h reading is lie some = absurd h
 call_unwritten f (Some Start) t k h reading is lie some = absurd h
 
-Decides-cell : (f : Frame) → Decides (is_cell f) ((kind_of f 1 ≡ Number) × (kind_of f 2 ≡ Number))
+Decides-cell : (f : Frame) → Decides (is_cell f) ((kind_of f 1 ≡ Kind.Number) × (kind_of f 2 ≡ Kind.Number))
 Decides-cell f = Decides-and _ _ (Decides-number (kind_of f 1)) (Decides-number (kind_of f 2))
 
-Decides-arguments : (f : Frame) → Decides (is_cell f && is_place (kind_of f 3)) (((kind_of f 1 ≡ Number) × (kind_of f 2 ≡ Number)) × IsStackPointer (kind_of f 3))
+Decides-arguments : (f : Frame) → Decides (is_cell f && is_place (kind_of f 3)) (((kind_of f 1 ≡ Kind.Number) × (kind_of f 2 ≡ Kind.Number)) × IsStackPointer (kind_of f 3))
 Decides-arguments f = Decides-and _ _ (Decides-cell f) (Decides-place (kind_of f 3))
 
-not_cell : (f : Frame) (r : ℕ) → (r ≡ 1) ⊎ (r ≡ 2) → kind_of f r ≢ Number → ¬ ((kind_of f 1 ≡ Number) × (kind_of f 2 ≡ Number))
-not_cell f r (inl e) out h = out (subst (λ q. kind_of f q ≡ Number) (sym e) h.0)
-not_cell f r (inr e) out h = out (subst (λ q. kind_of f q ≡ Number) (sym e) h.1)
+not_cell : (f : Frame) (r : ℕ) → (r ≡ 1) ⊎ (r ≡ 2) → kind_of f r ≢ Kind.Number → ¬ ((kind_of f 1 ≡ Kind.Number) × (kind_of f 2 ≡ Kind.Number))
+not_cell f r (inl e) out h = out (subst (λ q. kind_of f q ≡ Kind.Number) (sym e) h.0)
+not_cell f r (inr e) out h = out (subst (λ q. kind_of f q ≡ Kind.Number) (sym e) h.1)
 
 -- an argument is wrong, of a helper that has three
-wrong : (f : Frame) (r : ℕ) → (((r ≡ 1) ⊎ (r ≡ 2)) × (kind_of f r ≢ Number)) ⊎ ((r ≡ 3) × ¬ (IsStackPointer (kind_of f r))) → not (is_cell f && is_place (kind_of f 3)) ≡ true
+wrong : (f : Frame) (r : ℕ) → (((r ≡ 1) ⊎ (r ≡ 2)) × (kind_of f r ≢ Kind.Number)) ⊎ ((r ≡ 3) × ¬ (IsStackPointer (kind_of f r))) → not (is_cell f && is_place (kind_of f 3)) ≡ true
 wrong f r (inl h) = (Decides-not _ (Decides-arguments f)).1 (λ p. not_cell f r h.0 h.1 p.0)
 wrong f r (inr h) = (Decides-not _ (Decides-arguments f)).1 (λ p. h.1 (subst (λ q. IsStackPointer (kind_of f q)) (sym h.0) p.1))
 
 -- a wrong argument is listed, of each helper that takes it
-pub call_wrong : (f : Frame) (o : Option Helper) → IsSomeAnd o (λ h. (r : ℕ) × IsWrong f h r) → Contains (call_rules f o) WrongArgument
+pub call_wrong : (f : Frame) (o : Option Helper) → IsSomeAnd o (λ h. (r : ℕ) × IsWrong f h r) → Contains (call_rules f o) RuleCode.WrongArgument
 call_wrong f None h = absurd h
 call_wrong f (Some Read) h = let e = wrong f h.0 h.1 in search (Contains-append_left, Contains-append_right, stands)
 call_wrong f (Some Write) h = let e = wrong f h.0 h.1 in search (Contains-append_left, Contains-append_right, stands)
@@ -236,25 +229,25 @@ call_wrong f (Some Delete) (r, inr h) = absurd h.0
 call_wrong f (Some Start) (r, inl h) = absurd h.0
 call_wrong f (Some Start) (r, inr h) = absurd h.0
 
-pub call_undeclared : (f : Frame) (o : Option Helper) → o ≡ None → Contains (call_rules f o) NotDeclared
-call_undeclared f o e = subst (λ o. Contains (call_rules f o) NotDeclared) (sym e) (stands_one NotDeclared)
+pub call_undeclared : (f : Frame) (o : Option Helper) → o ≡ None → Contains (call_rules f o) RuleCode.NotDeclared
+call_undeclared f o e = subst (λ o. Contains (call_rules f o) RuleCode.NotDeclared) (sym e) (stands_one RuleCode.NotDeclared)
 
 -- ---- jumps
 
-pub jumps_back : (p : List Insn) (n : ℕ) (o : ℤ) (z : ℕ) → o ≡ negsuc z → Contains (jump_rules p n o) BackwardJump
-jumps_back p n o z e = subst (λ o. Contains (jump_rules p n o) BackwardJump) (sym e) (stands_one BackwardJump)
+pub jumps_back : (p : List Insn) (n : ℕ) (o : ℤ) (z : ℕ) → o ≡ negsuc z → Contains (jump_rules p n o) RuleCode.BackwardJump
+jumps_back p n o z e = subst (λ o. Contains (jump_rules p n o) RuleCode.BackwardJump) (sym e) (stands_one RuleCode.BackwardJump)
 
 -- a target past the last slot is listed as 33
-pub jumps_outside : (p : List Insn) (n : ℕ) (o : ℤ) (t z : ℕ) → o ≡ pos z → t ≡ n + 1 + z → slots p ≤ t → Contains (jump_rules p n o) JumpOutside
-jumps_outside p n o t z e is past = subst (λ o. Contains (jump_rules p n o) JumpOutside) (sym e) (by (nat_le (slots p) (n + 1 + z)) (le_to (slots p) (n + 1 + z) (omega arith)))
+pub jumps_outside : (p : List Insn) (n : ℕ) (o : ℤ) (t z : ℕ) → o ≡ pos z → t ≡ n + 1 + z → slots p ≤ t → Contains (jump_rules p n o) RuleCode.JumpOutside
+jumps_outside p n o t z e is past = subst (λ o. Contains (jump_rules p n o) RuleCode.JumpOutside) (sym e) (by (nat_le (slots p) (n + 1 + z)) (le_to (slots p) (n + 1 + z) (omega arith)))
   where
-    by : (b : Bool) → b ≡ true → Contains (if b then JumpOutside ∷ [] else when (is_none (insn_at p (n + 1 + z))) JumpIntoPair) JumpOutside
-    by true e = stands_one JumpOutside
+    by : (b : Bool) → b ≡ true → Contains (if b then RuleCode.JumpOutside ∷ [] else when (is_none (insn_at p (n + 1 + z))) RuleCode.JumpIntoPair) RuleCode.JumpOutside
+    by true e = stands_one RuleCode.JumpOutside
     by false e = cc
 
-pub jumps_into : (p : List Insn) (n : ℕ) (o : ℤ) (t z : ℕ) → o ≡ pos z → t ≡ n + 1 + z → t < slots p → insn_at p t ≡ None → Contains (jump_rules p n o) JumpIntoPair
-jumps_into p n o t z e is inside none = subst (λ o. Contains (jump_rules p n o) JumpIntoPair) (sym e) (by (nat_le (slots p) (n + 1 + z)) (le_not (slots p) (n + 1 + z) (omega arith)))
+pub jumps_into : (p : List Insn) (n : ℕ) (o : ℤ) (t z : ℕ) → o ≡ pos z → t ≡ n + 1 + z → t < slots p → insn_at p t ≡ None → Contains (jump_rules p n o) RuleCode.JumpIntoPair
+jumps_into p n o t z e is inside none = subst (λ o. Contains (jump_rules p n o) RuleCode.JumpIntoPair) (sym e) (by (nat_le (slots p) (n + 1 + z)) (le_not (slots p) (n + 1 + z) (omega arith)))
   where
-    by : (b : Bool) → b ≡ false → Contains (if b then JumpOutside ∷ [] else when (is_none (insn_at p (n + 1 + z))) JumpIntoPair) JumpIntoPair
-    by false e = stands (is_none (insn_at p (n + 1 + z))) JumpIntoPair ((Decides-none (insn_at p (n + 1 + z))).1 (subst (λ t. insn_at p t ≡ None) is none))
+    by : (b : Bool) → b ≡ false → Contains (if b then RuleCode.JumpOutside ∷ [] else when (is_none (insn_at p (n + 1 + z))) RuleCode.JumpIntoPair) RuleCode.JumpIntoPair
+    by false e = stands (is_none (insn_at p (n + 1 + z))) RuleCode.JumpIntoPair ((Decides-none (insn_at p (n + 1 + z))).1 (subst (λ t. insn_at p t ≡ None) is none))
     by true e = cc

@@ -1,18 +1,14 @@
 -- The slots that have a frame are those that are reached.
-use Rattle.std.proofs.Common.{◌≡◌, ◌≢◌, ℕ, zero, suc, ◌+◌, ◌<◌, Bool, true, false, ◌⊎◌, inl, inr, nat_eq, ℤ, pos, negsuc, List, [], ◌∷◌, Option, Some, None, refl, sym, ap, subst, ◌∙◌, arith}
-use Rattle.std.specs.Prelude.{◌↔◌, if◌then◌else◌, IfSome, Decides}
-use Rattle.std.specs.List.{Contains}
+use Rattle.std.proofs.Common.{◌≡◌, ◌≢◌, ℕ, zero, suc, ◌+◌, ◌<◌, Bool, true, false, ◌⊎◌, inl, inr, nat_eq, ℤ, pos, negsuc, List, [], ◌∷◌, Option, Some, None, refl, sym, ap, subst, ◌∙◌, arith, ◌↔◌, if◌then◌else◌, IfSome, Decides, Contains}
 use Rattle.std.proofs.lemmas.List.Elements.{All-contains}
 use Rattle.std.proofs.lemmas.Bool.{cases_lt}
 use Rattle.std.proofs.lemmas.Bool.Decides.{Decides-eqb, Decides-or}
 use Rattle.pb_isa.specs.declared.insn.Insn.{Insn}
-use Rattle.pb_isa.specs.declared.insn.Insn.TheVariants.{Alu, MovSx, Neg, LoadImm, Load, StoreImm, Store, Jump, JumpIf, Call, Exit}
 use Rattle.pb_isa.specs.Programs.{JudgedOf}
 use Rattle.pb_isa.specs.Slots.{insn_at}
-use Rattle.pb_kinds.specs.declared.frame.Kind.TheVariants.{Number, Stack}
+use Rattle.pb_kinds.specs.declared.frame.Kind.{Kind}
 use Rattle.pb_kinds.specs.declared.frame.Frame.{Frame}
 use Rattle.pb_helpers.specs.declared.code.RuleCode.{RuleCode}
-use Rattle.pb_helpers.specs.declared.code.RuleCode.TheVariants.{Unreachable}
 use Rattle.pb_verify.specs.Rules.{insn_rules}
 use Rattle.pb_verify.specs.Following.{after, ahead, leads}
 use Rattle.pb_verify.specs.Arriving.{has_slot, if_leads, frame_after, in_at, codes_at, faults}
@@ -51,24 +47,24 @@ Decides-ahead m n (negsuc z) = ((λ h. cc), (λ h. let e = h.1 in cc))
 
 -- the verifier's list of the slots that an instruction leads to has exactly those
 follows : (m n : ℕ) (i : Insn) → Decides (has_slot (leads m i) n) (Follows m n i)
-follows m n (LoadImm d v) = only_next m n (m + 2) (LoadImm d v) refl refl (λ h. h)
-follows m n (Jump o) = (
+follows m n (Insn.LoadImm d v) = only_next m n (m + 2) (Insn.LoadImm d v) refl refl (λ h. h)
+follows m n (Insn.Jump o) = (
   (λ h. inr ((Decides-ahead m n o).0 h)),
   (λ h. elim h as (λ _. has_slot (ahead m o) n ≡ true) [ inl e ↦ cc | inr e ↦ (Decides-ahead m n o).1 e ]),
 )
-follows m n (JumpIf c w d x o) =
+follows m n (Insn.JumpIf c w d x o) =
     let t = Decides-or (nat_eq n (m + 1)) (has_slot (ahead m o) n) (Decides-eqb n (m + 1)) (Decides-ahead m n o) in (
-      (λ h. elim (t.0 h) as (λ _. Follows m n (JumpIf c w d x o)) [ inl e ↦ inl (ap Some (sym e)) | inr e ↦ inr e ]),
+      (λ h. elim (t.0 h) as (λ _. Follows m n (Insn.JumpIf c w d x o)) [ inl e ↦ inl (ap Some (sym e)) | inr e ↦ inr e ]),
       (λ h. t.1 (elim h as (λ _. (n ≡ m + 1) ⊎ ((z : ℕ) × (o ≡ pos z) × (n ≡ m + 1 + z))) [ inl e ↦ inl cc | inr e ↦ inr e ])),
     )
-follows m n Exit = ((λ h. cc), (λ h. elim h as (λ _. false ≡ true) [ inl e ↦ cc | inr e ↦ absurd e ]))
-follows m n (Alu op w d x) = only_next m n (m + 1) (Alu op w d x) refl refl (λ h. h)
-follows m n (MovSx w z d r) = only_next m n (m + 1) (MovSx w z d r) refl refl (λ h. h)
-follows m n (Neg w d) = only_next m n (m + 1) (Neg w d) refl refl (λ h. h)
-follows m n (Load z x d r o) = only_next m n (m + 1) (Load z x d r o) refl refl (λ h. h)
-follows m n (StoreImm z d o v) = only_next m n (m + 1) (StoreImm z d o v) refl refl (λ h. h)
-follows m n (Store z d s o) = only_next m n (m + 1) (Store z d s o) refl refl (λ h. h)
-follows m n (Call k) = only_next m n (m + 1) (Call k) refl refl (λ h. h)
+follows m n Insn.Exit = ((λ h. cc), (λ h. elim h as (λ _. false ≡ true) [ inl e ↦ cc | inr e ↦ absurd e ]))
+follows m n (Insn.Alu op w d x) = only_next m n (m + 1) (Insn.Alu op w d x) refl refl (λ h. h)
+follows m n (Insn.MovSx w z d r) = only_next m n (m + 1) (Insn.MovSx w z d r) refl refl (λ h. h)
+follows m n (Insn.Neg w d) = only_next m n (m + 1) (Insn.Neg w d) refl refl (λ h. h)
+follows m n (Insn.Load z x d r o) = only_next m n (m + 1) (Insn.Load z x d r o) refl refl (λ h. h)
+follows m n (Insn.StoreImm z d o v) = only_next m n (m + 1) (Insn.StoreImm z d o v) refl refl (λ h. h)
+follows m n (Insn.Store z d s o) = only_next m n (m + 1) (Insn.Store z d s o) refl refl (λ h. h)
+follows m n (Insn.Call k) = only_next m n (m + 1) (Insn.Call k) refl refl (λ h. h)
 
 -- ---- ways
 
@@ -122,7 +118,7 @@ module _ (p : List Insn) (meets : IsMeetOfWays p) where
 
   -- no register is of two kinds
   two_kinds : (f : Frame) → ¬ ((x : Fact) → Says f x)
-  two_kinds f h = let a = (h (HasKind 0 Number)).kind in let b = (h (HasKind 0 (Stack (pos 0)))).kind in let c : Number ≡ Stack (pos 0) = sym a ∙ b in cc
+  two_kinds f h = let a = (h (HasKind 0 Kind.Number)).kind in let b = (h (HasKind 0 (Kind.Stack (pos 0)))).kind in let c : Kind.Number ≡ Kind.Stack (pos 0) = sym a ∙ b in cc
 
   from_unreached : (n : ℕ) → IsUnreached p n → in_at p n ≡ None
   from_unreached n u = by (in_at p n) (meets.later n u.later)
@@ -199,11 +195,11 @@ faults_are_told meets later rules c j n = by (insn_at j.program.insns n) (in_at 
         not_in_none k = omega arith
     by (Some i) None e h t = (
       (λ k. (i, e, inl (sym (only k), (λ r. t.1 r h)))),
-      (λ k. elim k.2 as (λ _. Contains (Unreachable ∷ []) c) [ inl q ↦ subst (λ d. Contains (Unreachable ∷ []) d) (sym q.0) (stands_one Unreachable) | inr q ↦ (let g = q.1 in cc) ]),
+      (λ k. elim k.2 as (λ _. Contains (RuleCode.Unreachable ∷ []) c) [ inl q ↦ subst (λ d. Contains (RuleCode.Unreachable ∷ []) d) (sym q.0) (stands_one RuleCode.Unreachable) | inr q ↦ (let g = q.1 in cc) ]),
     )
       where
-        only : Contains (Unreachable ∷ []) c → Unreachable ≡ c
-        only k = All-contains (λ d. Unreachable ≡ d) (Unreachable ∷ []) c (each_one (λ d. Unreachable ≡ d) Unreachable refl) k
+        only : Contains (RuleCode.Unreachable ∷ []) c → RuleCode.Unreachable ≡ c
+        only k = All-contains (λ d. RuleCode.Unreachable ≡ d) (RuleCode.Unreachable ∷ []) c (each_one (λ d. RuleCode.Unreachable ≡ d) RuleCode.Unreachable refl) k
     by (Some i) (Some f) e h t = (
       (λ k. (i, e, inr (f, h, (rules c j n f i).0 k))),
       (λ k. elim k.2 as (λ _. Contains (insn_rules j n f i) c) [
@@ -212,9 +208,9 @@ faults_are_told meets later rules c j n = by (insn_at j.program.insns n) (in_at 
       ]),
     )
 
-pub unreachable_is_told : FramesAreMeets → LeadsAreLater → RulesAreByCode → (j : JudgedOf) (n : ℕ) (i : Insn) → insn_at j.program.insns n ≡ Some i → Contains (faults j n) Unreachable ↔ ¬ (IsReachable j.program.insns n)
+pub unreachable_is_told : FramesAreMeets → LeadsAreLater → RulesAreByCode → (j : JudgedOf) (n : ℕ) (i : Insn) → insn_at j.program.insns n ≡ Some i → Contains (faults j n) RuleCode.Unreachable ↔ ¬ (IsReachable j.program.insns n)
 unreachable_is_told meets later rules j n i e =
-    let t = faults_are_told meets later rules Unreachable j n in (
+    let t = faults_are_told meets later rules RuleCode.Unreachable j n in (
       (λ h. elim (t.0 h).2 as (λ _. ¬ (IsReachable j.program.insns n)) [ inl q ↦ q.1 | inr q ↦ absurd q.2 ]),
       (λ h. t.1 (i, e, inl (refl, h))),
     )

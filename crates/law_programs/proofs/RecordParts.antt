@@ -1,6 +1,5 @@
 -- Where the parts of a change record stand.
-use Rattle.std.proofs.Common.{◌≡◌, ℕ, ◌+◌, List, ◌++◌, length, take, drop, [], Some, None, refl, sym, ap, subst, ◌∙◌, arith, length-append}
-use Rattle.std.specs.Prelude.{IfSome}
+use Rattle.std.proofs.Common.{◌≡◌, ℕ, ◌+◌, List, ◌++◌, length, take, drop, [], Some, None, refl, sym, ap, subst, ◌∙◌, arith, length-append, IfSome}
 use Rattle.std.specs.Int.{from_le_bytes}
 use mir.Syntax.{w64}
 use Rattle.std.proofs.Math.Seq.{take-append_seam, drop-append-add}
@@ -8,7 +7,6 @@ use Rattle.std.proofs.lemmas.List.{append-nil}
 use Rattle.std.proofs.lemmas.Nat.{from_le_bytes-to_le_bytes_8}
 use Rattle.pb_base.specs.declared.cell.Cell.{Cell}
 use Rattle.pb_base.specs.declared.content.Content.{Content}
-use Rattle.pb_base.specs.declared.content.Content.TheVariants.{Value, Deleted, Stamp}
 use Rattle.pb_base.specs.declared.content.Revision.{Revision}
 use Rattle.pb_base.specs.Cell.{row_of, column_of}
 use Rattle.pb_isa.specs.Machine.{Reply, reply_bytes}
@@ -22,9 +20,9 @@ front v rest e = subst (λ n. take n (v ++ rest) ≡ v) e (take-append_seam v re
 
 -- a value has 32 bytes, and so have the zeros in place of one
 length-value : (c : Content) → HasValueSize c → length (value_bytes c) ≡ 32
-length-value (Value v) h = h
-length-value Deleted h = refl
-length-value (Stamp t) h = refl
+length-value (Content.Value v) h = h
+length-value Content.Deleted h = refl
+length-value (Content.Stamp t) h = refl
 
 length-reply : (r : Reply) → IfSome r (λ v. length v ≡ 32) → length (reply_bytes r) ≡ 32
 length-reply (Some v) h = h
@@ -35,9 +33,9 @@ content_in : (x : Cell) (found : Revision) (a : ℕ) (rest : List ℕ) (c : Cont
 content_in x found a rest c e h = subst (λ d. HasContent ((word_bytes (row_of x).0 ++ (word_bytes (column_of x) ++ (word_bytes found.start.0 ++ (word_bytes found.commit.0 ++ (word_bytes (present d) ++ (word_bytes a ++ value_bytes d)))))) ++ rest) c) (sym e) (of c h)
   where
     of : (c : Content) → HasValueSize c → HasContent ((word_bytes (row_of x).0 ++ (word_bytes (column_of x) ++ (word_bytes found.start.0 ++ (word_bytes found.commit.0 ++ (word_bytes (present c) ++ (word_bytes a ++ value_bytes c)))))) ++ rest) c
-    of (Value v) h = (from_le_bytes-to_le_bytes_8 1 (omega arith), front v rest h)
-    of Deleted h = (from_le_bytes-to_le_bytes_8 0 (omega arith), refl)
-    of (Stamp t) h = (from_le_bytes-to_le_bytes_8 0 (omega arith), refl)
+    of (Content.Value v) h = (from_le_bytes-to_le_bytes_8 1 (omega arith), front v rest h)
+    of Content.Deleted h = (from_le_bytes-to_le_bytes_8 0 (omega arith), refl)
+    of (Content.Stamp t) h = (from_le_bytes-to_le_bytes_8 0 (omega arith), refl)
 
 -- the parts of a record, with whatever follows
 parts : (x : Cell) (found : Revision) (a : ℕ) (rest : List ℕ) → FitsRecord x found a → HasParts (record_of x found a ++ rest) x found a

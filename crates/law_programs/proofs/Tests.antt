@@ -1,13 +1,10 @@
 -- What the tests of the rules decide.
-use Rattle.std.proofs.Common.{◌≡◌, ℕ, zero, suc, ◌+◌, ◌<◌, ◌≤◌, Bool, true, false, not, ◌&&◌, inl, inr, ℤ, pos, negsuc, ◌+ℤ◌, ◌≤ℤ◌, int_le, T, refl, ap, subst, arith}
-use Rattle.std.specs.Prelude.{Decides, is_none, nat_le, Option, Some, None}
+use Rattle.std.proofs.Common.{◌≡◌, ℕ, zero, suc, ◌+◌, ◌<◌, ◌≤◌, Bool, true, false, not, ◌&&◌, inl, inr, ℤ, pos, negsuc, ◌+ℤ◌, ◌≤ℤ◌, int_le, T, refl, ap, subst, arith, Decides, is_none, nat_le, Option, Some, None}
 use Rattle.std.proofs.lemmas.Float.{T_from_true}
 use Rattle.std.proofs.lemmas.Bool.{true_from_ne_false}
 use Rattle.std.proofs.lemmas.Bool.Decides.{Decides-and, nat_tests}
 use Rattle.pb_isa.specs.declared.insn.Size.{Size}
-use Rattle.pb_isa.specs.declared.insn.Size.TheVariants.{B, H, W, Dw}
 use Rattle.pb_kinds.specs.declared.frame.Kind.{Kind}
-use Rattle.pb_kinds.specs.declared.frame.Kind.TheVariants.{Unset, Number, Stack, Record}
 use Rattle.pb_kinds.specs.declared.frame.Frame.{Frame}
 use Rattle.pb_kinds.specs.Frames.{has_byte, is_unset, is_number_kind, is_pointer}
 use Rattle.pb_kinds.specs.Ranges.{in_stack, in_record, from_low, has_bytes, are_written}
@@ -18,29 +15,29 @@ use Rattle.law_programs.specs.Touches.{size_bytes, LieInStack, LieInRecord, Some
 
 -- ---- kinds
 
-pub Decides-unset : (k : Kind) → Decides (is_unset k) (k ≡ Unset)
-Decides-unset Unset = ((λ e. refl), (λ e. refl))
-Decides-unset Number = ((λ e. cc), (λ e. cc))
-Decides-unset (Stack z) = ((λ e. cc), (λ e. cc))
-Decides-unset (Record z) = ((λ e. cc), (λ e. cc))
+pub Decides-unset : (k : Kind) → Decides (is_unset k) (k ≡ Kind.Unset)
+Decides-unset Kind.Unset = ((λ e. refl), (λ e. refl))
+Decides-unset Kind.Number = ((λ e. cc), (λ e. cc))
+Decides-unset (Kind.Stack z) = ((λ e. cc), (λ e. cc))
+Decides-unset (Kind.Record z) = ((λ e. cc), (λ e. cc))
 
-pub Decides-number : (k : Kind) → Decides (is_number_kind k) (k ≡ Number)
-Decides-number Unset = ((λ e. cc), (λ e. cc))
-Decides-number Number = ((λ e. refl), (λ e. refl))
-Decides-number (Stack z) = ((λ e. cc), (λ e. cc))
-Decides-number (Record z) = ((λ e. cc), (λ e. cc))
+pub Decides-number : (k : Kind) → Decides (is_number_kind k) (k ≡ Kind.Number)
+Decides-number Kind.Unset = ((λ e. cc), (λ e. cc))
+Decides-number Kind.Number = ((λ e. refl), (λ e. refl))
+Decides-number (Kind.Stack z) = ((λ e. cc), (λ e. cc))
+Decides-number (Kind.Record z) = ((λ e. cc), (λ e. cc))
 
 pub Decides-place : (k : Kind) → Decides (is_place k) (IsStackPointer k)
-Decides-place Unset = ((λ e. cc), (λ h. let e = h.1 in cc))
-Decides-place Number = ((λ e. cc), (λ h. let e = h.1 in cc))
-Decides-place (Stack z) = ((λ e. (z, refl)), (λ h. refl))
-Decides-place (Record z) = ((λ e. cc), (λ h. let e = h.1 in cc))
+Decides-place Kind.Unset = ((λ e. cc), (λ h. let e = h.1 in cc))
+Decides-place Kind.Number = ((λ e. cc), (λ h. let e = h.1 in cc))
+Decides-place (Kind.Stack z) = ((λ e. (z, refl)), (λ h. refl))
+Decides-place (Kind.Record z) = ((λ e. cc), (λ h. let e = h.1 in cc))
 
 pub Decides-pointer : (k : Kind) → Decides (is_pointer k) (IsPointer k)
-Decides-pointer Unset = ((λ e. cc), (λ h. elim h [ inl s ↦ (let e = s.1 in cc) | inr s ↦ (let e = s.1 in cc) ]))
-Decides-pointer Number = ((λ e. cc), (λ h. elim h [ inl s ↦ (let e = s.1 in cc) | inr s ↦ (let e = s.1 in cc) ]))
-Decides-pointer (Stack z) = ((λ e. inl (z, refl)), (λ h. refl))
-Decides-pointer (Record z) = ((λ e. inr (z, refl)), (λ h. refl))
+Decides-pointer Kind.Unset = ((λ e. cc), (λ h. elim h [ inl s ↦ (let e = s.1 in cc) | inr s ↦ (let e = s.1 in cc) ]))
+Decides-pointer Kind.Number = ((λ e. cc), (λ h. elim h [ inl s ↦ (let e = s.1 in cc) | inr s ↦ (let e = s.1 in cc) ]))
+Decides-pointer (Kind.Stack z) = ((λ e. inl (z, refl)), (λ h. refl))
+Decides-pointer (Kind.Record z) = ((λ e. inr (z, refl)), (λ h. refl))
 
 -- ---- ranges
 
@@ -56,10 +53,10 @@ Decides-record size z n = Decides-and _ _ (Decides-le (pos 0) z) (Decides-le (z 
 
 -- a load or a store moves so many bytes
 pub bytes_are : (z : Size) → size_bytes z ≡ bytes_of z
-bytes_are B = refl
-bytes_are H = refl
-bytes_are W = refl
-bytes_are Dw = refl
+bytes_are Size.B = refl
+bytes_are Size.H = refl
+bytes_are Size.W = refl
+bytes_are Size.Dw = refl
 
 -- ---- written bytes
 

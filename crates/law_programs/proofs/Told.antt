@@ -1,6 +1,5 @@
 -- Lists of codes: what holds of each code of a list, and which codes stand in it.
-use Rattle.std.proofs.Common.{◌≡◌, Bool, true, false, [], ◌∷◌, refl, arith}
-use Rattle.std.specs.List.{All, Contains}
+use Rattle.std.proofs.Common.{◌≡◌, Bool, true, false, [], ◌∷◌, refl, arith, All, Contains}
 use Rattle.std.proofs.lemmas.List.Elements.{All-nil, All-cons}
 use Rattle.pb_helpers.specs.declared.code.RuleCode.{RuleCode}
 use Rattle.pb_helpers.specs.Codes.{when}

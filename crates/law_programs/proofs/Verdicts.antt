@@ -1,13 +1,11 @@
 -- What is told of a program, in the words of the codes.
-use Rattle.std.proofs.Common.{◌≡◌, ℕ, ◌-◌, ◌≤◌, List, [], ◌∷◌, Option, Some, None, get_or, refl, sym, ap, subst, ◌∙◌, arith}
-use Rattle.std.specs.List.{All, Contains}
+use Rattle.std.proofs.Common.{◌≡◌, ℕ, ◌-◌, ◌≤◌, List, [], ◌∷◌, Option, Some, None, get_or, refl, sym, ap, subst, ◌∙◌, arith, All, Contains}
 use Rattle.std.proofs.lemmas.List.Elements.{All-nil, All-cons, All-contains, All-weaker}
 use Rattle.pb_isa.specs.declared.insn.Insn.{Insn}
 use Rattle.pb_isa.specs.Programs.{JudgedOf}
 use Rattle.pb_isa.specs.Slots.{insn_at}
 use Rattle.pb_kinds.specs.declared.frame.Frame.{Frame}
 use Rattle.pb_helpers.specs.declared.code.RuleCode.{RuleCode}
-use Rattle.pb_helpers.specs.declared.code.RuleCode.TheVariants.{ReadsUnset, WritesR10, PointerArithmetic, PointerStored, OutsideStack, UnwrittenByte, OutsideRecord, WritesRecord, ThroughNumber, NotDeclared, WrongArgument, BackwardJump, JumpOutside, JumpIntoPair, Unreachable, FallsOff, ExitsWithPointer, PointerCompared}
 use Rattle.pb_helpers.specs.Codes.{code_number, lowest_code, CodesRiseWithin}
 use Rattle.pb_verify.specs.Rules.{CodesRise}
 use Rattle.pb_verify.specs.Arriving.{in_at, codes_at, faults}
@@ -18,27 +16,27 @@ use Rattle.law_programs.specs.Verdicts.{VerdictsAreTold}
 
 -- the code of a number
 abbrev code_from : ℕ → RuleCode
-code_from n = get_or (ReadsUnset ∷ WritesR10 ∷ PointerArithmetic ∷ PointerStored ∷ OutsideStack ∷ UnwrittenByte ∷ OutsideRecord ∷ WritesRecord ∷ ThroughNumber ∷ NotDeclared ∷ WrongArgument ∷ BackwardJump ∷ JumpOutside ∷ JumpIntoPair ∷ Unreachable ∷ FallsOff ∷ ExitsWithPointer ∷ PointerCompared ∷ []) (n - 21) ReadsUnset
+code_from n = get_or (RuleCode.ReadsUnset ∷ RuleCode.WritesR10 ∷ RuleCode.PointerArithmetic ∷ RuleCode.PointerStored ∷ RuleCode.OutsideStack ∷ RuleCode.UnwrittenByte ∷ RuleCode.OutsideRecord ∷ RuleCode.WritesRecord ∷ RuleCode.ThroughNumber ∷ RuleCode.NotDeclared ∷ RuleCode.WrongArgument ∷ RuleCode.BackwardJump ∷ RuleCode.JumpOutside ∷ RuleCode.JumpIntoPair ∷ RuleCode.Unreachable ∷ RuleCode.FallsOff ∷ RuleCode.ExitsWithPointer ∷ RuleCode.PointerCompared ∷ []) (n - 21) RuleCode.ReadsUnset
 
 from_number : (c : RuleCode) → code_from (code_number c) ≡ c
-from_number ReadsUnset = refl
-from_number WritesR10 = refl
-from_number PointerArithmetic = refl
-from_number PointerStored = refl
-from_number OutsideStack = refl
-from_number UnwrittenByte = refl
-from_number OutsideRecord = refl
-from_number WritesRecord = refl
-from_number ThroughNumber = refl
-from_number NotDeclared = refl
-from_number WrongArgument = refl
-from_number BackwardJump = refl
-from_number JumpOutside = refl
-from_number JumpIntoPair = refl
-from_number Unreachable = refl
-from_number FallsOff = refl
-from_number ExitsWithPointer = refl
-from_number PointerCompared = refl
+from_number RuleCode.ReadsUnset = refl
+from_number RuleCode.WritesR10 = refl
+from_number RuleCode.PointerArithmetic = refl
+from_number RuleCode.PointerStored = refl
+from_number RuleCode.OutsideStack = refl
+from_number RuleCode.UnwrittenByte = refl
+from_number RuleCode.OutsideRecord = refl
+from_number RuleCode.WritesRecord = refl
+from_number RuleCode.ThroughNumber = refl
+from_number RuleCode.NotDeclared = refl
+from_number RuleCode.WrongArgument = refl
+from_number RuleCode.BackwardJump = refl
+from_number RuleCode.JumpOutside = refl
+from_number RuleCode.JumpIntoPair = refl
+from_number RuleCode.Unreachable = refl
+from_number RuleCode.FallsOff = refl
+from_number RuleCode.ExitsWithPointer = refl
+from_number RuleCode.PointerCompared = refl
 
 -- two codes with one number are one
 one_code : (c d : RuleCode) → code_number c ≡ code_number d → c ≡ d

@@ -1,30 +1,24 @@
 -- Which registers an instruction reads, sets and stores, and of which sort it is: the words in which docs/CODES.md says
 -- what breaks a rule.
-use Rattle.std.specs.Prelude.{◌≡◌, ◌≢◌, ◌⊎◌, ℕ, ℤ}
-use Rattle.std.specs.Option.{IsSomeAnd}
+use Rattle.std.specs.Prelude.{◌≡◌, ◌≢◌, ◌⊎◌, ℕ, ℤ, IsSomeAnd}
 use Rattle.pb_isa.specs.declared.insn.Insn.{Insn}
-use Rattle.pb_isa.specs.declared.insn.Insn.TheVariants.{Alu, MovSx, Neg, LoadImm, Load, StoreImm, Store, Jump, JumpIf, Call, Exit}
 use Rattle.pb_isa.specs.declared.insn.AluOp.{AluOp}
-use Rattle.pb_isa.specs.declared.insn.AluOp.TheVariants.{Add, Sub, Mov}
 use Rattle.pb_isa.specs.declared.insn.Width.{Width}
-use Rattle.pb_isa.specs.declared.insn.Width.TheVariants.{Bits64}
 use Rattle.pb_isa.specs.declared.insn.Operand.{Operand}
-use Rattle.pb_isa.specs.declared.insn.Operand.TheVariants as operands
 use Rattle.pb_isa.specs.Registers.{number}
 use Rattle.pb_isa.specs.Programs.{JudgedOf}
 use Rattle.pb_isa.specs.Helpers.{Helper, Read, Write, Start, declared_helper}
 use Rattle.pb_kinds.specs.declared.frame.Kind.{Kind}
-use Rattle.pb_kinds.specs.declared.frame.Kind.TheVariants.{Stack, Record}
 
 -- ---- pointers
 
 -- at some distance from the stack's end
 abbrev pub IsStackPointer : Kind → Type 0
-IsStackPointer k = (z : ℤ) × (k ≡ Stack z)
+IsStackPointer k = (z : ℤ) × (k ≡ Kind.Stack z)
 
 -- at some distance from the record's first byte
 abbrev pub IsRecordPointer : Kind → Type 0
-IsRecordPointer k = (z : ℤ) × (k ≡ Record z)
+IsRecordPointer k = (z : ℤ) × (k ≡ Kind.Record z)
 
 -- of either region
 abbrev pub IsPointer : Kind → Type 0
@@ -47,60 +41,60 @@ IsPlaceArgument h r = ⊥
 
 -- an operand that is an immediate is no register
 abbrev pub IsOperand : Operand → ℕ → Type 0
-IsOperand (operands.Imm imm) r = ⊥
-IsOperand (operands.Reg src) r = r ≡ number src
+IsOperand (Operand.Imm imm) r = ⊥
+IsOperand (Operand.Reg src) r = r ≡ number src
 
 -- moves don't read their destination, and all other arithmetic does. A call reads the arguments of a declared helper, and
 -- exit the result in R0
 abbrev pub ReadsRegister : JudgedOf → Insn → ℕ → Type 0
-ReadsRegister j (Alu op w dst src) r = ((op ≢ Mov) × (r ≡ number dst)) ⊎ IsOperand src r
-ReadsRegister j (MovSx w z dst src) r = r ≡ number src
-ReadsRegister j (Neg w dst) r = r ≡ number dst
-ReadsRegister j (LoadImm dst imm) r = ⊥
-ReadsRegister j (Load z x dst src offset) r = r ≡ number src
-ReadsRegister j (StoreImm z dst offset imm) r = r ≡ number dst
-ReadsRegister j (Store z dst src offset) r = (r ≡ number dst) ⊎ (r ≡ number src)
-ReadsRegister j (Jump offset) r = ⊥
-ReadsRegister j (JumpIf c w dst src offset) r = (r ≡ number dst) ⊎ IsOperand src r
-ReadsRegister j (Call imm) r = IsSomeAnd (declared_helper j.helpers imm) (λ h. IsCellArgument h r ⊎ IsPlaceArgument h r)
-ReadsRegister j Exit r = r ≡ 0
+ReadsRegister j (Insn.Alu op w dst src) r = ((op ≢ AluOp.Mov) × (r ≡ number dst)) ⊎ IsOperand src r
+ReadsRegister j (Insn.MovSx w z dst src) r = r ≡ number src
+ReadsRegister j (Insn.Neg w dst) r = r ≡ number dst
+ReadsRegister j (Insn.LoadImm dst imm) r = ⊥
+ReadsRegister j (Insn.Load z x dst src offset) r = r ≡ number src
+ReadsRegister j (Insn.StoreImm z dst offset imm) r = r ≡ number dst
+ReadsRegister j (Insn.Store z dst src offset) r = (r ≡ number dst) ⊎ (r ≡ number src)
+ReadsRegister j (Insn.Jump offset) r = ⊥
+ReadsRegister j (Insn.JumpIf c w dst src offset) r = (r ≡ number dst) ⊎ IsOperand src r
+ReadsRegister j (Insn.Call imm) r = IsSomeAnd (declared_helper j.helpers imm) (λ h. IsCellArgument h r ⊎ IsPlaceArgument h r)
+ReadsRegister j Insn.Exit r = r ≡ 0
 
 -- the destination of arithmetic and of moves, of the 64-bit immediate and of a load
 abbrev pub SetsRegister : Insn → ℕ → Type 0
-SetsRegister (Alu op w dst src) r = r ≡ number dst
-SetsRegister (MovSx w z dst src) r = r ≡ number dst
-SetsRegister (Neg w dst) r = r ≡ number dst
-SetsRegister (LoadImm dst imm) r = r ≡ number dst
-SetsRegister (Load z x dst src offset) r = r ≡ number dst
+SetsRegister (Insn.Alu op w dst src) r = r ≡ number dst
+SetsRegister (Insn.MovSx w z dst src) r = r ≡ number dst
+SetsRegister (Insn.Neg w dst) r = r ≡ number dst
+SetsRegister (Insn.LoadImm dst imm) r = r ≡ number dst
+SetsRegister (Insn.Load z x dst src offset) r = r ≡ number dst
 SetsRegister i r = ⊥
 
 -- the source of a store
 abbrev pub StoresRegister : Insn → ℕ → Type 0
-StoresRegister (Store z dst src offset) r = r ≡ number src
+StoresRegister (Insn.Store z dst src offset) r = r ≡ number src
 StoresRegister i r = ⊥
 
 -- ---- sorts of instructions
 
 -- mov64 copies a pointer, and add64 and sub64 of an immediate move one; other operations don't
 abbrev pub KeepsPointers : AluOp → Width → Operand → Type 0
-KeepsPointers Mov Bits64 src = Unit {0}
-KeepsPointers Add Bits64 (operands.Imm imm) = Unit {0}
-KeepsPointers Sub Bits64 (operands.Imm imm) = Unit {0}
+KeepsPointers AluOp.Mov Width.Bits64 src = Unit {0}
+KeepsPointers AluOp.Add Width.Bits64 (Operand.Imm imm) = Unit {0}
+KeepsPointers AluOp.Sub Width.Bits64 (Operand.Imm imm) = Unit {0}
 KeepsPointers op w src = ⊥
 
 -- arithmetic on numbers alone, and with it a move that extends the sign
 abbrev pub IsArithmetic : Insn → Type 0
-IsArithmetic (Alu op w dst src) = ¬ (KeepsPointers op w src)
-IsArithmetic (MovSx w z dst src) = Unit {0}
-IsArithmetic (Neg w dst) = Unit {0}
+IsArithmetic (Insn.Alu op w dst src) = ¬ (KeepsPointers op w src)
+IsArithmetic (Insn.MovSx w z dst src) = Unit {0}
+IsArithmetic (Insn.Neg w dst) = Unit {0}
 IsArithmetic i = ⊥
 
 -- a conditional jump
 abbrev pub IsComparison : Insn → Type 0
-IsComparison (JumpIf c w dst src offset) = Unit {0}
+IsComparison (Insn.JumpIf c w dst src offset) = Unit {0}
 IsComparison i = ⊥
 
 -- the end of a run, with register 0 as its result
 abbrev pub IsExit : Insn → Type 0
-IsExit Exit = Unit {0}
+IsExit Insn.Exit = Unit {0}
 IsExit i = ⊥

@@ -1,13 +1,11 @@
 -- Which slots are reached: by steps from the first slot, where the verifier goes over all earlier slots in order; and
 -- which codes are told at a slot by that.
-use Rattle.std.specs.Prelude.{◌≡◌, ◌≢◌, ◌⊎◌, ◌↔◌, ℕ, ◌<◌, List, Some, None}
-use Rattle.std.specs.List.{Contains}
+use Rattle.std.specs.Prelude.{◌≡◌, ◌≢◌, ◌⊎◌, ◌↔◌, ℕ, ◌<◌, List, Some, None, Contains}
 use Rattle.pb_isa.specs.declared.insn.Insn.{Insn}
 use Rattle.pb_isa.specs.Slots.{insn_at}
 use Rattle.pb_isa.specs.Programs.{JudgedOf}
 use Rattle.pb_kinds.specs.declared.frame.Frame.{Frame}
 use Rattle.pb_helpers.specs.declared.code.RuleCode.{RuleCode}
-use Rattle.pb_helpers.specs.declared.code.RuleCode.TheVariants.{Unreachable}
 use Rattle.pb_verify.specs.Arriving.{in_at, faults}
 use Rattle.law_programs.specs.Breaks.{Breaks}
 use Rattle.law_programs.specs.Targets.{JumpsTo, next_slot}
@@ -42,7 +40,7 @@ ReachedAreTold = (p : List Insn) → TellsReached p
 -- rules
 abbrev pub IsToldAt : RuleCode → JudgedOf → ℕ → Type 0
 IsToldAt c j n =
-    (i : Insn) × (insn_at j.program.insns n ≡ Some i) × (((c ≡ Unreachable) × ¬ (IsReachable j.program.insns n)) ⊎
+    (i : Insn) × (insn_at j.program.insns n ≡ Some i) × (((c ≡ RuleCode.Unreachable) × ¬ (IsReachable j.program.insns n)) ⊎
     ((f : Frame) × (in_at j.program.insns n ≡ Some f) × Breaks c j n f i))
 
 -- the codes at a slot are those that are told there, of every program with any helpers
@@ -53,4 +51,4 @@ FaultsAreTold = (c : RuleCode) (j : JudgedOf) (n : ℕ) → Contains (faults j n
 abbrev pub UnreachableIsTold : Type 0
 UnreachableIsTold =
     (j : JudgedOf) (n : ℕ) (i : Insn) → insn_at j.program.insns n ≡ Some i →
-    Contains (faults j n) Unreachable ↔ ¬ (IsReachable j.program.insns n)
+    Contains (faults j n) RuleCode.Unreachable ↔ ¬ (IsReachable j.program.insns n)

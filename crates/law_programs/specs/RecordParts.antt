@@ -3,7 +3,6 @@
 use Rattle.std.specs.Prelude.{◌≡◌, ℕ, ◌<◌, ◌^◌, List, replicate, take, drop, length, Some, None, IfSome}
 use Rattle.pb_base.specs.declared.cell.Cell.{Cell}
 use Rattle.pb_base.specs.declared.content.Content.{Content}
-use Rattle.pb_base.specs.declared.content.Content.TheVariants.{Value, Deleted, Stamp}
 use Rattle.pb_base.specs.declared.content.Revision.{Revision}
 use Rattle.pb_base.specs.Cell.{row_of, column_of}
 use Rattle.pb_isa.specs.Machine.{Reply}
@@ -20,9 +19,9 @@ HasNoValue bytes flag n = (word_at bytes flag ≡ 0) × (value_at bytes n ≡ re
 
 -- 1 at the flag's place and the value at its own, or 0 and zeros
 abbrev pub HasContent : List ℕ → Content → Type 0
-HasContent bytes (Value v) = (word_at bytes 32 ≡ 1) × (value_at bytes 48 ≡ v)
-HasContent bytes Deleted = HasNoValue bytes 32 48
-HasContent bytes (Stamp t) = HasNoValue bytes 32 48
+HasContent bytes (Content.Value v) = (word_at bytes 32 ≡ 1) × (value_at bytes 48 ≡ v)
+HasContent bytes Content.Deleted = HasNoValue bytes 32 48
+HasContent bytes (Content.Stamp t) = HasNoValue bytes 32 48
 
 -- the value of before, or that there was none, behind the first 80 bytes
 abbrev pub HasOld : List ℕ → Reply → Type 0
@@ -40,9 +39,9 @@ pub record HasParts (bytes : List ℕ) (x : Cell) (found : Revision) (a : ℕ) :
 
 -- a value has 32 bytes
 abbrev pub HasValueSize : Content → Type 0
-HasValueSize (Value v) = length v ≡ 32
-HasValueSize Deleted = Unit {0}
-HasValueSize (Stamp t) = Unit {0}
+HasValueSize (Content.Value v) = length v ≡ 32
+HasValueSize Content.Deleted = Unit {0}
+HasValueSize (Content.Stamp t) = Unit {0}
 
 -- the numbers have 64 bits, and a value 32 bytes
 pub record FitsRecord (x : Cell) (found : Revision) (a : ℕ) : Type 0 where

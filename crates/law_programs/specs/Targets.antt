@@ -1,13 +1,11 @@
 -- The slots to which an instruction leads.
-use Rattle.std.specs.Prelude.{◌≡◌, ℕ, ◌+◌, ℤ, pos, negsuc, Option, Some, None}
-use Rattle.std.specs.Option.{IsSomeAnd}
+use Rattle.std.specs.Prelude.{◌≡◌, ℕ, ◌+◌, ℤ, pos, negsuc, Option, Some, None, IsSomeAnd}
 use Rattle.pb_isa.specs.declared.insn.Insn.{Insn}
-use Rattle.pb_isa.specs.declared.insn.Insn.TheVariants.{LoadImm, Jump, JumpIf, Exit}
 
 -- a jump's offset
 abbrev pub jump_offset : Insn → Option ℤ
-jump_offset (Jump offset) = Some offset
-jump_offset (JumpIf c w dst src offset) = Some offset
+jump_offset (Insn.Jump offset) = Some offset
+jump_offset (Insn.JumpIf c w dst src offset) = Some offset
 jump_offset i = None
 
 -- a jump with a negative offset
@@ -20,7 +18,7 @@ JumpsTo n i t = IsSomeAnd (jump_offset i) (λ o. (z : ℕ) × (o ≡ pos z) × (
 
 -- the slot after the instruction at slot n, where it may go on there: the 64-bit immediate takes two slots
 abbrev pub next_slot : ℕ → Insn → Option ℕ
-next_slot n (LoadImm dst imm) = Some (n + 2)
-next_slot n (Jump offset) = None
-next_slot n Exit = None
+next_slot n (Insn.LoadImm dst imm) = Some (n + 2)
+next_slot n (Insn.Jump offset) = None
+next_slot n Insn.Exit = None
 next_slot n i = Some (n + 1)

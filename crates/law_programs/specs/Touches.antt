@@ -1,11 +1,8 @@
 -- Which bytes of memory an instruction touches: from which register on, how far, how many, and whether they are read or
 -- written. The rules of 25 to 29 are told by them.
-use Rattle.std.specs.Prelude.{◌≡◌, ◌⊎◌, ℕ, ◌+◌, ◌<◌, ℤ, pos, neg_ℤ, ◌+ℤ◌, ◌≤ℤ◌, false}
-use Rattle.std.specs.Option.{IsSomeAnd}
+use Rattle.std.specs.Prelude.{◌≡◌, ◌⊎◌, ℕ, ◌+◌, ◌<◌, ℤ, pos, neg_ℤ, ◌+ℤ◌, ◌≤ℤ◌, false, IsSomeAnd}
 use Rattle.pb_isa.specs.declared.insn.Insn.{Insn}
-use Rattle.pb_isa.specs.declared.insn.Insn.TheVariants.{Load, StoreImm, Store, Call}
 use Rattle.pb_isa.specs.declared.insn.Size.{Size}
-use Rattle.pb_isa.specs.declared.insn.Size.TheVariants.{B, H, W, Dw}
 use Rattle.pb_isa.specs.Registers.{number}
 use Rattle.pb_isa.specs.Programs.{JudgedOf}
 use Rattle.pb_isa.specs.Helpers.{Helper, Read, Write, declared_helper}
@@ -15,10 +12,10 @@ use Rattle.pb_kinds.specs.Ranges.{from_low}
 
 -- how many bytes a load or a store moves
 abbrev pub size_bytes : Size → ℕ
-size_bytes B = 1
-size_bytes H = 2
-size_bytes W = 4
-size_bytes Dw = 8
+size_bytes Size.B = 1
+size_bytes Size.H = 2
+size_bytes Size.W = 4
+size_bytes Size.Dw = 8
 
 -- an instruction loads or stores bytes, and a helper takes a value's bytes or fills them
 pub data Touching : Type 0 where
@@ -46,10 +43,10 @@ HelperTouches h t = ⊥
 
 -- a load, a store, or a call of a declared helper
 abbrev pub Touches : JudgedOf → Insn → Touch → Type 0
-Touches j (Load z x dst src offset) t = t ≡ touch Loading (number src) offset (size_bytes z)
-Touches j (StoreImm z dst offset imm) t = t ≡ touch Storing (number dst) offset (size_bytes z)
-Touches j (Store z dst src offset) t = t ≡ touch Storing (number dst) offset (size_bytes z)
-Touches j (Call imm) t = IsSomeAnd (declared_helper j.helpers imm) (λ h. HelperTouches h t)
+Touches j (Insn.Load z x dst src offset) t = t ≡ touch Loading (number src) offset (size_bytes z)
+Touches j (Insn.StoreImm z dst offset imm) t = t ≡ touch Storing (number dst) offset (size_bytes z)
+Touches j (Insn.Store z dst src offset) t = t ≡ touch Storing (number dst) offset (size_bytes z)
+Touches j (Insn.Call imm) t = IsSomeAnd (declared_helper j.helpers imm) (λ h. HelperTouches h t)
 Touches j i t = ⊥
 
 -- the bytes are read, by a load or by a helper

@@ -1,6 +1,5 @@
 -- No cell is named twice exactly where no two writes are to one cell.
-use Rattle.std.proofs.Common.{◌≡◌, ◌≢◌, ◌↔◌, suc, true, false, [], ◌∷◌, refl, arith}
-use Rattle.std.specs.Prelude.{is_none}
+use Rattle.std.proofs.Common.{◌≡◌, ◌≢◌, ◌↔◌, suc, true, false, [], ◌∷◌, refl, arith, is_none}
 use Rattle.std.specs.List.{AllByRecursion, AllPairs}
 use Rattle.std.specs.Ordering.{eq_by_cmp}
 use Rattle.std.proofs.lemmas.Bool.{and_parts, false_from_ne_true}

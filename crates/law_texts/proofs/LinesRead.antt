@@ -1,13 +1,10 @@
 -- A line is read as a transaction exactly where it is the transaction's line.
-use Rattle.std.proofs.Common.{◌≡◌, ◌↔◌, ℕ, ◌<◌, ◌≤◌, true, List, [], ◌∷◌, length, Ok, refl, sym, ap, subst, ◌∙◌, arith}
-use Rattle.std.specs.Prelude.{nat_le, nat_lt}
+use Rattle.std.proofs.Common.{◌≡◌, ◌↔◌, ℕ, ◌<◌, ◌≤◌, true, List, [], ◌∷◌, length, Ok, refl, sym, ap, subst, ◌∙◌, arith, nat_le, nat_lt}
 use Rattle.std.specs.List.{AllZip, list_all}
 use Rattle.std.proofs.lemmas.Bool.{and_parts, le-leb, leb-true, lt-ltb, ltb-true}
 use Rattle.pb_base.specs.declared.limits.TheConstants.{MAX_CELLS}
 use Rattle.pb_base.specs.declared.cell.Cell.{Cell}
-use Rattle.pb_base.specs.declared.cell.Cell.TheVariants.{Data, Ack}
 use Rattle.pb_base.specs.declared.content.Content.{Content}
-use Rattle.pb_base.specs.declared.content.Content.TheVariants.{Value, Deleted, Stamp}
 use Rattle.pb_base.specs.Batch.{Writes, is_data_write, are_distinct, is_batch}
 use Rattle.pb_parse.specs.ScriptWords.{operation}
 use Rattle.pb_parse.specs.ScriptLines.{cut, batch_of}
@@ -70,10 +67,10 @@ no_semicolons (w ∷ ws) [] h = absurd h
 no_semicolons (w ∷ ws) (text ∷ texts) h = (no_semicolon w.0 w.1 text h.0, no_semicolons ws texts h.1)
 
 to_data : (x : Cell) (content : Content) (text : List ℕ) → IsOperationOf x content text → is_data_write (x, content) ≡ true
-to_data (Data row column) (Value value) text h = refl
-to_data (Data row column) Deleted text h = refl
-to_data (Data row column) (Stamp time) text h = absurd h
-to_data (Ack observer row column) content text h = absurd h
+to_data (Cell.Data row column) (Content.Value value) text h = refl
+to_data (Cell.Data row column) Content.Deleted text h = refl
+to_data (Cell.Data row column) (Content.Stamp time) text h = absurd h
+to_data (Cell.Ack observer row column) content text h = absurd h
 
 all_to_data : (ws : Writes) (texts : List (List ℕ)) → AreOperations ws texts → list_all is_data_write ws ≡ true
 all_to_data [] [] h = refl

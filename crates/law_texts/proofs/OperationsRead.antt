@@ -1,8 +1,6 @@
 -- A write's operation is read as the write.
-use Rattle.std.proofs.Common.{◌≡◌, ℕ, ◌-◌, ◌*◌, ◌^◌, ◌<◌, ◌≤◌, Bool, false, cond, List, [], ◌∷◌, ◌++◌, length, Result, Ok, Err, refl, sym, ap, subst, ◌∙◌, arith}
-use Rattle.std.specs.Prelude.{◌==◌, ◌||◌, codes, nat_lt}
+use Rattle.std.proofs.Common.{◌≡◌, ℕ, ◌-◌, ◌*◌, ◌^◌, ◌<◌, ◌≤◌, Bool, false, cond, List, [], ◌∷◌, ◌++◌, length, Result, Ok, Err, refl, sym, ap, subst, ◌∙◌, arith, ◌==◌, ◌||◌, codes, nat_lt, decimal}
 use Rattle.std.specs.Char.{is_ascii_uppercase}
-use Rattle.std.specs.Fmt.{decimal}
 use Rattle.std.specs.List.{join_with_byte, list_any}
 use Rattle.std.proofs.lemmas.Bool.{le-ltb}
 use Rattle.std.proofs.lemmas.List.{drop-replicate}
@@ -10,12 +8,9 @@ use Rattle.hex.specs.Hex.{decode_of, encode_lower, lower_digits}
 use Rattle.hex.proofs.HexLemmas.{decode_of-encode_lower, length-encode_with}
 use Rattle.pb_base.specs.declared.names.Row.{Row}
 use Rattle.pb_base.specs.declared.cell.Cell.{Cell}
-use Rattle.pb_base.specs.declared.cell.Cell.TheVariants.{Data, Ack}
 use Rattle.pb_base.specs.declared.content.Content.{Content}
-use Rattle.pb_base.specs.declared.content.Content.TheVariants.{Value, Deleted, Stamp}
 use Rattle.pb_reading.specs.Reading.{words_of}
 use Rattle.pb_parse.specs.declared.script.code.ScriptCode.{ScriptCode}
-use Rattle.pb_parse.specs.declared.script.code.ScriptCode.TheVariants.{Form, Range, Hex}
 use Rattle.pb_parse.specs.ScriptWords.{padded, content_of, cell_at, put_of, del_of, write_of, operation}
 use Rattle.law_texts.specs.OperationTexts.{AreDigitsOf, AreInRange, IsOperationOf}
 use Rattle.law_texts.proofs.LowerHex.{digit_of, digits_hold, none_upper}
@@ -23,19 +18,19 @@ use Rattle.pb_reading.proofs.Parts.{Lacks, AreParts, IsNoDigit, blank_no_digit, 
 use Rattle.pb_reading.proofs.NumeralValues.{numeral_back}
 
 -- row and column are read as the cell
-place_back : (row : Row) (column : ℕ) (rest : List (List ℕ)) → AreInRange row column → cell_at (decimal row.0 ∷ decimal column ∷ rest) ≡ Ok (Data row column, rest)
+place_back : (row : Row) (column : ℕ) (rest : List (List ℕ)) → AreInRange row column → cell_at (decimal row.0 ∷ decimal column ∷ rest) ≡ Ok (Cell.Data row column, rest)
 unfolding cell_at
 place_back row column rest fits =
     let wide = fits.0 in
     let few = fits.1 in
-    rw (numeral_back Form Range (2 ^ 64 - 1) row.0 wide (omega (arith, wide)), numeral_back Form Range 15 column (omega (arith, few)) (omega (arith, few))) refl
+    rw (numeral_back ScriptCode.Form ScriptCode.Range (2 ^ 64 - 1) row.0 wide (omega (arith, wide)), numeral_back ScriptCode.Form ScriptCode.Range 15 column (omega (arith, few)) (omega (arith, few))) refl
 
 -- ---- values
 
 not_zero : (n : ℕ) → 1 ≤ n → (n == 0) ≡ false
 not_zero n h = grind arith
 
-tested : (a b c : Bool) (r : Result (List ℕ) ScriptCode) → a ≡ false → b ≡ false → c ≡ false → cond (a || (b || c)) (Err Hex) r ≡ r
+tested : (a b c : Bool) (r : Result (List ℕ) ScriptCode) → a ≡ false → b ≡ false → c ≡ false → cond (a || (b || c)) (Err ScriptCode.Hex) r ≡ r
 tested a b c r p q s = rw (p, q, s) refl
 
 -- the digits of a value are read as it, with zeros behind
@@ -53,12 +48,12 @@ digits_back value digits d =
     ∙ ap Ok (sym d.padded)
 
 -- the words of a write are read as it
-put_back : (row : Row) (column : ℕ) (value digits : List ℕ) → AreInRange row column → AreDigitsOf value digits → write_of (codes "put" ∷ decimal row.0 ∷ decimal column ∷ digits ∷ []) ≡ Ok (Data row column, Value value)
+put_back : (row : Row) (column : ℕ) (value digits : List ℕ) → AreInRange row column → AreDigitsOf value digits → write_of (codes "put" ∷ decimal row.0 ∷ decimal column ∷ digits ∷ []) ≡ Ok (Cell.Data row column, Content.Value value)
 unfolding write_of put_of
 put_back row column value digits fits d = rw (place_back row column (digits ∷ []) fits, digits_back value digits d) refl
 
 -- the words of a deletion are read as it
-del_back : (row : Row) (column : ℕ) → AreInRange row column → write_of (codes "del" ∷ decimal row.0 ∷ decimal column ∷ []) ≡ Ok (Data row column, Deleted)
+del_back : (row : Row) (column : ℕ) → AreInRange row column → write_of (codes "del" ∷ decimal row.0 ∷ decimal column ∷ []) ≡ Ok (Cell.Data row column, Content.Deleted)
 unfolding write_of del_of
 del_back row column fits = rw (place_back row column [] fits) refl
 
@@ -112,14 +107,14 @@ del_cut row column fits =
 
 -- an operation has no semicolon
 pub no_semicolon : (x : Cell) (content : Content) (text : List ℕ) → IsOperationOf x content text → Lacks 59 text
-no_semicolon (Data row column) (Value value) text h = subst (Lacks 59) (sym h.3) (lacks_joined 59 32 (put_words row column h.1) refl (put_parts 59 row column value h.1 (refl, (refl, (refl, tt))) semicolon_no_digit semicolon_no_hex_digit h.0 h.2))
-no_semicolon (Data row column) Deleted text h = subst (Lacks 59) (sym h.1) (lacks_joined 59 32 (del_words row column) refl (del_parts 59 row column (refl, (refl, (refl, tt))) semicolon_no_digit h.0))
-no_semicolon (Data row column) (Stamp time) text h = absurd h
-no_semicolon (Ack observer row column) content text h = absurd h
+no_semicolon (Cell.Data row column) (Content.Value value) text h = subst (Lacks 59) (sym h.3) (lacks_joined 59 32 (put_words row column h.1) refl (put_parts 59 row column value h.1 (refl, (refl, (refl, tt))) semicolon_no_digit semicolon_no_hex_digit h.0 h.2))
+no_semicolon (Cell.Data row column) Content.Deleted text h = subst (Lacks 59) (sym h.1) (lacks_joined 59 32 (del_words row column) refl (del_parts 59 row column (refl, (refl, (refl, tt))) semicolon_no_digit h.0))
+no_semicolon (Cell.Data row column) (Content.Stamp time) text h = absurd h
+no_semicolon (Cell.Ack observer row column) content text h = absurd h
 
 -- the text of a write, or of a deletion, is read as it
 pub operation_read : (text : List ℕ) (x : Cell) (content : Content) → IsOperationOf x content text → operation text ≡ Ok (x, content)
-operation_read text (Data row column) (Value value) h = ap operation h.3 ∙ ap write_of (put_cut row column value h.1 h.0 h.2) ∙ put_back row column value h.1 h.0 h.2
-operation_read text (Data row column) Deleted h = ap operation h.1 ∙ ap write_of (del_cut row column h.0) ∙ del_back row column h.0
-operation_read text (Data row column) (Stamp time) h = absurd h
-operation_read text (Ack observer row column) content h = absurd h
+operation_read text (Cell.Data row column) (Content.Value value) h = ap operation h.3 ∙ ap write_of (put_cut row column value h.1 h.0 h.2) ∙ put_back row column value h.1 h.0 h.2
+operation_read text (Cell.Data row column) Content.Deleted h = ap operation h.1 ∙ ap write_of (del_cut row column h.0) ∙ del_back row column h.0
+operation_read text (Cell.Data row column) (Content.Stamp time) h = absurd h
+operation_read text (Cell.Ack observer row column) content h = absurd h

@@ -1,10 +1,7 @@
 -- What is read as a write is written as the write's operation.
-use Rattle.std.proofs.Common.{◌≡◌, ℕ, ◌-◌, ◌^◌, ◌≤◌, Bool, true, false, List, [], ◌∷◌, ◌++◌, length, Result, Ok, Err, refl, sym, ap, subst, ◌∙◌, arith, inl, inr}
-use Rattle.std.specs.Prelude.{◌==◌, ◌||◌, codes, drop, nat_lt, replicate}
+use Rattle.std.proofs.Common.{◌≡◌, ℕ, ◌-◌, ◌^◌, ◌≤◌, Bool, true, false, List, [], ◌∷◌, ◌++◌, length, Result, Ok, Err, refl, sym, ap, subst, ◌∙◌, arith, inl, inr, ◌==◌, ◌||◌, codes, drop, nat_lt, replicate, decimal, bytes_eq}
 use Rattle.std.specs.Char.{is_ascii_uppercase}
-use Rattle.std.specs.Fmt.{decimal}
 use Rattle.std.specs.List.{join_with_byte, list_any}
-use Rattle.std.specs.Str.{bytes_eq}
 use Rattle.std.proofs.lemmas.Bool.{eqb-false, ltb-false}
 use Rattle.std.proofs.lemmas.List.{drop-replicate}
 use Rattle.std.proofs.lemmas.List.Splits.{join_with_byte-slice_split}
@@ -13,14 +10,11 @@ use Rattle.hex.specs.declared.error.FromHexError.{FromHexError}
 use Rattle.hex.proofs.HexLemmas.{decode_of-ok}
 use Rattle.pb_base.specs.declared.names.Row.{Row}
 use Rattle.pb_base.specs.declared.cell.Cell.{Cell}
-use Rattle.pb_base.specs.declared.cell.Cell.TheVariants.{Data}
 use Rattle.pb_base.specs.declared.content.Content.{Content}
-use Rattle.pb_base.specs.declared.content.Content.TheVariants.{Value, Deleted}
 use Rattle.pb_reading.specs.Reading.{next_word, no_word, words_of}
 use Rattle.pb_reading.proofs.NumeralValues.{numeral_is}
 use Rattle.pb_reading.proofs.Readings.{then_ok, ok_is, else_ok, next_is, none_left}
 use Rattle.pb_parse.specs.declared.script.code.ScriptCode.{ScriptCode}
-use Rattle.pb_parse.specs.declared.script.code.ScriptCode.TheVariants.{Form, Range, Hex}
 use Rattle.pb_parse.specs.ScriptWords.{number_upto, padded, content_of, cell_at, put_of, del_of, write_of, operation}
 use Rattle.pb_parse.proofs.NextWords.{same_text}
 use Rattle.law_texts.specs.OperationTexts.{AreDigitsOf, AreInRange, IsOperationOf}
@@ -33,7 +27,7 @@ use Rattle.pb_base.proofs.Logic.{chosen}
 record TakesPlace (x : Cell) (words rest : List (List ℕ)) : Type 0 where
   row : Row
   column : ℕ
-  cell : Data row column ≡ x
+  cell : Cell.Data row column ≡ x
   written : words ≡ decimal row.0 ∷ decimal column ∷ rest
   fits : AreInRange row column
 
@@ -41,16 +35,16 @@ record TakesPlace (x : Cell) (words rest : List (List ℕ)) : Type 0 where
 place_is : (words : List (List ℕ)) (x : Cell × List (List ℕ)) → cell_at words ≡ Ok x → TakesPlace x.0 words x.1
 unfolding cell_at
 place_is words x h =
-    let a = then_ok (next_word Form words) _ x h in
+    let a = then_ok (next_word ScriptCode.Form words) _ x h in
     let r = then_ok (number_upto (2 ^ 64 - 1) a.0.0) _ x a.2 in
-    let b = then_ok (next_word Form a.0.1) _ x r.2 in
+    let b = then_ok (next_word ScriptCode.Form a.0.1) _ x r.2 in
     let c = then_ok (number_upto 15 b.0.0) _ x b.2 in
-    let row = numeral_is Form Range (2 ^ 64 - 1) r.0 a.0.0 (omega arith) r.1 in
-    let column = numeral_is Form Range 15 c.0 b.0.0 (omega arith) c.1 in
+    let row = numeral_is ScriptCode.Form ScriptCode.Range (2 ^ 64 - 1) r.0 a.0.0 (omega arith) r.1 in
+    let column = numeral_is ScriptCode.Form ScriptCode.Range 15 c.0 b.0.0 (omega arith) c.1 in
     let wide = row.1 in
     let few = column.1 in
-    let same : (Data (record { 0 = r.0 }) c.0, b.0.1) ≡ x = ok_is {E = ScriptCode} (Data (record { 0 = r.0 }) c.0, b.0.1) x c.2 in
-    let whole : words ≡ decimal r.0 ∷ decimal c.0 ∷ b.0.1 = next_is Form words a.0 a.1 ∙ (λ i. row.0 i ∷ next_is Form a.0.1 b.0 b.1 i) ∙ ap (λ (w : List ℕ). decimal r.0 ∷ w ∷ b.0.1) column.0 in
+    let same : (Cell.Data (record { 0 = r.0 }) c.0, b.0.1) ≡ x = ok_is {E = ScriptCode} (Cell.Data (record { 0 = r.0 }) c.0, b.0.1) x c.2 in
+    let whole : words ≡ decimal r.0 ∷ decimal c.0 ∷ b.0.1 = next_is ScriptCode.Form words a.0 a.1 ∙ (λ i. row.0 i ∷ next_is ScriptCode.Form a.0.1 b.0 b.1 i) ∙ ap (λ (w : List ℕ). decimal r.0 ∷ w ∷ b.0.1) column.0 in
     subst (λ (y : Cell × List (List ℕ)). TakesPlace y.0 words y.1) same
     (record { row = record { 0 = r.0 }; column = c.0; cell = refl; written = whole; fits = (omega (arith, wide), omega (arith, few)) })
 
@@ -68,7 +62,7 @@ all_fail false false c h = (refl, refl, h)
 -- what is read as a value is written as digits of it
 digits_are : (word value : List ℕ) → content_of word ≡ Ok value → AreDigitsOf value word
 digits_are word value h =
-    let p = else_ok ((length word == 0) || (nat_lt 64 (length word) || list_any is_ascii_uppercase word)) (padded (decode_of word)) Hex value h in
+    let p = else_ok ((length word == 0) || (nat_lt 64 (length word) || list_any is_ascii_uppercase word)) (padded (decode_of word)) ScriptCode.Hex value h in
     let t = all_fail (length word == 0) (nat_lt 64 (length word)) (list_any is_ascii_uppercase word) p.0 in
     let q = padded_is (decode_of word) value p.1 in
     let d = decode_of-ok word q.0 q.1 in
@@ -98,13 +92,13 @@ put_is : (words : List (List ℕ)) (w : Cell × Content) → put_of words ≡ Ok
 unfolding put_of
 put_is words w h =
     let a = then_ok (cell_at words) _ w h in
-    let b = then_ok (next_word Form a.0.1) _ w a.2 in
+    let b = then_ok (next_word ScriptCode.Form a.0.1) _ w a.2 in
     let c = then_ok (content_of b.0.0) _ w b.2 in
-    let d = then_ok (no_word Form b.0.1) _ w c.2 in
+    let d = then_ok (no_word ScriptCode.Form b.0.1) _ w c.2 in
     let p = place_is words a.0 a.1 in
-    let last : a.0.1 ≡ b.0.0 ∷ [] = next_is Form a.0.1 b.0 b.1 ∙ ap (λ (ws : List (List ℕ)). b.0.0 ∷ ws) (none_left Form b.0.1 d.0 d.1) in
+    let last : a.0.1 ≡ b.0.0 ∷ [] = next_is ScriptCode.Form a.0.1 b.0 b.1 ∙ ap (λ (ws : List (List ℕ)). b.0.0 ∷ ws) (none_left ScriptCode.Form b.0.1 d.0 d.1) in
     let whole : words ≡ decimal p.row.0 ∷ decimal p.column ∷ b.0.0 ∷ [] = p.written ∙ ap (λ (ws : List (List ℕ)). decimal p.row.0 ∷ decimal p.column ∷ ws) last in
-    moved (codes "put" ∷ words) (Data p.row p.column) a.0.0 (Value c.0) w p.cell d.2
+    moved (codes "put" ∷ words) (Cell.Data p.row p.column) a.0.0 (Content.Value c.0) w p.cell d.2
     (p.fits, b.0.0, digits_are b.0.0 c.0 c.1, ap (λ (ws : List (List ℕ)). join_with_byte 32 (codes "put" ∷ ws)) whole)
 
 -- what is read as a deletion is written as one
@@ -112,10 +106,10 @@ del_is : (words : List (List ℕ)) (w : Cell × Content) → del_of words ≡ Ok
 unfolding del_of
 del_is words w h =
     let a = then_ok (cell_at words) _ w h in
-    let d = then_ok (no_word Form a.0.1) _ w a.2 in
+    let d = then_ok (no_word ScriptCode.Form a.0.1) _ w a.2 in
     let p = place_is words a.0 a.1 in
-    let whole : words ≡ decimal p.row.0 ∷ decimal p.column ∷ [] = p.written ∙ ap (λ (ws : List (List ℕ)). decimal p.row.0 ∷ decimal p.column ∷ ws) (none_left Form a.0.1 d.0 d.1) in
-    moved (codes "del" ∷ words) (Data p.row p.column) a.0.0 Deleted w p.cell d.2
+    let whole : words ≡ decimal p.row.0 ∷ decimal p.column ∷ [] = p.written ∙ ap (λ (ws : List (List ℕ)). decimal p.row.0 ∷ decimal p.column ∷ ws) (none_left ScriptCode.Form a.0.1 d.0 d.1) in
+    moved (codes "del" ∷ words) (Cell.Data p.row p.column) a.0.0 Content.Deleted w p.cell d.2
     (p.fits, ap (λ (ws : List (List ℕ)). join_with_byte 32 (codes "del" ∷ ws)) whole)
 
 -- the verb in front is this one
@@ -125,8 +119,8 @@ in_front words x verb w cut is h = subst (λ (ws : List (List ℕ)). IsWriteOf w
 write_is : (words : List (List ℕ)) (w : Cell × Content) → write_of words ≡ Ok w → IsWriteOf words w
 unfolding write_of
 write_is words w h =
-    let a = then_ok (next_word Form words) _ w h in
-    let cut = next_is Form words a.0 a.1 in
+    let a = then_ok (next_word ScriptCode.Form words) _ w h in
+    let cut = next_is ScriptCode.Form words a.0 a.1 in
     elim (chosen (bytes_eq a.0.0 (codes "put")) (put_of a.0.1) _ (Ok w) a.2) [
       | inl p ↦ in_front words a.0 (codes "put") w cut p.0 (put_is a.0.1 w p.1)
       | inr q ↦ elim (chosen (bytes_eq a.0.0 (codes "del")) (del_of a.0.1) _ (Ok w) q.1) [

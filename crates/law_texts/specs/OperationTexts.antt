@@ -1,15 +1,12 @@
 -- The operations of a script, as they are written: by the write that is meant, character for character, so that no
 -- looser reading meets them.
-use Rattle.std.specs.Prelude.{◌≡◌, ◌-◌, ◌^◌, ◌<◌, ◌≤◌, ℕ, List, [], ◌∷◌, ◌++◌, length, codes, replicate}
-use Rattle.std.specs.Fmt.{decimal}
+use Rattle.std.specs.Prelude.{◌≡◌, ◌-◌, ◌^◌, ◌<◌, ◌≤◌, ℕ, List, [], ◌∷◌, ◌++◌, length, codes, replicate, decimal}
 use Rattle.std.specs.List.{join_with_byte}
 use Rattle.hex.specs.Hex.{IsBytes, encode_lower}
 use Rattle.pb_base.specs.declared.limits.TheConstants.{COLUMNS}
 use Rattle.pb_base.specs.declared.names.Row.{Row}
 use Rattle.pb_base.specs.declared.cell.Cell.{Cell}
-use Rattle.pb_base.specs.declared.cell.Cell.TheVariants.{Data, Ack}
 use Rattle.pb_base.specs.declared.content.Content.{Content}
-use Rattle.pb_base.specs.declared.content.Content.TheVariants.{Value, Deleted, Stamp}
 
 -- Some of the first bytes of a value of 32, in lower-case hexadecimal, two digits for a byte; those behind are zero.
 pub record AreDigitsOf (value digits : List ℕ) : Type 0 where
@@ -26,10 +23,10 @@ AreInRange row column = (row.0 < 2 ^ 64) × (column < COLUMNS)
 
 -- the text of an operation: its words with one blank between them
 abbrev pub IsOperationOf : Cell → Content → List ℕ → Type 0
-IsOperationOf (Data row column) (Value value) text =
+IsOperationOf (Cell.Data row column) (Content.Value value) text =
     AreInRange row column × (digits : List ℕ) × AreDigitsOf value digits
     × (text ≡ join_with_byte 32 (codes "put" ∷ decimal row.0 ∷ decimal column ∷ digits ∷ []))
-IsOperationOf (Data row column) Deleted text =
+IsOperationOf (Cell.Data row column) Content.Deleted text =
     AreInRange row column × (text ≡ join_with_byte 32 (codes "del" ∷ decimal row.0 ∷ decimal column ∷ []))
-IsOperationOf (Data row column) (Stamp time) text = ⊥
-IsOperationOf (Ack observer row column) content text = ⊥
+IsOperationOf (Cell.Data row column) (Content.Stamp time) text = ⊥
+IsOperationOf (Cell.Ack observer row column) content text = ⊥

@@ -4,19 +4,16 @@ use Rattle.pb_base.specs.declared.refusal.Reason.{Reason}
 use Rattle.pb_base.specs.Reasons.{reason_code}
 use Rattle.pb_sound.specs.OneMeaning.{EachHasOneMeaning}
 use Rattle.pb_steps.specs.declared.step.Step.{Step}
-use Rattle.pb_steps.specs.declared.step.Step.TheVariants as steps
 use Rattle.pb_history.specs.declared.entry.Received.{Received}
 use Rattle.pb_history.specs.Laws.{StepsHaveOneOutcome, JournalsAreSound}
 use Rattle.pb_history.specs.Sound.{IsSoundTable}
 use Rattle.pb_core.specs.Calls.{SeatOf, call_reason}
 use Rattle.pb_notify.specs.Led.{MachinesAreLed}
 use Rattle.pb_parse.specs.declared.event.Event.{Event}
-use Rattle.pb_parse.specs.declared.event.Event.TheVariants as events
 use Rattle.pb_parse.specs.declared.event.Job.{Job}
 use Rattle.pb_world.specs.declared.actor.Actor.{Actor}
 use Rattle.pb_world.specs.declared.job.ActorJob.{ActorJob}
 use Rattle.pb_world.specs.declared.note.Note.{Note}
-use Rattle.pb_world.specs.declared.note.Note.TheVariants.{Called, Refused}
 use Rattle.pb_world.specs.Actors.{Stepped, ActorSteps, launched, crashed, crash_note}
 use Rattle.pb_world.specs.Events.{WorldOf, job_for, with_actor, Launches, StepsActor, CrashesActor, OwnAnswers, OwnCalls, Does}
 use Rattle.pb_world.specs.Sound.{Came, IsSoundWorld}
@@ -48,20 +45,20 @@ module _ (w : WorldOf) (n : Note) (v : WorldOf) (m : Note) (u : WorldOf) where
     own_answers_once seat st x y =
         let one = calls_once step w.shared seat st x.answer y.answer v.shared u.shared x.told y.told table x.calls y.calls in
         record {
-          note = x.note ∙ (ap Called one.answer ∙ sym y.note);
+          note = x.note ∙ (ap Note.Called one.answer ∙ sym y.note);
           world = x.after ∙ ((λ i. record w { shared = one.table i; seats = slice_set w.seats 0 (one.list i) }) ∙ sym y.after);
         }
 
     own_by : (seat : SeatOf) (st : Step) (why : Option Reason)
-        → MatchOption why (OwnAnswers w seat st n v) (λ r. (n ≡ Refused (reason_code r)) × (v ≡ w))
-        → MatchOption why (OwnAnswers w seat st m u) (λ r. (m ≡ Refused (reason_code r)) × (u ≡ w)) → AreOneEvent n v m u
+        → MatchOption why (OwnAnswers w seat st n v) (λ r. (n ≡ Note.Refused (reason_code r)) × (v ≡ w))
+        → MatchOption why (OwnAnswers w seat st m u) (λ r. (m ≡ Note.Refused (reason_code r)) × (u ≡ w)) → AreOneEvent n v m u
     own_by seat st None x y = own_answers_once seat st x y
     own_by seat st (Some why) x y = record { note = x.0 ∙ sym y.0; world = x.1 ∙ sym y.1 }
 
     own_calls_once : (st : Step) → OwnCalls w st n v → OwnCalls w st m u → AreOneEvent n v m u
     own_calls_once st x y =
         let seat : y.seat ≡ x.seat = one_value (slice_get w.seats 0) y.seat x.seat y.its_seat x.its_seat in
-        let other = subst (λ s. MatchOption (call_reason w.shared s.number st) (OwnAnswers w s st m u) (λ r. (m ≡ Refused (reason_code r)) × (u ≡ w))) seat y.calls in
+        let other = subst (λ s. MatchOption (call_reason w.shared s.number st) (OwnAnswers w s st m u) (λ r. (m ≡ Note.Refused (reason_code r)) × (u ≡ w))) seat y.calls in
         own_by x.seat st (call_reason w.shared x.seat.number st) x.calls other
 
     -- ---- steps of actors
@@ -97,12 +94,12 @@ module _ (w : WorldOf) (n : Note) (v : WorldOf) (m : Note) (u : WorldOf) where
         launched_is = x.steps.launched ∙ sym other.launched
 
     does_once : EachHasOneMeaning → MachinesAreLed → (e : Event) → Does w e n v → Does w e m u → AreOneEvent n v m u
-    does_once meaning led (events.Launch k job) x y = launches_once k job x y
-    does_once meaning led (events.Step k) x y = steps_once meaning led k x y
-    does_once meaning led (events.Crash k) x y = crashes_once k x y
-    does_once meaning led (events.Settle c) x y = own_calls_once (steps.Settle c) x y
-    does_once meaning led (events.Clear c) x y = own_calls_once (steps.Clear c) x y
-    does_once meaning led (events.Sweep c) x y = own_calls_once (steps.Sweep c) x y
+    does_once meaning led (Event.Launch k job) x y = launches_once k job x y
+    does_once meaning led (Event.Step k) x y = steps_once meaning led k x y
+    does_once meaning led (Event.Crash k) x y = crashes_once k x y
+    does_once meaning led (Event.Settle c) x y = own_calls_once (Step.Settle c) x y
+    does_once meaning led (Event.Clear c) x y = own_calls_once (Step.Clear c) x y
+    does_once meaning led (Event.Sweep c) x y = own_calls_once (Step.Sweep c) x y
 
 -- every event, by its kind: a launch, a step, a crash, or a step of the main seat
 pub events_once : StepsHaveOneOutcome → JournalsAreSound → EachHasOneMeaning → MachinesAreLed → EventsHaveOneOutcome

@@ -1,7 +1,7 @@
 -- A call has one outcome, and so has a job's next instruction, a job's answer and an actor's step.
 use Rattle.std.proofs.Common.{◌≡◌, ℕ, Bool, true, false, List, [], ◌∷◌, ◌++◌, length, refl, sym, ◌∙◌, ap, subst, arith, inr, Option, Some, None, MatchBool, MatchOption}
 use Rattle.pb_base.specs.declared.refusal.Reason.{Reason}
-use Rattle.pb_base.specs.declared.cell.Cell.TheVariants.{Data}
+use Rattle.pb_base.specs.declared.cell.Cell.{Cell}
 use Rattle.pb_isa.specs.declared.limits.TheConstants.{MAX_RECORD_BYTES}
 use Rattle.pb_isa.specs.Programs.{JudgedOf}
 use Rattle.pb_isa.specs.Machine.{Placement, IsPlacement}
@@ -13,14 +13,12 @@ use Rattle.pb_history.specs.Laws.{StepsHaveOneOutcome}
 use Rattle.pb_history.specs.Sound.{IsSoundTable}
 use Rattle.pb_core.specs.Calls.{SharedOf, SeatOf, Calls, call_reason}
 use Rattle.pb_notify.specs.declared.place.RunPlace.{RunPlace}
-use Rattle.pb_notify.specs.declared.place.RunPlace.TheVariants.{Starting, Computing}
 use Rattle.pb_notify.specs.Places.{ComesFrom}
 use Rattle.pb_notify.specs.Led.{MachineStandsAt, MachinesAreLed}
 use Rattle.pb_notify.specs.Runs.{RunOf}
 use Rattle.pb_notify.specs.Runs as runs
 use Rattle.pb_world.specs.declared.job.ActorJob.{ActorJob}
-use Rattle.pb_world.specs.declared.job.ActorJob.TheVariants.{Change, Run}
-use Rattle.pb_world.specs.declared.note.Note.TheVariants.{Called}
+use Rattle.pb_world.specs.declared.note.Note.{Note}
 use Rattle.pb_world.specs.Jobs.{next_of, is_local, Takes, Computes, kept, RulesAccept}
 use Rattle.pb_world.specs.Actors.{Stepped, AnswersJob, RefusesJob, CallSteps, Instructs, IsIdle, StepsTo}
 use Rattle.pb_world.specs.Events.{WorldOf}
@@ -63,11 +61,11 @@ is_placed j size accepted e =
 
 module _ (meaning : EachHasOneMeaning) (led : MachinesAreLed) (w : WorldOf) where
   module _ (r : RunOf) (said : List Received) (came : RunCame w r said) where
-    places_once : (place : RunPlace) → r.place ≡ place → (x y : RunPlace) → ComesFrom r.watch.observer r.watch.judged (Data r.watch.row r.watch.column) place x → ComesFrom r.watch.observer r.watch.judged (Data r.watch.row r.watch.column) place y → x ≡ y
-    places_once (Starting s seen) is x y c d =
+    places_once : (place : RunPlace) → r.place ≡ place → (x y : RunPlace) → ComesFrom r.watch.observer r.watch.judged (Cell.Data r.watch.row r.watch.column) place x → ComesFrom r.watch.observer r.watch.judged (Cell.Data r.watch.row r.watch.column) place y → x ≡ y
+    places_once (RunPlace.Starting s seen) is x y c d =
         let p = is_placed r.watch.judged _ came.accepted c.size in
         comes_once _ p.0 p.1 meaning r.watch.observer s x y c.comes d.comes
-    places_once (Computing s v) is x y c d =
+    places_once (RunPlace.Computing s v) is x y c d =
         let stands : MachineStandsAt r.place s v = subst (λ p. MachineStandsAt p s v) (sym is) (refl, refl) in
         let machine = led r.watch said r s v came.reaches stands in
         let p = is_placed r.watch.judged (length v.bytes) came.accepted machine.size in
@@ -80,15 +78,15 @@ module _ (meaning : EachHasOneMeaning) (led : MachinesAreLed) (w : WorldOf) wher
         x.same ∙ (ap (λ p. record r { place = p }) e ∙ sym y.same)
 
   pub computes_once : (j : ActorJob) (said : List Received) → Came w j said → (k l : ActorJob) → Computes j k → Computes j l → k ≡ l
-  computes_once (Change c) said came k l x y = absurd x
-  computes_once (Run r) said came k l x y = x.1 ∙ (ap Run (run_computes_once r said came x.0 y.0 x.2 y.2) ∙ sym y.1)
+  computes_once (ActorJob.Change c) said came k l x y = absurd x
+  computes_once (ActorJob.Run r) said came k l x y = x.1 ∙ (ap ActorJob.Run (run_computes_once r said came x.0 y.0 x.2 y.2) ∙ sym y.1)
 
 -- ---- answers
 
 -- a job takes an answer in one way
 takes_once : (j : ActorJob) (a : Answer) (k l : ActorJob) → Takes j a k → Takes j a l → k ≡ l
-takes_once (Change c) a k l x y = x ∙ sym y
-takes_once (Run r) a k l x y = x.1 ∙ (ap Run (x.2 ∙ sym y.2) ∙ sym y.1)
+takes_once (ActorJob.Change c) a k l x y = x ∙ sym y
+takes_once (ActorJob.Run r) a k l x y = x.1 ∙ (ap ActorJob.Run (x.2 ∙ sym y.2) ∙ sym y.1)
 
 -- ---- steps of an actor
 
@@ -108,7 +106,7 @@ module _ (step : StepsHaveOneOutcome) (meaning : EachHasOneMeaning) (led : Machi
   answers_once j st x y =
       let one = calls_once step w.shared seat st x.answer y.answer to.table at.table to.seat at.seat sound x.calls y.calls in
       let after : x.after ≡ y.after = takes_once j y.answer x.after y.after (subst (λ a. Takes j a x.after) one.answer x.takes) y.takes in
-      are_one (x.note ∙ (ap Called one.answer ∙ sym y.note)) one.table one.list (x.left ∙ (ap kept after ∙ sym y.left))
+      are_one (x.note ∙ (ap Note.Called one.answer ∙ sym y.note)) one.table one.list (x.left ∙ (ap kept after ∙ sym y.left))
 
   refuses_once : (why : Reason) → RefusesJob w.shared seat why to → RefusesJob w.shared seat why at → to ≡ at
   refuses_once why x y = are_one (x.note ∙ sym y.note) (x.same.table ∙ sym y.same.table) (x.same.list ∙ sym y.same.list) (x.left ∙ sym y.left)

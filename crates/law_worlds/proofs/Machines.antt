@@ -8,16 +8,14 @@ use Rattle.pb_isa.specs.Meaning.{Point, point, Means}
 use Rattle.pb_helpers.specs.declared.ask.Ask.{Ask}
 use Rattle.pb_helpers.specs.Replies.{ask_of}
 use Rattle.pb_sound.specs.OneMeaning.{EachHasOneMeaning}
-use Rattle.pb_vm.specs.declared.moved.MachinePhase.TheVariants as phases
+use Rattle.pb_vm.specs.declared.moved.MachinePhase.{MachinePhase}
 use Rattle.pb_vm.specs.Position.{Position}
 use Rattle.pb_vm.specs.Moves.{environment_at, IsAtState, SameGiven, Went, AskedFor, AsksAt}
 use Rattle.pb_vm.specs.Finished.{Meant}
 use Rattle.pb_steps.specs.declared.step.Declared.{Declared}
-use Rattle.pb_steps.specs.declared.step.Declared.TheVariants as declared
 use Rattle.pb_txn.specs.Plans.{fresh}
-use Rattle.pb_notify.specs.declared.look.Look.TheVariants.{Reading}
+use Rattle.pb_notify.specs.declared.look.Look.{Look}
 use Rattle.pb_notify.specs.declared.place.RunPlace.{RunPlace}
-use Rattle.pb_notify.specs.declared.place.RunPlace.TheVariants.{Computing, Asking, Planning}
 use Rattle.pb_notify.specs.Machines.{Leaves}
 use Rattle.pb_notify.specs.Steps as steps
 use Rattle.pb_notify.specs.Places.{Comes, goes, waits, declares}
@@ -55,7 +53,7 @@ module _ (v : Position) (a : Placement) (p : IsPlacement (length v.bytes) a) whe
   one_position w u g h talk taken phase = λ i. record {
     judged = (g.judged ∙ sym h.judged) i;
     bytes = (g.bytes ∙ sym h.bytes) i;
-    began = (g.began ∙ sym h.began) i;
+    start = (g.start ∙ sym h.start) i;
     talk = talk i;
     taken = taken i;
     phase = phase i;
@@ -64,31 +62,31 @@ module _ (v : Position) (a : Placement) (p : IsPlacement (length v.bytes) a) whe
   went_once : (w u : Position) → Went v w → Went v u → w ≡ u
   went_once w u x y = one_position w u x.given y.given (x.talk ∙ sym y.talk) (x.taken ∙ sym y.taken) (x.phase ∙ sym y.phase)
 
-  asks_once : (s : Ts) (q r : Ask) (w u : Position) → AskedFor v q w → AskedFor v r u → Asking s w q Reading ≡ Asking s u r Reading
+  asks_once : (s : Ts) (q r : Ask) (w u : Position) → AskedFor v q w → AskedFor v r u → RunPlace.Asking s w q Look.Reading ≡ RunPlace.Asking s u r Look.Reading
   asks_once s q r w u x y =
       let e : q ≡ r = one_ask q r (x.at a p) (y.at a p) in
-      let f : w ≡ u = one_position w u x.given y.given (x.talk ∙ sym y.talk) (x.taken ∙ sym y.taken) (x.phase ∙ (ap phases.Asking e ∙ sym y.phase)) in
-      λ i. Asking s (f i) (e i) Reading
+      let f : w ≡ u = one_position w u x.given y.given (x.talk ∙ sym y.talk) (x.taken ∙ sym y.taken) (x.phase ∙ (ap MachinePhase.Asking e ∙ sym y.phase)) in
+      λ i. RunPlace.Asking s (f i) (e i) Look.Reading
 
-  meant_by : (f : Meant) → Leaves v f → Means v.judged v.bytes v.began v.talk f.result f.writes
-  meant_by f l = subst (λ (z : Type 0). z) (λ i. Means (l.judged i) (l.bytes i) (l.began i) (l.talk i) f.result f.writes) l.meant
+  meant_by : (f : Meant) → Leaves v f → Means v.judged v.bytes v.start v.talk f.result f.writes
+  meant_by f l = subst (λ (z : Type 0). z) (λ i. Means (l.judged i) (l.bytes i) (l.start i) (l.talk i) f.result f.writes) l.meant
 
   leaves_once : EachHasOneMeaning → (f g : Meant) → Leaves v f → Leaves v g → f ≡ g
   leaves_once law f g l m =
-      let one = law v.judged v.bytes v.began v.talk f.result g.result f.writes g.writes (meant_by f l) (meant_by g m) in
+      let one = law v.judged v.bytes v.start v.talk f.result g.result f.writes g.writes (meant_by f l) (meant_by g m) in
       λ i. record {
         judged = (l.judged ∙ sym m.judged) i;
         bytes = (l.bytes ∙ sym m.bytes) i;
-        began = (l.began ∙ sym m.began) i;
+        start = (l.start ∙ sym m.start) i;
         talk = (l.talk ∙ sym m.talk) i;
         result = one.0 i;
         writes = one.1 i;
       }
 
-  ends_once : EachHasOneMeaning → (o : ℕ) (s : Ts) (r n : ℕ) (what more : Declared) → steps.Ends o v r what → steps.Ends o v n more → Planning r (fresh s.0 what) ≡ Planning n (fresh s.0 more)
+  ends_once : EachHasOneMeaning → (o : ℕ) (s : Ts) (r n : ℕ) (what more : Declared) → steps.Ends o v r what → steps.Ends o v n more → RunPlace.Planning r (fresh s.0 what) ≡ RunPlace.Planning n (fresh s.0 more)
   ends_once law o s r n what more x y =
       let e : x.left ≡ y.left = leaves_once law x.left y.left x.leaves y.leaves in
-      λ i. Planning ((x.result ∙ (ap (λ (f : Meant). f.result) e ∙ sym y.result)) i) (fresh s.0 ((x.declares ∙ (ap (declared.Run o) e ∙ sym y.declares)) i))
+      λ i. RunPlace.Planning ((x.result ∙ (ap (λ (f : Meant). f.result) e ∙ sym y.result)) i) (fresh s.0 ((x.declares ∙ (ap (Declared.Run o) e ∙ sym y.declares)) i))
 
   -- ---- each with another
 
@@ -111,7 +109,7 @@ module _ (v : Position) (a : Placement) (p : IsPlacement (length v.bytes) a) whe
       asks_or_ends (ask_of q) g.goes f.result h.made (one_act g.here h.last _ _ g.was h.was g.acts h.acts)
 
   pub comes_once : EachHasOneMeaning → (o : ℕ) (s : Ts) (x y : RunPlace) → Comes o s v x → Comes o s v y → x ≡ y
-  comes_once law o s x y (goes w c) (goes u d) = ap (Computing s) (went_once w u c.went d.went)
+  comes_once law o s x y (goes w c) (goes u d) = ap (RunPlace.Computing s) (went_once w u c.went d.went)
   comes_once law o s x y (waits w q c) (waits u r d) = asks_once s q r w u c d
   comes_once law o s x y (declares r what c) (declares n more d) = ends_once law o s r n what more c d
   comes_once law o s x y (goes w c) (waits u q d) = absurd (went_or_asks w u q c.went d)

@@ -4,7 +4,6 @@ use Rattle.std.proofs.Math.Seq.{take-length}
 use Rattle.std.proofs.lemmas.Option.{none-some, slice_get_within}
 use Rattle.pb_parse.specs.declared.event.Event.{Event}
 use Rattle.pb_world.specs.declared.fault.EventFault.{EventFault}
-use Rattle.pb_world.specs.declared.fault.EventFault.TheVariants.{NoMemory}
 use Rattle.pb_world.specs.declared.note.Note.{Note}
 use Rattle.pb_world.specs.Faults.{fault_code}
 use Rattle.pb_world.specs.Events.{WorldOf, fault_of, RunsTo, StopsAtEvent}
@@ -24,14 +23,14 @@ record IsAtFault (w : WorldOf) (es : List Event) (at code : ℕ) (v : WorldOf) :
   told : code ≡ fault_code fault
 
 -- a list that stops does so for memory, or since an event is at fault
-fault_in : (w : WorldOf) (es : List Event) (at code : ℕ) (v : WorldOf) → StopsAtEvent w es at code v → (code ≡ fault_code NoMemory) ⊎ IsAtFault w es at code v
+fault_in : (w : WorldOf) (es : List Event) (at code : ℕ) (v : WorldOf) → StopsAtEvent w es at code v → (code ≡ fault_code EventFault.NoMemory) ⊎ IsAtFault w es at code v
 fault_in w es at code v s = elim s.why [
   | inl memory ↦ inl memory.0
   | inr f ↦ inr (record { notes = s.notes; before = s.before; within = s.within; event = f.0; fault = f.1; there = f.2; can = f.3; told = f.4 })
 ]
 
 -- and where it isn't for memory, an event is at fault
-fault_of_other : (w : WorldOf) (es : List Event) (at code : ℕ) (v : WorldOf) → code ≢ fault_code NoMemory → StopsAtEvent w es at code v → IsAtFault w es at code v
+fault_of_other : (w : WorldOf) (es : List Event) (at code : ℕ) (v : WorldOf) → code ≢ fault_code EventFault.NoMemory → StopsAtEvent w es at code v → IsAtFault w es at code v
 fault_of_other w es at code v other s = elim (fault_in w es at code v s) [ inl memory ↦ absurd (other memory) | inr f ↦ f ]
 
 module _ (one : EventsHaveOneOutcome) (keep : EventsKeepSound) where

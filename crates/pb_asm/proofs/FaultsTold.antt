@@ -1,10 +1,8 @@
 -- Of which lines and texts the codes of the first word, of the slots and of no instruction are told.
-use Rattle.std.proofs.Common.{◌≡◌, ◌≢◌, ℕ, suc, ◌+◌, ◌-◌, ◌^◌, ◌<◌, ◌⊎◌, ◌↔◌, ℤ, pos, neg_ℤ, Bool, true, false, cond, List, [], ◌∷◌, ◌++◌, take, Option, Some, None, Result, Ok, Err, refl, sym, ap, subst, ◌∙◌, arith, inl, inr}
-use Rattle.std.specs.Prelude.{◌==◌, nat_lt, slice_index}
+use Rattle.std.proofs.Common.{◌≡◌, ◌≢◌, ℕ, suc, ◌+◌, ◌-◌, ◌^◌, ◌<◌, ◌⊎◌, ◌↔◌, ℤ, pos, neg_ℤ, Bool, true, false, cond, List, [], ◌∷◌, ◌++◌, take, Option, Some, None, Result, Ok, Err, refl, sym, ap, subst, ◌∙◌, arith, inl, inr, ◌==◌, nat_lt, slice_index, ok_or}
 use Rattle.std.specs.List.{slice_split, before_first, position_or_len}
 use Rattle.std.proofs.lemmas.Bool.{ltb-true, lt-ltb}
 use Rattle.pb_isa.specs.declared.insn.Insn.{Insn}
-use Rattle.pb_isa.specs.declared.insn.Insn.TheVariants as insn
 use Rattle.pb_isa.specs.declared.insn.Operand.{Operand}
 use Rattle.pb_isa.specs.declared.insn.Reg.{Reg}
 use Rattle.pb_isa.specs.Bounds.{Fits}
@@ -13,12 +11,9 @@ use Rattle.pb_isa.specs.declared.profile.Profile.{Profile}
 use Rattle.pb_isa.specs.declared.insn.Width.{Width}
 use Rattle.pb_isa.specs.Profiles.{max_slots, IsOf}
 use Rattle.pb_asm.specs.declared.fault.AsmCode.{AsmCode}
-use Rattle.pb_asm.specs.declared.fault.AsmCode.TheVariants as code
 use Rattle.pb_asm.specs.declared.names.Word.{Word}
-use Rattle.pb_asm.specs.declared.names.Word.TheVariants as word
 use Rattle.pb_asm.specs.Names.{name, words, IsWordOf, sizes, word_in, word_named, reg_named}
 use Rattle.pb_reading.specs.Reading.{◌>>=◌, shown_lines}
-use Rattle.std.specs.Prelude.{ok_or}
 use Rattle.pb_asm.specs.Cuts.{strip_prefix, strip_suffix, split_once}
 use Rattle.pb_reading.specs.Reading.{numeral_upto, next_word, no_word}
 use Rattle.pb_asm.specs.Operands.{minus, plus, signed_or, imm_of_text, plus_or_fault, offset_of_text, reg_of_text, operand_of_text, size_in, bits_of_text, base_and_offset, at_minus, at_plus, place_of_text, comma, last, alu_operands, mov_sx_operands, load_imm_operands, load_operands, store_imm_operands, store_operands, jump_if_operands, operands, insn_of_words, line_of}
@@ -36,26 +31,26 @@ use Rattle.pb_asm.proofs.OneSpelling.{named_is, word_among, line_spelled}
 
 -- operands are told as of another form or out of range
 abbrev IsOperandFault : AsmCode → Type 0
-IsOperandFault code.Word = ⊥
-IsOperandFault code.Form = Unit {0}
-IsOperandFault code.Range = Unit {0}
-IsOperandFault code.TooLong = ⊥
-IsOperandFault code.Nothing = ⊥
+IsOperandFault AsmCode.Word = ⊥
+IsOperandFault AsmCode.Form = Unit {0}
+IsOperandFault AsmCode.Range = Unit {0}
+IsOperandFault AsmCode.TooLong = ⊥
+IsOperandFault AsmCode.Nothing = ⊥
 
 abbrev Tells : {A : Type 0} → Result A AsmCode → Type 0
 Tells read = FailsBy IsOperandFault read
 
 -- so is a number, and all that is made of numbers below
-number_tells : (greatest : ℕ) (text : List ℕ) → Tells (numeral_upto code.Form code.Range greatest text)
-number_tells greatest text = numeral_fails IsOperandFault code.Form code.Range greatest text tt tt
+number_tells : (greatest : ℕ) (text : List ℕ) → Tells (numeral_upto AsmCode.Form AsmCode.Range greatest text)
+number_tells greatest text = numeral_fails IsOperandFault AsmCode.Form AsmCode.Range greatest text tt tt
 
 minus_tells : (greatest : ℕ) (text : List ℕ) → Tells (minus greatest text)
 unfolding minus
-minus_tells greatest text = then_fails IsOperandFault (numeral_upto code.Form code.Range greatest text) _ (number_tells greatest text) (λ n. if_fails IsOperandFault (n == 0) (Err _) (Ok (neg_ℤ (pos n))) tt tt)
+minus_tells greatest text = then_fails IsOperandFault (numeral_upto AsmCode.Form AsmCode.Range greatest text) _ (number_tells greatest text) (λ n. if_fails IsOperandFault (n == 0) (Err _) (Ok (neg_ℤ (pos n))) tt tt)
 
 plus_tells : (limit : ℕ) (text : List ℕ) → Tells (plus limit text)
 unfolding plus
-plus_tells limit text = then_fails IsOperandFault (numeral_upto code.Form code.Range (limit - 1) text) _ (number_tells (limit - 1) text) (λ n. tt)
+plus_tells limit text = then_fails IsOperandFault (numeral_upto AsmCode.Form AsmCode.Range (limit - 1) text) _ (number_tells (limit - 1) text) (λ n. tt)
 
 signed_tells : (unsigned : Result ℤ AsmCode) (limit : ℕ) (o : Option (List ℕ)) → Tells unsigned → Tells (signed_or unsigned limit o)
 signed_tells unsigned limit None h = h
@@ -80,7 +75,7 @@ operand_tells text = if_fails IsOperandFault (slice_index text 0 == 114) _ _ (th
 
 bits_tell : (w : Width) (text : List ℕ) → Tells (bits_of_text w text)
 unfolding bits_of_text
-bits_tell w text = then_fails IsOperandFault (numeral_upto code.Form code.Range (2 ^ 64 - 1) text) _ (number_tells (2 ^ 64 - 1) text) (λ n. there_fails IsOperandFault _ (size_in w n sizes) tt)
+bits_tell w text = then_fails IsOperandFault (numeral_upto AsmCode.Form AsmCode.Range (2 ^ 64 - 1) text) _ (number_tells (2 ^ 64 - 1) text) (λ n. there_fails IsOperandFault _ (size_in w n sizes) tt)
 
 based_tells : (register : List ℕ) (offset : Result ℤ AsmCode) → Tells offset → Tells (base_and_offset register offset)
 unfolding base_and_offset
@@ -97,17 +92,17 @@ at_plus_tells text (Some sides) = based_tells sides.0 (plus (2 ^ 15) sides.1) (p
 -- a place is, too
 place_tells : (text : List ℕ) → Tells (place_of_text text)
 unfolding place_of_text
-place_tells text = then_fails IsOperandFault (ok_or (strip_prefix 91 text) code.Form) _ (there_fails IsOperandFault _ (strip_prefix 91 text) tt) (λ front. then_fails IsOperandFault (ok_or (strip_suffix 93 front) code.Form) _ (there_fails IsOperandFault _ (strip_suffix 93 front) tt) (λ inner. at_plus_tells inner (split_once 43 inner)))
+place_tells text = then_fails IsOperandFault (ok_or (strip_prefix 91 text) AsmCode.Form) _ (there_fails IsOperandFault _ (strip_prefix 91 text) tt) (λ front. then_fails IsOperandFault (ok_or (strip_suffix 93 front) AsmCode.Form) _ (there_fails IsOperandFault _ (strip_suffix 93 front) tt) (λ inner. at_plus_tells inner (split_once 43 inner)))
 
 -- and a word that lacks its comma
 comma_tells : (texts : List (List ℕ)) → Tells (comma texts)
 unfolding comma
-comma_tells texts = then_fails IsOperandFault (next_word code.Form texts) _ (next_fails IsOperandFault code.Form texts tt) (λ first. then_fails IsOperandFault (ok_or (strip_suffix 44 first.0) code.Form) _ (there_fails IsOperandFault _ (strip_suffix 44 first.0) tt) (λ text. tt))
+comma_tells texts = then_fails IsOperandFault (next_word AsmCode.Form texts) _ (next_fails IsOperandFault AsmCode.Form texts tt) (λ first. then_fails IsOperandFault (ok_or (strip_suffix 44 first.0) AsmCode.Form) _ (there_fails IsOperandFault _ (strip_suffix 44 first.0) tt) (λ text. tt))
 
 -- a last word, where its reading is
 last_tells : {A : Type 0} (read : List ℕ → Result A AsmCode) (texts : List (List ℕ)) → ((text : List ℕ) → Tells (read text)) → Tells (last read texts)
 unfolding last
-last_tells read texts h = then_fails IsOperandFault (next_word code.Form texts) _ (next_fails IsOperandFault code.Form texts tt) (λ first. then_fails IsOperandFault (read first.0) _ (h first.0) (λ x. then_fails IsOperandFault (no_word code.Form first.1) _ (end_fails IsOperandFault code.Form first.1 tt) (λ end. tt)))
+last_tells read texts h = then_fails IsOperandFault (next_word AsmCode.Form texts) _ (next_fails IsOperandFault AsmCode.Form texts tt) (λ first. then_fails IsOperandFault (read first.0) _ (h first.0) (λ x. then_fails IsOperandFault (no_word AsmCode.Form first.1) _ (end_fails IsOperandFault AsmCode.Form first.1 tt) (λ end. tt)))
 
 alu_tells : (make : Reg → Operand → Insn) (texts : List (List ℕ)) → Tells (alu_operands make texts)
 unfolding alu_operands
@@ -119,7 +114,7 @@ mov_sx_tells w texts = then_fails IsOperandFault (comma texts) _ (comma_tells te
 
 wide_tells : (texts : List (List ℕ)) → Tells (load_imm_operands texts)
 unfolding load_imm_operands
-wide_tells texts = then_fails IsOperandFault (comma texts) _ (comma_tells texts) (λ first. then_fails IsOperandFault (reg_of_text first.0) _ (reg_tells first.0) (λ r. then_fails IsOperandFault (last (numeral_upto code.Form code.Range (2 ^ 64 - 1)) first.1) _ (last_tells (numeral_upto code.Form code.Range (2 ^ 64 - 1)) first.1 (number_tells (2 ^ 64 - 1))) (λ n. tt)))
+wide_tells texts = then_fails IsOperandFault (comma texts) _ (comma_tells texts) (λ first. then_fails IsOperandFault (reg_of_text first.0) _ (reg_tells first.0) (λ r. then_fails IsOperandFault (last (numeral_upto AsmCode.Form AsmCode.Range (2 ^ 64 - 1)) first.1) _ (last_tells (numeral_upto AsmCode.Form AsmCode.Range (2 ^ 64 - 1)) first.1 (number_tells (2 ^ 64 - 1))) (λ n. tt)))
 
 load_tells : (make : Reg → Reg → ℤ → Insn) (texts : List (List ℕ)) → Tells (load_operands make texts)
 unfolding load_operands
@@ -139,17 +134,17 @@ jump_if_tells make texts = then_fails IsOperandFault (comma texts) _ (comma_tell
 
 -- so the operands of any word are told as of another form or out of range, and never as an unknown word
 operands_tell : (w : Word) (texts : List (List ℕ)) → Tells (operands w texts)
-operands_tell (word.Alu op w) texts = alu_tells (insn.Alu op w) texts
-operands_tell (word.MovSx w) texts = mov_sx_tells w texts
-operands_tell (word.Neg w) texts = then_fails IsOperandFault (last reg_of_text texts) _ (last_tells reg_of_text texts reg_tells) (λ r. tt)
-operands_tell word.LoadImm texts = wide_tells texts
-operands_tell (word.Load z x) texts = load_tells (insn.Load z x) texts
-operands_tell (word.StoreImm z) texts = store_imm_tells (insn.StoreImm z) texts
-operands_tell (word.Store z) texts = store_tells (insn.Store z) texts
-operands_tell word.Jump texts = then_fails IsOperandFault (last offset_of_text texts) _ (last_tells offset_of_text texts offset_tells) (λ o. tt)
-operands_tell (word.JumpIf c w) texts = jump_if_tells (insn.JumpIf c w) texts
-operands_tell word.Call texts = then_fails IsOperandFault (last imm_of_text texts) _ (last_tells imm_of_text texts imm_tells) (λ k. tt)
-operands_tell word.Exit texts = then_fails IsOperandFault (no_word code.Form texts) _ (end_fails IsOperandFault code.Form texts tt) (λ end. tt)
+operands_tell (Word.Alu op w) texts = alu_tells (Insn.Alu op w) texts
+operands_tell (Word.MovSx w) texts = mov_sx_tells w texts
+operands_tell (Word.Neg w) texts = then_fails IsOperandFault (last reg_of_text texts) _ (last_tells reg_of_text texts reg_tells) (λ r. tt)
+operands_tell Word.LoadImm texts = wide_tells texts
+operands_tell (Word.Load z x) texts = load_tells (Insn.Load z x) texts
+operands_tell (Word.StoreImm z) texts = store_imm_tells (Insn.StoreImm z) texts
+operands_tell (Word.Store z) texts = store_tells (Insn.Store z) texts
+operands_tell Word.Jump texts = then_fails IsOperandFault (last offset_of_text texts) _ (last_tells offset_of_text texts offset_tells) (λ o. tt)
+operands_tell (Word.JumpIf c w) texts = jump_if_tells (Insn.JumpIf c w) texts
+operands_tell Word.Call texts = then_fails IsOperandFault (last imm_of_text texts) _ (last_tells imm_of_text texts imm_tells) (λ k. tt)
+operands_tell Word.Exit texts = then_fails IsOperandFault (no_word AsmCode.Form texts) _ (end_fails IsOperandFault AsmCode.Form texts tt) (λ end. tt)
 
 -- ---- the first word
 
@@ -173,7 +168,7 @@ abbrev Unnamed : Profile → List ℕ → Type 0
 Unnamed q text = (w : Word) → IsWordOf q w → text ≢ name w
 
 -- where 80 is told, the first word is no name of the profile's, since operands don't tell 80
-named_cases : (q : Profile) (text : List ℕ) (texts : List (List ℕ)) (o : Option Word) → word_named q text ≡ o → (ok_or o code.Word >>= λ w. operands w texts) ≡ Err code.Word → Unnamed q text
+named_cases : (q : Profile) (text : List ℕ) (texts : List (List ℕ)) (o : Option Word) → word_named q text ≡ o → (ok_or o AsmCode.Word >>= λ w. operands w texts) ≡ Err AsmCode.Word → Unnamed q text
 named_cases q text texts None is h w has same = let no : None ≡ Some w = sym is ∙ ap (word_named q) same ∙ word_back q w has in absurd cc
 named_cases q text texts (Some v) is h w has same = absurd (subst Tells h (operands_tell v texts))
 
@@ -183,12 +178,12 @@ unnamed q text None is none = is
 unnamed q text (Some w) is none = let n = named_is q (word_in text words) w is in absurd (none w n.1 (word_among text words w n.0))
 
 -- 80 is told of a line's words exactly where the first is no name of the profile's
-words_word : (q : Profile) (text : List ℕ) (texts : List (List ℕ)) → (insn_of_words q (text ∷ texts) ≡ Err code.Word) ↔ Unnamed q text
+words_word : (q : Profile) (text : List ℕ) (texts : List (List ℕ)) → (insn_of_words q (text ∷ texts) ≡ Err AsmCode.Word) ↔ Unnamed q text
 unfolding insn_of_words
-words_word q text texts = (named_cases q text texts (word_named q text) refl, λ none. ap (λ (o : Option Word). ok_or o code.Word >>= λ w. operands w texts) (unnamed q text (word_named q text) refl none))
+words_word q text texts = (named_cases q text texts (word_named q text) refl, λ none. ap (λ (o : Option Word). ok_or o AsmCode.Word >>= λ w. operands w texts) (unnamed q text (word_named q text) refl none))
 
 -- 80 is told of a line exactly where what stands before its first blank is no name
-pub word_told : (q : Profile) (line : List ℕ) → (line_of q line ≡ Err code.Word) ↔ ((w : Word) → IsWordOf q w → before_first (λ b. b == 32) line ≢ name w)
+pub word_told : (q : Profile) (line : List ℕ) → (line_of q line ≡ Err AsmCode.Word) ↔ ((w : Word) → IsWordOf q w → before_first (λ b. b == 32) line ≢ name w)
 word_told q line =
     let f = first_word line in
     let e = words_word q (before_first blank line) f.0 in
@@ -197,12 +192,12 @@ word_told q line =
 -- ---- the slots
 
 -- operands don't tell 83
-words_short : (texts : List (List ℕ)) (o : Option Word) → (ok_or o code.Word >>= λ w. operands w texts) ≡ Err code.TooLong → ⊥
+words_short : (texts : List (List ℕ)) (o : Option Word) → (ok_or o AsmCode.Word >>= λ w. operands w texts) ≡ Err AsmCode.TooLong → ⊥
 words_short texts None h = absurd cc
 words_short texts (Some w) h = subst Tells h (operands_tell w texts)
 
 -- nor does a line by itself
-line_short : (q : Profile) (texts : List (List ℕ)) → insn_of_words q texts ≡ Err code.TooLong → ⊥
+line_short : (q : Profile) (texts : List (List ℕ)) → insn_of_words q texts ≡ Err AsmCode.TooLong → ⊥
 unfolding insn_of_words
 line_short q [] h = absurd cc
 line_short q (text ∷ texts) h = words_short texts (word_named q text) h
@@ -211,7 +206,7 @@ line_short q (text ∷ texts) h = words_short texts (word_named q text) h
 abbrev PastEnd : Profile → List Insn → List ℕ → Type 0
 PastEnd q front line = (i : Insn) × (line ≡ insn_text i) × Fits i × IsOf q i × (max_slots q < slots (front ++ i ∷ []))
 
-slots_past : (front p : List Insn) (b : Bool) → cond b (Err code.TooLong) (Ok p) ≡ Err code.TooLong → b ≡ true
+slots_past : (front p : List Insn) (b : Bool) → cond b (Err AsmCode.TooLong) (Ok p) ≡ Err AsmCode.TooLong → b ≡ true
 slots_past front p true h = refl
 slots_past front p false h = absurd cc
 
@@ -223,64 +218,64 @@ failed A c = Err c
 pub moved : (A B : Type 0) (c d : AsmCode) → failed A c ≡ failed A d → failed B c ≡ failed B d
 moved A B c d h = ap (failed B) (err_is {A = A} c d h)
 
-read_past : (q : Profile) (front : List Insn) (line : List ℕ) (r : Result Insn AsmCode) → line_of q line ≡ r → (r >>= λ i. cond (nat_lt (max_slots q) (slots (front ++ i ∷ []))) (Err code.TooLong) (Ok (front ++ i ∷ []))) ≡ Err code.TooLong → PastEnd q front line
-read_past q front line (Err c) is h = absurd (line_short q (slice_split blank line) (is ∙ moved (List Insn) Insn c code.TooLong h))
+read_past : (q : Profile) (front : List Insn) (line : List ℕ) (r : Result Insn AsmCode) → line_of q line ≡ r → (r >>= λ i. cond (nat_lt (max_slots q) (slots (front ++ i ∷ []))) (Err AsmCode.TooLong) (Ok (front ++ i ∷ []))) ≡ Err AsmCode.TooLong → PastEnd q front line
+read_past q front line (Err c) is h = absurd (line_short q (slice_split blank line) (is ∙ moved (List Insn) Insn c AsmCode.TooLong h))
 read_past q front line (Ok i) is h =
     let s = line_spelled q line i is in
     (i, s.0, s.1, s.2, ltb-true _ _ (slots_past front (front ++ i ∷ []) (nat_lt (max_slots q) (slots (front ++ i ∷ []))) h))
 
-shown_past : (q : Profile) (front : List Insn) (line : List ℕ) (b : Bool) → cond b (Ok front) (line_of q line >>= λ i. cond (nat_lt (max_slots q) (slots (front ++ i ∷ []))) (Err code.TooLong) (Ok (front ++ i ∷ []))) ≡ Err code.TooLong → PastEnd q front line
+shown_past : (q : Profile) (front : List Insn) (line : List ℕ) (b : Bool) → cond b (Ok front) (line_of q line >>= λ i. cond (nat_lt (max_slots q) (slots (front ++ i ∷ []))) (Err AsmCode.TooLong) (Ok (front ++ i ∷ []))) ≡ Err AsmCode.TooLong → PastEnd q front line
 shown_past q front line true h = absurd cc
 shown_past q front line false h = read_past q front line (line_of q line) refl h
 
 -- a line that is such an instruction's is told as 83
-past_told : (q : Profile) (front : List Insn) (line : List ℕ) → PastEnd q front line → with_insn_line q front line ≡ Err code.TooLong
+past_told : (q : Profile) (front : List Insn) (line : List ℕ) → PastEnd q front line → with_insn_line q front line ≡ Err AsmCode.TooLong
 unfolding with_insn_line
 past_told q front line h = ap (with_insn_line q front) h.1 ∙ rw (insn_shown h.0, line_back q h.0 h.2 h.3, lt-ltb _ _ h.4) refl
 
 -- and 83 is told of no other line
-pub too_long_told : (q : Profile) (front : List Insn) (line : List ℕ) → (with_insn_line q front line ≡ Err code.TooLong) ↔ ((i : Insn) × (line ≡ insn_text i) × Fits i × IsOf q i × (max_slots q < slots (front ++ i ∷ [])))
+pub too_long_told : (q : Profile) (front : List Insn) (line : List ℕ) → (with_insn_line q front line ≡ Err AsmCode.TooLong) ↔ ((i : Insn) × (line ≡ insn_text i) × Fits i × IsOf q i × (max_slots q < slots (front ++ i ∷ [])))
 unfolding with_insn_line
 too_long_told q front line = (shown_past q front line (is_skipped line), past_told q front line)
 
 -- ---- no other code of a line
 
-only_past : (p : List Insn) (c : AsmCode) (b : Bool) → cond b (Err code.TooLong) (Ok p) ≡ Err c → c ≡ code.TooLong
-only_past p c true h = sym (err_is {A = List Insn} code.TooLong c h)
+only_past : (p : List Insn) (c : AsmCode) (b : Bool) → cond b (Err AsmCode.TooLong) (Ok p) ≡ Err c → c ≡ AsmCode.TooLong
+only_past p c true h = sym (err_is {A = List Insn} AsmCode.TooLong c h)
 only_past p c false h = absurd cc
 
-read_own : (q : Profile) (front : List Insn) (line : List ℕ) (c : AsmCode) (r : Result Insn AsmCode) → line_of q line ≡ r → (r >>= λ i. cond (nat_lt (max_slots q) (slots (front ++ i ∷ []))) (Err code.TooLong) (Ok (front ++ i ∷ []))) ≡ Err c → (c ≡ code.TooLong) ⊎ (line_of q line ≡ Err c)
+read_own : (q : Profile) (front : List Insn) (line : List ℕ) (c : AsmCode) (r : Result Insn AsmCode) → line_of q line ≡ r → (r >>= λ i. cond (nat_lt (max_slots q) (slots (front ++ i ∷ []))) (Err AsmCode.TooLong) (Ok (front ++ i ∷ []))) ≡ Err c → (c ≡ AsmCode.TooLong) ⊎ (line_of q line ≡ Err c)
 read_own q front line c (Err d) is h = inr (is ∙ moved (List Insn) Insn d c h)
 read_own q front line c (Ok i) is h = inl (only_past (front ++ i ∷ []) c (nat_lt (max_slots q) (slots (front ++ i ∷ []))) h)
 
-shown_own : (q : Profile) (front : List Insn) (line : List ℕ) (c : AsmCode) (b : Bool) → cond b (Ok front) (line_of q line >>= λ i. cond (nat_lt (max_slots q) (slots (front ++ i ∷ []))) (Err code.TooLong) (Ok (front ++ i ∷ []))) ≡ Err c → (c ≡ code.TooLong) ⊎ (line_of q line ≡ Err c)
+shown_own : (q : Profile) (front : List Insn) (line : List ℕ) (c : AsmCode) (b : Bool) → cond b (Ok front) (line_of q line >>= λ i. cond (nat_lt (max_slots q) (slots (front ++ i ∷ []))) (Err AsmCode.TooLong) (Ok (front ++ i ∷ []))) ≡ Err c → (c ≡ AsmCode.TooLong) ⊎ (line_of q line ≡ Err c)
 shown_own q front line c true h = absurd cc
 shown_own q front line c false h = read_own q front line c (line_of q line) refl h
 
 -- after lines before it a line tells its own fault, or 83
-pub own_told : (q : Profile) (front : List Insn) (line : List ℕ) (c : AsmCode) → with_insn_line q front line ≡ Err c → (c ≡ code.TooLong) ⊎ (line_of q line ≡ Err c)
+pub own_told : (q : Profile) (front : List Insn) (line : List ℕ) (c : AsmCode) → with_insn_line q front line ≡ Err c → (c ≡ AsmCode.TooLong) ⊎ (line_of q line ≡ Err c)
 unfolding with_insn_line
 own_told q front line c h = shown_own q front line c (is_skipped line) h
 
 -- what operands tell is 81 or 82
-told_so : (c : AsmCode) → Tells (failed Insn c) → (c ≡ code.Word) ⊎ (c ≡ code.Form) ⊎ (c ≡ code.Range)
-told_so code.Word h = absurd h
-told_so code.Form h = inr (inl refl)
-told_so code.Range h = inr (inr refl)
-told_so code.TooLong h = absurd h
-told_so code.Nothing h = absurd h
+told_so : (c : AsmCode) → Tells (failed Insn c) → (c ≡ AsmCode.Word) ⊎ (c ≡ AsmCode.Form) ⊎ (c ≡ AsmCode.Range)
+told_so AsmCode.Word h = absurd h
+told_so AsmCode.Form h = inr (inl refl)
+told_so AsmCode.Range h = inr (inr refl)
+told_so AsmCode.TooLong h = absurd h
+told_so AsmCode.Nothing h = absurd h
 
-words_told : (texts : List (List ℕ)) (o : Option Word) (c : AsmCode) → (ok_or o code.Word >>= λ w. operands w texts) ≡ Err c → (c ≡ code.Word) ⊎ (c ≡ code.Form) ⊎ (c ≡ code.Range)
-words_told texts None c h = inl (sym (err_is {A = Insn} code.Word c h))
+words_told : (texts : List (List ℕ)) (o : Option Word) (c : AsmCode) → (ok_or o AsmCode.Word >>= λ w. operands w texts) ≡ Err c → (c ≡ AsmCode.Word) ⊎ (c ≡ AsmCode.Form) ⊎ (c ≡ AsmCode.Range)
+words_told texts None c h = inl (sym (err_is {A = Insn} AsmCode.Word c h))
 words_told texts (Some w) c h = told_so c (subst Tells h (operands_tell w texts))
 
-fields_told : (q : Profile) (texts : List (List ℕ)) (c : AsmCode) → insn_of_words q texts ≡ Err c → (c ≡ code.Word) ⊎ (c ≡ code.Form) ⊎ (c ≡ code.Range)
+fields_told : (q : Profile) (texts : List (List ℕ)) (c : AsmCode) → insn_of_words q texts ≡ Err c → (c ≡ AsmCode.Word) ⊎ (c ≡ AsmCode.Form) ⊎ (c ≡ AsmCode.Range)
 unfolding insn_of_words
-fields_told q [] c h = inr (inl (sym (err_is {A = Insn} code.Form c h)))
+fields_told q [] c h = inr (inl (sym (err_is {A = Insn} AsmCode.Form c h)))
 fields_told q (text ∷ texts) c h = words_told texts (word_named q text) c h
 
 -- a line by itself tells 80, 81 or 82
-pub line_told : (q : Profile) (line : List ℕ) (c : AsmCode) → line_of q line ≡ Err c → (c ≡ code.Word) ⊎ (c ≡ code.Form) ⊎ (c ≡ code.Range)
+pub line_told : (q : Profile) (line : List ℕ) (c : AsmCode) → line_of q line ≡ Err c → (c ≡ AsmCode.Word) ⊎ (c ≡ AsmCode.Form) ⊎ (c ≡ AsmCode.Range)
 line_told q line c h = fields_told q (slice_split blank line) c h
 
 -- ---- no instruction

@@ -3,7 +3,7 @@ use Rattle.std.proofs.Common.{◌≡◌, ℕ, ◌⊎◌, List, [], ◌∷◌, Re
 use Rattle.pb_isa.specs.declared.insn.Insn.{Insn}
 use Rattle.pb_isa.specs.declared.profile.Profile.{Profile}
 use Rattle.pb_isa.specs.Programs.{ProgramOf}
-use Rattle.pb_asm.specs.declared.fault.AsmCode.TheVariants.{Nothing}
+use Rattle.pb_asm.specs.declared.fault.AsmCode.{AsmCode}
 use Rattle.pb_asm.specs.Codes.{asm_code}
 use Rattle.pb_asm.specs.Texts.{with_insn_line, insns_of_lines, some_of, program_of_text, HasNone}
 use Rattle.pb_reading.specs.Reading.{◌>>=◌, lines_of}
@@ -15,7 +15,7 @@ use Rattle.pb_reading.proofs.Readings.{err_is}
 whole : (q : Profile) (text : List ℕ) (line told : ℕ) (r : Result (List Insn) (ℕ × ℕ)) → insns_of_lines q 0 [] (lines_of text) ≡ r → (r >>= some_of q) ≡ Err (line, told) → StopsAt asm_code (with_insn_line q) [] text line told ⊎ HasNone q text line told
 whole q text line told (Err p) is h = inl (stops_at asm_code (with_insn_line q) [] text line told (is ∙ ap Err (err_is {A = ProgramOf} p (line, told) h)))
 whole q text line told (Ok []) is h =
-    let e = err_is {A = ProgramOf} (0, asm_code Nothing) (line, told) h in
+    let e = err_is {A = ProgramOf} (0, asm_code AsmCode.Nothing) (line, told) h in
     inr (record { read = is; number = sym (ap (λ (p : ℕ × ℕ). p.0) e); code = sym (ap (λ (p : ℕ × ℕ). p.1) e) })
 whole q text line told (Ok (i ∷ p)) is h = absurd cc
 

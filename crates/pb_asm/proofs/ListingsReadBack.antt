@@ -1,35 +1,23 @@
 -- A listing is read as its program.
-use Rattle.std.proofs.Common.{◌≡◌, ℕ, suc, ◌+◌, ◌-◌, ◌^◌, ◌<◌, ◌≤◌, ℤ, pos, negsuc, Bool, true, false, cond, List, [], ◌∷◌, ◌++◌, length, map, Option, Some, None, Result, Ok, refl, sym, ap, ◌∙◌, append_assoc, arith}
-use Rattle.std.specs.Prelude.{◌==◌, nat_le, codes, slice_index, FitsSigned}
-use Rattle.std.specs.Int.{w16, w32}
+use Rattle.std.proofs.Common.{◌≡◌, ℕ, suc, ◌+◌, ◌-◌, ◌^◌, ◌<◌, ◌≤◌, ℤ, pos, negsuc, Bool, true, false, cond, List, [], ◌∷◌, ◌++◌, length, map, Option, Some, None, Result, Ok, refl, sym, ap, ◌∙◌, append_assoc, arith, ◌==◌, nat_le, codes, slice_index, FitsSigned, w16, w32, ok_or}
 use Rattle.std.specs.List.{slice_split, AllByRecursion}
 use Rattle.std.specs.Fmt.{decimal, signed_decimal}
 use Rattle.std.proofs.lemmas.Bool.{leb-true}
 use Rattle.std.proofs.lemmas.List.{length-append}
 use Rattle.pb_isa.specs.declared.insn.Insn.{Insn}
-use Rattle.pb_isa.specs.declared.insn.Insn.TheVariants as insn
 use Rattle.pb_isa.specs.declared.insn.Operand.{Operand}
-use Rattle.pb_isa.specs.declared.insn.Operand.TheVariants as operand
 use Rattle.pb_isa.specs.declared.profile.Profile.{Profile}
-use Rattle.pb_isa.specs.declared.profile.Profile.TheVariants.{One, Two}
 use Rattle.pb_isa.specs.declared.insn.Width.{Width}
-use Rattle.pb_isa.specs.declared.insn.Width.TheVariants.{Bits32, Bits64}
 use Rattle.pb_isa.specs.declared.insn.Size.{Size}
-use Rattle.pb_isa.specs.declared.insn.Size.TheVariants.{B, H, W, Dw}
 use Rattle.pb_isa.specs.declared.insn.Extension.{Extension}
-use Rattle.pb_isa.specs.declared.insn.Extension.TheVariants.{Zeros, Sign}
 use Rattle.pb_isa.specs.declared.insn.Reg.{Reg}
-use Rattle.pb_isa.specs.declared.insn.Reg.TheVariants.{R0, R1, R2, R3, R4, R5, R6, R7, R8, R9, R10}
 use Rattle.pb_isa.specs.Bounds.{OperandFits, Fits}
 use Rattle.pb_isa.specs.Slots.{places_of, layout, slots}
 use Rattle.pb_isa.specs.Profiles.{is_narrower, IsOf}
 use Rattle.pb_asm.specs.declared.fault.AsmCode.{AsmCode}
-use Rattle.pb_asm.specs.declared.fault.AsmCode.TheVariants as code
 use Rattle.pb_asm.specs.declared.names.Word.{Word}
-use Rattle.pb_asm.specs.declared.names.Word.TheVariants as word
 use Rattle.pb_asm.specs.Names.{name, words, IsWordOf, sizes, size_bits, reg_name, word_in}
 use Rattle.pb_reading.specs.Reading.{◌>>=◌}
-use Rattle.std.specs.Prelude.{ok_or}
 use Rattle.pb_asm.specs.Cuts.{strip_prefix, strip_suffix, split_once}
 use Rattle.pb_reading.specs.Reading.{numeral_upto}
 use Rattle.pb_asm.specs.Operands.{minus, plus, imm_of_text, offset_of_text, reg_of_text, operand_of_text, size_in, bits_of_text, base_and_offset, at_minus, at_plus, place_of_text, comma, last, alu_operands, mov_sx_operands, load_imm_operands, load_operands, store_imm_operands, store_operands, jump_if_operands, operands, insn_of_words, line_of}
@@ -43,8 +31,8 @@ use Rattle.pb_reading.proofs.NumeralValues.{numeral_back}
 -- ---- numbers
 
 -- a number is read from its decimal
-pub number_back : (greatest n : ℕ) → n ≤ greatest → n < 2 ^ 64 → numeral_upto code.Form code.Range greatest (decimal n) ≡ Ok n
-number_back greatest n le lt = numeral_back code.Form code.Range greatest n lt le
+pub number_back : (greatest n : ℕ) → n ≤ greatest → n < 2 ^ 64 → numeral_upto AsmCode.Form AsmCode.Range greatest (decimal n) ≡ Ok n
+number_back greatest n le lt = numeral_back AsmCode.Form AsmCode.Range greatest n lt le
 
 -- a negative number is read from its digits, and one that isn't from its own
 minus_back : (greatest n : ℕ) → suc n ≤ greatest → suc n < 2 ^ 64 → minus greatest (decimal (suc n)) ≡ Ok (negsuc n)
@@ -86,20 +74,20 @@ offset_back (negsuc n) fits =
 
 -- a size narrower than the width is found by its bits
 pub size_there : (w : Width) (z : Size) → is_narrower z w ≡ true → size_in w (size_bits z) sizes ≡ Some z
-size_there Bits32 B h = refl
-size_there Bits64 B h = refl
-size_there Bits32 H h = refl
-size_there Bits64 H h = refl
-size_there Bits32 W h = absurd cc
-size_there Bits64 W h = refl
-size_there w Dw h = absurd cc
+size_there Width.Bits32 Size.B h = refl
+size_there Width.Bits64 Size.B h = refl
+size_there Width.Bits32 Size.H h = refl
+size_there Width.Bits64 Size.H h = refl
+size_there Width.Bits32 Size.W h = absurd cc
+size_there Width.Bits64 Size.W h = refl
+size_there w Size.Dw h = absurd cc
 
 -- a size's bits are a number that the text can have
 pub few_bits : (z : Size) → size_bits z < 2 ^ 64
-few_bits B = omega arith
-few_bits H = omega arith
-few_bits W = omega arith
-few_bits Dw = omega arith
+few_bits Size.B = omega arith
+few_bits Size.H = omega arith
+few_bits Size.W = omega arith
+few_bits Size.Dw = omega arith
 
 -- a move's bits are read from their decimal
 bits_back : (w : Width) (z : Size) → is_narrower z w ≡ true → bits_of_text w (decimal (size_bits z)) ≡ Ok z
@@ -114,17 +102,17 @@ reg_read r = rw (reg_back r) refl
 
 -- a register's name begins with an r
 pub first_letter : (r : Reg) → (slice_index (reg_name r) 0 == 114) ≡ true
-first_letter R0 = refl
-first_letter R1 = refl
-first_letter R2 = refl
-first_letter R3 = refl
-first_letter R4 = refl
-first_letter R5 = refl
-first_letter R6 = refl
-first_letter R7 = refl
-first_letter R8 = refl
-first_letter R9 = refl
-first_letter R10 = refl
+first_letter Reg.R0 = refl
+first_letter Reg.R1 = refl
+first_letter Reg.R2 = refl
+first_letter Reg.R3 = refl
+first_letter Reg.R4 = refl
+first_letter Reg.R5 = refl
+first_letter Reg.R6 = refl
+first_letter Reg.R7 = refl
+first_letter Reg.R8 = refl
+first_letter Reg.R9 = refl
+first_letter Reg.R10 = refl
 
 -- an immediate's text doesn't
 not_r : (k : ℤ) → FitsSigned w32 k → (slice_index (signed_decimal k) 0 == 114) ≡ false
@@ -138,8 +126,8 @@ not_r (negsuc n) fits = refl
 -- so an operand is read as what it is
 pub operand_back : (a : Operand) → OperandFits a → operand_of_text (operand_text a) ≡ Ok a
 unfolding operand_of_text
-operand_back (operand.Imm k) fits = rw (not_r k fits, imm_back k fits) refl
-operand_back (operand.Reg r) fits = rw (first_letter r, reg_read r) refl
+operand_back (Operand.Imm k) fits = rw (not_r k fits, imm_back k fits) refl
+operand_back (Operand.Reg r) fits = rw (first_letter r, reg_read r) refl
 
 based_back : (b : Reg) (o : ℤ) (read : Result ℤ AsmCode) → read ≡ Ok o → base_and_offset (reg_name b) read ≡ Ok (b, o)
 unfolding base_and_offset
@@ -165,7 +153,7 @@ unfolding place_of_text
 place_back b o fits =
     let grouped : reg_name b ++ (offset_text o ++ 93 ∷ []) ≡ (reg_name b ++ offset_text o) ++ 93 ∷ [] = sym (append_assoc (reg_name b) (offset_text o) (93 ∷ [])) in
     let e : strip_suffix 93 (reg_name b ++ (offset_text o ++ 93 ∷ [])) ≡ Some (reg_name b ++ offset_text o) = ap (strip_suffix 93) grouped ∙ before_there 93 (reg_name b ++ offset_text o) in
-    ap (λ (x : Option (List ℕ)). ok_or x code.Form >>= λ inner. at_plus inner (split_once 43 inner)) e ∙ inside b o fits
+    ap (λ (x : Option (List ℕ)). ok_or x AsmCode.Form >>= λ inner. at_plus inner (split_once 43 inner)) e ∙ inside b o fits
 
 -- ---- the words of a line
 
@@ -185,8 +173,8 @@ offset_line (pos n) fits = let lt : n < 2 ^ 15 = fits.sfits in decimal_line n (o
 offset_line (negsuc n) fits = let lt : n < 2 ^ 15 = fits.sfits in decimal_line (suc n) (omega (arith, lt))
 
 pub operand_line : (a : Operand) → OperandFits a → above 33 (operand_text a) ≡ true
-operand_line (operand.Imm k) fits = signed_line k fits
-operand_line (operand.Reg r) fits = reg_line r
+operand_line (Operand.Imm k) fits = signed_line k fits
+operand_line (Operand.Reg r) fits = reg_line r
 
 pub place_line : (b : Reg) (o : ℤ) → FitsSigned w16 o → above 33 (place_text b o) ≡ true
 place_line b o fits = above_append 33 (reg_name b) (offset_text o ++ 93 ∷ []) (reg_line b) (above_append 33 (offset_text o) (93 ∷ []) (offset_line o fits) refl)
@@ -240,86 +228,86 @@ last_read read x a h = rw h refl
 
 -- the first word of an instruction
 abbrev first_of : Insn → Word
-first_of (insn.Alu op w d a) = word.Alu op w
-first_of (insn.MovSx w z d s) = word.MovSx w
-first_of (insn.Neg w d) = word.Neg w
-first_of (insn.LoadImm d v) = word.LoadImm
-first_of (insn.Load z x d b o) = word.Load z x
-first_of (insn.StoreImm z b o k) = word.StoreImm z
-first_of (insn.Store z b s o) = word.Store z
-first_of (insn.Jump o) = word.Jump
-first_of (insn.JumpIf c w d a o) = word.JumpIf c w
-first_of (insn.Call k) = word.Call
-first_of insn.Exit = word.Exit
+first_of (Insn.Alu op w d a) = Word.Alu op w
+first_of (Insn.MovSx w z d s) = Word.MovSx w
+first_of (Insn.Neg w d) = Word.Neg w
+first_of (Insn.LoadImm d v) = Word.LoadImm
+first_of (Insn.Load z x d b o) = Word.Load z x
+first_of (Insn.StoreImm z b o k) = Word.StoreImm z
+first_of (Insn.Store z b s o) = Word.Store z
+first_of (Insn.Jump o) = Word.Jump
+first_of (Insn.JumpIf c w d a o) = Word.JumpIf c w
+first_of (Insn.Call k) = Word.Call
+first_of Insn.Exit = Word.Exit
 
 -- a word that either profile has is in any
-has_both : (w : Word) → IsWordOf One w → IsWordOf Two w → (q : Profile) → IsWordOf q w
-has_both w one two One = one
-has_both w one two Two = two
+has_both : (w : Word) → IsWordOf Profile.One w → IsWordOf Profile.Two w → (q : Profile) → IsWordOf q w
+has_both w one two Profile.One = one
+has_both w one two Profile.Two = two
 
 -- a profile that has an extending move has its word, and so of loads
-has_move : (q : Profile) (w : Width) (z : Size) (d s : Reg) → IsOf q (insn.MovSx w z d s) → IsWordOf q (word.MovSx w)
-has_move One w z d s is = is
-has_move Two w z d s is = refl
+has_move : (q : Profile) (w : Width) (z : Size) (d s : Reg) → IsOf q (Insn.MovSx w z d s) → IsWordOf q (Word.MovSx w)
+has_move Profile.One w z d s is = is
+has_move Profile.Two w z d s is = refl
 
-has_load : (q : Profile) (z : Size) (x : Extension) (d b : Reg) (o : ℤ) → IsOf q (insn.Load z x d b o) → IsWordOf q (word.Load z x)
-has_load One z Zeros d b o is = refl
-has_load One z Sign d b o is = is
-has_load Two z Zeros d b o is = refl
-has_load Two z Sign d b o is = is
+has_load : (q : Profile) (z : Size) (x : Extension) (d b : Reg) (o : ℤ) → IsOf q (Insn.Load z x d b o) → IsWordOf q (Word.Load z x)
+has_load Profile.One z Extension.Zeros d b o is = refl
+has_load Profile.One z Extension.Sign d b o is = is
+has_load Profile.Two z Extension.Zeros d b o is = refl
+has_load Profile.Two z Extension.Sign d b o is = is
 
 -- a profile that has the instruction has its word
 has_first : (q : Profile) (i : Insn) → IsOf q i → IsWordOf q (first_of i)
-has_first q (insn.Alu op w d a) is = has_both (word.Alu op w) refl refl q
-has_first q (insn.MovSx w z d s) is = has_move q w z d s is
-has_first q (insn.Neg w d) is = has_both (word.Neg w) refl refl q
-has_first q (insn.LoadImm d v) is = has_both word.LoadImm refl refl q
-has_first q (insn.Load z x d b o) is = has_load q z x d b o is
-has_first q (insn.StoreImm z b o k) is = has_both (word.StoreImm z) refl refl q
-has_first q (insn.Store z b s o) is = has_both (word.Store z) refl refl q
-has_first q (insn.Jump o) is = has_both word.Jump refl refl q
-has_first q (insn.JumpIf c w d a o) is = has_both (word.JumpIf c w) refl refl q
-has_first q (insn.Call k) is = has_both word.Call refl refl q
-has_first q insn.Exit is = has_both word.Exit refl refl q
+has_first q (Insn.Alu op w d a) is = has_both (Word.Alu op w) refl refl q
+has_first q (Insn.MovSx w z d s) is = has_move q w z d s is
+has_first q (Insn.Neg w d) is = has_both (Word.Neg w) refl refl q
+has_first q (Insn.LoadImm d v) is = has_both Word.LoadImm refl refl q
+has_first q (Insn.Load z x d b o) is = has_load q z x d b o is
+has_first q (Insn.StoreImm z b o k) is = has_both (Word.StoreImm z) refl refl q
+has_first q (Insn.Store z b s o) is = has_both (Word.Store z) refl refl q
+has_first q (Insn.Jump o) is = has_both Word.Jump refl refl q
+has_first q (Insn.JumpIf c w d a o) is = has_both (Word.JumpIf c w) refl refl q
+has_first q (Insn.Call k) is = has_both Word.Call refl refl q
+has_first q Insn.Exit is = has_both Word.Exit refl refl q
 
-takes_narrower : (q : Profile) (w : Width) (z : Size) (d s : Reg) → IsOf q (insn.MovSx w z d s) → is_narrower z w ≡ true
-takes_narrower One w z d s is = absurd cc
-takes_narrower Two w z d s is = is
+takes_narrower : (q : Profile) (w : Width) (z : Size) (d s : Reg) → IsOf q (Insn.MovSx w z d s) → is_narrower z w ≡ true
+takes_narrower Profile.One w z d s is = absurd cc
+takes_narrower Profile.Two w z d s is = is
 
 -- each instruction is read from its line: a case for each
 pub line_back : (q : Profile) (i : Insn) → Fits i → IsOf q i → line_of q (insn_text i) ≡ Ok i
 unfolding alu_operands mov_sx_operands load_imm_operands load_operands store_imm_operands store_operands jump_if_operands
-line_back q (insn.Alu op w d a) fits is =
-    ap (insn_of_words q) (two_words (word.Alu op w) (reg_name d) (operand_text a) (reg_line d) (operand_line a fits)) ∙ first_read q (word.Alu op w) _ (has_first q (insn.Alu op w d a) is)
+line_back q (Insn.Alu op w d a) fits is =
+    ap (insn_of_words q) (two_words (Word.Alu op w) (reg_name d) (operand_text a) (reg_line d) (operand_line a fits)) ∙ first_read q (Word.Alu op w) _ (has_first q (Insn.Alu op w d a) is)
     ∙ rw (comma_read (reg_name d) (operand_text a ∷ []), reg_read d, last_read operand_of_text (operand_text a) a (operand_back a fits)) refl
-line_back q (insn.MovSx w z d s) fits is =
-    ap (insn_of_words q) (three_words (word.MovSx w) (reg_name d) (reg_name s) (decimal (size_bits z)) (reg_line d) (reg_line s) (decimal_line (size_bits z) (few_bits z))) ∙ first_read q (word.MovSx w) _ (has_first q (insn.MovSx w z d s) is)
+line_back q (Insn.MovSx w z d s) fits is =
+    ap (insn_of_words q) (three_words (Word.MovSx w) (reg_name d) (reg_name s) (decimal (size_bits z)) (reg_line d) (reg_line s) (decimal_line (size_bits z) (few_bits z))) ∙ first_read q (Word.MovSx w) _ (has_first q (Insn.MovSx w z d s) is)
     ∙ rw (comma_read (reg_name d) ((reg_name s ++ 44 ∷ []) ∷ decimal (size_bits z) ∷ []), reg_read d, comma_read (reg_name s) (decimal (size_bits z) ∷ []), reg_read s, last_read (bits_of_text w) (decimal (size_bits z)) z (bits_back w z (takes_narrower q w z d s is))) refl
-line_back q (insn.Neg w d) fits is =
-    ap (insn_of_words q) (one_word (word.Neg w) (reg_name d) (reg_line d)) ∙ first_read q (word.Neg w) _ (has_first q (insn.Neg w d) is)
+line_back q (Insn.Neg w d) fits is =
+    ap (insn_of_words q) (one_word (Word.Neg w) (reg_name d) (reg_line d)) ∙ first_read q (Word.Neg w) _ (has_first q (Insn.Neg w d) is)
     ∙ rw (last_read reg_of_text (reg_name d) d (reg_read d)) refl
-line_back q (insn.LoadImm d v) fits is =
-    ap (insn_of_words q) (two_words word.LoadImm (reg_name d) (decimal v) (reg_line d) (decimal_line v fits)) ∙ first_read q word.LoadImm _ (has_first q (insn.LoadImm d v) is)
-    ∙ rw (comma_read (reg_name d) (decimal v ∷ []), reg_read d, last_read (numeral_upto code.Form code.Range (2 ^ 64 - 1)) (decimal v) v (number_back (2 ^ 64 - 1) v (omega (arith, fits)) fits)) refl
-line_back q (insn.Load z x d b o) fits is =
-    ap (insn_of_words q) (two_words (word.Load z x) (reg_name d) (place_text b o) (reg_line d) (place_line b o fits)) ∙ first_read q (word.Load z x) _ (has_first q (insn.Load z x d b o) is)
+line_back q (Insn.LoadImm d v) fits is =
+    ap (insn_of_words q) (two_words Word.LoadImm (reg_name d) (decimal v) (reg_line d) (decimal_line v fits)) ∙ first_read q Word.LoadImm _ (has_first q (Insn.LoadImm d v) is)
+    ∙ rw (comma_read (reg_name d) (decimal v ∷ []), reg_read d, last_read (numeral_upto AsmCode.Form AsmCode.Range (2 ^ 64 - 1)) (decimal v) v (number_back (2 ^ 64 - 1) v (omega (arith, fits)) fits)) refl
+line_back q (Insn.Load z x d b o) fits is =
+    ap (insn_of_words q) (two_words (Word.Load z x) (reg_name d) (place_text b o) (reg_line d) (place_line b o fits)) ∙ first_read q (Word.Load z x) _ (has_first q (Insn.Load z x d b o) is)
     ∙ rw (comma_read (reg_name d) (place_text b o ∷ []), reg_read d, last_read place_of_text (place_text b o) (b, o) (place_back b o fits)) refl
-line_back q (insn.StoreImm z b o k) fits is =
-    ap (insn_of_words q) (two_words (word.StoreImm z) (place_text b o) (signed_decimal k) (place_line b o fits.0) (signed_line k fits.1)) ∙ first_read q (word.StoreImm z) _ (has_first q (insn.StoreImm z b o k) is)
+line_back q (Insn.StoreImm z b o k) fits is =
+    ap (insn_of_words q) (two_words (Word.StoreImm z) (place_text b o) (signed_decimal k) (place_line b o fits.0) (signed_line k fits.1)) ∙ first_read q (Word.StoreImm z) _ (has_first q (Insn.StoreImm z b o k) is)
     ∙ rw (comma_read (place_text b o) (signed_decimal k ∷ []), place_back b o fits.0, last_read imm_of_text (signed_decimal k) k (imm_back k fits.1)) refl
-line_back q (insn.Store z b s o) fits is =
-    ap (insn_of_words q) (two_words (word.Store z) (place_text b o) (reg_name s) (place_line b o fits) (reg_line s)) ∙ first_read q (word.Store z) _ (has_first q (insn.Store z b s o) is)
+line_back q (Insn.Store z b s o) fits is =
+    ap (insn_of_words q) (two_words (Word.Store z) (place_text b o) (reg_name s) (place_line b o fits) (reg_line s)) ∙ first_read q (Word.Store z) _ (has_first q (Insn.Store z b s o) is)
     ∙ rw (comma_read (place_text b o) (reg_name s ∷ []), place_back b o fits, last_read reg_of_text (reg_name s) s (reg_read s)) refl
-line_back q (insn.Jump o) fits is =
-    ap (insn_of_words q) (one_word word.Jump (offset_text o) (offset_line o fits)) ∙ first_read q word.Jump _ (has_first q (insn.Jump o) is)
+line_back q (Insn.Jump o) fits is =
+    ap (insn_of_words q) (one_word Word.Jump (offset_text o) (offset_line o fits)) ∙ first_read q Word.Jump _ (has_first q (Insn.Jump o) is)
     ∙ rw (last_read offset_of_text (offset_text o) o (offset_back o fits)) refl
-line_back q (insn.JumpIf c w d a o) fits is =
-    ap (insn_of_words q) (three_words (word.JumpIf c w) (reg_name d) (operand_text a) (offset_text o) (reg_line d) (operand_line a fits.0) (offset_line o fits.1)) ∙ first_read q (word.JumpIf c w) _ (has_first q (insn.JumpIf c w d a o) is)
+line_back q (Insn.JumpIf c w d a o) fits is =
+    ap (insn_of_words q) (three_words (Word.JumpIf c w) (reg_name d) (operand_text a) (offset_text o) (reg_line d) (operand_line a fits.0) (offset_line o fits.1)) ∙ first_read q (Word.JumpIf c w) _ (has_first q (Insn.JumpIf c w d a o) is)
     ∙ rw (comma_read (reg_name d) ((operand_text a ++ 44 ∷ []) ∷ offset_text o ∷ []), reg_read d, comma_read (operand_text a) (offset_text o ∷ []), operand_back a fits.0, last_read offset_of_text (offset_text o) o (offset_back o fits.1)) refl
-line_back q (insn.Call k) fits is =
-    ap (insn_of_words q) (one_word word.Call (signed_decimal k) (signed_line k fits)) ∙ first_read q word.Call _ (has_first q (insn.Call k) is)
+line_back q (Insn.Call k) fits is =
+    ap (insn_of_words q) (one_word Word.Call (signed_decimal k) (signed_line k fits)) ∙ first_read q Word.Call _ (has_first q (Insn.Call k) is)
     ∙ rw (last_read imm_of_text (signed_decimal k) k (imm_back k fits)) refl
-line_back q insn.Exit fits is = ap (insn_of_words q) (cut_none 32 48 (name word.Exit) (omega arith) (name_above word.Exit)) ∙ first_read q word.Exit [] (has_first q insn.Exit is)
+line_back q Insn.Exit fits is = ap (insn_of_words q) (cut_none 32 48 (name Word.Exit) (omega arith) (name_above Word.Exit)) ∙ first_read q Word.Exit [] (has_first q Insn.Exit is)
 
 -- ---- the lines of a listing
 
@@ -343,17 +331,17 @@ name_shown w ys = shown (name w) ys (name_nil w (name w) refl) (name_above w)
 
 -- so an instruction's line isn't skipped
 pub insn_shown : (i : Insn) → is_skipped (insn_text i) ≡ false
-insn_shown (insn.Alu op w d a) = name_shown (word.Alu op w) (codes " " ++ (reg_name d ++ (codes ", " ++ operand_text a)))
-insn_shown (insn.MovSx w z d s) = name_shown (word.MovSx w) (codes " " ++ (reg_name d ++ (codes ", " ++ (reg_name s ++ (codes ", " ++ decimal (size_bits z))))))
-insn_shown (insn.Neg w d) = name_shown (word.Neg w) (codes " " ++ reg_name d)
-insn_shown (insn.LoadImm d v) = name_shown word.LoadImm (codes " " ++ (reg_name d ++ (codes ", " ++ decimal v)))
-insn_shown (insn.Load z x d b o) = name_shown (word.Load z x) (codes " " ++ (reg_name d ++ (codes ", " ++ place_text b o)))
-insn_shown (insn.StoreImm z b o k) = name_shown (word.StoreImm z) (codes " " ++ (place_text b o ++ (codes ", " ++ signed_decimal k)))
-insn_shown (insn.Store z b s o) = name_shown (word.Store z) (codes " " ++ (place_text b o ++ (codes ", " ++ reg_name s)))
-insn_shown (insn.Jump o) = name_shown word.Jump (codes " " ++ offset_text o)
-insn_shown (insn.JumpIf c w d a o) = name_shown (word.JumpIf c w) (codes " " ++ (reg_name d ++ (codes ", " ++ (operand_text a ++ (codes ", " ++ offset_text o)))))
-insn_shown (insn.Call k) = name_shown word.Call (codes " " ++ signed_decimal k)
-insn_shown insn.Exit = name_shown word.Exit []
+insn_shown (Insn.Alu op w d a) = name_shown (Word.Alu op w) (codes " " ++ (reg_name d ++ (codes ", " ++ operand_text a)))
+insn_shown (Insn.MovSx w z d s) = name_shown (Word.MovSx w) (codes " " ++ (reg_name d ++ (codes ", " ++ (reg_name s ++ (codes ", " ++ decimal (size_bits z))))))
+insn_shown (Insn.Neg w d) = name_shown (Word.Neg w) (codes " " ++ reg_name d)
+insn_shown (Insn.LoadImm d v) = name_shown Word.LoadImm (codes " " ++ (reg_name d ++ (codes ", " ++ decimal v)))
+insn_shown (Insn.Load z x d b o) = name_shown (Word.Load z x) (codes " " ++ (reg_name d ++ (codes ", " ++ place_text b o)))
+insn_shown (Insn.StoreImm z b o k) = name_shown (Word.StoreImm z) (codes " " ++ (place_text b o ++ (codes ", " ++ signed_decimal k)))
+insn_shown (Insn.Store z b s o) = name_shown (Word.Store z) (codes " " ++ (place_text b o ++ (codes ", " ++ reg_name s)))
+insn_shown (Insn.Jump o) = name_shown Word.Jump (codes " " ++ offset_text o)
+insn_shown (Insn.JumpIf c w d a o) = name_shown (Word.JumpIf c w) (codes " " ++ (reg_name d ++ (codes ", " ++ (operand_text a ++ (codes ", " ++ offset_text o)))))
+insn_shown (Insn.Call k) = name_shown Word.Call (codes " " ++ signed_decimal k)
+insn_shown Insn.Exit = name_shown Word.Exit []
 
 -- no newline in a line
 with_name : (w : Word) (x : List ℕ) → above 32 x ≡ true → above 32 (name w ++ (codes " " ++ x)) ≡ true
@@ -367,17 +355,17 @@ with_comma x y h k = above_append 32 x (codes ", " ++ y) (less x h) k
 
 -- no newline in an instruction's line: a case for each
 insn_above : (i : Insn) → Fits i → above 32 (insn_text i) ≡ true
-insn_above (insn.Alu op w d a) fits = with_name (word.Alu op w) (reg_name d ++ (codes ", " ++ operand_text a)) (with_comma (reg_name d) (operand_text a) (reg_line d) (less (operand_text a) (operand_line a fits)))
-insn_above (insn.MovSx w z d s) fits = with_name (word.MovSx w) (reg_name d ++ (codes ", " ++ (reg_name s ++ (codes ", " ++ decimal (size_bits z))))) (with_comma (reg_name d) (reg_name s ++ (codes ", " ++ decimal (size_bits z))) (reg_line d) (with_comma (reg_name s) (decimal (size_bits z)) (reg_line s) (less (decimal (size_bits z)) (decimal_line (size_bits z) (few_bits z)))))
-insn_above (insn.Neg w d) fits = with_name (word.Neg w) (reg_name d) (less (reg_name d) (reg_line d))
-insn_above (insn.LoadImm d v) fits = with_name word.LoadImm (reg_name d ++ (codes ", " ++ decimal v)) (with_comma (reg_name d) (decimal v) (reg_line d) (less (decimal v) (decimal_line v fits)))
-insn_above (insn.Load z x d b o) fits = with_name (word.Load z x) (reg_name d ++ (codes ", " ++ place_text b o)) (with_comma (reg_name d) (place_text b o) (reg_line d) (less (place_text b o) (place_line b o fits)))
-insn_above (insn.StoreImm z b o k) fits = with_name (word.StoreImm z) (place_text b o ++ (codes ", " ++ signed_decimal k)) (with_comma (place_text b o) (signed_decimal k) (place_line b o fits.0) (less (signed_decimal k) (signed_line k fits.1)))
-insn_above (insn.Store z b s o) fits = with_name (word.Store z) (place_text b o ++ (codes ", " ++ reg_name s)) (with_comma (place_text b o) (reg_name s) (place_line b o fits) (less (reg_name s) (reg_line s)))
-insn_above (insn.Jump o) fits = with_name word.Jump (offset_text o) (less (offset_text o) (offset_line o fits))
-insn_above (insn.JumpIf c w d a o) fits = with_name (word.JumpIf c w) (reg_name d ++ (codes ", " ++ (operand_text a ++ (codes ", " ++ offset_text o)))) (with_comma (reg_name d) (operand_text a ++ (codes ", " ++ offset_text o)) (reg_line d) (with_comma (operand_text a) (offset_text o) (operand_line a fits.0) (less (offset_text o) (offset_line o fits.1))))
-insn_above (insn.Call k) fits = with_name word.Call (signed_decimal k) (less (signed_decimal k) (signed_line k fits))
-insn_above insn.Exit fits = above_less 32 48 (name word.Exit) (omega arith) (name_above word.Exit)
+insn_above (Insn.Alu op w d a) fits = with_name (Word.Alu op w) (reg_name d ++ (codes ", " ++ operand_text a)) (with_comma (reg_name d) (operand_text a) (reg_line d) (less (operand_text a) (operand_line a fits)))
+insn_above (Insn.MovSx w z d s) fits = with_name (Word.MovSx w) (reg_name d ++ (codes ", " ++ (reg_name s ++ (codes ", " ++ decimal (size_bits z))))) (with_comma (reg_name d) (reg_name s ++ (codes ", " ++ decimal (size_bits z))) (reg_line d) (with_comma (reg_name s) (decimal (size_bits z)) (reg_line s) (less (decimal (size_bits z)) (decimal_line (size_bits z) (few_bits z)))))
+insn_above (Insn.Neg w d) fits = with_name (Word.Neg w) (reg_name d) (less (reg_name d) (reg_line d))
+insn_above (Insn.LoadImm d v) fits = with_name Word.LoadImm (reg_name d ++ (codes ", " ++ decimal v)) (with_comma (reg_name d) (decimal v) (reg_line d) (less (decimal v) (decimal_line v fits)))
+insn_above (Insn.Load z x d b o) fits = with_name (Word.Load z x) (reg_name d ++ (codes ", " ++ place_text b o)) (with_comma (reg_name d) (place_text b o) (reg_line d) (less (place_text b o) (place_line b o fits)))
+insn_above (Insn.StoreImm z b o k) fits = with_name (Word.StoreImm z) (place_text b o ++ (codes ", " ++ signed_decimal k)) (with_comma (place_text b o) (signed_decimal k) (place_line b o fits.0) (less (signed_decimal k) (signed_line k fits.1)))
+insn_above (Insn.Store z b s o) fits = with_name (Word.Store z) (place_text b o ++ (codes ", " ++ reg_name s)) (with_comma (place_text b o) (reg_name s) (place_line b o fits) (less (reg_name s) (reg_line s)))
+insn_above (Insn.Jump o) fits = with_name Word.Jump (offset_text o) (less (offset_text o) (offset_line o fits))
+insn_above (Insn.JumpIf c w d a o) fits = with_name (Word.JumpIf c w) (reg_name d ++ (codes ", " ++ (operand_text a ++ (codes ", " ++ offset_text o)))) (with_comma (reg_name d) (operand_text a ++ (codes ", " ++ offset_text o)) (reg_line d) (with_comma (operand_text a) (offset_text o) (operand_line a fits.0) (less (offset_text o) (offset_line o fits.1))))
+insn_above (Insn.Call k) fits = with_name Word.Call (signed_decimal k) (less (signed_decimal k) (signed_line k fits))
+insn_above Insn.Exit fits = above_less 32 48 (name Word.Exit) (omega arith) (name_above Word.Exit)
 
 -- a text's lines
 abbrev pub newlines : List ℕ → List (List ℕ)

@@ -1,26 +1,17 @@
 -- Which bytes stand in names, numbers and words, and where texts of them are cut.
-use Rattle.std.proofs.Common.{◌≡◌, ℕ, suc, ◌+◌, ◌%◌, ◌^◌, ◌<◌, ◌≤◌, Bool, true, false, cond, List, [], ◌∷◌, ◌++◌, length, take, drop, Some, None, refl, ap, ◌∙◌, arith}
-use Rattle.std.specs.Prelude.{◌==◌, nat_le, nat_lt, codes, slice_index}
+use Rattle.std.proofs.Common.{◌≡◌, ℕ, suc, ◌+◌, ◌%◌, ◌^◌, ◌<◌, ◌≤◌, Bool, true, false, cond, List, [], ◌∷◌, ◌++◌, length, take, drop, Some, None, refl, ap, ◌∙◌, arith, ◌==◌, nat_le, nat_lt, codes, slice_index, decimal}
 use Rattle.pb_isa.specs.declared.insn.AluOp.{AluOp}
-use Rattle.pb_isa.specs.declared.insn.AluOp.TheVariants.{Add, Sub, Mul, Div, Or, And, Lsh, Rsh, Mod, Xor, Mov, Arsh}
 use Rattle.pb_isa.specs.declared.insn.Cmp.{Cmp}
-use Rattle.pb_isa.specs.declared.insn.Cmp.TheVariants.{Eq, Gt, Ge, Set, Ne, Sgt, Sge, Lt, Le, Slt, Sle}
 use Rattle.pb_isa.specs.declared.insn.Width.{Width}
-use Rattle.pb_isa.specs.declared.insn.Width.TheVariants.{Bits32, Bits64}
 use Rattle.pb_isa.specs.declared.insn.Size.{Size}
-use Rattle.pb_isa.specs.declared.insn.Size.TheVariants.{B, H, W, Dw}
 use Rattle.pb_isa.specs.declared.insn.Extension.{Extension}
-use Rattle.pb_isa.specs.declared.insn.Extension.TheVariants.{Zeros, Sign}
 use Rattle.pb_isa.specs.declared.profile.Profile.{Profile}
 use Rattle.std.specs.List.{slice_split, before_first, after_first, position_or_len}
-use Rattle.std.specs.Fmt.{decimal}
 use Rattle.std.proofs.lemmas.Bool.{leb-true, le-ltb}
 use Rattle.std.proofs.lemmas.Fmt.{decimal_by_steps}
 use Rattle.std.proofs.lemmas.List.{length-append}
 use Rattle.pb_isa.specs.declared.insn.Reg.{Reg}
-use Rattle.pb_isa.specs.declared.insn.Reg.TheVariants.{R0, R1, R2, R3, R4, R5, R6, R7, R8, R9, R10}
 use Rattle.pb_asm.specs.declared.names.Word.{Word}
-use Rattle.pb_asm.specs.declared.names.Word.TheVariants.{Alu, MovSx, Neg, LoadImm, Load, StoreImm, Store, Jump, JumpIf, Call, Exit}
 use Rattle.pb_asm.specs.Names.{op_name, cmp_name, size_name, width_name, extension_name, name, words, IsWordOf, word_in, word_named, reg_name, registers, reg_named}
 use Rattle.pb_asm.specs.Cuts.{split_once}
 use Rattle.pb_base.proofs.Logic.{same_number}
@@ -112,127 +103,127 @@ around_none c n xs lt h =
 
 -- names have digits and letters alone, which are from 48 on: no blank, no comma, no sign and no newline
 pub reg_above : (r : Reg) → above 48 (reg_name r) ≡ true
-reg_above R0 = refl
-reg_above R1 = refl
-reg_above R2 = refl
-reg_above R3 = refl
-reg_above R4 = refl
-reg_above R5 = refl
-reg_above R6 = refl
-reg_above R7 = refl
-reg_above R8 = refl
-reg_above R9 = refl
-reg_above R10 = refl
+reg_above Reg.R0 = refl
+reg_above Reg.R1 = refl
+reg_above Reg.R2 = refl
+reg_above Reg.R3 = refl
+reg_above Reg.R4 = refl
+reg_above Reg.R5 = refl
+reg_above Reg.R6 = refl
+reg_above Reg.R7 = refl
+reg_above Reg.R8 = refl
+reg_above Reg.R9 = refl
+reg_above Reg.R10 = refl
 
 op_above : (op : AluOp) → above 48 (op_name op) ≡ true
-op_above Add = refl
-op_above Sub = refl
-op_above Mul = refl
-op_above Div = refl
-op_above Or = refl
-op_above And = refl
-op_above Lsh = refl
-op_above Rsh = refl
-op_above Mod = refl
-op_above Xor = refl
-op_above Mov = refl
-op_above Arsh = refl
+op_above AluOp.Add = refl
+op_above AluOp.Sub = refl
+op_above AluOp.Mul = refl
+op_above AluOp.Div = refl
+op_above AluOp.Or = refl
+op_above AluOp.And = refl
+op_above AluOp.Lsh = refl
+op_above AluOp.Rsh = refl
+op_above AluOp.Mod = refl
+op_above AluOp.Xor = refl
+op_above AluOp.Mov = refl
+op_above AluOp.Arsh = refl
 
 cmp_above : (c : Cmp) → above 48 (cmp_name c) ≡ true
-cmp_above Eq = refl
-cmp_above Gt = refl
-cmp_above Ge = refl
-cmp_above Set = refl
-cmp_above Ne = refl
-cmp_above Sgt = refl
-cmp_above Sge = refl
-cmp_above Lt = refl
-cmp_above Le = refl
-cmp_above Slt = refl
-cmp_above Sle = refl
+cmp_above Cmp.Eq = refl
+cmp_above Cmp.Gt = refl
+cmp_above Cmp.Ge = refl
+cmp_above Cmp.Set = refl
+cmp_above Cmp.Ne = refl
+cmp_above Cmp.Sgt = refl
+cmp_above Cmp.Sge = refl
+cmp_above Cmp.Lt = refl
+cmp_above Cmp.Le = refl
+cmp_above Cmp.Slt = refl
+cmp_above Cmp.Sle = refl
 
 size_above : (z : Size) → above 48 (size_name z) ≡ true
-size_above B = refl
-size_above H = refl
-size_above W = refl
-size_above Dw = refl
+size_above Size.B = refl
+size_above Size.H = refl
+size_above Size.W = refl
+size_above Size.Dw = refl
 
 width_above : (w : Width) → above 48 (width_name w) ≡ true
-width_above Bits32 = refl
-width_above Bits64 = refl
+width_above Width.Bits32 = refl
+width_above Width.Bits64 = refl
 
 extension_above : (x : Extension) → above 48 (extension_name x) ≡ true
-extension_above Zeros = refl
-extension_above Sign = refl
+extension_above Extension.Zeros = refl
+extension_above Extension.Sign = refl
 
 -- so the name of a word has them alone
 pub name_above : (w : Word) → above 48 (name w) ≡ true
-name_above (Alu op w) = above_append 48 (op_name op) (width_name w) (op_above op) (width_above w)
-name_above (MovSx w) = above_append 48 (codes "movsx") (width_name w) refl (width_above w)
-name_above (Neg w) = above_append 48 (codes "neg") (width_name w) refl (width_above w)
-name_above LoadImm = refl
-name_above (Load z x) = above_append 48 (codes "ldx") (extension_name x ++ size_name z) refl (above_append 48 (extension_name x) (size_name z) (extension_above x) (size_above z))
-name_above (StoreImm z) = above_append 48 (codes "st") (size_name z) refl (size_above z)
-name_above (Store z) = above_append 48 (codes "stx") (size_name z) refl (size_above z)
-name_above Jump = refl
-name_above (JumpIf c w) = above_append 48 (cmp_name c) (width_name w) (cmp_above c) (width_above w)
-name_above Call = refl
-name_above Exit = refl
+name_above (Word.Alu op w) = above_append 48 (op_name op) (width_name w) (op_above op) (width_above w)
+name_above (Word.MovSx w) = above_append 48 (codes "movsx") (width_name w) refl (width_above w)
+name_above (Word.Neg w) = above_append 48 (codes "neg") (width_name w) refl (width_above w)
+name_above Word.LoadImm = refl
+name_above (Word.Load z x) = above_append 48 (codes "ldx") (extension_name x ++ size_name z) refl (above_append 48 (extension_name x) (size_name z) (extension_above x) (size_above z))
+name_above (Word.StoreImm z) = above_append 48 (codes "st") (size_name z) refl (size_above z)
+name_above (Word.Store z) = above_append 48 (codes "stx") (size_name z) refl (size_above z)
+name_above Word.Jump = refl
+name_above (Word.JumpIf c w) = above_append 48 (cmp_name c) (width_name w) (cmp_above c) (width_above w)
+name_above Word.Call = refl
+name_above Word.Exit = refl
 
-each_width : (P : Width → Type 0) → P Bits32 → P Bits64 → (w : Width) → P w
-each_width P a b Bits32 = a
-each_width P a b Bits64 = b
+each_width : (P : Width → Type 0) → P Width.Bits32 → P Width.Bits64 → (w : Width) → P w
+each_width P a b Width.Bits32 = a
+each_width P a b Width.Bits64 = b
 
 -- each word is the one of its name
 pub word_there : (w : Word) → word_in (name w) words ≡ Some w
 unfolding words
-word_there (Alu Add w) = each_width (λ w. word_in (name (Alu Add w)) words ≡ Some (Alu Add w)) refl refl w
-word_there (Alu Sub w) = each_width (λ w. word_in (name (Alu Sub w)) words ≡ Some (Alu Sub w)) refl refl w
-word_there (Alu Mul w) = each_width (λ w. word_in (name (Alu Mul w)) words ≡ Some (Alu Mul w)) refl refl w
-word_there (Alu Div w) = each_width (λ w. word_in (name (Alu Div w)) words ≡ Some (Alu Div w)) refl refl w
-word_there (Alu Or w) = each_width (λ w. word_in (name (Alu Or w)) words ≡ Some (Alu Or w)) refl refl w
-word_there (Alu And w) = each_width (λ w. word_in (name (Alu And w)) words ≡ Some (Alu And w)) refl refl w
-word_there (Alu Lsh w) = each_width (λ w. word_in (name (Alu Lsh w)) words ≡ Some (Alu Lsh w)) refl refl w
-word_there (Alu Rsh w) = each_width (λ w. word_in (name (Alu Rsh w)) words ≡ Some (Alu Rsh w)) refl refl w
-word_there (Alu Mod w) = each_width (λ w. word_in (name (Alu Mod w)) words ≡ Some (Alu Mod w)) refl refl w
-word_there (Alu Xor w) = each_width (λ w. word_in (name (Alu Xor w)) words ≡ Some (Alu Xor w)) refl refl w
-word_there (Alu Mov w) = each_width (λ w. word_in (name (Alu Mov w)) words ≡ Some (Alu Mov w)) refl refl w
-word_there (Alu Arsh w) = each_width (λ w. word_in (name (Alu Arsh w)) words ≡ Some (Alu Arsh w)) refl refl w
-word_there (JumpIf Eq w) = each_width (λ w. word_in (name (JumpIf Eq w)) words ≡ Some (JumpIf Eq w)) refl refl w
-word_there (JumpIf Gt w) = each_width (λ w. word_in (name (JumpIf Gt w)) words ≡ Some (JumpIf Gt w)) refl refl w
-word_there (JumpIf Ge w) = each_width (λ w. word_in (name (JumpIf Ge w)) words ≡ Some (JumpIf Ge w)) refl refl w
-word_there (JumpIf Set w) = each_width (λ w. word_in (name (JumpIf Set w)) words ≡ Some (JumpIf Set w)) refl refl w
-word_there (JumpIf Ne w) = each_width (λ w. word_in (name (JumpIf Ne w)) words ≡ Some (JumpIf Ne w)) refl refl w
-word_there (JumpIf Sgt w) = each_width (λ w. word_in (name (JumpIf Sgt w)) words ≡ Some (JumpIf Sgt w)) refl refl w
-word_there (JumpIf Sge w) = each_width (λ w. word_in (name (JumpIf Sge w)) words ≡ Some (JumpIf Sge w)) refl refl w
-word_there (JumpIf Lt w) = each_width (λ w. word_in (name (JumpIf Lt w)) words ≡ Some (JumpIf Lt w)) refl refl w
-word_there (JumpIf Le w) = each_width (λ w. word_in (name (JumpIf Le w)) words ≡ Some (JumpIf Le w)) refl refl w
-word_there (JumpIf Slt w) = each_width (λ w. word_in (name (JumpIf Slt w)) words ≡ Some (JumpIf Slt w)) refl refl w
-word_there (JumpIf Sle w) = each_width (λ w. word_in (name (JumpIf Sle w)) words ≡ Some (JumpIf Sle w)) refl refl w
-word_there (Load B Zeros) = refl
-word_there (Load H Zeros) = refl
-word_there (Load W Zeros) = refl
-word_there (Load Dw Zeros) = refl
-word_there (Load B Sign) = refl
-word_there (Load H Sign) = refl
-word_there (Load W Sign) = refl
-word_there (Load Dw Sign) = refl
-word_there (StoreImm B) = refl
-word_there (StoreImm H) = refl
-word_there (StoreImm W) = refl
-word_there (StoreImm Dw) = refl
-word_there (Store B) = refl
-word_there (Store H) = refl
-word_there (Store W) = refl
-word_there (Store Dw) = refl
-word_there (MovSx Bits32) = refl
-word_there (MovSx Bits64) = refl
-word_there (Neg Bits32) = refl
-word_there (Neg Bits64) = refl
-word_there LoadImm = refl
-word_there Jump = refl
-word_there Call = refl
-word_there Exit = refl
+word_there (Word.Alu AluOp.Add w) = each_width (λ w. word_in (name (Word.Alu AluOp.Add w)) words ≡ Some (Word.Alu AluOp.Add w)) refl refl w
+word_there (Word.Alu AluOp.Sub w) = each_width (λ w. word_in (name (Word.Alu AluOp.Sub w)) words ≡ Some (Word.Alu AluOp.Sub w)) refl refl w
+word_there (Word.Alu AluOp.Mul w) = each_width (λ w. word_in (name (Word.Alu AluOp.Mul w)) words ≡ Some (Word.Alu AluOp.Mul w)) refl refl w
+word_there (Word.Alu AluOp.Div w) = each_width (λ w. word_in (name (Word.Alu AluOp.Div w)) words ≡ Some (Word.Alu AluOp.Div w)) refl refl w
+word_there (Word.Alu AluOp.Or w) = each_width (λ w. word_in (name (Word.Alu AluOp.Or w)) words ≡ Some (Word.Alu AluOp.Or w)) refl refl w
+word_there (Word.Alu AluOp.And w) = each_width (λ w. word_in (name (Word.Alu AluOp.And w)) words ≡ Some (Word.Alu AluOp.And w)) refl refl w
+word_there (Word.Alu AluOp.Lsh w) = each_width (λ w. word_in (name (Word.Alu AluOp.Lsh w)) words ≡ Some (Word.Alu AluOp.Lsh w)) refl refl w
+word_there (Word.Alu AluOp.Rsh w) = each_width (λ w. word_in (name (Word.Alu AluOp.Rsh w)) words ≡ Some (Word.Alu AluOp.Rsh w)) refl refl w
+word_there (Word.Alu AluOp.Mod w) = each_width (λ w. word_in (name (Word.Alu AluOp.Mod w)) words ≡ Some (Word.Alu AluOp.Mod w)) refl refl w
+word_there (Word.Alu AluOp.Xor w) = each_width (λ w. word_in (name (Word.Alu AluOp.Xor w)) words ≡ Some (Word.Alu AluOp.Xor w)) refl refl w
+word_there (Word.Alu AluOp.Mov w) = each_width (λ w. word_in (name (Word.Alu AluOp.Mov w)) words ≡ Some (Word.Alu AluOp.Mov w)) refl refl w
+word_there (Word.Alu AluOp.Arsh w) = each_width (λ w. word_in (name (Word.Alu AluOp.Arsh w)) words ≡ Some (Word.Alu AluOp.Arsh w)) refl refl w
+word_there (Word.JumpIf Cmp.Eq w) = each_width (λ w. word_in (name (Word.JumpIf Cmp.Eq w)) words ≡ Some (Word.JumpIf Cmp.Eq w)) refl refl w
+word_there (Word.JumpIf Cmp.Gt w) = each_width (λ w. word_in (name (Word.JumpIf Cmp.Gt w)) words ≡ Some (Word.JumpIf Cmp.Gt w)) refl refl w
+word_there (Word.JumpIf Cmp.Ge w) = each_width (λ w. word_in (name (Word.JumpIf Cmp.Ge w)) words ≡ Some (Word.JumpIf Cmp.Ge w)) refl refl w
+word_there (Word.JumpIf Cmp.Set w) = each_width (λ w. word_in (name (Word.JumpIf Cmp.Set w)) words ≡ Some (Word.JumpIf Cmp.Set w)) refl refl w
+word_there (Word.JumpIf Cmp.Ne w) = each_width (λ w. word_in (name (Word.JumpIf Cmp.Ne w)) words ≡ Some (Word.JumpIf Cmp.Ne w)) refl refl w
+word_there (Word.JumpIf Cmp.Sgt w) = each_width (λ w. word_in (name (Word.JumpIf Cmp.Sgt w)) words ≡ Some (Word.JumpIf Cmp.Sgt w)) refl refl w
+word_there (Word.JumpIf Cmp.Sge w) = each_width (λ w. word_in (name (Word.JumpIf Cmp.Sge w)) words ≡ Some (Word.JumpIf Cmp.Sge w)) refl refl w
+word_there (Word.JumpIf Cmp.Lt w) = each_width (λ w. word_in (name (Word.JumpIf Cmp.Lt w)) words ≡ Some (Word.JumpIf Cmp.Lt w)) refl refl w
+word_there (Word.JumpIf Cmp.Le w) = each_width (λ w. word_in (name (Word.JumpIf Cmp.Le w)) words ≡ Some (Word.JumpIf Cmp.Le w)) refl refl w
+word_there (Word.JumpIf Cmp.Slt w) = each_width (λ w. word_in (name (Word.JumpIf Cmp.Slt w)) words ≡ Some (Word.JumpIf Cmp.Slt w)) refl refl w
+word_there (Word.JumpIf Cmp.Sle w) = each_width (λ w. word_in (name (Word.JumpIf Cmp.Sle w)) words ≡ Some (Word.JumpIf Cmp.Sle w)) refl refl w
+word_there (Word.Load Size.B Extension.Zeros) = refl
+word_there (Word.Load Size.H Extension.Zeros) = refl
+word_there (Word.Load Size.W Extension.Zeros) = refl
+word_there (Word.Load Size.Dw Extension.Zeros) = refl
+word_there (Word.Load Size.B Extension.Sign) = refl
+word_there (Word.Load Size.H Extension.Sign) = refl
+word_there (Word.Load Size.W Extension.Sign) = refl
+word_there (Word.Load Size.Dw Extension.Sign) = refl
+word_there (Word.StoreImm Size.B) = refl
+word_there (Word.StoreImm Size.H) = refl
+word_there (Word.StoreImm Size.W) = refl
+word_there (Word.StoreImm Size.Dw) = refl
+word_there (Word.Store Size.B) = refl
+word_there (Word.Store Size.H) = refl
+word_there (Word.Store Size.W) = refl
+word_there (Word.Store Size.Dw) = refl
+word_there (Word.MovSx Width.Bits32) = refl
+word_there (Word.MovSx Width.Bits64) = refl
+word_there (Word.Neg Width.Bits32) = refl
+word_there (Word.Neg Width.Bits64) = refl
+word_there Word.LoadImm = refl
+word_there Word.Jump = refl
+word_there Word.Call = refl
+word_there Word.Exit = refl
 
 -- a profile's word is found by its name
 pub word_back : (q : Profile) (w : Word) → IsWordOf q w → word_named q (name w) ≡ Some w
@@ -241,17 +232,17 @@ word_back q w is = rw (word_there w, is) refl
 -- each register is found by its name
 pub reg_back : (r : Reg) → reg_named (reg_name r) ≡ Some r
 unfolding registers
-reg_back R0 = refl
-reg_back R1 = refl
-reg_back R2 = refl
-reg_back R3 = refl
-reg_back R4 = refl
-reg_back R5 = refl
-reg_back R6 = refl
-reg_back R7 = refl
-reg_back R8 = refl
-reg_back R9 = refl
-reg_back R10 = refl
+reg_back Reg.R0 = refl
+reg_back Reg.R1 = refl
+reg_back Reg.R2 = refl
+reg_back Reg.R3 = refl
+reg_back Reg.R4 = refl
+reg_back Reg.R5 = refl
+reg_back Reg.R6 = refl
+reg_back Reg.R7 = refl
+reg_back Reg.R8 = refl
+reg_back Reg.R9 = refl
+reg_back Reg.R10 = refl
 
 -- ---- digits
 

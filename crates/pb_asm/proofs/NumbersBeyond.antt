@@ -1,6 +1,5 @@
 -- A number beyond its field is told as out of range.
-use Rattle.std.proofs.Common.{◌≡◌, ◌≢◌, ℕ, ◌+◌, ◌-◌, ◌^◌, ℤ, Bool, true, false, cond, List, [], ◌∷◌, ◌++◌, Option, Some, None, Result, Ok, Err, refl, sym, ap, ◌∙◌, append_assoc, append-nil, arith, inl, inr}
-use Rattle.std.specs.Prelude.{◌==◌, ◌&&◌, nat_le, codes, slice_index, ok_or}
+use Rattle.std.proofs.Common.{◌≡◌, ◌≢◌, ℕ, ◌+◌, ◌-◌, ◌^◌, ℤ, Bool, true, false, cond, List, [], ◌∷◌, ◌++◌, Option, Some, None, Result, Ok, Err, refl, sym, ap, ◌∙◌, append_assoc, append-nil, arith, inl, inr, ◌==◌, ◌&&◌, nat_le, codes, slice_index, ok_or}
 use Rattle.std.specs.Char.{is_ascii_digit}
 use Rattle.std.specs.List.{list_all}
 use Rattle.std.specs.Str.Parse.{digits_value}
@@ -16,9 +15,7 @@ use Rattle.pb_isa.specs.declared.insn.Insn.{Insn}
 use Rattle.pb_asm.specs.Codes.{asm_code}
 use Rattle.pb_asm.specs.Texts.{with_insn_line}
 use Rattle.pb_asm.specs.declared.fault.AsmCode.{AsmCode}
-use Rattle.pb_asm.specs.declared.fault.AsmCode.TheVariants as code
 use Rattle.pb_asm.specs.declared.names.Word.{Word}
-use Rattle.pb_asm.specs.declared.names.Word.TheVariants as word
 use Rattle.pb_asm.specs.Names.{name, IsWordOf, sizes, size_bits, reg_name}
 use Rattle.pb_asm.specs.Cuts.{strip_suffix, split_once}
 use Rattle.pb_asm.specs.Listing.{operand_text, place_text}
@@ -50,16 +47,16 @@ first_not_r (d ∷ ds) h =
     let high : nat_le d 57 ≡ true = (and_parts (nat_le 48 d) (nat_le d 57) p.0).1 in
     grind (arith, nat_tests)
 
-minus_over : (most : ℕ) (digits : List ℕ) → IsAbove most digits → minus most digits ≡ Err code.Range
+minus_over : (most : ℕ) (digits : List ℕ) → IsAbove most digits → minus most digits ≡ Err AsmCode.Range
 unfolding minus
-minus_over most digits h = rw (numeral_over code.Form code.Range most digits h.numeral h.above) refl
+minus_over most digits h = rw (numeral_over AsmCode.Form AsmCode.Range most digits h.numeral h.above) refl
 
-plus_over : (limit : ℕ) (digits : List ℕ) → IsAbove (limit - 1) digits → plus limit digits ≡ Err code.Range
+plus_over : (limit : ℕ) (digits : List ℕ) → IsAbove (limit - 1) digits → plus limit digits ≡ Err AsmCode.Range
 unfolding plus
-plus_over limit digits h = rw (numeral_over code.Form code.Range (limit - 1) digits h.numeral h.above) refl
+plus_over limit digits h = rw (numeral_over AsmCode.Form AsmCode.Range (limit - 1) digits h.numeral h.above) refl
 
 -- an immediate beyond its field is out of range
-imm_over : (text : List ℕ) → IsImmBeyond text → imm_of_text text ≡ Err code.Range
+imm_over : (text : List ℕ) → IsImmBeyond text → imm_of_text text ≡ Err AsmCode.Range
 imm_over text (inl h) = rw (no_front 45 text (omega arith) (number_above (2 ^ 31 - 1) text h)) (plus_over (2 ^ 31) text h)
 imm_over text (inr h) = ap imm_of_text h.1 ∙ minus_over (2 ^ 31) h.0 h.2
 
@@ -73,12 +70,12 @@ imm_not_r text (inl h) = first_not_r text (digits_in text h.numeral).0
 imm_not_r text (inr h) = ap (λ (t : List ℕ). slice_index t 0 == 114) h.1
 
 -- so is an operand that is such an immediate
-operand_over : (text : List ℕ) → IsImmBeyond text → operand_of_text text ≡ Err code.Range
+operand_over : (text : List ℕ) → IsImmBeyond text → operand_of_text text ≡ Err AsmCode.Range
 unfolding operand_of_text
 operand_over text h = rw (imm_not_r text h, imm_over text h) refl
 
 -- an offset beyond its field is out of range
-offset_over : (text : List ℕ) → IsOffsetBeyond text → offset_of_text text ≡ Err code.Range
+offset_over : (text : List ℕ) → IsOffsetBeyond text → offset_of_text text ≡ Err AsmCode.Range
 offset_over text (inl h) = ap offset_of_text h.1 ∙ plus_over (2 ^ 15) h.0 h.2
 offset_over text (inr h) = ap offset_of_text h.1 ∙ minus_over (2 ^ 15) h.0 h.2
 
@@ -98,27 +95,27 @@ none_sized w n (z ∷ zs) none = rw (not_sized (is_narrower z w) refl (size_bits
     not_sized true is false same = rw (is, same) refl
     not_sized true is true same = absurd (none z is (sym (eqb-true _ _ same)))
 
-numeral_cases : (most : ℕ) (text : List ℕ) → is_numeral text ≡ true → (b : Bool) → nat_le (digits_value 10 text) most ≡ b → numeral_upto code.Form code.Range most text ≡ cond b (Ok (digits_value 10 text)) (Err code.Range)
+numeral_cases : (most : ℕ) (text : List ℕ) → is_numeral text ≡ true → (b : Bool) → nat_le (digits_value 10 text) most ≡ b → numeral_upto AsmCode.Form AsmCode.Range most text ≡ cond b (Ok (digits_value 10 text)) (Err AsmCode.Range)
 numeral_cases most text is b le = rw (is, le) refl
 
 -- bits that no narrower size has are out of range, also those of a number beyond 64 bits
-bits_over : (w : Width) (text : List ℕ) → IsUnlisted w text → bits_of_text w text ≡ Err code.Range
+bits_over : (w : Width) (text : List ℕ) → IsUnlisted w text → bits_of_text w text ≡ Err AsmCode.Range
 unfolding bits_of_text
 bits_over w text h = cases (nat_le (digits_value 10 text) (2 ^ 64 - 1)) refl
   where
-    found : (b : Bool) → (cond b (Ok (digits_value 10 text)) (Err code.Range) >>= λ n. ok_or (size_in w n sizes) code.Range) ≡ Err code.Range
+    found : (b : Bool) → (cond b (Ok (digits_value 10 text)) (Err AsmCode.Range) >>= λ n. ok_or (size_in w n sizes) AsmCode.Range) ≡ Err AsmCode.Range
     found true = rw (none_sized w (digits_value 10 text) sizes h.unlisted) refl
     found false = refl
 
-    cases : (b : Bool) → nat_le (digits_value 10 text) (2 ^ 64 - 1) ≡ b → bits_of_text w text ≡ Err code.Range
-    cases b le = ap (λ (r : Result ℕ AsmCode). r >>= λ n. ok_or (size_in w n sizes) code.Range) (numeral_cases (2 ^ 64 - 1) text h.numeral b le) ∙ found b
+    cases : (b : Bool) → nat_le (digits_value 10 text) (2 ^ 64 - 1) ≡ b → bits_of_text w text ≡ Err AsmCode.Range
+    cases b le = ap (λ (r : Result ℕ AsmCode). r >>= λ n. ok_or (size_in w n sizes) AsmCode.Range) (numeral_cases (2 ^ 64 - 1) text h.numeral b le) ∙ found b
 
 bits_line : (w : Width) (text : List ℕ) → IsUnlisted w text → above 33 text ≡ true
 bits_line w text h = above_less 33 48 text (omega arith) (digits_above text (digits_in text h.numeral).0)
 
 -- ---- places
 
-based_over : (b : Reg) (read : Result ℤ AsmCode) → read ≡ Err code.Range → base_and_offset (reg_name b) read ≡ Err code.Range
+based_over : (b : Reg) (read : Result ℤ AsmCode) → read ≡ Err AsmCode.Range → base_and_offset (reg_name b) read ≡ Err AsmCode.Range
 unfolding base_and_offset
 based_over b read h = rw (reg_read b, h) refl
 
@@ -126,7 +123,7 @@ abbrev inside : Reg → List ℕ → Result (Reg × ℤ) AsmCode
 inside b text = at_plus (reg_name b ++ text) (split_once 43 (reg_name b ++ text))
 
 -- the offset of a place is, with either sign
-inside_over : (b : Reg) (text : List ℕ) → IsOffsetBeyond text → inside b text ≡ Err code.Range
+inside_over : (b : Reg) (text : List ℕ) → IsOffsetBeyond text → inside b text ≡ Err AsmCode.Range
 inside_over b text (inl h) =
     ap (inside b) h.1 ∙ ap (at_plus (reg_name b ++ 43 ∷ h.0)) (around_there 43 48 (reg_name b) h.0 (omega arith) (reg_above b))
     ∙ based_over b (plus (2 ^ 15) h.0) (plus_over (2 ^ 15) h.0 h.2)
@@ -137,12 +134,12 @@ inside_over b text (inr h) =
     ∙ based_over b (minus (2 ^ 15) h.0) (minus_over (2 ^ 15) h.0 h.2)
 
 -- and so is the place
-place_over : (b : Reg) (text : List ℕ) → IsOffsetBeyond text → place_of_text (place_with b text) ≡ Err code.Range
+place_over : (b : Reg) (text : List ℕ) → IsOffsetBeyond text → place_of_text (place_with b text) ≡ Err AsmCode.Range
 unfolding place_of_text
 place_over b text h =
     let grouped : reg_name b ++ (text ++ 93 ∷ []) ≡ (reg_name b ++ text) ++ 93 ∷ [] = sym (append_assoc (reg_name b) text (93 ∷ [])) in
     let e : strip_suffix 93 (reg_name b ++ (text ++ 93 ∷ [])) ≡ Some (reg_name b ++ text) = ap (strip_suffix 93) grouped ∙ before_there 93 (reg_name b ++ text) in
-    ap (λ (x : Option (List ℕ)). ok_or x code.Form >>= λ inner. at_plus inner (split_once 43 inner)) e ∙ inside_over b text h
+    ap (λ (x : Option (List ℕ)). ok_or x AsmCode.Form >>= λ inner. at_plus inner (split_once 43 inner)) e ∙ inside_over b text h
 
 bracketed_line : (b : Reg) (text : List ℕ) → IsOffsetBeyond text → above 33 (place_with b text) ≡ true
 bracketed_line b text h = above_append 33 (reg_name b) (text ++ 93 ∷ []) (reg_line b) (above_append 33 text (93 ∷ []) (offset_line text h) refl)
@@ -162,7 +159,7 @@ then_cut : (x y : List ℕ) (ys : List (List ℕ)) → above 33 x ≡ true → b
 then_cut x y ys h e = comma_cut x y h ∙ ap (λ (ws : List (List ℕ)). (x ++ 44 ∷ []) ∷ ws) e
 
 -- a last word out of range is told before a word too many
-last_over : {A : Type 0} (read : List ℕ → Result A AsmCode) (x : List ℕ) (others : List (List ℕ)) → read x ≡ Err code.Range → last read (x ∷ others) ≡ Err code.Range
+last_over : {A : Type 0} (read : List ℕ → Result A AsmCode) (x : List ℕ) (others : List (List ℕ)) → read x ≡ Err AsmCode.Range → last read (x ∷ others) ≡ Err AsmCode.Range
 unfolding last
 last_over read x others h = rw h refl
 
@@ -170,48 +167,48 @@ with_comma : (x : List ℕ) → above 33 x ≡ true → above 33 (x ++ 44 ∷ []
 with_comma x h = above_append 33 x (44 ∷ []) h refl
 
 -- a line whose number is beyond its field is out of range: a case for each place of a number
-pub range_told : (q : Profile) (f : NumberPlace) (number rest : List ℕ) → IsWordOf q (place_word f) → FitsBefore f → IsBeyond f number → EndsWord rest → line_of q (line_with f number rest) ≡ Err code.Range
+pub range_told : (q : Profile) (f : NumberPlace) (number rest : List ℕ) → IsWordOf q (place_word f) → FitsBefore f → IsBeyond f number → EndsWord rest → line_of q (line_with f number rest) ≡ Err AsmCode.Range
 unfolding alu_operands mov_sx_operands load_imm_operands load_operands store_imm_operands store_operands jump_if_operands
 range_told q (AluImm op w d) number rest has fits beyond ends =
     let c = word_cut number rest (imm_line number beyond) ends in
-    after_name q (word.Alu op w) (reg_name d ++ (codes ", " ++ (number ++ rest))) _ has (then_cut (reg_name d) (number ++ rest) _ (reg_line d) c.1)
+    after_name q (Word.Alu op w) (reg_name d ++ (codes ", " ++ (number ++ rest))) _ has (then_cut (reg_name d) (number ++ rest) _ (reg_line d) c.1)
     ∙ rw (comma_read (reg_name d) (number ∷ c.0), reg_read d, last_over operand_of_text number c.0 (operand_over number beyond)) refl
 range_told q (MovSxBits w d s) number rest has fits beyond ends =
     let c = word_cut number rest (bits_line w number beyond) ends in
-    after_name q (word.MovSx w) (reg_name d ++ (codes ", " ++ (reg_name s ++ (codes ", " ++ (number ++ rest))))) _ has (then_cut (reg_name d) (reg_name s ++ (codes ", " ++ (number ++ rest))) _ (reg_line d) (then_cut (reg_name s) (number ++ rest) _ (reg_line s) c.1))
+    after_name q (Word.MovSx w) (reg_name d ++ (codes ", " ++ (reg_name s ++ (codes ", " ++ (number ++ rest))))) _ has (then_cut (reg_name d) (reg_name s ++ (codes ", " ++ (number ++ rest))) _ (reg_line d) (then_cut (reg_name s) (number ++ rest) _ (reg_line s) c.1))
     ∙ rw (comma_read (reg_name d) ((reg_name s ++ 44 ∷ []) ∷ number ∷ c.0), reg_read d, comma_read (reg_name s) (number ∷ c.0), reg_read s, last_over (bits_of_text w) number c.0 (bits_over w number beyond)) refl
 range_told q (LoadImmImm d) number rest has fits beyond ends =
     let c = word_cut number rest (above_less 33 48 number (omega arith) (number_above (2 ^ 64 - 1) number beyond)) ends in
-    after_name q word.LoadImm (reg_name d ++ (codes ", " ++ (number ++ rest))) _ has (then_cut (reg_name d) (number ++ rest) _ (reg_line d) c.1)
-    ∙ rw (comma_read (reg_name d) (number ∷ c.0), reg_read d, last_over (numeral_upto code.Form code.Range (2 ^ 64 - 1)) number c.0 (numeral_over code.Form code.Range (2 ^ 64 - 1) number beyond.numeral beyond.above)) refl
+    after_name q Word.LoadImm (reg_name d ++ (codes ", " ++ (number ++ rest))) _ has (then_cut (reg_name d) (number ++ rest) _ (reg_line d) c.1)
+    ∙ rw (comma_read (reg_name d) (number ∷ c.0), reg_read d, last_over (numeral_upto AsmCode.Form AsmCode.Range (2 ^ 64 - 1)) number c.0 (numeral_over AsmCode.Form AsmCode.Range (2 ^ 64 - 1) number beyond.numeral beyond.above)) refl
 range_told q (LoadOffset z x d s) number rest has fits beyond ends =
     let c = word_cut (place_with s number) rest (bracketed_line s number beyond) ends in
-    after_name q (word.Load z x) (reg_name d ++ (codes ", " ++ (place_with s number ++ rest))) _ has (then_cut (reg_name d) (place_with s number ++ rest) _ (reg_line d) c.1)
+    after_name q (Word.Load z x) (reg_name d ++ (codes ", " ++ (place_with s number ++ rest))) _ has (then_cut (reg_name d) (place_with s number ++ rest) _ (reg_line d) c.1)
     ∙ rw (comma_read (reg_name d) (place_with s number ∷ c.0), reg_read d, last_over place_of_text (place_with s number) c.0 (place_over s number beyond)) refl
 range_told q (StoreImmOffset z d) number rest has fits beyond ends =
     let c = word_cut (place_with d number ++ 44 ∷ []) rest (with_comma (place_with d number) (bracketed_line d number beyond)) ends in
-    after_name q (word.StoreImm z) ((place_with d number ++ 44 ∷ []) ++ rest) _ has c.1 ∙ rw (comma_read (place_with d number) c.0, place_over d number beyond) refl
+    after_name q (Word.StoreImm z) ((place_with d number ++ 44 ∷ []) ++ rest) _ has c.1 ∙ rw (comma_read (place_with d number) c.0, place_over d number beyond) refl
 range_told q (StoreImmImm z d o) number rest has fits beyond ends =
     let c = word_cut number rest (imm_line number beyond) ends in
-    after_name q (word.StoreImm z) (place_text d o ++ (codes ", " ++ (number ++ rest))) _ has (then_cut (place_text d o) (number ++ rest) _ (place_line d o fits) c.1)
+    after_name q (Word.StoreImm z) (place_text d o ++ (codes ", " ++ (number ++ rest))) _ has (then_cut (place_text d o) (number ++ rest) _ (place_line d o fits) c.1)
     ∙ rw (comma_read (place_text d o) (number ∷ c.0), place_back d o fits, last_over imm_of_text number c.0 (imm_over number beyond)) refl
 range_told q (StoreOffset z d) number rest has fits beyond ends =
     let c = word_cut (place_with d number ++ 44 ∷ []) rest (with_comma (place_with d number) (bracketed_line d number beyond)) ends in
-    after_name q (word.Store z) ((place_with d number ++ 44 ∷ []) ++ rest) _ has c.1 ∙ rw (comma_read (place_with d number) c.0, place_over d number beyond) refl
+    after_name q (Word.Store z) ((place_with d number ++ 44 ∷ []) ++ rest) _ has c.1 ∙ rw (comma_read (place_with d number) c.0, place_over d number beyond) refl
 range_told q JumpOffset number rest has fits beyond ends =
     let c = word_cut number rest (offset_line number beyond) ends in
-    after_name q word.Jump (number ++ rest) _ has c.1 ∙ rw (last_over offset_of_text number c.0 (offset_over number beyond)) refl
+    after_name q Word.Jump (number ++ rest) _ has c.1 ∙ rw (last_over offset_of_text number c.0 (offset_over number beyond)) refl
 range_told q (JumpIfImm k w d) number rest has fits beyond ends =
     let c = word_cut (number ++ 44 ∷ []) rest (with_comma number (imm_line number beyond)) ends in
-    after_name q (word.JumpIf k w) (reg_name d ++ (codes ", " ++ ((number ++ 44 ∷ []) ++ rest))) _ has (then_cut (reg_name d) ((number ++ 44 ∷ []) ++ rest) _ (reg_line d) c.1)
+    after_name q (Word.JumpIf k w) (reg_name d ++ (codes ", " ++ ((number ++ 44 ∷ []) ++ rest))) _ has (then_cut (reg_name d) ((number ++ 44 ∷ []) ++ rest) _ (reg_line d) c.1)
     ∙ rw (comma_read (reg_name d) ((number ++ 44 ∷ []) ∷ c.0), reg_read d, comma_read number c.0, operand_over number beyond) refl
 range_told q (JumpIfOffset k w d s) number rest has fits beyond ends =
     let c = word_cut number rest (offset_line number beyond) ends in
-    after_name q (word.JumpIf k w) (reg_name d ++ (codes ", " ++ (operand_text s ++ (codes ", " ++ (number ++ rest))))) _ has (then_cut (reg_name d) (operand_text s ++ (codes ", " ++ (number ++ rest))) _ (reg_line d) (then_cut (operand_text s) (number ++ rest) _ (operand_line s fits) c.1))
+    after_name q (Word.JumpIf k w) (reg_name d ++ (codes ", " ++ (operand_text s ++ (codes ", " ++ (number ++ rest))))) _ has (then_cut (reg_name d) (operand_text s ++ (codes ", " ++ (number ++ rest))) _ (reg_line d) (then_cut (operand_text s) (number ++ rest) _ (operand_line s fits) c.1))
     ∙ rw (comma_read (reg_name d) ((operand_text s ++ 44 ∷ []) ∷ number ∷ c.0), reg_read d, comma_read (operand_text s) (number ∷ c.0), operand_back s fits, last_over offset_of_text number c.0 (offset_over number beyond)) refl
 range_told q CallImm number rest has fits beyond ends =
     let c = word_cut number rest (imm_line number beyond) ends in
-    after_name q word.Call (number ++ rest) _ has c.1 ∙ rw (last_over imm_of_text number c.0 (imm_over number beyond)) refl
+    after_name q Word.Call (number ++ rest) _ has c.1 ∙ rw (last_over imm_of_text number c.0 (imm_over number beyond)) refl
 
 -- such a line isn't skipped
 line_shown : (f : NumberPlace) (number rest : List ℕ) → is_skipped (line_with f number rest) ≡ false

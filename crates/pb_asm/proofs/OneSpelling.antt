@@ -1,36 +1,26 @@
 -- What is read as an operand, a line or a text is written as the listing writes it.
-use Rattle.std.proofs.Common.{◌≡◌, ℕ, zero, suc, ◌-◌, ◌^◌, ◌<◌, ◌≤◌, ◌↔◌, ℤ, pos, negsuc, neg_ℤ, Bool, true, false, cond, List, [], ◌∷◌, ◌++◌, length, Option, Some, None, Result, Ok, Err, refl, sym, ap, subst, ◌∙◌, append_assoc, arith}
-use Rattle.std.specs.Prelude.{◌==◌, ◌&&◌, nat_lt, codes, slice_index, FitsSigned, IfOk}
-use Rattle.std.specs.Int.{w16, w32}
+use Rattle.std.proofs.Common.{◌≡◌, ℕ, zero, suc, ◌-◌, ◌^◌, ◌<◌, ◌≤◌, ◌↔◌, ℤ, pos, negsuc, neg_ℤ, Bool, true, false, cond, List, [], ◌∷◌, ◌++◌, length, Option, Some, None, Result, Ok, Err, refl, sym, ap, subst, ◌∙◌, append_assoc, arith, ◌==◌, ◌&&◌, nat_lt, codes, slice_index, FitsSigned, IfOk, w16, w32, bytes_eq, ok_or}
 use Rattle.std.specs.List.{slice_split, join_with_byte, position_or_len, before_first, after_first}
 use Rattle.std.specs.Fmt.{decimal, signed_decimal}
-use Rattle.std.specs.Str.{bytes_eq}
 use Rattle.std.proofs.lemmas.Bool.{eqb-true, and_parts, ltb-true}
 use Rattle.std.proofs.lemmas.List.Sums.{split_at_first, passes_at_first}
 use Rattle.std.proofs.lemmas.List.Splits.{join_with_byte-slice_split}
 use Rattle.std.proofs.lemmas.Slice.Eq.{bytes_eq-Decides}
 use Rattle.pb_isa.specs.declared.insn.Insn.{Insn}
-use Rattle.pb_isa.specs.declared.insn.Insn.TheVariants as insn
 use Rattle.pb_isa.specs.declared.insn.Operand.{Operand}
-use Rattle.pb_isa.specs.declared.insn.Operand.TheVariants as operand
 use Rattle.pb_isa.specs.declared.insn.Reg.{Reg}
 use Rattle.pb_isa.specs.declared.insn.AluOp.{AluOp}
 use Rattle.pb_isa.specs.declared.insn.Cmp.{Cmp}
 use Rattle.pb_isa.specs.declared.insn.Width.{Width}
 use Rattle.pb_isa.specs.declared.insn.Size.{Size}
 use Rattle.pb_isa.specs.declared.insn.Extension.{Extension}
-use Rattle.pb_isa.specs.declared.insn.Extension.TheVariants.{Zeros, Sign}
 use Rattle.pb_isa.specs.declared.profile.Profile.{Profile}
-use Rattle.pb_isa.specs.declared.profile.Profile.TheVariants.{One, Two}
 use Rattle.pb_isa.specs.Profiles.{is_narrower, IsOf}
 use Rattle.pb_isa.specs.Bounds.{OperandFits, Fits}
 use Rattle.pb_asm.specs.declared.fault.AsmCode.{AsmCode}
-use Rattle.pb_asm.specs.declared.fault.AsmCode.TheVariants as code
 use Rattle.pb_asm.specs.declared.names.Word.{Word}
-use Rattle.pb_asm.specs.declared.names.Word.TheVariants as word
 use Rattle.pb_asm.specs.Names.{name, words, IsWordOf, is_word_of, sizes, size_bits, registers, word_in, if_word_of, word_named, reg_name, reg_spelled, reg_named}
 use Rattle.pb_reading.specs.Reading.{◌>>=◌}
-use Rattle.std.specs.Prelude.{ok_or}
 use Rattle.pb_asm.specs.Cuts.{strip_prefix, strip_suffix, split_once}
 use Rattle.pb_reading.specs.Reading.{Gives, numeral_upto, no_word}
 use Rattle.pb_asm.specs.Operands.{minus, plus, signed_or, imm_of_text, plus_or_fault, offset_of_text, reg_of_text, operand_of_text, size_in, bits_of_text, base_and_offset, at_minus, at_plus, place_of_text, comma, last, alu_operands, mov_sx_operands, load_imm_operands, load_operands, store_imm_operands, store_operands, jump_if_operands, map_insn, operands, insn_of_words, line_of}
@@ -81,8 +71,8 @@ around_whole c text sides h =
 minus_is : (greatest : ℕ) (text : List ℕ) (z : ℤ) → greatest < 2 ^ 64 → minus greatest text ≡ Ok z → (n : ℕ) × (z ≡ negsuc n) × (text ≡ decimal (suc n)) × (n < greatest)
 unfolding minus
 minus_is greatest text z lt h =
-    let p = then_ok (numeral_upto code.Form code.Range greatest text) _ z h in
-    let q = numeral_is code.Form code.Range greatest p.0 text lt p.1 in
+    let p = then_ok (numeral_upto AsmCode.Form AsmCode.Range greatest text) _ z h in
+    let q = numeral_is AsmCode.Form AsmCode.Range greatest p.0 text lt p.1 in
     below greatest p.0 text z _ q p.2
   where
     below : (greatest m : ℕ) (text : List ℕ) (z : ℤ) (c : AsmCode) → (text ≡ decimal m) × (m ≤ greatest) → cond (m == 0) (Err c) (Ok (neg_ℤ (pos m))) ≡ Ok z → (n : ℕ) × (z ≡ negsuc n) × (text ≡ decimal (suc n)) × (n < greatest)
@@ -95,8 +85,8 @@ minus_is greatest text z lt h =
 plus_is : (limit : ℕ) (text : List ℕ) (z : ℤ) → limit < 2 ^ 64 → plus limit text ≡ Ok z → (n : ℕ) × (z ≡ pos n) × (text ≡ decimal n) × (n ≤ limit - 1)
 unfolding plus
 plus_is limit text z lt h =
-    let p = then_ok (numeral_upto code.Form code.Range (limit - 1) text) _ z h in
-    let q = numeral_is code.Form code.Range (limit - 1) p.0 text (omega (arith, lt)) p.1 in
+    let p = then_ok (numeral_upto AsmCode.Form AsmCode.Range (limit - 1) text) _ z h in
+    let q = numeral_is AsmCode.Form AsmCode.Range (limit - 1) p.0 text (omega (arith, lt)) p.1 in
     (p.0, sym (ok_is (pos p.0) z p.2), q.0, q.1)
 
 -- ---- signed numbers
@@ -203,9 +193,9 @@ size_is w n (z ∷ zs) x h = sized w n z x (size_in w n zs) (is_narrower z w && 
 bits_are : (w : Width) (text : List ℕ) (z : Size) → bits_of_text w text ≡ Ok z → (text ≡ decimal (size_bits z)) × (is_narrower z w ≡ true)
 unfolding bits_of_text
 bits_are w text z h =
-    let a = then_ok (numeral_upto code.Form code.Range (2 ^ 64 - 1) text) _ z h in
-    let n = numeral_is code.Form code.Range (2 ^ 64 - 1) a.0 text (omega arith) a.1 in
-    let s = size_is w a.0 sizes z (there_ok (size_in w a.0 sizes) code.Range z a.2) in
+    let a = then_ok (numeral_upto AsmCode.Form AsmCode.Range (2 ^ 64 - 1) text) _ z h in
+    let n = numeral_is AsmCode.Form AsmCode.Range (2 ^ 64 - 1) a.0 text (omega arith) a.1 in
+    let s = size_is w a.0 sizes z (there_ok (size_in w a.0 sizes) AsmCode.Range z a.2) in
     (n.0 ∙ ap decimal s.0, s.1)
 
 -- ---- operands and places
@@ -219,13 +209,13 @@ pub operand_is : (text : List ℕ) (a : Operand) → operand_of_text text ≡ Ok
 unfolding operand_of_text
 operand_is text a h = sort (slice_index text 0 == 114) h
   where
-    sort : (b : Bool) → cond b (reg_of_text text >>= λ r. Ok (operand.Reg r)) (imm_of_text text >>= λ k. Ok (operand.Imm k)) ≡ Ok a → Either text a
+    sort : (b : Bool) → cond b (reg_of_text text >>= λ r. Ok (Operand.Reg r)) (imm_of_text text >>= λ k. Ok (Operand.Imm k)) ≡ Ok a → Either text a
     sort true h =
-        let p = then_ok (reg_of_text text) (λ r. Ok (operand.Reg r)) a h in
-        subst (Either text) (ok_is (operand.Reg p.0) a p.2) (reg_is text p.0 p.1, tt)
+        let p = then_ok (reg_of_text text) (λ r. Ok (Operand.Reg r)) a h in
+        subst (Either text) (ok_is (Operand.Reg p.0) a p.2) (reg_is text p.0 p.1, tt)
     sort false h =
-        let p = then_ok (imm_of_text text) (λ k. Ok (operand.Imm k)) a h in
-        subst (Either text) (ok_is (operand.Imm p.0) a p.2) (imm_is text p.0 p.1)
+        let p = then_ok (imm_of_text text) (λ k. Ok (Operand.Imm k)) a h in
+        subst (Either text) (ok_is (Operand.Imm p.0) a p.2) (imm_is text p.0 p.1)
 
 -- the text between brackets is the place's
 abbrev Place : List ℕ → Reg × ℤ → Type 0
@@ -252,11 +242,11 @@ plus_cases text p None is h = minus_cases text p (split_once 45 text) refl h
 pub place_is : (text : List ℕ) (p : Reg × ℤ) → place_of_text text ≡ Ok p → (text ≡ place_text p.0 p.1) × FitsSigned w16 p.1
 unfolding place_of_text
 place_is text p h =
-    let a = then_ok (ok_or (strip_prefix 91 text) code.Form) _ p h in
-    let b = then_ok (ok_or (strip_suffix 93 a.0) code.Form) _ p a.2 in
+    let a = then_ok (ok_or (strip_prefix 91 text) AsmCode.Form) _ p h in
+    let b = then_ok (ok_or (strip_suffix 93 a.0) AsmCode.Form) _ p a.2 in
     let c = plus_cases b.0 p (split_once 43 b.0) refl b.2 in (
-      behind_whole 91 text a.0 (there_ok _ code.Form a.0 a.1)
-          ∙ ap (λ (t : List ℕ). 91 ∷ t) (before_whole 93 a.0 b.0 (omega arith) (there_ok _ code.Form b.0 b.1) ∙ ap (λ (t : List ℕ). t ++ 93 ∷ []) c.0 ∙ append_assoc (reg_name p.0) (offset_text p.1) (93 ∷ [])),
+      behind_whole 91 text a.0 (there_ok _ AsmCode.Form a.0 a.1)
+          ∙ ap (λ (t : List ℕ). 91 ∷ t) (before_whole 93 a.0 b.0 (omega arith) (there_ok _ AsmCode.Form b.0 b.1) ∙ ap (λ (t : List ℕ). t ++ 93 ∷ []) c.0 ∙ append_assoc (reg_name p.0) (offset_text p.1) (93 ∷ [])),
       c.1,
     )
 
@@ -267,8 +257,8 @@ pub comma_is : (texts : List (List ℕ)) (p : List ℕ × List (List ℕ)) → c
 unfolding comma
 comma_is [] p h = absurd cc
 comma_is (text ∷ texts) p h =
-    let a = then_ok (ok_or (strip_suffix 44 text) code.Form) _ p h in
-    ap (λ (t : List ℕ). t ∷ texts) (before_whole 44 text a.0 (omega arith) (there_ok _ code.Form a.0 a.1))
+    let a = then_ok (ok_or (strip_suffix 44 text) AsmCode.Form) _ p h in
+    ap (λ (t : List ℕ). t ∷ texts) (before_whole 44 text a.0 (omega arith) (there_ok _ AsmCode.Form a.0 a.1))
     ∙ ap (λ (q : List ℕ × List (List ℕ)). (q.0 ++ 44 ∷ []) ∷ q.1) (ok_is (a.0, texts) p a.2)
 
 -- where a last word was read, no word stood behind it
@@ -304,16 +294,16 @@ abbrev OfWord : Word → Insn → Type 0
 OfWord w i = (q : Profile) → IsWordOf q w → IsOf q i
 
 -- where it is of each profile
-of_any : (w : Word) (i : Insn) → IsOf One i → IsOf Two i → OfWord w i
-of_any w i one two One is = one
-of_any w i one two Two is = two
+of_any : (w : Word) (i : Insn) → IsOf Profile.One i → IsOf Profile.Two i → OfWord w i
+of_any w i one two Profile.One is = one
+of_any w i one two Profile.Two is = two
 
 -- a line of these words is the instruction's
 abbrev Written : Word → List (List ℕ) → Insn → Type 0
 Written w texts i = (join_with_byte 32 (name w ∷ texts) ≡ insn_text i) × Fits i × OfWord w i
 
 -- operands that are read are written so, behind each first word: this one and those below
-alu_is : (op : AluOp) (w : Width) (texts : List (List ℕ)) (i : Insn) → alu_operands (insn.Alu op w) texts ≡ Ok i → Written (word.Alu op w) texts i
+alu_is : (op : AluOp) (w : Width) (texts : List (List ℕ)) (i : Insn) → alu_operands (Insn.Alu op w) texts ≡ Ok i → Written (Word.Alu op w) texts i
 unfolding alu_operands
 alu_is op w texts i h =
     let a = then_ok (comma texts) _ i h in
@@ -321,14 +311,14 @@ alu_is op w texts i h =
     let c = then_ok (last operand_of_text a.0.1) _ i b.2 in
     let d = last_is operand_of_text a.0.1 c.0 c.1 in
     let e = operand_is d.0 c.0 d.2 in
-    subst (Written (word.Alu op w) texts) (ok_is (insn.Alu op w b.0 c.0) i c.2)
-    (two_there (word.Alu op w) texts a.0 d.0 (reg_name b.0) (operand_text c.0) a.1 d.1 (reg_is a.0.0 b.0 b.1) e.0, e.1, of_any (word.Alu op w) (insn.Alu op w b.0 c.0) refl refl)
+    subst (Written (Word.Alu op w) texts) (ok_is (Insn.Alu op w b.0 c.0) i c.2)
+    (two_there (Word.Alu op w) texts a.0 d.0 (reg_name b.0) (operand_text c.0) a.1 d.1 (reg_is a.0.0 b.0 b.1) e.0, e.1, of_any (Word.Alu op w) (Insn.Alu op w b.0 c.0) refl refl)
 
-moved_of : (w : Width) (z : Size) (d s : Reg) → is_narrower z w ≡ true → OfWord (word.MovSx w) (insn.MovSx w z d s)
-moved_of w z d s narrow One is = is
-moved_of w z d s narrow Two is = narrow
+moved_of : (w : Width) (z : Size) (d s : Reg) → is_narrower z w ≡ true → OfWord (Word.MovSx w) (Insn.MovSx w z d s)
+moved_of w z d s narrow Profile.One is = is
+moved_of w z d s narrow Profile.Two is = narrow
 
-mov_sx_is : (w : Width) (texts : List (List ℕ)) (i : Insn) → mov_sx_operands w texts ≡ Ok i → Written (word.MovSx w) texts i
+mov_sx_is : (w : Width) (texts : List (List ℕ)) (i : Insn) → mov_sx_operands w texts ≡ Ok i → Written (Word.MovSx w) texts i
 unfolding mov_sx_operands
 mov_sx_is w texts i h =
     let a = then_ok (comma texts) _ i h in
@@ -338,28 +328,28 @@ mov_sx_is w texts i h =
     let m = then_ok (last (bits_of_text w) k.0.1) _ i l.2 in
     let d = last_is (bits_of_text w) k.0.1 m.0 m.1 in
     let z = bits_are w d.0 m.0 d.2 in
-    subst (Written (word.MovSx w) texts) (ok_is (insn.MovSx w m.0 b.0 l.0) i m.2)
-    (three_there (word.MovSx w) texts a.0 k.0 d.0 (reg_name b.0) (reg_name l.0) (decimal (size_bits m.0)) a.1 k.1 d.1 (reg_is a.0.0 b.0 b.1) (reg_is k.0.0 l.0 l.1) z.0, tt, moved_of w m.0 b.0 l.0 z.1)
+    subst (Written (Word.MovSx w) texts) (ok_is (Insn.MovSx w m.0 b.0 l.0) i m.2)
+    (three_there (Word.MovSx w) texts a.0 k.0 d.0 (reg_name b.0) (reg_name l.0) (decimal (size_bits m.0)) a.1 k.1 d.1 (reg_is a.0.0 b.0 b.1) (reg_is k.0.0 l.0 l.1) z.0, tt, moved_of w m.0 b.0 l.0 z.1)
 
-wide_is : (texts : List (List ℕ)) (i : Insn) → load_imm_operands texts ≡ Ok i → Written word.LoadImm texts i
+wide_is : (texts : List (List ℕ)) (i : Insn) → load_imm_operands texts ≡ Ok i → Written Word.LoadImm texts i
 unfolding load_imm_operands
 wide_is texts i h =
     let a = then_ok (comma texts) _ i h in
     let b = then_ok (reg_of_text a.0.0) _ i a.2 in
-    let c = then_ok (last (numeral_upto code.Form code.Range (2 ^ 64 - 1)) a.0.1) _ i b.2 in
-    let d = last_is (numeral_upto code.Form code.Range (2 ^ 64 - 1)) a.0.1 c.0 c.1 in
-    let e = numeral_is code.Form code.Range (2 ^ 64 - 1) c.0 d.0 (omega arith) d.2 in
+    let c = then_ok (last (numeral_upto AsmCode.Form AsmCode.Range (2 ^ 64 - 1)) a.0.1) _ i b.2 in
+    let d = last_is (numeral_upto AsmCode.Form AsmCode.Range (2 ^ 64 - 1)) a.0.1 c.0 c.1 in
+    let e = numeral_is AsmCode.Form AsmCode.Range (2 ^ 64 - 1) c.0 d.0 (omega arith) d.2 in
     let le = e.1 in
-    subst (Written word.LoadImm texts) (ok_is (insn.LoadImm b.0 c.0) i c.2)
-    (two_there word.LoadImm texts a.0 d.0 (reg_name b.0) (decimal c.0) a.1 d.1 (reg_is a.0.0 b.0 b.1) e.0, omega (arith, le), of_any word.LoadImm (insn.LoadImm b.0 c.0) refl refl)
+    subst (Written Word.LoadImm texts) (ok_is (Insn.LoadImm b.0 c.0) i c.2)
+    (two_there Word.LoadImm texts a.0 d.0 (reg_name b.0) (decimal c.0) a.1 d.1 (reg_is a.0.0 b.0 b.1) e.0, omega (arith, le), of_any Word.LoadImm (Insn.LoadImm b.0 c.0) refl refl)
 
-loaded_of : (z : Size) (x : Extension) (d b : Reg) (o : ℤ) → OfWord (word.Load z x) (insn.Load z x d b o)
-loaded_of z Zeros d b o One is = refl
-loaded_of z Sign d b o One is = is
-loaded_of z Zeros d b o Two is = refl
-loaded_of z Sign d b o Two is = is
+loaded_of : (z : Size) (x : Extension) (d b : Reg) (o : ℤ) → OfWord (Word.Load z x) (Insn.Load z x d b o)
+loaded_of z Extension.Zeros d b o Profile.One is = refl
+loaded_of z Extension.Sign d b o Profile.One is = is
+loaded_of z Extension.Zeros d b o Profile.Two is = refl
+loaded_of z Extension.Sign d b o Profile.Two is = is
 
-load_is : (z : Size) (x : Extension) (texts : List (List ℕ)) (i : Insn) → load_operands (insn.Load z x) texts ≡ Ok i → Written (word.Load z x) texts i
+load_is : (z : Size) (x : Extension) (texts : List (List ℕ)) (i : Insn) → load_operands (Insn.Load z x) texts ≡ Ok i → Written (Word.Load z x) texts i
 unfolding load_operands
 load_is z x texts i h =
     let a = then_ok (comma texts) _ i h in
@@ -367,10 +357,10 @@ load_is z x texts i h =
     let c = then_ok (last place_of_text a.0.1) _ i b.2 in
     let d = last_is place_of_text a.0.1 c.0 c.1 in
     let e = place_is d.0 c.0 d.2 in
-    subst (Written (word.Load z x) texts) (ok_is (insn.Load z x b.0 c.0.0 c.0.1) i c.2)
-    (two_there (word.Load z x) texts a.0 d.0 (reg_name b.0) (place_text c.0.0 c.0.1) a.1 d.1 (reg_is a.0.0 b.0 b.1) e.0, e.1, loaded_of z x b.0 c.0.0 c.0.1)
+    subst (Written (Word.Load z x) texts) (ok_is (Insn.Load z x b.0 c.0.0 c.0.1) i c.2)
+    (two_there (Word.Load z x) texts a.0 d.0 (reg_name b.0) (place_text c.0.0 c.0.1) a.1 d.1 (reg_is a.0.0 b.0 b.1) e.0, e.1, loaded_of z x b.0 c.0.0 c.0.1)
 
-store_imm_is : (z : Size) (texts : List (List ℕ)) (i : Insn) → store_imm_operands (insn.StoreImm z) texts ≡ Ok i → Written (word.StoreImm z) texts i
+store_imm_is : (z : Size) (texts : List (List ℕ)) (i : Insn) → store_imm_operands (Insn.StoreImm z) texts ≡ Ok i → Written (Word.StoreImm z) texts i
 unfolding store_imm_operands
 store_imm_is z texts i h =
     let a = then_ok (comma texts) _ i h in
@@ -379,10 +369,10 @@ store_imm_is z texts i h =
     let d = last_is imm_of_text a.0.1 c.0 c.1 in
     let p = place_is a.0.0 b.0 b.1 in
     let e = imm_is d.0 c.0 d.2 in
-    subst (Written (word.StoreImm z) texts) (ok_is (insn.StoreImm z b.0.0 b.0.1 c.0) i c.2)
-    (two_there (word.StoreImm z) texts a.0 d.0 (place_text b.0.0 b.0.1) (signed_decimal c.0) a.1 d.1 p.0 e.0, (p.1, e.1), of_any (word.StoreImm z) (insn.StoreImm z b.0.0 b.0.1 c.0) refl refl)
+    subst (Written (Word.StoreImm z) texts) (ok_is (Insn.StoreImm z b.0.0 b.0.1 c.0) i c.2)
+    (two_there (Word.StoreImm z) texts a.0 d.0 (place_text b.0.0 b.0.1) (signed_decimal c.0) a.1 d.1 p.0 e.0, (p.1, e.1), of_any (Word.StoreImm z) (Insn.StoreImm z b.0.0 b.0.1 c.0) refl refl)
 
-store_is : (z : Size) (texts : List (List ℕ)) (i : Insn) → store_operands (insn.Store z) texts ≡ Ok i → Written (word.Store z) texts i
+store_is : (z : Size) (texts : List (List ℕ)) (i : Insn) → store_operands (Insn.Store z) texts ≡ Ok i → Written (Word.Store z) texts i
 unfolding store_operands
 store_is z texts i h =
     let a = then_ok (comma texts) _ i h in
@@ -390,10 +380,10 @@ store_is z texts i h =
     let c = then_ok (last reg_of_text a.0.1) _ i b.2 in
     let d = last_is reg_of_text a.0.1 c.0 c.1 in
     let p = place_is a.0.0 b.0 b.1 in
-    subst (Written (word.Store z) texts) (ok_is (insn.Store z b.0.0 c.0 b.0.1) i c.2)
-    (two_there (word.Store z) texts a.0 d.0 (place_text b.0.0 b.0.1) (reg_name c.0) a.1 d.1 p.0 (reg_is d.0 c.0 d.2), p.1, of_any (word.Store z) (insn.Store z b.0.0 c.0 b.0.1) refl refl)
+    subst (Written (Word.Store z) texts) (ok_is (Insn.Store z b.0.0 c.0 b.0.1) i c.2)
+    (two_there (Word.Store z) texts a.0 d.0 (place_text b.0.0 b.0.1) (reg_name c.0) a.1 d.1 p.0 (reg_is d.0 c.0 d.2), p.1, of_any (Word.Store z) (Insn.Store z b.0.0 c.0 b.0.1) refl refl)
 
-jump_if_is : (c : Cmp) (w : Width) (texts : List (List ℕ)) (i : Insn) → jump_if_operands (insn.JumpIf c w) texts ≡ Ok i → Written (word.JumpIf c w) texts i
+jump_if_is : (c : Cmp) (w : Width) (texts : List (List ℕ)) (i : Insn) → jump_if_operands (Insn.JumpIf c w) texts ≡ Ok i → Written (Word.JumpIf c w) texts i
 unfolding jump_if_operands
 jump_if_is c w texts i h =
     let a = then_ok (comma texts) _ i h in
@@ -404,49 +394,49 @@ jump_if_is c w texts i h =
     let d = last_is offset_of_text k.0.1 m.0 m.1 in
     let e = operand_is k.0.0 l.0 l.1 in
     let o = offset_is d.0 m.0 d.2 in
-    subst (Written (word.JumpIf c w) texts) (ok_is (insn.JumpIf c w b.0 l.0 m.0) i m.2)
-    (three_there (word.JumpIf c w) texts a.0 k.0 d.0 (reg_name b.0) (operand_text l.0) (offset_text m.0) a.1 k.1 d.1 (reg_is a.0.0 b.0 b.1) e.0 o.0, (e.1, o.1), of_any (word.JumpIf c w) (insn.JumpIf c w b.0 l.0 m.0) refl refl)
+    subst (Written (Word.JumpIf c w) texts) (ok_is (Insn.JumpIf c w b.0 l.0 m.0) i m.2)
+    (three_there (Word.JumpIf c w) texts a.0 k.0 d.0 (reg_name b.0) (operand_text l.0) (offset_text m.0) a.1 k.1 d.1 (reg_is a.0.0 b.0 b.1) e.0 o.0, (e.1, o.1), of_any (Word.JumpIf c w) (Insn.JumpIf c w b.0 l.0 m.0) refl refl)
 
-neg_is : (w : Width) (texts : List (List ℕ)) (i : Insn) → map_insn (insn.Neg w) (last reg_of_text texts) ≡ Ok i → Written (word.Neg w) texts i
+neg_is : (w : Width) (texts : List (List ℕ)) (i : Insn) → map_insn (Insn.Neg w) (last reg_of_text texts) ≡ Ok i → Written (Word.Neg w) texts i
 neg_is w texts i h =
     let a = then_ok (last reg_of_text texts) _ i h in
     let d = last_is reg_of_text texts a.0 a.1 in
-    subst (Written (word.Neg w) texts) (ok_is (insn.Neg w a.0) i a.2)
-    (one_there (word.Neg w) texts d.0 (reg_name a.0) d.1 (reg_is d.0 a.0 d.2), tt, of_any (word.Neg w) (insn.Neg w a.0) refl refl)
+    subst (Written (Word.Neg w) texts) (ok_is (Insn.Neg w a.0) i a.2)
+    (one_there (Word.Neg w) texts d.0 (reg_name a.0) d.1 (reg_is d.0 a.0 d.2), tt, of_any (Word.Neg w) (Insn.Neg w a.0) refl refl)
 
-jump_is : (texts : List (List ℕ)) (i : Insn) → map_insn insn.Jump (last offset_of_text texts) ≡ Ok i → Written word.Jump texts i
+jump_is : (texts : List (List ℕ)) (i : Insn) → map_insn Insn.Jump (last offset_of_text texts) ≡ Ok i → Written Word.Jump texts i
 jump_is texts i h =
     let a = then_ok (last offset_of_text texts) _ i h in
     let d = last_is offset_of_text texts a.0 a.1 in
     let o = offset_is d.0 a.0 d.2 in
-    subst (Written word.Jump texts) (ok_is (insn.Jump a.0) i a.2)
-    (one_there word.Jump texts d.0 (offset_text a.0) d.1 o.0, o.1, of_any word.Jump (insn.Jump a.0) refl refl)
+    subst (Written Word.Jump texts) (ok_is (Insn.Jump a.0) i a.2)
+    (one_there Word.Jump texts d.0 (offset_text a.0) d.1 o.0, o.1, of_any Word.Jump (Insn.Jump a.0) refl refl)
 
-call_is : (texts : List (List ℕ)) (i : Insn) → map_insn insn.Call (last imm_of_text texts) ≡ Ok i → Written word.Call texts i
+call_is : (texts : List (List ℕ)) (i : Insn) → map_insn Insn.Call (last imm_of_text texts) ≡ Ok i → Written Word.Call texts i
 call_is texts i h =
     let a = then_ok (last imm_of_text texts) _ i h in
     let d = last_is imm_of_text texts a.0 a.1 in
     let k = imm_is d.0 a.0 d.2 in
-    subst (Written word.Call texts) (ok_is (insn.Call a.0) i a.2)
-    (one_there word.Call texts d.0 (signed_decimal a.0) d.1 k.0, k.1, of_any word.Call (insn.Call a.0) refl refl)
+    subst (Written Word.Call texts) (ok_is (Insn.Call a.0) i a.2)
+    (one_there Word.Call texts d.0 (signed_decimal a.0) d.1 k.0, k.1, of_any Word.Call (Insn.Call a.0) refl refl)
 
-exit_is : (texts : List (List ℕ)) (i : Insn) → map_insn (λ _. insn.Exit) (no_word code.Form texts) ≡ Ok i → Written word.Exit texts i
-exit_is [] i h = subst (Written word.Exit []) (ok_is insn.Exit i h) (refl, tt, of_any word.Exit insn.Exit refl refl)
+exit_is : (texts : List (List ℕ)) (i : Insn) → map_insn (λ _. Insn.Exit) (no_word AsmCode.Form texts) ≡ Ok i → Written Word.Exit texts i
+exit_is [] i h = subst (Written Word.Exit []) (ok_is Insn.Exit i h) (refl, tt, of_any Word.Exit Insn.Exit refl refl)
 exit_is (text ∷ texts) i h = absurd cc
 
 -- so whatever the first word is, the line is the instruction's
 operands_are : (w : Word) (texts : List (List ℕ)) (i : Insn) → operands w texts ≡ Ok i → Written w texts i
-operands_are (word.Alu op w) texts i h = alu_is op w texts i h
-operands_are (word.MovSx w) texts i h = mov_sx_is w texts i h
-operands_are (word.Neg w) texts i h = neg_is w texts i h
-operands_are word.LoadImm texts i h = wide_is texts i h
-operands_are (word.Load z x) texts i h = load_is z x texts i h
-operands_are (word.StoreImm z) texts i h = store_imm_is z texts i h
-operands_are (word.Store z) texts i h = store_is z texts i h
-operands_are word.Jump texts i h = jump_is texts i h
-operands_are (word.JumpIf c w) texts i h = jump_if_is c w texts i h
-operands_are word.Call texts i h = call_is texts i h
-operands_are word.Exit texts i h = exit_is texts i h
+operands_are (Word.Alu op w) texts i h = alu_is op w texts i h
+operands_are (Word.MovSx w) texts i h = mov_sx_is w texts i h
+operands_are (Word.Neg w) texts i h = neg_is w texts i h
+operands_are Word.LoadImm texts i h = wide_is texts i h
+operands_are (Word.Load z x) texts i h = load_is z x texts i h
+operands_are (Word.StoreImm z) texts i h = store_imm_is z texts i h
+operands_are (Word.Store z) texts i h = store_is z texts i h
+operands_are Word.Jump texts i h = jump_is texts i h
+operands_are (Word.JumpIf c w) texts i h = jump_if_is c w texts i h
+operands_are Word.Call texts i h = call_is texts i h
+operands_are Word.Exit texts i h = exit_is texts i h
 
 -- words that are read as an instruction are those of its line
 words_are : (q : Profile) (texts : List (List ℕ)) (i : Insn) → insn_of_words q texts ≡ Ok i → (join_with_byte 32 texts ≡ insn_text i) × Fits i × IsOf q i

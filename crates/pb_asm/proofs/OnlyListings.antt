@@ -1,6 +1,5 @@
 -- A text is read as a program exactly where its lines of instructions are the program's.
-use Rattle.std.proofs.Common.{◌≡◌, ℕ, ◌<◌, ◌≤◌, ◌↔◌, Bool, true, false, cond, List, [], ◌∷◌, ◌++◌, map, Result, Ok, Err, refl, sym, ap, subst, ◌∙◌, arith}
-use Rattle.std.specs.Prelude.{nat_lt}
+use Rattle.std.proofs.Common.{◌≡◌, ℕ, ◌<◌, ◌≤◌, ◌↔◌, Bool, true, false, cond, List, [], ◌∷◌, ◌++◌, map, Result, Ok, Err, refl, sym, ap, subst, ◌∙◌, arith, nat_lt}
 use Rattle.std.specs.List.{flat_map, AllByRecursion}
 use Rattle.std.proofs.lemmas.Bool.{le-ltb, ltb-false}
 use Rattle.std.proofs.lemmas.List.{length-append}
@@ -11,7 +10,6 @@ use Rattle.pb_isa.specs.Programs.{ProgramOf, IsProgram}
 use Rattle.pb_isa.specs.declared.profile.Profile.{Profile}
 use Rattle.pb_isa.specs.Profiles.{max_slots, IsOf}
 use Rattle.pb_asm.specs.declared.fault.AsmCode.{AsmCode}
-use Rattle.pb_asm.specs.declared.fault.AsmCode.TheVariants as code
 use Rattle.pb_reading.specs.Reading.{◌>>=◌, shown_lines}
 use Rattle.pb_asm.specs.Operands.{line_of}
 use Rattle.pb_asm.specs.Listing.{insn_text, listing}
@@ -42,9 +40,9 @@ one i = i ∷ []
 take_line : (k : Profile) (before q : List Insn) (l : List ℕ) → is_skipped l ≡ false → with_insn_line k before l ≡ Ok q → Adds (line_of k) one (Room k) before q l
 unfolding with_insn_line
 take_line k before q l is h =
-    let g = ap (λ (b : Bool). cond b (Ok before) (line_of k l >>= λ i. cond (nat_lt (max_slots k) (slots (before ++ i ∷ []))) (Err code.TooLong) (Ok (before ++ i ∷ [])))) (sym is) ∙ h in
+    let g = ap (λ (b : Bool). cond b (Ok before) (line_of k l >>= λ i. cond (nat_lt (max_slots k) (slots (before ++ i ∷ []))) (Err AsmCode.TooLong) (Ok (before ++ i ∷ [])))) (sym is) ∙ h in
     let a = then_ok (line_of k l) _ q g in
-    let p = else_ok (nat_lt (max_slots k) (slots (before ++ a.0 ∷ []))) (Ok (before ++ a.0 ∷ [])) code.TooLong q a.2 in
+    let p = else_ok (nat_lt (max_slots k) (slots (before ++ a.0 ∷ []))) (Ok (before ++ a.0 ∷ [])) AsmCode.TooLong q a.2 in
     let whole = ok_is (before ++ a.0 ∷ []) q p.1 in
     record { thing = a.0; says = a.1; whole = whole; room = subst (Room k) whole (ltb-false _ _ p.0) }
 

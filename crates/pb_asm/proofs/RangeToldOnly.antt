@@ -1,13 +1,11 @@
 -- A line that is told as out of range is an instruction's up to a number beyond its field.
-use Rattle.std.proofs.Common.{◌≡◌, ◌≢◌, ◌⊎◌, ℕ, ◌+◌, ◌-◌, ◌^◌, ◌<◌, ◌↔◌, ℤ, Bool, true, false, cond, List, [], ◌∷◌, ◌++◌, Option, Some, None, Result, Ok, Err, refl, sym, ap, subst, ◌∙◌, append_assoc, append-nil, arith, inl, inr}
-use Rattle.std.specs.Prelude.{◌==◌, nat_le, codes, slice_index, ok_or}
+use Rattle.std.proofs.Common.{◌≡◌, ◌≢◌, ◌⊎◌, ℕ, ◌+◌, ◌-◌, ◌^◌, ◌<◌, ◌↔◌, ℤ, Bool, true, false, cond, List, [], ◌∷◌, ◌++◌, Option, Some, None, Result, Ok, Err, refl, sym, ap, subst, ◌∙◌, append_assoc, append-nil, arith, inl, inr, ◌==◌, nat_le, codes, slice_index, ok_or}
 use Rattle.std.specs.List.{slice_split, join_with_byte}
 use Rattle.std.specs.Str.Parse.{digits_value}
 use Rattle.std.proofs.lemmas.Bool.{leb-false}
 use Rattle.std.proofs.lemmas.List.Splits.{join_with_byte-slice_split}
 use Rattle.pb_isa.specs.declared.insn.Insn.{Insn}
-use Rattle.pb_isa.specs.declared.insn.Insn.TheVariants as insn
-use Rattle.pb_isa.specs.declared.insn.Operand.TheVariants as operand
+use Rattle.pb_isa.specs.declared.insn.Operand.{Operand}
 use Rattle.pb_isa.specs.declared.insn.Reg.{Reg}
 use Rattle.pb_isa.specs.declared.insn.AluOp.{AluOp}
 use Rattle.pb_isa.specs.declared.insn.Cmp.{Cmp}
@@ -18,9 +16,7 @@ use Rattle.pb_isa.specs.declared.profile.Profile.{Profile}
 use Rattle.pb_isa.specs.Profiles.{is_narrower}
 use Rattle.pb_reading.specs.Reading.{◌>>=◌, is_numeral, numeral_upto, no_word, numbered}
 use Rattle.pb_asm.specs.declared.fault.AsmCode.{AsmCode}
-use Rattle.pb_asm.specs.declared.fault.AsmCode.TheVariants as code
 use Rattle.pb_asm.specs.declared.names.Word.{Word}
-use Rattle.pb_asm.specs.declared.names.Word.TheVariants as word
 use Rattle.pb_asm.specs.Names.{name, IsWordOf, sizes, size_bits, word_named, reg_name, reg_named}
 use Rattle.pb_asm.specs.Cuts.{strip_prefix, strip_suffix, split_once}
 use Rattle.pb_asm.specs.Listing.{operand_text, place_text}
@@ -38,14 +34,14 @@ use Rattle.pb_asm.proofs.NumbersBeyond.{range_told}
 
 -- a reading ended out of range
 abbrev IsOver : {A : Type 0} → Result A AsmCode → Type 0
-IsOver r = r ≡ Err code.Range
+IsOver r = r ≡ Err AsmCode.Range
 
 -- of two readings one after the other, the first did, or the second
 then_over : {A B P : Type 0} (r : Result A AsmCode) (f : A → Result B AsmCode) → IsOver (r >>= f) → (IsOver r → P) → ((x : A) → r ≡ Ok x → IsOver (f x) → P) → P
 then_over (Ok x) f h first later = later x refl h
-then_over {A = A} {B = B} (Err c) f h first later = first (moved B A c code.Range h)
+then_over {A = A} {B = B} (Err c) f h first later = first (moved B A c AsmCode.Range h)
 
-if_over : {A : Type 0} (b : Bool) (r : Result A AsmCode) → IsOver (cond b r (Err code.Form)) → (b ≡ true) × IsOver r
+if_over : {A : Type 0} (b : Bool) (r : Result A AsmCode) → IsOver (cond b r (Err AsmCode.Form)) → (b ≡ true) × IsOver r
 if_over true r h = (refl, h)
 if_over false r h = absurd cc
 
@@ -53,7 +49,7 @@ ok_never : {A P : Type 0} (x : A) → IsOver (Ok x) → P
 ok_never x h = absurd cc
 
 -- what isn't there is of another form, and never out of range
-there_never : {A P : Type 0} (o : Option A) → IsOver (ok_or o code.Form) → P
+there_never : {A P : Type 0} (o : Option A) → IsOver (ok_or o AsmCode.Form) → P
 there_never None h = absurd cc
 there_never (Some x) h = absurd cc
 
@@ -62,28 +58,28 @@ reg_never text h = there_never (reg_named text) h
 
 -- ---- numbers
 
-above_most : (b : Bool) (n : ℕ) → IsOver (cond b (Ok n) (Err code.Range)) → b ≡ false
+above_most : (b : Bool) (n : ℕ) → IsOver (cond b (Ok n) (Err AsmCode.Range)) → b ≡ false
 above_most true n h = absurd cc
 above_most false n h = refl
 
 -- a number out of range is a numeral above the greatest
-number_beyond : (most : ℕ) (text : List ℕ) → IsOver (numeral_upto code.Form code.Range most text) → IsAbove most text
+number_beyond : (most : ℕ) (text : List ℕ) → IsOver (numeral_upto AsmCode.Form AsmCode.Range most text) → IsAbove most text
 number_beyond most text h =
     let p = if_over (is_numeral text) _ h in
     record { numeral = p.0; above = leb-false _ _ (above_most (nat_le (digits_value 10 text) most) (digits_value 10 text) p.1) }
 
-not_zero_never : {P : Type 0} (b : Bool) (z : ℤ) → IsOver (cond b (Err code.Form) (Ok z)) → P
+not_zero_never : {P : Type 0} (b : Bool) (z : ℤ) → IsOver (cond b (Err AsmCode.Form) (Ok z)) → P
 not_zero_never true z h = absurd cc
 not_zero_never false z h = absurd cc
 
 -- so is one behind a minus, and one without
 minus_beyond : (most : ℕ) (digits : List ℕ) → IsOver (minus most digits) → IsAbove most digits
 unfolding minus
-minus_beyond most digits h = then_over (numeral_upto code.Form code.Range most digits) _ h (number_beyond most digits) (λ n is over. not_zero_never (n == 0) _ over)
+minus_beyond most digits h = then_over (numeral_upto AsmCode.Form AsmCode.Range most digits) _ h (number_beyond most digits) (λ n is over. not_zero_never (n == 0) _ over)
 
 plus_beyond : (limit : ℕ) (digits : List ℕ) → IsOver (plus limit digits) → IsAbove (limit - 1) digits
 unfolding plus
-plus_beyond limit digits h = then_over (numeral_upto code.Form code.Range (limit - 1) digits) _ h (number_beyond (limit - 1) digits) (λ n is over. ok_never _ over)
+plus_beyond limit digits h = then_over (numeral_upto AsmCode.Form AsmCode.Range (limit - 1) digits) _ h (number_beyond (limit - 1) digits) (λ n is over. ok_never _ over)
 
 imm_signs_beyond : (text : List ℕ) (o : Option (List ℕ)) → strip_prefix 45 text ≡ o → IsOver (signed_or (plus (2 ^ 31) text) (2 ^ 31) o) → IsImmBeyond text
 imm_signs_beyond text (Some digits) is h = inr (digits, behind_whole 45 text digits is, minus_beyond (2 ^ 31) digits h)
@@ -105,9 +101,9 @@ offset_signs_beyond text None is h = plus_sign_beyond text (strip_prefix 43 text
 offset_beyond : (text : List ℕ) → IsOver (offset_of_text text) → IsOffsetBeyond text
 offset_beyond text h = offset_signs_beyond text (strip_prefix 45 text) refl h
 
-operand_kinds_beyond : (text : List ℕ) (b : Bool) → IsOver (cond b (reg_of_text text >>= λ r. Ok (operand.Reg r)) (imm_of_text text >>= λ k. Ok (operand.Imm k))) → IsImmBeyond text
-operand_kinds_beyond text true h = then_over (reg_of_text text) (λ r. Ok (operand.Reg r)) h (reg_never text) (λ r is over. ok_never _ over)
-operand_kinds_beyond text false h = then_over (imm_of_text text) (λ k. Ok (operand.Imm k)) h (imm_beyond text) (λ k is over. ok_never _ over)
+operand_kinds_beyond : (text : List ℕ) (b : Bool) → IsOver (cond b (reg_of_text text >>= λ r. Ok (Operand.Reg r)) (imm_of_text text >>= λ k. Ok (Operand.Imm k))) → IsImmBeyond text
+operand_kinds_beyond text true h = then_over (reg_of_text text) (λ r. Ok (Operand.Reg r)) h (reg_never text) (λ r is over. ok_never _ over)
+operand_kinds_beyond text false h = then_over (imm_of_text text) (λ k. Ok (Operand.Imm k)) h (imm_beyond text) (λ k is over. ok_never _ over)
 
 -- an operand out of range is such an immediate, since a register never is
 operand_beyond : (text : List ℕ) → IsOver (operand_of_text text) → IsImmBeyond text
@@ -127,20 +123,20 @@ not_found w n none z narrow same = let no : None ≡ Some z = sym none ∙ ap (�
 too_many : (w : Width) (n : ℕ) → 2 ^ 64 - 1 < n → Unlisted w n
 too_many w n over z narrow same = let few = few_bits z in let no : ⊥ = omega (arith, few, over, same) in absurd no
 
-never_found : (o : Option Size) → IsOver (ok_or o code.Range) → o ≡ None
+never_found : (o : Option Size) → IsOver (ok_or o AsmCode.Range) → o ≡ None
 never_found None h = refl
 never_found (Some z) h = absurd cc
 
-numeral_read : (most n : ℕ) (text : List ℕ) → numeral_upto code.Form code.Range most text ≡ Ok n → (is_numeral text ≡ true) × (n ≡ digits_value 10 text)
+numeral_read : (most n : ℕ) (text : List ℕ) → numeral_upto AsmCode.Form AsmCode.Range most text ≡ Ok n → (is_numeral text ≡ true) × (n ≡ digits_value 10 text)
 numeral_read most n text h =
-    let p = if_ok (is_numeral text) _ code.Form n h in
-    let q = if_ok (nat_le (digits_value 10 text) most) (Ok (digits_value 10 text)) code.Range n p.1 in
+    let p = if_ok (is_numeral text) _ AsmCode.Form n h in
+    let q = if_ok (nat_le (digits_value 10 text) most) (Ok (digits_value 10 text)) AsmCode.Range n p.1 in
     (p.0, sym (ok_is _ n q.1))
 
 many_beyond : (w : Width) (text : List ℕ) → IsAbove (2 ^ 64 - 1) text → IsUnlisted w text
 many_beyond w text h = record { numeral = h.numeral; unlisted = too_many w (digits_value 10 text) h.above }
 
-unlisted_beyond : (w : Width) (text : List ℕ) (n : ℕ) → numeral_upto code.Form code.Range (2 ^ 64 - 1) text ≡ Ok n → size_in w n sizes ≡ None → IsUnlisted w text
+unlisted_beyond : (w : Width) (text : List ℕ) (n : ℕ) → numeral_upto AsmCode.Form AsmCode.Range (2 ^ 64 - 1) text ≡ Ok n → size_in w n sizes ≡ None → IsUnlisted w text
 unlisted_beyond w text n is none =
     let p = numeral_read (2 ^ 64 - 1) n text is in
     record { numeral = p.0; unlisted = subst (Unlisted w) p.1 (not_found w n none) }
@@ -148,7 +144,7 @@ unlisted_beyond w text n is none =
 -- a move's bits out of range are those of no narrower size
 bits_beyond : (w : Width) (text : List ℕ) → IsOver (bits_of_text w text) → IsUnlisted w text
 unfolding bits_of_text
-bits_beyond w text h = then_over (numeral_upto code.Form code.Range (2 ^ 64 - 1) text) _ h (λ over. many_beyond w text (number_beyond (2 ^ 64 - 1) text over)) (λ n is over. unlisted_beyond w text n is (never_found (size_in w n sizes) over))
+bits_beyond w text h = then_over (numeral_upto AsmCode.Form AsmCode.Range (2 ^ 64 - 1) text) _ h (λ over. many_beyond w text (number_beyond (2 ^ 64 - 1) text over)) (λ n is over. unlisted_beyond w text n is (never_found (size_in w n sizes) over))
 
 -- ---- places
 
@@ -180,9 +176,9 @@ bracketed text front inner begins ends p = (p.0, p.1, begins ∙ ap (λ (t : Lis
 place_beyond : (text : List ℕ) → IsOver (place_of_text text) → (base : Reg) × (number : List ℕ) × (text ≡ place_with base number) × IsOffsetBeyond number
 unfolding place_of_text
 place_beyond text h =
-    then_over (ok_or (strip_prefix 91 text) code.Form) _ h (there_never (strip_prefix 91 text)) (λ front begins later.
-    then_over (ok_or (strip_suffix 93 front) code.Form) _ later (there_never (strip_suffix 93 front)) (λ inner ends over.
-    bracketed text front inner (behind_whole 91 text front (there_ok _ code.Form front begins)) (before_whole 93 front inner (omega arith) (there_ok _ code.Form inner ends)) (at_plus_beyond inner (split_once 43 inner) refl over)))
+    then_over (ok_or (strip_prefix 91 text) AsmCode.Form) _ h (there_never (strip_prefix 91 text)) (λ front begins later.
+    then_over (ok_or (strip_suffix 93 front) AsmCode.Form) _ later (there_never (strip_suffix 93 front)) (λ inner ends over.
+    bracketed text front inner (behind_whole 91 text front (there_ok _ AsmCode.Form front begins)) (before_whole 93 front inner (omega arith) (there_ok _ AsmCode.Form inner ends)) (at_plus_beyond inner (split_once 43 inner) refl over)))
 
 -- ---- the words of a line
 
@@ -190,9 +186,9 @@ place_beyond text h =
 comma_never : {P : Type 0} (texts : List (List ℕ)) → IsOver (comma texts) → P
 unfolding comma
 comma_never [] h = absurd cc
-comma_never (text ∷ texts) h = then_over (ok_or (strip_suffix 44 text) code.Form) _ h (there_never (strip_suffix 44 text)) (λ t is over. ok_never _ over)
+comma_never (text ∷ texts) h = then_over (ok_or (strip_suffix 44 text) AsmCode.Form) _ h (there_never (strip_suffix 44 text)) (λ t is over. ok_never _ over)
 
-ended_never : {P : Type 0} (texts : List (List ℕ)) → IsOver (no_word code.Form texts) → P
+ended_never : {P : Type 0} (texts : List (List ℕ)) → IsOver (no_word AsmCode.Form texts) → P
 ended_never [] h = absurd cc
 ended_never (text ∷ texts) h = absurd cc
 
@@ -204,7 +200,7 @@ Next read texts = (text : List ℕ) × (others : List (List ℕ)) × (texts ≡ 
 last_beyond : {A : Type 0} (read : List ℕ → Result A AsmCode) (texts : List (List ℕ)) → IsOver (last read texts) → Next read texts
 unfolding last
 last_beyond read [] h = absurd cc
-last_beyond read (text ∷ others) h = then_over (read text) _ h (λ over. (text, others, refl, over)) (λ x is later. then_over (no_word code.Form others) _ later (ended_never others) (λ end at over. ok_never _ over))
+last_beyond read (text ∷ others) h = then_over (read text) _ h (λ over. (text, others, refl, over)) (λ x is later. then_over (no_word AsmCode.Form others) _ later (ended_never others) (λ end at over. ok_never _ over))
 
 last_reg_never : {P : Type 0} (texts : List (List ℕ)) → IsOver (last reg_of_text texts) → P
 last_reg_never texts h = let n = last_beyond reg_of_text texts h in reg_never n.0 n.3
@@ -255,17 +251,17 @@ beyond_there : (w : Word) (texts : List (List ℕ)) (f : NumberPlace) (number : 
 beyond_there w texts f number others of fits beyond is q has = record { place = f; number = number; rest = rest_of others; of_profile = subst (IsWordOf q) (sym of) has; fits = fits; beyond = beyond; ends = rest_ends others; parts = is }
 
 -- operands out of range make such a line, behind each first word: this one and those below
-alu_beyond : (op : AluOp) (w : Width) (texts : List (List ℕ)) → IsOver (alu_operands (insn.Alu op w) texts) → Beyond (word.Alu op w) texts
+alu_beyond : (op : AluOp) (w : Width) (texts : List (List ℕ)) → IsOver (alu_operands (Insn.Alu op w) texts) → Beyond (Word.Alu op w) texts
 unfolding alu_operands
 alu_beyond op w texts h =
     then_over (comma texts) _ h (comma_never texts) (λ first begins a.
     then_over (reg_of_text first.0) _ a (reg_never first.0) (λ d is b.
     then_over (last operand_of_text first.1) _ b (λ over.
     let n = last_beyond operand_of_text first.1 over in
-    beyond_there (word.Alu op w) texts (AluImm op w d) n.0 n.1 refl tt (operand_beyond n.0 n.3) (second_there (word.Alu op w) texts n.1 first (reg_name d) n.0 begins (reg_is first.0 d is) n.2))
+    beyond_there (Word.Alu op w) texts (AluImm op w d) n.0 n.1 refl tt (operand_beyond n.0 n.3) (second_there (Word.Alu op w) texts n.1 first (reg_name d) n.0 begins (reg_is first.0 d is) n.2))
     (λ x at over. ok_never _ over)))
 
-mov_sx_beyond : (w : Width) (texts : List (List ℕ)) → IsOver (mov_sx_operands w texts) → Beyond (word.MovSx w) texts
+mov_sx_beyond : (w : Width) (texts : List (List ℕ)) → IsOver (mov_sx_operands w texts) → Beyond (Word.MovSx w) texts
 unfolding mov_sx_operands
 mov_sx_beyond w texts h =
     then_over (comma texts) _ h (comma_never texts) (λ first begins a.
@@ -274,20 +270,20 @@ mov_sx_beyond w texts h =
     then_over (reg_of_text second.0) _ e (reg_never second.0) (λ s at g.
     then_over (last (bits_of_text w) second.1) _ g (λ over.
     let n = last_beyond (bits_of_text w) second.1 over in
-    beyond_there (word.MovSx w) texts (MovSxBits w d s) n.0 n.1 refl tt (bits_beyond w n.0 n.3) (third_there (word.MovSx w) texts n.1 first second (reg_name d) (reg_name s) n.0 begins goes (reg_is first.0 d is) (reg_is second.0 s at) n.2))
+    beyond_there (Word.MovSx w) texts (MovSxBits w d s) n.0 n.1 refl tt (bits_beyond w n.0 n.3) (third_there (Word.MovSx w) texts n.1 first second (reg_name d) (reg_name s) n.0 begins goes (reg_is first.0 d is) (reg_is second.0 s at) n.2))
     (λ x there over. ok_never _ over)))))
 
-wide_beyond : (texts : List (List ℕ)) → IsOver (load_imm_operands texts) → Beyond word.LoadImm texts
+wide_beyond : (texts : List (List ℕ)) → IsOver (load_imm_operands texts) → Beyond Word.LoadImm texts
 unfolding load_imm_operands
 wide_beyond texts h =
     then_over (comma texts) _ h (comma_never texts) (λ first begins a.
     then_over (reg_of_text first.0) _ a (reg_never first.0) (λ d is b.
-    then_over (last (numeral_upto code.Form code.Range (2 ^ 64 - 1)) first.1) _ b (λ over.
-    let n = last_beyond (numeral_upto code.Form code.Range (2 ^ 64 - 1)) first.1 over in
-    beyond_there word.LoadImm texts (LoadImmImm d) n.0 n.1 refl tt (number_beyond (2 ^ 64 - 1) n.0 n.3) (second_there word.LoadImm texts n.1 first (reg_name d) n.0 begins (reg_is first.0 d is) n.2))
+    then_over (last (numeral_upto AsmCode.Form AsmCode.Range (2 ^ 64 - 1)) first.1) _ b (λ over.
+    let n = last_beyond (numeral_upto AsmCode.Form AsmCode.Range (2 ^ 64 - 1)) first.1 over in
+    beyond_there Word.LoadImm texts (LoadImmImm d) n.0 n.1 refl tt (number_beyond (2 ^ 64 - 1) n.0 n.3) (second_there Word.LoadImm texts n.1 first (reg_name d) n.0 begins (reg_is first.0 d is) n.2))
     (λ x at over. ok_never _ over)))
 
-load_beyond : (z : Size) (x : Extension) (texts : List (List ℕ)) → IsOver (load_operands (insn.Load z x) texts) → Beyond (word.Load z x) texts
+load_beyond : (z : Size) (x : Extension) (texts : List (List ℕ)) → IsOver (load_operands (Insn.Load z x) texts) → Beyond (Word.Load z x) texts
 unfolding load_operands
 load_beyond z x texts h =
     then_over (comma texts) _ h (comma_never texts) (λ first begins a.
@@ -295,7 +291,7 @@ load_beyond z x texts h =
     then_over (last place_of_text first.1) _ b (λ over.
     let n = last_beyond place_of_text first.1 over in
     let p = place_beyond n.0 n.3 in
-    beyond_there (word.Load z x) texts (LoadOffset z x d p.0) p.1 n.1 refl tt p.3 (second_there (word.Load z x) texts n.1 first (reg_name d) (place_with p.0 p.1) begins (reg_is first.0 d is) (n.2 ∙ ap (λ (t : List ℕ). t ∷ n.1) p.2)))
+    beyond_there (Word.Load z x) texts (LoadOffset z x d p.0) p.1 n.1 refl tt p.3 (second_there (Word.Load z x) texts n.1 first (reg_name d) (place_with p.0 p.1) begins (reg_is first.0 d is) (n.2 ∙ ap (λ (t : List ℕ). t ∷ n.1) p.2)))
     (λ x at over. ok_never _ over)))
 
 -- a place with its comma, as the word at fault
@@ -303,79 +299,79 @@ place_first : (w : Word) (texts : List (List ℕ)) (first : List ℕ × List (Li
     → join_with_byte 32 (name w ∷ texts) ≡ name w ++ (codes " " ++ ((place_with base number ++ codes ",") ++ rest_of first.1))
 place_first w texts first base number begins is = first_there w texts first.1 (place_with base number ++ 44 ∷ []) (comma_is texts first begins ∙ ap (λ (t : List ℕ). (t ++ 44 ∷ []) ∷ first.1) is)
 
-store_imm_beyond : (z : Size) (texts : List (List ℕ)) → IsOver (store_imm_operands (insn.StoreImm z) texts) → Beyond (word.StoreImm z) texts
+store_imm_beyond : (z : Size) (texts : List (List ℕ)) → IsOver (store_imm_operands (Insn.StoreImm z) texts) → Beyond (Word.StoreImm z) texts
 unfolding store_imm_operands
 store_imm_beyond z texts h =
     then_over (comma texts) _ h (comma_never texts) (λ first begins a.
     then_over (place_of_text first.0) _ a (λ over.
     let p = place_beyond first.0 over in
-    beyond_there (word.StoreImm z) texts (StoreImmOffset z p.0) p.1 first.1 refl tt p.3 (place_first (word.StoreImm z) texts first p.0 p.1 begins p.2))
+    beyond_there (Word.StoreImm z) texts (StoreImmOffset z p.0) p.1 first.1 refl tt p.3 (place_first (Word.StoreImm z) texts first p.0 p.1 begins p.2))
     (λ p at b.
     then_over (last imm_of_text first.1) _ b (λ over.
     let n = last_beyond imm_of_text first.1 over in
     let q = place_is first.0 p at in
-    beyond_there (word.StoreImm z) texts (StoreImmImm z p.0 p.1) n.0 n.1 refl q.1 (imm_beyond n.0 n.3) (second_there (word.StoreImm z) texts n.1 first (place_text p.0 p.1) n.0 begins q.0 n.2))
+    beyond_there (Word.StoreImm z) texts (StoreImmImm z p.0 p.1) n.0 n.1 refl q.1 (imm_beyond n.0 n.3) (second_there (Word.StoreImm z) texts n.1 first (place_text p.0 p.1) n.0 begins q.0 n.2))
     (λ x is over. ok_never _ over)))
 
-store_beyond : (z : Size) (texts : List (List ℕ)) → IsOver (store_operands (insn.Store z) texts) → Beyond (word.Store z) texts
+store_beyond : (z : Size) (texts : List (List ℕ)) → IsOver (store_operands (Insn.Store z) texts) → Beyond (Word.Store z) texts
 unfolding store_operands
 store_beyond z texts h =
     then_over (comma texts) _ h (comma_never texts) (λ first begins a.
     then_over (place_of_text first.0) _ a (λ over.
     let p = place_beyond first.0 over in
-    beyond_there (word.Store z) texts (StoreOffset z p.0) p.1 first.1 refl tt p.3 (place_first (word.Store z) texts first p.0 p.1 begins p.2))
+    beyond_there (Word.Store z) texts (StoreOffset z p.0) p.1 first.1 refl tt p.3 (place_first (Word.Store z) texts first p.0 p.1 begins p.2))
     (λ p at b. then_over (last reg_of_text first.1) _ b (last_reg_never first.1) (λ x is over. ok_never _ over)))
 
-jump_if_beyond : (c : Cmp) (w : Width) (texts : List (List ℕ)) → IsOver (jump_if_operands (insn.JumpIf c w) texts) → Beyond (word.JumpIf c w) texts
+jump_if_beyond : (c : Cmp) (w : Width) (texts : List (List ℕ)) → IsOver (jump_if_operands (Insn.JumpIf c w) texts) → Beyond (Word.JumpIf c w) texts
 unfolding jump_if_operands
 jump_if_beyond c w texts h =
     then_over (comma texts) _ h (comma_never texts) (λ first begins a.
     then_over (reg_of_text first.0) _ a (reg_never first.0) (λ d is b.
     then_over (comma first.1) _ b (comma_never first.1) (λ second goes e.
     then_over (operand_of_text second.0) _ e (λ over.
-    beyond_there (word.JumpIf c w) texts (JumpIfImm c w d) second.0 second.1 refl tt (operand_beyond second.0 over) (second_there (word.JumpIf c w) texts second.1 first (reg_name d) (second.0 ++ 44 ∷ []) begins (reg_is first.0 d is) (comma_is first.1 second goes)))
+    beyond_there (Word.JumpIf c w) texts (JumpIfImm c w d) second.0 second.1 refl tt (operand_beyond second.0 over) (second_there (Word.JumpIf c w) texts second.1 first (reg_name d) (second.0 ++ 44 ∷ []) begins (reg_is first.0 d is) (comma_is first.1 second goes)))
     (λ s at g.
     then_over (last offset_of_text second.1) _ g (λ over.
     let n = last_beyond offset_of_text second.1 over in
     let q = operand_is second.0 s at in
-    beyond_there (word.JumpIf c w) texts (JumpIfOffset c w d s) n.0 n.1 refl q.1 (offset_beyond n.0 n.3) (third_there (word.JumpIf c w) texts n.1 first second (reg_name d) (operand_text s) n.0 begins goes (reg_is first.0 d is) q.0 n.2))
+    beyond_there (Word.JumpIf c w) texts (JumpIfOffset c w d s) n.0 n.1 refl q.1 (offset_beyond n.0 n.3) (third_there (Word.JumpIf c w) texts n.1 first second (reg_name d) (operand_text s) n.0 begins goes (reg_is first.0 d is) q.0 n.2))
     (λ x there over. ok_never _ over)))))
 
-neg_never : {P : Type 0} (w : Width) (texts : List (List ℕ)) → IsOver (map_insn (insn.Neg w) (last reg_of_text texts)) → P
+neg_never : {P : Type 0} (w : Width) (texts : List (List ℕ)) → IsOver (map_insn (Insn.Neg w) (last reg_of_text texts)) → P
 neg_never w texts h = then_over (last reg_of_text texts) _ h (last_reg_never texts) (λ x is over. ok_never _ over)
 
-jump_beyond : (texts : List (List ℕ)) → IsOver (map_insn insn.Jump (last offset_of_text texts)) → Beyond word.Jump texts
+jump_beyond : (texts : List (List ℕ)) → IsOver (map_insn Insn.Jump (last offset_of_text texts)) → Beyond Word.Jump texts
 jump_beyond texts h =
     then_over (last offset_of_text texts) _ h (λ over.
     let n = last_beyond offset_of_text texts over in
-    beyond_there word.Jump texts JumpOffset n.0 n.1 refl tt (offset_beyond n.0 n.3) (first_there word.Jump texts n.1 n.0 n.2))
+    beyond_there Word.Jump texts JumpOffset n.0 n.1 refl tt (offset_beyond n.0 n.3) (first_there Word.Jump texts n.1 n.0 n.2))
     (λ x is over. ok_never _ over)
 
-call_beyond : (texts : List (List ℕ)) → IsOver (map_insn insn.Call (last imm_of_text texts)) → Beyond word.Call texts
+call_beyond : (texts : List (List ℕ)) → IsOver (map_insn Insn.Call (last imm_of_text texts)) → Beyond Word.Call texts
 call_beyond texts h =
     then_over (last imm_of_text texts) _ h (λ over.
     let n = last_beyond imm_of_text texts over in
-    beyond_there word.Call texts CallImm n.0 n.1 refl tt (imm_beyond n.0 n.3) (first_there word.Call texts n.1 n.0 n.2))
+    beyond_there Word.Call texts CallImm n.0 n.1 refl tt (imm_beyond n.0 n.3) (first_there Word.Call texts n.1 n.0 n.2))
     (λ x is over. ok_never _ over)
 
-exit_never : {P : Type 0} (texts : List (List ℕ)) → IsOver (map_insn (λ _. insn.Exit) (no_word code.Form texts)) → P
-exit_never texts h = then_over (no_word code.Form texts) _ h (ended_never texts) (λ x is over. ok_never _ over)
+exit_never : {P : Type 0} (texts : List (List ℕ)) → IsOver (map_insn (λ _. Insn.Exit) (no_word AsmCode.Form texts)) → P
+exit_never texts h = then_over (no_word AsmCode.Form texts) _ h (ended_never texts) (λ x is over. ok_never _ over)
 
 -- so whatever the first word is, the line is out of range as the definition says
 operands_beyond : (w : Word) (texts : List (List ℕ)) → IsOver (operands w texts) → Beyond w texts
-operands_beyond (word.Alu op w) texts h = alu_beyond op w texts h
-operands_beyond (word.MovSx w) texts h = mov_sx_beyond w texts h
-operands_beyond (word.Neg w) texts h = neg_never w texts h
-operands_beyond word.LoadImm texts h = wide_beyond texts h
-operands_beyond (word.Load z x) texts h = load_beyond z x texts h
-operands_beyond (word.StoreImm z) texts h = store_imm_beyond z texts h
-operands_beyond (word.Store z) texts h = store_beyond z texts h
-operands_beyond word.Jump texts h = jump_beyond texts h
-operands_beyond (word.JumpIf c w) texts h = jump_if_beyond c w texts h
-operands_beyond word.Call texts h = call_beyond texts h
-operands_beyond word.Exit texts h = exit_never texts h
+operands_beyond (Word.Alu op w) texts h = alu_beyond op w texts h
+operands_beyond (Word.MovSx w) texts h = mov_sx_beyond w texts h
+operands_beyond (Word.Neg w) texts h = neg_never w texts h
+operands_beyond Word.LoadImm texts h = wide_beyond texts h
+operands_beyond (Word.Load z x) texts h = load_beyond z x texts h
+operands_beyond (Word.StoreImm z) texts h = store_imm_beyond z texts h
+operands_beyond (Word.Store z) texts h = store_beyond z texts h
+operands_beyond Word.Jump texts h = jump_beyond texts h
+operands_beyond (Word.JumpIf c w) texts h = jump_if_beyond c w texts h
+operands_beyond Word.Call texts h = call_beyond texts h
+operands_beyond Word.Exit texts h = exit_never texts h
 
-unnamed_never : {P : Type 0} (o : Option Word) → IsOver (ok_or o code.Word) → P
+unnamed_never : {P : Type 0} (o : Option Word) → IsOver (ok_or o AsmCode.Word) → P
 unnamed_never None h = absurd cc
 unnamed_never (Some w) h = absurd cc
 
@@ -384,8 +380,8 @@ words_beyond : (q : Profile) (texts : List (List ℕ)) → IsOver (insn_of_words
 unfolding insn_of_words
 words_beyond q [] h = absurd cc
 words_beyond q (text ∷ texts) h =
-    then_over (ok_or (word_named q text) code.Word) _ h (unnamed_never (word_named q text)) (λ w is over.
-    let n = word_is q text code.Word w is in
+    then_over (ok_or (word_named q text) AsmCode.Word) _ h (unnamed_never (word_named q text)) (λ w is over.
+    let n = word_is q text AsmCode.Word w is in
     subst (λ (t : List ℕ). IsOutOfRange q (join_with_byte 32 (t ∷ texts))) (sym n.0) (operands_beyond w texts over q n.1))
 
 -- and so is a line
@@ -393,18 +389,18 @@ line_beyond : (q : Profile) (line : List ℕ) → IsOver (line_of q line) → Is
 line_beyond q line h = subst (IsOutOfRange q) (join_with_byte-slice_split 32 line) (words_beyond q (slice_split (λ b. b == 32) line) h)
 
 -- 82 is told of a line exactly where it is out of range
-pub range_is : (q : Profile) (line : List ℕ) → (line_of q line ≡ Err code.Range) ↔ IsOutOfRange q line
+pub range_is : (q : Profile) (line : List ℕ) → (line_of q line ≡ Err AsmCode.Range) ↔ IsOutOfRange q line
 range_is q line = (line_beyond q line, λ h. ap (line_of q) h.parts ∙ range_told q h.place h.number h.rest h.of_profile h.fits h.beyond h.ends)
 
 -- ---- the code as it is told
 
 -- no other code has the number 82
-range_number : (c : AsmCode) → asm_code c ≡ 82 → c ≡ code.Range
-range_number code.Word h = let no : ⊥ = omega (arith, h) in absurd no
-range_number code.Form h = let no : ⊥ = omega (arith, h) in absurd no
-range_number code.Range h = refl
-range_number code.TooLong h = let no : ⊥ = omega (arith, h) in absurd no
-range_number code.Nothing h = let no : ⊥ = omega (arith, h) in absurd no
+range_number : (c : AsmCode) → asm_code c ≡ 82 → c ≡ AsmCode.Range
+range_number AsmCode.Word h = let no : ⊥ = omega (arith, h) in absurd no
+range_number AsmCode.Form h = let no : ⊥ = omega (arith, h) in absurd no
+range_number AsmCode.Range h = refl
+range_number AsmCode.TooLong h = let no : ⊥ = omega (arith, h) in absurd no
+range_number AsmCode.Nothing h = let no : ⊥ = omega (arith, h) in absurd no
 
 abbrev told_as : (A : Type 0) → ℕ × ℕ → Result A (ℕ × ℕ)
 told_as A fault = Err fault
@@ -418,10 +414,10 @@ told_range n (Ok is) h = absurd cc
 told_range n (Err c) h = ap (failed (List Insn)) (range_number c (ap (λ (f : ℕ × ℕ). f.1) (same_fault (List Insn) (n + 1, asm_code c) (n + 1, 82) h)))
 
 -- that line is out of range by itself, since 83 is another code
-own_beyond : (q : Profile) (line : List ℕ) → (code.Range ≡ code.TooLong) ⊎ IsOver (line_of q line) → IsOutOfRange q line
+own_beyond : (q : Profile) (line : List ℕ) → (AsmCode.Range ≡ AsmCode.TooLong) ⊎ IsOver (line_of q line) → IsOutOfRange q line
 own_beyond q line (inl h) = absurd cc
 own_beyond q line (inr h) = line_beyond q line h
 
 -- so 82 is told of no other line
 pub told_only : (q : Profile) (n : ℕ) (before : List Insn) (line : List ℕ) → numbered asm_code n (with_insn_line q before line) ≡ Err (n + 1, 82) → IsOutOfRange q line
-told_only q n before line h = own_beyond q line (own_told q before line code.Range (told_range n (with_insn_line q before line) h))
+told_only q n before line h = own_beyond q line (own_told q before line AsmCode.Range (told_range n (with_insn_line q before line) h))

@@ -2,18 +2,14 @@
 -- on the order; what is read is said without it, by the listing alone (`one_spelling`).
 use Rattle.std.specs.Prelude.{ℕ, ◌-◌, ◌^◌, ℤ, pos, neg_ℤ, ◌==◌, ◌&&◌, if◌then◌else◌, List, [], ◌∷◌, slice_index, Option, Some, None, ok_or, Result, Ok, Err}
 use Rattle.pb_isa.specs.declared.insn.Insn.{Insn}
-use Rattle.pb_isa.specs.declared.insn.Insn.TheVariants as insn
 use Rattle.pb_isa.specs.declared.insn.Operand.{Operand}
-use Rattle.pb_isa.specs.declared.insn.Operand.TheVariants as operand
 use Rattle.pb_isa.specs.declared.insn.Reg.{Reg}
 use Rattle.pb_isa.specs.declared.insn.Width.{Width}
 use Rattle.pb_isa.specs.declared.insn.Size.{Size}
 use Rattle.pb_isa.specs.declared.profile.Profile.{Profile}
 use Rattle.pb_isa.specs.Profiles.{is_narrower}
-use Rattle.pb_asm.specs.declared.names.Word.TheVariants as word
 use Rattle.pb_asm.specs.declared.names.Word.{Word}
 use Rattle.pb_asm.specs.declared.fault.AsmCode.{AsmCode}
-use Rattle.pb_asm.specs.declared.fault.AsmCode.TheVariants as code
 use Rattle.pb_asm.specs.Names.{sizes, size_bits, word_named, reg_named}
 use Rattle.pb_reading.specs.Reading.{◌>>=◌, words_of, next_word, no_word, numeral_upto}
 use Rattle.pb_asm.specs.Cuts.{strip_prefix, strip_suffix, split_once}
@@ -21,13 +17,13 @@ use Rattle.pb_asm.specs.Cuts.{strip_prefix, strip_suffix, split_once}
 -- the digits behind a minus: at most this, and not zero, so that 0 has one spelling
 unfoldable pub minus : ℕ → List ℕ → Result ℤ AsmCode
 minus greatest text = do
-  n ← numeral_upto code.Form code.Range greatest text
-  if n == 0 then Err code.Form else Ok (neg_ℤ (pos n))
+  n ← numeral_upto AsmCode.Form AsmCode.Range greatest text
+  if n == 0 then Err AsmCode.Form else Ok (neg_ℤ (pos n))
 
 -- digits without a minus: below this
 unfoldable pub plus : ℕ → List ℕ → Result ℤ AsmCode
 plus limit text = do
-  n ← numeral_upto code.Form code.Range (limit - 1) text
+  n ← numeral_upto AsmCode.Form AsmCode.Range (limit - 1) text
   Ok (pos n)
 
 -- behind a minus the digits of a negative number, and else what was read without one
@@ -42,7 +38,7 @@ imm_of_text text = signed_or (plus (2 ^ 31) text) (2 ^ 31) (strip_prefix 45 text
 -- behind a plus the digits of an offset; without one it has no sign, and is of another form
 abbrev pub plus_or_fault : Option (List ℕ) → Result ℤ AsmCode
 plus_or_fault (Some digits) = plus (2 ^ 15) digits
-plus_or_fault None = Err code.Form
+plus_or_fault None = Err AsmCode.Form
 
 -- an offset, which always has a sign
 abbrev pub offset_of_text : List ℕ → Result ℤ AsmCode
@@ -50,11 +46,11 @@ offset_of_text text = signed_or (plus_or_fault (strip_prefix 43 text)) (2 ^ 15) 
 
 -- the register of this name
 abbrev pub reg_of_text : List ℕ → Result Reg AsmCode
-reg_of_text text = ok_or (reg_named text) code.Form
+reg_of_text text = ok_or (reg_named text) AsmCode.Form
 
 -- an operand that may be either
 unfoldable pub operand_of_text : List ℕ → Result Operand AsmCode
-operand_of_text text = if slice_index text 0 == 114 then (reg_of_text text >>= λ r. Ok (operand.Reg r)) else (imm_of_text text >>= λ k. Ok (operand.Imm k))
+operand_of_text text = if slice_index text 0 == 114 then (reg_of_text text >>= λ r. Ok (Operand.Reg r)) else (imm_of_text text >>= λ k. Ok (Operand.Imm k))
 
 -- a register and the offset behind it
 unfoldable pub base_and_offset : List ℕ → Result ℤ AsmCode → Result (Reg × ℤ) AsmCode
@@ -66,7 +62,7 @@ base_and_offset register offset = do
 -- the place inside of brackets, cut at a minus
 abbrev pub at_minus : Option (List ℕ × List ℕ) → Result (Reg × ℤ) AsmCode
 at_minus (Some sides) = base_and_offset sides.0 (minus (2 ^ 15) sides.1)
-at_minus None = Err code.Form
+at_minus None = Err AsmCode.Form
 
 -- cut at a plus, and where there is none, at a minus
 abbrev pub at_plus : List ℕ → Option (List ℕ × List ℕ) → Result (Reg × ℤ) AsmCode
@@ -82,29 +78,29 @@ size_in w n (z ∷ zs) = if is_narrower z w && (size_bits z == n) then Some z el
 -- 4.1); a numeral of any length has the form, so that any other number is out of range
 unfoldable pub bits_of_text : Width → List ℕ → Result Size AsmCode
 bits_of_text w text = do
-  n ← numeral_upto code.Form code.Range (2 ^ 64 - 1) text
-  ok_or (size_in w n sizes) code.Range
+  n ← numeral_upto AsmCode.Form AsmCode.Range (2 ^ 64 - 1) text
+  ok_or (size_in w n sizes) AsmCode.Range
 
 -- a place in memory: `[`, register, offset, `]`
 unfoldable pub place_of_text : List ℕ → Result (Reg × ℤ) AsmCode
 place_of_text text = do
-  front ← ok_or (strip_prefix 91 text) code.Form
-  inner ← ok_or (strip_suffix 93 front) code.Form
+  front ← ok_or (strip_prefix 91 text) AsmCode.Form
+  inner ← ok_or (strip_suffix 93 front) AsmCode.Form
   at_plus inner (split_once 43 inner)
 
 -- the next word, which has a comma at its end
 unfoldable pub comma : List (List ℕ) → Result (List ℕ × List (List ℕ)) AsmCode
 comma texts = do
-  first ← next_word code.Form texts
-  text ← ok_or (strip_suffix 44 first.0) code.Form
+  first ← next_word AsmCode.Form texts
+  text ← ok_or (strip_suffix 44 first.0) AsmCode.Form
   Ok (text, first.1)
 
 -- the last word: it is read before a word too many is told
 unfoldable pub last : {A : Type 0} → (List ℕ → Result A AsmCode) → List (List ℕ) → Result A AsmCode
 last read texts = do
-  first ← next_word code.Form texts
+  first ← next_word AsmCode.Form texts
   x ← read first.0
-  end ← no_word code.Form first.1
+  end ← no_word AsmCode.Form first.1
   Ok x
 
 -- `r1, -32` or `r1, r2`
@@ -123,15 +119,15 @@ mov_sx_operands w texts = do
   second ← comma first.1
   s ← reg_of_text second.0
   z ← last (bits_of_text w) second.1
-  Ok (insn.MovSx w z d s)
+  Ok (Insn.MovSx w z d s)
 
 -- `r0, 4294967303`
 unfoldable pub load_imm_operands : List (List ℕ) → Result Insn AsmCode
 load_imm_operands texts = do
   first ← comma texts
   r ← reg_of_text first.0
-  n ← last (numeral_upto code.Form code.Range (2 ^ 64 - 1)) first.1
-  Ok (insn.LoadImm r n)
+  n ← last (numeral_upto AsmCode.Form AsmCode.Range (2 ^ 64 - 1)) first.1
+  Ok (Insn.LoadImm r n)
 
 -- `r0, [r1+8]`
 unfoldable pub load_operands : (Reg → Reg → ℤ → Insn) → List (List ℕ) → Result Insn AsmCode
@@ -173,23 +169,23 @@ map_insn make read = read >>= λ x. Ok (make x)
 
 -- the operands that a first word asks for
 abbrev pub operands : Word → List (List ℕ) → Result Insn AsmCode
-operands (word.Alu op w) texts = alu_operands (insn.Alu op w) texts
-operands (word.MovSx w) texts = mov_sx_operands w texts
-operands (word.Neg w) texts = map_insn (insn.Neg w) (last reg_of_text texts)
-operands word.LoadImm texts = load_imm_operands texts
-operands (word.Load z x) texts = load_operands (insn.Load z x) texts
-operands (word.StoreImm z) texts = store_imm_operands (insn.StoreImm z) texts
-operands (word.Store z) texts = store_operands (insn.Store z) texts
-operands word.Jump texts = map_insn insn.Jump (last offset_of_text texts)
-operands (word.JumpIf c w) texts = jump_if_operands (insn.JumpIf c w) texts
-operands word.Call texts = map_insn insn.Call (last imm_of_text texts)
-operands word.Exit texts = map_insn (λ _. insn.Exit) (no_word code.Form texts)
+operands (Word.Alu op w) texts = alu_operands (Insn.Alu op w) texts
+operands (Word.MovSx w) texts = mov_sx_operands w texts
+operands (Word.Neg w) texts = map_insn (Insn.Neg w) (last reg_of_text texts)
+operands Word.LoadImm texts = load_imm_operands texts
+operands (Word.Load z x) texts = load_operands (Insn.Load z x) texts
+operands (Word.StoreImm z) texts = store_imm_operands (Insn.StoreImm z) texts
+operands (Word.Store z) texts = store_operands (Insn.Store z) texts
+operands Word.Jump texts = map_insn Insn.Jump (last offset_of_text texts)
+operands (Word.JumpIf c w) texts = jump_if_operands (Insn.JumpIf c w) texts
+operands Word.Call texts = map_insn Insn.Call (last imm_of_text texts)
+operands Word.Exit texts = map_insn (λ _. Insn.Exit) (no_word AsmCode.Form texts)
 
 -- the instruction of a line's words: the first says which it is, and is looked at before all operands
 unfoldable pub insn_of_words : Profile → List (List ℕ) → Result Insn AsmCode
 insn_of_words p texts = do
-  first ← next_word code.Form texts
-  w ← ok_or (word_named p first.0) code.Word
+  first ← next_word AsmCode.Form texts
+  w ← ok_or (word_named p first.0) AsmCode.Word
   operands w first.1
 
 -- one instruction: its words stand with one blank between them

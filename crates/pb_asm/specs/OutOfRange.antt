@@ -16,7 +16,6 @@ use Rattle.pb_isa.specs.declared.profile.Profile.{Profile}
 use Rattle.pb_isa.specs.Profiles.{is_narrower}
 use Rattle.pb_isa.specs.Bounds.{OperandFits}
 use Rattle.pb_asm.specs.declared.names.Word.{Word}
-use Rattle.pb_asm.specs.declared.names.Word.TheVariants as word
 use Rattle.pb_asm.specs.Names.{name, IsWordOf, reg_name, size_bits}
 use Rattle.pb_asm.specs.Listing.{operand_text, place_text}
 
@@ -62,17 +61,17 @@ place_with base number = 91 ∷ (reg_name base ++ (number ++ codes "]"))
 
 -- the instruction's word
 abbrev pub place_word : NumberPlace → Word
-place_word (AluImm op w dst) = word.Alu op w
-place_word (MovSxBits w dst src) = word.MovSx w
-place_word (LoadImmImm dst) = word.LoadImm
-place_word (LoadOffset z x dst src) = word.Load z x
-place_word (StoreImmOffset z dst) = word.StoreImm z
-place_word (StoreImmImm z dst offset) = word.StoreImm z
-place_word (StoreOffset z dst) = word.Store z
-place_word JumpOffset = word.Jump
-place_word (JumpIfImm c w dst) = word.JumpIf c w
-place_word (JumpIfOffset c w dst src) = word.JumpIf c w
-place_word CallImm = word.Call
+place_word (AluImm op w dst) = Word.Alu op w
+place_word (MovSxBits w dst src) = Word.MovSx w
+place_word (LoadImmImm dst) = Word.LoadImm
+place_word (LoadOffset z x dst src) = Word.Load z x
+place_word (StoreImmOffset z dst) = Word.StoreImm z
+place_word (StoreImmImm z dst offset) = Word.StoreImm z
+place_word (StoreOffset z dst) = Word.Store z
+place_word JumpOffset = Word.Jump
+place_word (JumpIfImm c w dst) = Word.JumpIf c w
+place_word (JumpIfOffset c w dst src) = Word.JumpIf c w
+place_word CallImm = Word.Call
 
 -- the operands up to the number and the sign that ends its word, as a listing has them; then the rest
 abbrev pub operands_with : NumberPlace → List ℕ → List ℕ → List ℕ

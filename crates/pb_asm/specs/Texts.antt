@@ -7,7 +7,6 @@ use Rattle.pb_isa.specs.Profiles.{max_slots}
 use Rattle.pb_isa.specs.Slots.{slots}
 use Rattle.pb_isa.specs.Programs.{ProgramOf}
 use Rattle.pb_asm.specs.declared.fault.AsmCode.{AsmCode}
-use Rattle.pb_asm.specs.declared.fault.AsmCode.TheVariants.{TooLong, Nothing}
 use Rattle.pb_reading.specs.Reading.{◌>>=◌, lines_of, is_skipped}
 use Rattle.pb_reading.specs.Faults.{in_lines}
 use Rattle.pb_asm.specs.Codes.{asm_code}
@@ -18,7 +17,7 @@ use Rattle.pb_asm.specs.Operands.{line_of}
 unfoldable pub with_insn_line : Profile → List Insn → List ℕ → Result (List Insn) AsmCode
 with_insn_line p before line = if is_skipped line then Ok before else do
   i ← line_of p line
-  if nat_lt (max_slots p) (slots (before ++ i ∷ [])) then Err TooLong else Ok (before ++ i ∷ [])
+  if nat_lt (max_slots p) (slots (before ++ i ∷ [])) then Err AsmCode.TooLong else Ok (before ++ i ∷ [])
 
 -- the lines one after the other, from what those before them made; the first fault ends it
 abbrev pub insns_of_lines : Profile → ℕ → List Insn → List (List ℕ) → Result (List Insn) (ℕ × ℕ)
@@ -26,7 +25,7 @@ insns_of_lines p n before lines = in_lines asm_code (with_insn_line p) n before 
 
 -- the program of these instructions, if there are some
 abbrev pub some_of : Profile → List Insn → Result ProgramOf (ℕ × ℕ)
-some_of p [] = Err (0, asm_code Nothing)
+some_of p [] = Err (0, asm_code AsmCode.Nothing)
 some_of p (i ∷ is) = Ok (record { profile = p; insns = i ∷ is })
 
 -- the program of a text in a profile, or the line (from 1) and the code of its fault
@@ -37,4 +36,4 @@ program_of_text p text = insns_of_lines p 0 [] (lines_of text) >>= some_of p
 pub record HasNone (p : Profile) (text : List ℕ) (line told : ℕ) : Type 0 where
   pub read : insns_of_lines p 0 [] (lines_of text) ≡ Ok []
   pub number : line ≡ 0
-  pub code : told ≡ asm_code Nothing
+  pub code : told ≡ asm_code AsmCode.Nothing

@@ -1,8 +1,5 @@
 -- Lemmas of tests, options, orders and lists that the library of the language has not, or not in this form.
-use Rattle.std.proofs.Common.{◌≡◌, Bool, true, false, ◌&&◌, Option, Some, None, refl, T, ℕ, zero, suc, List, [], ◌∷◌, drop, slice_get, ◌<◌, arith, ◌≤◌, length, not, cond, inl, inr, sym, subst, Result, Ok, Err, OnOk, ◌⊎◌, ap, ◌∙◌}
-use Rattle.std.specs.Prelude.{is_some, ◌==◌, ◌||◌, nat_lt, nat_le}
-use Rattle.std.specs.declared.cmp.Ordering.{Ordering}
-use Rattle.std.specs.declared.cmp.Ordering.TheVariants.{Less, Equal, Greater}
+use Rattle.std.proofs.Common.{◌≡◌, Bool, true, false, ◌&&◌, Option, Some, None, refl, T, ℕ, zero, suc, List, [], ◌∷◌, drop, slice_get, ◌<◌, arith, ◌≤◌, length, not, cond, inl, inr, sym, subst, Result, Ok, Err, OnOk, ◌⊎◌, ap, ◌∙◌, is_some, ◌==◌, ◌||◌, nat_lt, nat_le, Ordering, Less, Equal, Greater}
 use Rattle.std.specs.Ordering.{is_lt, ordering_reverse}
 use Rattle.std.proofs.lemmas.Bool.{eqb-false}
 use Rattle.std.specs.Cmp.{IsTotalOrder}

@@ -1,9 +1,8 @@
 -- How far a text is written, write by write.
-use Rattle.std.proofs.Common.{◌≡◌, ◌≢◌, ℕ, zero, suc, Bool, true, false, Ok, List, ◌++◌, Option, take, drop, refl, sym, ap, subst, ◌∙◌, append_assoc}
+use Rattle.std.proofs.Common.{◌≡◌, ◌≢◌, ℕ, zero, suc, Bool, true, false, Ok, List, ◌++◌, Option, take, drop, refl, sym, ap, subst, ◌∙◌, append_assoc, ◌||◌, ◌&&◌}
 use Rattle.std.specs.Io.KnownBytes.{Appends}
 use Rattle.std.proofs.KnownBytes.{Appends-trans}
 use Rattle.std.proofs.lemmas.List.{take-append-drop}
-use Rattle.std.specs.Prelude.{◌||◌, ◌&&◌}
 use Rattle.pb_base.specs.declared.sink.SinkFault.{SinkFault}
 use Rattle.pb_base.specs.Sink.{took_none, IsPart}
 

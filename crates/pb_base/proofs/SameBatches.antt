@@ -1,6 +1,5 @@
 -- Batches compared write by write: what stands from a place on is the write there and what stands from the next on.
-use Rattle.std.proofs.Common.{◌≡◌, ℕ, ◌+◌, List, ◌∷◌, drop, Some, sym, ap, ◌∙◌, add-one}
-use Rattle.std.specs.Prelude.{slice_get}
+use Rattle.std.proofs.Common.{◌≡◌, ℕ, ◌+◌, List, ◌∷◌, drop, Some, sym, ap, ◌∙◌, add-one, slice_get}
 use Rattle.pb_base.proofs.Logic.{drop_step}
 
 -- and with the next place as i + 1, as the code counts

@@ -5,9 +5,7 @@ use Rattle.std.specs.List.{list_all}
 use Rattle.std.specs.Ordering.{eq_by_cmp}
 use Rattle.pb_base.specs.declared.names.Row.{Row}
 use Rattle.pb_base.specs.declared.cell.Cell.{Cell}
-use Rattle.pb_base.specs.declared.cell.Cell.TheVariants.{Data}
 use Rattle.pb_base.specs.declared.content.Content.{Content}
-use Rattle.pb_base.specs.declared.content.Content.TheVariants.{Value, Deleted, Stamp}
 use Rattle.pb_base.specs.declared.limits.TheConstants.{MAX_CELLS}
 use Rattle.pb_base.specs.Cell.{cell_cmp, is_data}
 
@@ -17,7 +15,7 @@ Writes = List (Cell × Content)
 
 -- rows, columns and contents as data cells with contents: a batch keeps the first, and contracts see the second
 abbrev pub writes_of : List (Row × ℕ × Content) → Writes
-writes_of ws = map (λ w. (Data w.0 w.1, w.2)) ws
+writes_of ws = map (λ w. (Cell.Data w.0 w.1, w.2)) ws
 
 -- what is written to a cell: the first that names it
 abbrev pub content_in : Writes → Cell → Option Content
@@ -31,9 +29,9 @@ primary_in (w ∷ ws) = Some w.0
 
 -- a value or a deletion, which is what a data cell may get
 abbrev pub is_unstamped : Content → Bool
-is_unstamped (Value v) = true
-is_unstamped Deleted = true
-is_unstamped (Stamp t) = false
+is_unstamped (Content.Value v) = true
+is_unstamped Content.Deleted = true
+is_unstamped (Content.Stamp t) = false
 
 -- to a data cell, and without a stamp, since those stand in acknowledgment cells alone
 abbrev pub is_data_write : Cell × Content → Bool

@@ -2,25 +2,24 @@
 -- here.
 use Rattle.std.specs.Prelude.{◌≡◌, ℕ, Option, Some, None}
 use Rattle.pb_base.specs.declared.refusal.Reason.{Reason}
-use Rattle.pb_base.specs.declared.refusal.Reason.TheVariants.{NoMemory, NoTablet, RowsDontRise, NotEmpty, NoSuchPlace, OutOfTimestamps, NotOfSeat, WrongPhase, NotItsDeclaration, JournalFull, NotDeclared, AlreadyPrewritten, NoSuchObserver, LaterThanStart}
 use Rattle.pb_base.specs.declared.refusal.Refusal.{Refusal}
 
 -- 1 to 5 are of tables and tablets, 40 to 49 of steps; 48 is a run's whose seats differ, and no step's
 abbrev pub reason_code : Reason → ℕ
-reason_code NoMemory = 1
-reason_code NoTablet = 2
-reason_code RowsDontRise = 3
-reason_code NotEmpty = 4
-reason_code NoSuchPlace = 5
-reason_code OutOfTimestamps = 40
-reason_code NotOfSeat = 41
-reason_code WrongPhase = 42
-reason_code NotItsDeclaration = 43
-reason_code JournalFull = 44
-reason_code NotDeclared = 45
-reason_code AlreadyPrewritten = 46
-reason_code NoSuchObserver = 47
-reason_code LaterThanStart = 49
+reason_code Reason.NoMemory = 1
+reason_code Reason.NoTablet = 2
+reason_code Reason.RowsDontRise = 3
+reason_code Reason.NotEmpty = 4
+reason_code Reason.NoSuchPlace = 5
+reason_code Reason.OutOfTimestamps = 40
+reason_code Reason.NotOfSeat = 41
+reason_code Reason.WrongPhase = 42
+reason_code Reason.NotItsDeclaration = 43
+reason_code Reason.JournalFull = 44
+reason_code Reason.NotDeclared = 45
+reason_code Reason.AlreadyPrewritten = 46
+reason_code Reason.NoSuchObserver = 47
+reason_code Reason.LaterThanStart = 49
 
 -- what a caller gets for this reason
 abbrev pub refusal_by : Reason → Refusal

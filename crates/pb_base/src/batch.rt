@@ -80,7 +80,7 @@ fn are_distinct(writes: &[(Row, Column, Content)]) -> bool
 }
 
 impl Batch {
-    ghost use Rattle.std.specs.Prelude.{◌≡◌, ◌↔◌, ◌<◌, ◌≤◌, IsTrue, IsOk, IfOk, IfErr, OnOk, length, slice_get, Some, true};
+    ghost use Rattle.std.specs.Prelude.{◌≡◌, ◌≢◌, ◌↔◌, ◌<◌, ◌≤◌, [], IsTrue, IsOk, IfOk, IfErr, OnOk, length, slice_get, Some, true};
     ghost use Rattle.pb_base.specs.Batch.{writes_of, is_batch, content_in, primary_in};
 
     /// A batch of these writes, if they are 1 to 16 distinct data cells without a stamp; else they are handed back.
@@ -107,9 +107,17 @@ impl Batch {
         ensures count { result ≡ length self.now }
         ensures some { 0 < result }
         ensures few { result ≤ MAX_CELLS }
-        ensures batch { is_batch self.now ≡ true }
     {
         self.writes.len()
+    }
+
+    /// It has some cells, each named once. It does nothing: a caller's proof learns by it what the type keeps.
+    pub fn known(&self)
+        ensures some { self.now ≢ [] }
+        ensures batch { is_batch self.now ≡ true }
+    {
+        // For the proof: opens the value, whose invariant says it.
+        let _ = &self.writes;
     }
 
     /// The cell at a place, and what is written to it.

@@ -4,7 +4,6 @@ use Rattle.pb_isa.specs.declared.profile.Profile.{Profile}
 use Rattle.pb_asm.specs.Listing.{listing}
 use Rattle.pb_asm.specs.Texts.{program_of_text}
 use Rattle.pb_command.specs.declared.fault.Fault.{Fault}
-use Rattle.pb_command.specs.declared.fault.Fault.TheVariants as faults
 use Rattle.pb_base.specs.Taking.{Taking}
 use Rattle.pb_command.specs.Files.{Text, Held, Filing}
 use Rattle.pb_command.specs.PathFaults.{IsUnreadAt}
@@ -31,31 +30,31 @@ not_assembled profile files input output text line code e bad w =
 
 -- so of a refused text its place is told, or that memory was refused
 pub faulty_text_is_told : FaultyTextIsTold
-faulty_text_is_told profile files input output text line code (faults.Text f) e utf8 bad fails = own_place profile files.before input text line code f.line f.code e bad fails.1
-faulty_text_is_told profile files input output text line code (faults.Unreadable p) e utf8 bad fails = unread_is_none files.before input text line code (faults.Unreadable p) e fails.1
-faulty_text_is_told profile files input output text line code (faults.TooLarge p) e utf8 bad fails = unread_is_none files.before input text line code (faults.TooLarge p) e fails.1
-faulty_text_is_told profile files input output text line code (faults.NotText p) e utf8 bad fails = text_is_text (files.before input) text input (faults.NotText p) e utf8 fails.1
-faulty_text_is_told profile files input output text line code (faults.Unwritable p) e utf8 bad fails = not_assembled profile files input output text line code e bad fails.1
-faulty_text_is_told profile files input output text line code (faults.Run r) e utf8 bad fails = fails.1
-faulty_text_is_told profile files input output text line code (faults.Undone r) e utf8 bad fails = fails.1
-faulty_text_is_told profile files input output text line code faults.Output e utf8 bad fails = fails.1
-faulty_text_is_told profile files input output text line code faults.NoMemory e utf8 bad fails = tt
+faulty_text_is_told profile files input output text line code (Fault.Text f) e utf8 bad fails = own_place profile files.before input text line code f.line f.code e bad fails.1
+faulty_text_is_told profile files input output text line code (Fault.Unreadable p) e utf8 bad fails = unread_is_none files.before input text line code (Fault.Unreadable p) e fails.1
+faulty_text_is_told profile files input output text line code (Fault.TooLarge p) e utf8 bad fails = unread_is_none files.before input text line code (Fault.TooLarge p) e fails.1
+faulty_text_is_told profile files input output text line code (Fault.NotText p) e utf8 bad fails = text_is_text (files.before input) text input (Fault.NotText p) e utf8 fails.1
+faulty_text_is_told profile files input output text line code (Fault.Unwritable p) e utf8 bad fails = not_assembled profile files input output text line code e bad fails.1
+faulty_text_is_told profile files input output text line code (Fault.Run r) e utf8 bad fails = fails.1
+faulty_text_is_told profile files input output text line code (Fault.Undone r) e utf8 bad fails = fails.1
+faulty_text_is_told profile files input output text line code Fault.Output e utf8 bad fails = fails.1
+faulty_text_is_told profile files input output text line code Fault.NoMemory e utf8 bad fails = tt
 
-only_output : (bytes path : Text) (f : Fault) → (f ≡ faults.Output) ⊎ IsUnreadAt (Some (Ok bytes)) path f → (f ≡ faults.Output) ⊎ (f ≡ faults.NoMemory)
+only_output : (bytes path : Text) (f : Fault) → (f ≡ Fault.Output) ⊎ IsUnreadAt (Some (Ok bytes)) path f → (f ≡ Fault.Output) ⊎ (f ≡ Fault.NoMemory)
 only_output bytes path f (inl output) = inl output
 only_output bytes path f (inr unread) = inr (only_memory (Some (Ok bytes)) bytes path f refl unread)
 
 -- whichever way bytes are judged, the output failed, or they weren't read
-cut_or_unread : (judges : Judges) (bytes path : Text) (out : Taking) (f : Fault) → AnswerFails judges (Some (Ok bytes)) path out f → (f ≡ faults.Output) ⊎ IsUnreadAt (Some (Ok bytes)) path f
-cut_or_unread judges bytes path out faults.Output fails = inl refl
-cut_or_unread judges bytes path out (faults.Unreadable p) fails = inr fails.1
-cut_or_unread judges bytes path out (faults.TooLarge p) fails = inr fails.1
-cut_or_unread judges bytes path out (faults.NotText p) fails = inr fails.1
-cut_or_unread judges bytes path out (faults.Unwritable p) fails = inr fails.1
-cut_or_unread judges bytes path out (faults.Text t) fails = inr fails.1
-cut_or_unread judges bytes path out (faults.Run r) fails = inr fails.1
-cut_or_unread judges bytes path out (faults.Undone r) fails = inr fails.1
-cut_or_unread judges bytes path out faults.NoMemory fails = inr fails.1
+cut_or_unread : (judges : Judges) (bytes path : Text) (out : Taking) (f : Fault) → AnswerFails judges (Some (Ok bytes)) path out f → (f ≡ Fault.Output) ⊎ IsUnreadAt (Some (Ok bytes)) path f
+cut_or_unread judges bytes path out Fault.Output fails = inl refl
+cut_or_unread judges bytes path out (Fault.Unreadable p) fails = inr fails.1
+cut_or_unread judges bytes path out (Fault.TooLarge p) fails = inr fails.1
+cut_or_unread judges bytes path out (Fault.NotText p) fails = inr fails.1
+cut_or_unread judges bytes path out (Fault.Unwritable p) fails = inr fails.1
+cut_or_unread judges bytes path out (Fault.Text t) fails = inr fails.1
+cut_or_unread judges bytes path out (Fault.Run r) fails = inr fails.1
+cut_or_unread judges bytes path out (Fault.Undone r) fails = inr fails.1
+cut_or_unread judges bytes path out Fault.NoMemory fails = inr fails.1
 
 -- bytes that are known are listed and checked, unless a write or memory fails
 pub known_bytes_are_answered : KnownBytesAreAnswered

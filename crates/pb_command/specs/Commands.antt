@@ -1,9 +1,7 @@
 -- What a command leaves: its status, its output, the lines of its fault, and what the paths hold. `command` promises
 -- it for all five, and `sequential_command` for those that wait for nothing.
-use Rattle.std.specs.Prelude.{◌≡◌, ◌⊎◌, ℕ, List, [], ◌∷◌, None, Result, Ok, Err}
-use Rattle.std.specs.List.{All}
+use Rattle.std.specs.Prelude.{◌≡◌, ◌⊎◌, ℕ, List, [], ◌∷◌, None, Result, Ok, Err, All}
 use Rattle.pb_texts.specs.declared.words.choice.Options.{Options}
-use Rattle.pb_texts.specs.declared.words.choice.Options.TheVariants as options
 use Rattle.pb_texts.specs.declared.words.choice.ReplayFiles.{ReplayFiles}
 use Rattle.pb_worker.specs.Swaps.{Spare}
 use Rattle.pb_asm.specs.Listing.{listing}
@@ -13,9 +11,7 @@ use Rattle.pb_driver.specs.declared.run.Ran.{Ran}
 use Rattle.pb_driver.specs.Runs.{RunsTexts}
 use Rattle.pb_driver.specs.Replays.{ReplaysTexts}
 use Rattle.pb_command.specs.declared.answer.Verdict.{Verdict}
-use Rattle.pb_command.specs.declared.answer.Verdict.TheVariants.{Accepted, Refused}
 use Rattle.pb_command.specs.declared.fault.Fault.{Fault}
-use Rattle.pb_command.specs.declared.fault.Fault.TheVariants as faults
 use Rattle.pb_command.specs.FaultLines.{Tells}
 use Rattle.pb_command.specs.Files.{Text, Held, Filing, KeepsFiles, IsKnownAs}
 use Rattle.pb_command.specs.PathFaults.{IsFileFault}
@@ -43,14 +39,14 @@ pub record RanWhole (before : Held) (manifest script : Text) (workers : ℕ) (sp
 
 -- The texts ran, and this was left undone; or they ran to this fault; or there was none to run, and nothing was written.
 abbrev pub RunFails : Held → Text → Text → ℕ → List Spare → Taking → Fault → Type 0
-RunFails before manifest script workers spares out (faults.Undone left) = RanFrom before manifest script workers spares out (Ok left) × (IsAllDone left → ⊥)
-RunFails before manifest script workers spares out (faults.Run f) = RanFrom before manifest script workers spares out (Err f)
+RunFails before manifest script workers spares out (Fault.Undone left) = RanFrom before manifest script workers spares out (Ok left) × (IsAllDone left → ⊥)
+RunFails before manifest script workers spares out (Fault.Run f) = RanFrom before manifest script workers spares out (Err f)
 RunFails before manifest script workers spares out f = TookNothing out × IsFileFault before (manifest ∷ script ∷ []) f
 
 -- what `run` leaves: the whole report where all is done, or a fault; it refuses nothing that it is given
 abbrev pub RunLeaves : Held → Text → Text → ℕ → List Spare → Taking → Result Verdict Fault → Type 0
-RunLeaves before manifest script workers spares out (Ok Accepted) = RanWhole before manifest script workers spares out
-RunLeaves before manifest script workers spares out (Ok Refused) = ⊥
+RunLeaves before manifest script workers spares out (Ok Verdict.Accepted) = RanWhole before manifest script workers spares out
+RunLeaves before manifest script workers spares out (Ok Verdict.Refused) = ⊥
 RunLeaves before manifest script workers spares out (Err f) = RunFails before manifest script workers spares out f
 
 -- ---- `replay`
@@ -73,37 +69,37 @@ pub record ReplayedFrom (replays : Replaying) (before : Held) (files : ReplayFil
 abbrev pub ReplayFails : Replaying → Held → ReplayFiles → Taking → Fault → Type 0
 ReplayFails replays before files out f =
     (IsFileFault before (files.manifest.now ∷ files.script.now ∷ files.schedule.now ∷ []) f × TookNothing out) ⊎
-    ((g : RunFault) × (f ≡ faults.Run g) × ReplayedFrom replays before files out (Err g))
+    ((g : RunFault) × (f ≡ Fault.Run g) × ReplayedFrom replays before files out (Err g))
 
 -- what a replay leaves: the whole of what it writes, or a fault; it refuses nothing that it is given
 abbrev pub ReplayLeaves : Replaying → Held → ReplayFiles → Taking → Result Verdict Fault → Type 0
-ReplayLeaves replays before files out (Ok Accepted) = ReplayedFrom replays before files out (Ok tt)
-ReplayLeaves replays before files out (Ok Refused) = ⊥
+ReplayLeaves replays before files out (Ok Verdict.Accepted) = ReplayedFrom replays before files out (Ok tt)
+ReplayLeaves replays before files out (Ok Verdict.Refused) = ⊥
 ReplayLeaves replays before files out (Err f) = ReplayFails replays before files out f
 
 -- ---- any command
 
 -- it is done in one thread, and waits for nothing
 abbrev pub IsSequential : Options → Type 0
-IsSequential (options.Run manifest script workers swaps) = ⊥
+IsSequential (Options.Run manifest script workers swaps) = ⊥
 IsSequential other = Unit {0}
 
 -- What is left where a command ended so, with these spares for `run`: only `asm` writes to a path, and it writes no output.
 abbrev pub LeavesBehind : Options → List Spare → Filing → Taking → Result Verdict Fault → Type 0
-LeavesBehind (options.Run manifest script workers swaps) spares files out outcome =
+LeavesBehind (Options.Run manifest script workers swaps) spares files out outcome =
     KeepsFiles files × RunLeaves files.before manifest.now script.now workers spares out outcome
-LeavesBehind (options.Replay replay) spares files out outcome = KeepsFiles files × ReplayLeaves ReplaysTexts files.before replay out outcome
-LeavesBehind (options.Asm input output profile) spares files out outcome =
+LeavesBehind (Options.Replay replay) spares files out outcome = KeepsFiles files × ReplayLeaves ReplaysTexts files.before replay out outcome
+LeavesBehind (Options.Asm input output profile) spares files out outcome =
     TookNothing out × AsmLeaves profile files input.now output.now outcome
-LeavesBehind (options.Dis file profile) spares files out outcome =
+LeavesBehind (Options.Dis file profile) spares files out outcome =
     KeepsFiles files × AnswerLeaves (TellsProgram listing profile) (files.before file.now) file.now out outcome
-LeavesBehind (options.Check program) spares files out outcome =
+LeavesBehind (Options.Check program) spares files out outcome =
     KeepsFiles files × AnswerLeaves (Checks program.profile program.version) (files.before program.file.now) program.file.now out outcome
 
 -- an outcome as a status, with what was told
 abbrev pub IsToldAs : Result Verdict Fault → Taking → ℕ → Type 0
-IsToldAs (Ok Accepted) err status = (status ≡ 0) × TookNothing err
-IsToldAs (Ok Refused) err status = (status ≡ 1) × TookNothing err
+IsToldAs (Ok Verdict.Accepted) err status = (status ≡ 0) × TookNothing err
+IsToldAs (Ok Verdict.Refused) err status = (status ≡ 1) × TookNothing err
 IsToldAs (Err f) err status = (status ≡ 1) × Tells f err
 
 -- how a command ended, as its status and the lines of its fault tell it

@@ -1,15 +1,12 @@
 -- How a fault is told, byte by byte, on standard error. The functions of src/fault.rt cite these.
-use Rattle.std.specs.Prelude.{ℕ, ◌+◌, ◌⊎◌, List, [], ◌++◌, codes, Option, Some, None}
+use Rattle.std.specs.Prelude.{ℕ, ◌+◌, ◌⊎◌, List, [], ◌++◌, codes, Option, Some, None, decimal}
 use Rattle.std.specs.List.{enumerate_from, flat_map}
-use Rattle.std.specs.Fmt.{decimal}
 use Rattle.pb_base.specs.declared.refusal.Refusal.{Refusal}
 use Rattle.pb_registry.specs.FaultTexts.{fault_text}
 use Rattle.pb_base.specs.Taking.{Taking, TookAll, TookPart}
 use Rattle.pb_driver.specs.declared.fault.RunFault.{RunFault}
-use Rattle.pb_driver.specs.declared.fault.RunFault.TheVariants as runs
 use Rattle.pb_driver.specs.declared.run.Ran.{Ran}
 use Rattle.pb_command.specs.declared.fault.Fault.{Fault}
-use Rattle.pb_command.specs.declared.fault.Fault.TheVariants as faults
 
 -- a line and the code of its fault
 abbrev pub place_line : ℕ → ℕ → List ℕ
@@ -29,13 +26,13 @@ event_line event code = codes "event " ++ (decimal event ++ (codes " code " ++ (
 
 -- the fault of a run or a replay
 abbrev pub run_fault_line : RunFault → List ℕ
-run_fault_line (runs.Manifest f) = codes "manifest: " ++ (fault_text f ++ codes "\n")
-run_fault_line (runs.Script f) = script_line f.line f.code
-run_fault_line (runs.Schedule f) = schedule_line f.line f.code
-run_fault_line (runs.Event f) = event_line f.event f.code
-run_fault_line runs.SeatsDiffer = codes "seats differ\n"
-run_fault_line runs.Output = codes "cannot write the output\n"
-run_fault_line runs.NoMemory = codes "no memory\n"
+run_fault_line (RunFault.Manifest f) = codes "manifest: " ++ (fault_text f ++ codes "\n")
+run_fault_line (RunFault.Script f) = script_line f.line f.code
+run_fault_line (RunFault.Schedule f) = schedule_line f.line f.code
+run_fault_line (RunFault.Event f) = event_line f.event f.code
+run_fault_line RunFault.SeatsDiffer = codes "seats differ\n"
+run_fault_line RunFault.Output = codes "cannot write the output\n"
+run_fault_line RunFault.NoMemory = codes "no memory\n"
 
 -- a seat, the main one 0, and the code of its refusal; no line where it wasn't refused
 abbrev pub worker_line : ℕ → Option Refusal → List ℕ
@@ -60,15 +57,15 @@ undone_lines ran = worker_lines ran.refusals.items ++ change_lines ran.unfinishe
 
 -- each fault has one line, but what a run left undone as many as there are seats and changes to tell
 abbrev pub fault_lines : Fault → List ℕ
-fault_lines (faults.Unreadable path) = codes "cannot read " ++ (path.now ++ codes "\n")
-fault_lines (faults.TooLarge path) = codes "too large " ++ (path.now ++ codes "\n")
-fault_lines (faults.NotText path) = codes "not text " ++ (path.now ++ codes "\n")
-fault_lines (faults.Unwritable path) = codes "cannot write " ++ (path.now ++ codes "\n")
-fault_lines (faults.Text f) = place_line f.line f.code
-fault_lines (faults.Run f) = run_fault_line f
-fault_lines (faults.Undone ran) = undone_lines ran
-fault_lines faults.Output = codes "cannot write the output\n"
-fault_lines faults.NoMemory = codes "no memory\n"
+fault_lines (Fault.Unreadable path) = codes "cannot read " ++ (path.now ++ codes "\n")
+fault_lines (Fault.TooLarge path) = codes "too large " ++ (path.now ++ codes "\n")
+fault_lines (Fault.NotText path) = codes "not text " ++ (path.now ++ codes "\n")
+fault_lines (Fault.Unwritable path) = codes "cannot write " ++ (path.now ++ codes "\n")
+fault_lines (Fault.Text f) = place_line f.line f.code
+fault_lines (Fault.Run f) = run_fault_line f
+fault_lines (Fault.Undone ran) = undone_lines ran
+fault_lines Fault.Output = codes "cannot write the output\n"
+fault_lines Fault.NoMemory = codes "no memory\n"
 
 -- the text was written whole, or a beginning of it where a write failed
 abbrev pub SaysLines : List ℕ → Taking → Type 0

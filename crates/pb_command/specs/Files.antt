@@ -2,7 +2,6 @@
 -- change it between two readings; of files in memory it is. All contracts of commands speak of this.
 use Rattle.std.specs.Prelude.{◌≡◌, ◌≢◌, ◌⊎◌, ℕ, Bool, List, Option, Some, None, Result, Err}
 use Rattle.pb_command.specs.declared.paths.PathFault.{PathFault}
-use Rattle.pb_command.specs.declared.paths.PathFault.TheVariants.{NoMemory}
 
 -- the bytes of a path, as of any text
 abbrev pub Text : Type 0
@@ -23,7 +22,7 @@ IsKnownAs (Some known) answer = answer ≡ known
 
 -- this is why a path isn't read: memory may be refused at any time, and else it is what is known
 abbrev pub IsFaultKnownAs : Option ReadAnswer → PathFault → Type 0
-IsFaultKnownAs known fault = (fault ≡ NoMemory) ⊎ IsKnownAs known (Err fault)
+IsFaultKnownAs known fault = (fault ≡ PathFault.NoMemory) ⊎ IsKnownAs known (Err fault)
 
 -- reading each other path answers what it answered
 abbrev pub KeepsOthers : Held → Held → Text → Type 0

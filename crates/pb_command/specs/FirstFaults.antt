@@ -1,11 +1,8 @@
 -- Where it is known of files what reading them answers, the first that is at fault is told: the statements of the law
 -- `first_file_fault_is_told`, for any number of files.
-use Rattle.std.specs.Prelude.{◌≡◌, ℕ, List, ◌∷◌, ◌++◌, Some, Ok, Err, IsUtf8}
-use Rattle.std.specs.List.{All}
+use Rattle.std.specs.Prelude.{◌≡◌, ℕ, List, ◌∷◌, ◌++◌, Some, Ok, Err, IsUtf8, All}
 use Rattle.pb_command.specs.declared.paths.PathFault.{PathFault}
-use Rattle.pb_command.specs.declared.paths.PathFault.TheVariants.{Failed, TooLarge}
 use Rattle.pb_command.specs.declared.fault.Fault.{Fault}
-use Rattle.pb_command.specs.declared.fault.Fault.TheVariants as faults
 use Rattle.pb_command.specs.Files.{Text, Held}
 use Rattle.pb_command.specs.PathFaults.{IsFileFault}
 
@@ -19,15 +16,15 @@ IsKnownText before path = (bytes : List ℕ) × (before path ≡ Some (Ok bytes)
 
 -- this tells why the path isn't read, or that memory was refused
 abbrev pub TellsUnread : Text → PathFault → Fault → Type 0
-TellsUnread path fault (faults.Unreadable p) = (p.now ≡ path) × (fault ≡ Failed)
-TellsUnread path fault (faults.TooLarge p) = (p.now ≡ path) × (fault ≡ TooLarge)
-TellsUnread path fault faults.NoMemory = Unit {0}
+TellsUnread path fault (Fault.Unreadable p) = (p.now ≡ path) × (fault ≡ PathFault.Failed)
+TellsUnread path fault (Fault.TooLarge p) = (p.now ≡ path) × (fault ≡ PathFault.TooLarge)
+TellsUnread path fault Fault.NoMemory = Unit {0}
 TellsUnread path fault _ = ⊥
 
 -- this tells that the path is no text, or that memory was refused
 abbrev pub TellsNoText : Text → Fault → Type 0
-TellsNoText path (faults.NotText p) = p.now ≡ path
-TellsNoText path faults.NoMemory = Unit {0}
+TellsNoText path (Fault.NotText p) = p.now ≡ path
+TellsNoText path Fault.NoMemory = Unit {0}
 TellsNoText path _ = ⊥
 
 -- a path behind those that are read, with its own fault, whatever comes after it
@@ -45,4 +42,4 @@ FirstNoTextIsTold = (before : Held) (front back : List Text) (path : Text) (byte
 -- paths that are all text have no fault of their own
 abbrev pub TextsAreNoFault : Type 0
 TextsAreNoFault = (before : Held) (paths : List Text) (f : Fault) →
-    All (IsKnownText before) paths → IsFileFault before paths f → f ≡ faults.NoMemory
+    All (IsKnownText before) paths → IsFileFault before paths f → f ≡ Fault.NoMemory

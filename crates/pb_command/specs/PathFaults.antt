@@ -1,23 +1,22 @@
 -- What is told of the first file that can't be read, or isn't text. Every file is read before any is taken as text, so
 -- there are two ways to be first. Each command cites it for its own files.
 use Rattle.std.specs.Prelude.{◌≡◌, ◌⊎◌, ℕ, List, [], ◌∷◌, Option, Ok, Err, IsUtf8}
-use Rattle.pb_command.specs.declared.paths.PathFault.TheVariants.{Failed, TooLarge}
+use Rattle.pb_command.specs.declared.paths.PathFault.{PathFault}
 use Rattle.pb_command.specs.declared.fault.Fault.{Fault}
-use Rattle.pb_command.specs.declared.fault.Fault.TheVariants as faults
 use Rattle.pb_command.specs.Files.{Text, ReadAnswer, Held, IsKnownAs}
 
 -- ---- a file
 
 -- reading the path answers this fault, which is told of it; or memory was refused
 abbrev pub IsUnreadAt : Option ReadAnswer → Text → Fault → Type 0
-IsUnreadAt known path (faults.Unreadable p) = (p.now ≡ path) × IsKnownAs known (Err Failed)
-IsUnreadAt known path (faults.TooLarge p) = (p.now ≡ path) × IsKnownAs known (Err TooLarge)
-IsUnreadAt known path faults.NoMemory = Unit {0}
+IsUnreadAt known path (Fault.Unreadable p) = (p.now ≡ path) × IsKnownAs known (Err PathFault.Failed)
+IsUnreadAt known path (Fault.TooLarge p) = (p.now ≡ path) × IsKnownAs known (Err PathFault.TooLarge)
+IsUnreadAt known path Fault.NoMemory = Unit {0}
 IsUnreadAt known path _ = ⊥
 
 -- the bytes of the file at the path aren't text
 abbrev pub IsNoTextAt : List ℕ → List ℕ → Fault → Type 0
-IsNoTextAt path bytes (faults.NotText p) = (p.now ≡ path) × (IsUtf8 bytes → ⊥)
+IsNoTextAt path bytes (Fault.NotText p) = (p.now ≡ path) × (IsUtf8 bytes → ⊥)
 IsNoTextAt path bytes _ = ⊥
 
 -- reading a path answers bytes

@@ -1,7 +1,6 @@
 -- What is left where a program is assembled, listed or checked. `dis` and `check` have one shape, a verdict and its
 -- text on standard output, so they share one definition; `asm` writes a file, and a refused text of it is a fault.
-use Rattle.std.specs.Prelude.{◌≡◌, ◌≢◌, ℕ, ◌⊎◌, true, List, ◌++◌, codes, Option, Result, Ok, Err}
-use Rattle.std.specs.Fmt.{decimal}
+use Rattle.std.specs.Prelude.{◌≡◌, ◌≢◌, ℕ, ◌⊎◌, true, List, ◌++◌, codes, Option, Result, Ok, Err, decimal}
 use Rattle.pb_isa.specs.Slots.{slots}
 use Rattle.pb_isa.specs.declared.insn.Insn.{Insn}
 use Rattle.pb_isa.specs.declared.profile.Profile.{Profile}
@@ -15,9 +14,7 @@ use Rattle.pb_reading.specs.declared.fault.TextFault.{TextFault}
 use Rattle.pb_asm.specs.Texts.{program_of_text}
 use Rattle.pb_base.specs.Taking.{Taking, TookAll, TookPart, TookNothing}
 use Rattle.pb_command.specs.declared.answer.Verdict.{Verdict}
-use Rattle.pb_command.specs.declared.answer.Verdict.TheVariants.{Accepted, Refused}
 use Rattle.pb_command.specs.declared.fault.Fault.{Fault}
-use Rattle.pb_command.specs.declared.fault.Fault.TheVariants as faults
 use Rattle.pb_command.specs.Files.{Text, ReadAnswer, Filing, IsKnownAs, KeepsOthers, KeepsFiles}
 use Rattle.pb_command.specs.PathFaults.{IsUnreadAt, IsNoText}
 
@@ -53,20 +50,20 @@ pub record IsFaultyText (profile : Profile) (held : Option ReadAnswer) (line cod
 
 -- the file at the path isn't read, or is no program's text, and this tells it
 abbrev pub IsNoProgramText : Profile → Option ReadAnswer → Text → Fault → Type 0
-IsNoProgramText profile held path (faults.Text f) = IsFaultyText profile held f.line f.code
-IsNoProgramText profile held path (faults.NotText p) = IsNoText held path (faults.NotText p)
+IsNoProgramText profile held path (Fault.Text f) = IsFaultyText profile held f.line f.code
+IsNoProgramText profile held path (Fault.NotText p) = IsNoText held path (Fault.NotText p)
 IsNoProgramText profile held path f = IsUnreadAt held path f
 
 -- Why nothing was assembled, and whether a write to a path has failed: only where one did is it told of the output.
 abbrev pub AsmFails : Profile → Filing → Text → Text → Fault → Type 0
-AsmFails profile files input output (faults.Unwritable p) = (p.now ≡ output) × Unwritten profile files input output
-AsmFails profile files input output faults.NoMemory = KeepsFiles files ⊎ Unwritten profile files input output
+AsmFails profile files input output (Fault.Unwritable p) = (p.now ≡ output) × Unwritten profile files input output
+AsmFails profile files input output Fault.NoMemory = KeepsFiles files ⊎ Unwritten profile files input output
 AsmFails profile files input output f = KeepsFiles files × IsNoProgramText profile (files.before input) input f
 
 -- what `asm` leaves: OUT with the bytes, or a fault; a text is refused as a fault and no answer
 abbrev pub AsmLeaves : Profile → Filing → Text → Text → Result Verdict Fault → Type 0
-AsmLeaves profile files input output (Ok Accepted) = Assembled profile files input output × (files.failed ≡ files.was)
-AsmLeaves profile files input output (Ok Refused) = ⊥
+AsmLeaves profile files input output (Ok Verdict.Accepted) = Assembled profile files input output × (files.failed ≡ files.was)
+AsmLeaves profile files input output (Ok Verdict.Refused) = ⊥
 AsmLeaves profile files input output (Err f) = AsmFails profile files input output f
 
 -- ---- answers on bytes
@@ -81,8 +78,8 @@ Judges = List ℕ → Verdict → List ℕ → Type 0
 
 -- this text of the program of the profile that the bytes encode; or the first slot at fault, with its lowest code
 abbrev pub TellsProgram : (List Insn → List ℕ) → Profile → Judges
-TellsProgram text_of profile bytes Accepted text = (p : ProgramOf) × (p.profile ≡ profile) × Encodes bytes p × (text ≡ text_of p.insns)
-TellsProgram text_of profile bytes Refused text = (slot code : ℕ) × AreRefusedAs profile bytes slot code × (text ≡ refusal_line slot code)
+TellsProgram text_of profile bytes Verdict.Accepted text = (p : ProgramOf) × (p.profile ≡ profile) × Encodes bytes p × (text ≡ text_of p.insns)
+TellsProgram text_of profile bytes Verdict.Refused text = (slot code : ℕ) × AreRefusedAs profile bytes slot code × (text ≡ refusal_line slot code)
 
 -- the line that tells that a program is accepted
 abbrev pub acceptance_line : ℕ → List ℕ
@@ -90,8 +87,8 @@ acceptance_line n = codes "accepted " ++ (decimal n ++ codes " slots\n")
 
 -- whether the rules accept the program of the profile that the bytes encode, for records of this version, where it may call all helpers; else the first slot at fault
 abbrev pub Checks : Profile → Version → Judges
-Checks profile version bytes Accepted text = (j : JudgedOf) × IsAcceptedCode profile version bytes all_helpers j × (text ≡ acceptance_line (slots j.program.insns))
-Checks profile version bytes Refused text = (slot code : ℕ) × IsRefusedCode profile version bytes all_helpers slot code × (text ≡ refusal_line slot code)
+Checks profile version bytes Verdict.Accepted text = (j : JudgedOf) × IsAcceptedCode profile version bytes all_helpers j × (text ≡ acceptance_line (slots j.program.insns))
+Checks profile version bytes Verdict.Refused text = (slot code : ℕ) × IsRefusedCode profile version bytes all_helpers slot code × (text ≡ refusal_line slot code)
 
 -- the bytes at a path were judged so, and the whole text was written
 pub record Answered (judges : Judges) (held : Option ReadAnswer) (out : Taking) (verdict : Verdict) : Type 0 where
@@ -112,7 +109,7 @@ pub record Cut (judges : Judges) (held : Option ReadAnswer) (out : Taking) : Typ
 
 -- why no whole answer was written: a write failed, or nothing was read and so nothing written
 abbrev pub AnswerFails : Judges → Option ReadAnswer → Text → Taking → Fault → Type 0
-AnswerFails judges held path out faults.Output = Cut judges held out
+AnswerFails judges held path out Fault.Output = Cut judges held out
 AnswerFails judges held path out f = TookNothing out × IsUnreadAt held path f
 
 -- what a command on a program's bytes leaves, whichever way it judges
@@ -122,10 +119,10 @@ AnswerLeaves judges held path out (Err f) = AnswerFails judges held path out f
 
 -- the fault is one of a text that was read
 abbrev pub IsTextFault : TextFault → Fault → Type 0
-IsTextFault f (faults.Text g) = (g ≡ f) × (f.code ≢ 1)
-IsTextFault f faults.NoMemory = Unit {0}
+IsTextFault f (Fault.Text g) = (g ≡ f) × (f.code ≢ 1)
+IsTextFault f Fault.NoMemory = Unit {0}
 IsTextFault f _ = ⊥
 
 -- memory was refused
 abbrev pub IsMemoryFault : Fault → Type 0
-IsMemoryFault f = f ≡ faults.NoMemory
+IsMemoryFault f = f ≡ Fault.NoMemory

@@ -8,9 +8,7 @@ use Rattle.pb_base.specs.declared.cell.Cell.{Cell}
 use Rattle.pb_base.specs.Cell.{cell_cmp}
 use Rattle.pb_store.specs.Contents.{Entries}
 use Rattle.pb_steps.specs.declared.step.Step.{Step}
-use Rattle.pb_steps.specs.declared.step.Step.TheVariants as steps
 use Rattle.pb_steps.specs.declared.step.Answer.{Answer}
-use Rattle.pb_steps.specs.declared.step.Answer.TheVariants as answers
 use Rattle.pb_steps.specs.State.{StateOf, opening}
 use Rattle.pb_steps.specs.CommitSecondary.{if_locked}
 use Rattle.pb_steps.specs.Steps.{StepCase}
@@ -52,32 +50,32 @@ same_len m n is = rw is (omega arith)
 
 -- a step makes at most two entries more: data and lock of a prewrite
 case_entries : (s : StateOf) (seat : ℕ) (step : Step) (a : Answer) (t : StateOf) → StepCase s seat step a t → map.len t.entries ≤ map.len s.entries + 2
-case_entries s seat (steps.Begin work) (answers.At n) t c = same_len _ _ (ap (λ (x : StateOf). x.entries) c.new_is)
-case_entries s seat (steps.Read n x) (answers.Locked u p) t c = same_len _ _ (ap (λ (x : StateOf). x.entries) c.new_is)
-case_entries s seat (steps.Read n x) (answers.Found u k d) t c = same_len _ _ (ap (λ (x : StateOf). x.entries) c.new_is)
-case_entries s seat (steps.Read n x) answers.Absent t c = same_len _ _ (ap (λ (x : StateOf). x.entries) c.new_is)
-case_entries s seat (steps.ReadAt n x v) (answers.Locked u p) t c = same_len _ _ (ap (λ (x : StateOf). x.entries) c.new_is)
-case_entries s seat (steps.ReadAt n x v) (answers.Found u k d) t c = same_len _ _ (ap (λ (x : StateOf). x.entries) c.new_is)
-case_entries s seat (steps.ReadAt n x v) answers.Absent t c = same_len _ _ (ap (λ (x : StateOf). x.entries) c.new_is)
-case_entries s seat (steps.Declare n what) answers.Done t c = same_len _ _ (ap (λ (x : StateOf). x.entries) c.new_is)
-case_entries s seat (steps.Prewrite n x) answers.Done t c = subst (λ (e : Entries). map.len e ≤ map.len s.entries + 2) (sym (ap (λ (x : StateOf). x.entries) c.new_is)) (len_put_two s.entries _ _ _ _)
-case_entries s seat (steps.Prewrite n x) answers.Conflict t c = same_len _ _ (ap (λ (x : StateOf). x.entries) c.new_is)
-case_entries s seat (steps.Stamp n) (answers.At k) t c = same_len _ _ (ap (λ (x : StateOf). x.entries) c.new_is)
-case_entries s seat (steps.CommitPrimary n) answers.Committed t c = subst (λ (e : Entries). map.len e ≤ map.len s.entries + 2) (sym (ap (λ (x : StateOf). x.entries) c.new_is)) (len_replaced s.entries _ _ _)
-case_entries s seat (steps.CommitPrimary n) answers.Lost t c = same_len _ _ (ap (λ (x : StateOf). x.entries) c.new_is)
-case_entries s seat (steps.CommitSecondary n x) answers.Done t c = subst (λ (u : StateOf). map.len u.entries ≤ map.len s.entries + 2) (sym c.new_is) (len_if_locked s _ _ _ _)
-case_entries s seat (steps.Settle x) answers.Absent t c = same_len _ _ (ap (λ (x : StateOf). x.entries) c.new_is)
-case_entries s seat (steps.Settle x) (answers.Locked u p) t c = same_len _ _ (ap (λ (x : StateOf). x.entries) c.new_is)
-case_entries s seat (steps.Settle x) answers.RolledBack t c = subst (λ (e : Entries). map.len e ≤ map.len s.entries + 2) (sym (ap (λ (x : StateOf). x.entries) c.new_is)) (len_erased_two s.entries _ _)
-case_entries s seat (steps.Clear x) answers.Absent t c = same_len _ _ (ap (λ (x : StateOf). x.entries) c.new_is)
-case_entries s seat (steps.Clear x) answers.Waits t c = same_len _ _ (ap (λ (x : StateOf). x.entries) c.new_is)
-case_entries s seat (steps.Clear x) (answers.CommittedAt k) t c = subst (λ (e : Entries). map.len e ≤ map.len s.entries + 2) (sym (ap (λ (x : StateOf). x.entries) c.new_is)) (len_replaced s.entries _ _ _)
-case_entries s seat (steps.Clear x) answers.RolledBack t c = subst (λ (e : Entries). map.len e ≤ map.len s.entries + 2) (sym (ap (λ (x : StateOf). x.entries) c.new_is)) (len_erased_two s.entries _ _)
-case_entries s seat (steps.NextMark after) (answers.Marked x) t c = same_len _ _ (ap (λ (x : StateOf). x.entries) c.new_is)
-case_entries s seat (steps.NextMark after) answers.NoMark t c = same_len _ _ (ap (λ (x : StateOf). x.entries) c.new_is)
-case_entries s seat (steps.Sweep x) answers.NoMark t c = same_len _ _ (ap (λ (x : StateOf). x.entries) c.new_is)
-case_entries s seat (steps.Sweep x) answers.StillBehind t c = same_len _ _ (ap (λ (x : StateOf). x.entries) c.new_is)
-case_entries s seat (steps.Sweep x) answers.Done t c = same_len _ _ (ap (λ (x : StateOf). x.entries) c.new_is)
+case_entries s seat (Step.Begin work) (Answer.At n) t c = same_len _ _ (ap (λ (x : StateOf). x.entries) c.new_is)
+case_entries s seat (Step.Read n x) (Answer.Locked u p) t c = same_len _ _ (ap (λ (x : StateOf). x.entries) c.new_is)
+case_entries s seat (Step.Read n x) (Answer.Found u k d) t c = same_len _ _ (ap (λ (x : StateOf). x.entries) c.new_is)
+case_entries s seat (Step.Read n x) Answer.Absent t c = same_len _ _ (ap (λ (x : StateOf). x.entries) c.new_is)
+case_entries s seat (Step.ReadAt n x v) (Answer.Locked u p) t c = same_len _ _ (ap (λ (x : StateOf). x.entries) c.new_is)
+case_entries s seat (Step.ReadAt n x v) (Answer.Found u k d) t c = same_len _ _ (ap (λ (x : StateOf). x.entries) c.new_is)
+case_entries s seat (Step.ReadAt n x v) Answer.Absent t c = same_len _ _ (ap (λ (x : StateOf). x.entries) c.new_is)
+case_entries s seat (Step.Declare n what) Answer.Done t c = same_len _ _ (ap (λ (x : StateOf). x.entries) c.new_is)
+case_entries s seat (Step.Prewrite n x) Answer.Done t c = subst (λ (e : Entries). map.len e ≤ map.len s.entries + 2) (sym (ap (λ (x : StateOf). x.entries) c.new_is)) (len_put_two s.entries _ _ _ _)
+case_entries s seat (Step.Prewrite n x) Answer.Conflict t c = same_len _ _ (ap (λ (x : StateOf). x.entries) c.new_is)
+case_entries s seat (Step.Stamp n) (Answer.At k) t c = same_len _ _ (ap (λ (x : StateOf). x.entries) c.new_is)
+case_entries s seat (Step.CommitPrimary n) Answer.Committed t c = subst (λ (e : Entries). map.len e ≤ map.len s.entries + 2) (sym (ap (λ (x : StateOf). x.entries) c.new_is)) (len_replaced s.entries _ _ _)
+case_entries s seat (Step.CommitPrimary n) Answer.Lost t c = same_len _ _ (ap (λ (x : StateOf). x.entries) c.new_is)
+case_entries s seat (Step.CommitSecondary n x) Answer.Done t c = subst (λ (u : StateOf). map.len u.entries ≤ map.len s.entries + 2) (sym c.new_is) (len_if_locked s _ _ _ _)
+case_entries s seat (Step.Settle x) Answer.Absent t c = same_len _ _ (ap (λ (x : StateOf). x.entries) c.new_is)
+case_entries s seat (Step.Settle x) (Answer.Locked u p) t c = same_len _ _ (ap (λ (x : StateOf). x.entries) c.new_is)
+case_entries s seat (Step.Settle x) Answer.RolledBack t c = subst (λ (e : Entries). map.len e ≤ map.len s.entries + 2) (sym (ap (λ (x : StateOf). x.entries) c.new_is)) (len_erased_two s.entries _ _)
+case_entries s seat (Step.Clear x) Answer.Absent t c = same_len _ _ (ap (λ (x : StateOf). x.entries) c.new_is)
+case_entries s seat (Step.Clear x) Answer.Waits t c = same_len _ _ (ap (λ (x : StateOf). x.entries) c.new_is)
+case_entries s seat (Step.Clear x) (Answer.CommittedAt k) t c = subst (λ (e : Entries). map.len e ≤ map.len s.entries + 2) (sym (ap (λ (x : StateOf). x.entries) c.new_is)) (len_replaced s.entries _ _ _)
+case_entries s seat (Step.Clear x) Answer.RolledBack t c = subst (λ (e : Entries). map.len e ≤ map.len s.entries + 2) (sym (ap (λ (x : StateOf). x.entries) c.new_is)) (len_erased_two s.entries _ _)
+case_entries s seat (Step.NextMark after) (Answer.Marked x) t c = same_len _ _ (ap (λ (x : StateOf). x.entries) c.new_is)
+case_entries s seat (Step.NextMark after) Answer.NoMark t c = same_len _ _ (ap (λ (x : StateOf). x.entries) c.new_is)
+case_entries s seat (Step.Sweep x) Answer.NoMark t c = same_len _ _ (ap (λ (x : StateOf). x.entries) c.new_is)
+case_entries s seat (Step.Sweep x) Answer.StillBehind t c = same_len _ _ (ap (λ (x : StateOf). x.entries) c.new_is)
+case_entries s seat (Step.Sweep x) Answer.Done t c = same_len _ _ (ap (λ (x : StateOf). x.entries) c.new_is)
 case_entries s seat _ _ t c = absurd c
 
 -- so many steps make at most twice as many

@@ -5,9 +5,7 @@ use Rattle.pb_base.specs.declared.cell.Cell.{Cell}
 use Rattle.pb_base.specs.Cell.{cell_cmp_total}
 use Rattle.pb_store.specs.Contents.{Marks}
 use Rattle.pb_steps.specs.declared.step.Step.{Step}
-use Rattle.pb_steps.specs.declared.step.Step.TheVariants as steps
 use Rattle.pb_steps.specs.declared.step.Answer.{Answer}
-use Rattle.pb_steps.specs.declared.step.Answer.TheVariants as answers
 use Rattle.pb_verify.specs.Observers.{ObserverOf}
 use Rattle.pb_steps.specs.State.{StateOf}
 use Rattle.pb_steps.specs.Marks.{is_observed, with_mark}
@@ -54,30 +52,30 @@ kept_if_locked s false x n c = record { observers = refl; seats = refl; marks = 
 
 -- each kind of step keeps it
 pub case_kept : (s : StateOf) (seat : ℕ) (step : Step) (a : Answer) (t : StateOf) → StepCase s seat step a t → KeepsRest s t
-case_kept s seat (steps.Begin work) (answers.At n) t c = kept_as s t _ c.new_is (record { observers = refl; seats = refl; marks = same_rest s })
-case_kept s seat (steps.Read n x) (answers.Locked u p) t c = kept_as s t _ c.new_is (record { observers = refl; seats = refl; marks = same_rest s })
-case_kept s seat (steps.Read n x) (answers.Found u k d) t c = kept_as s t _ c.new_is (record { observers = refl; seats = refl; marks = same_rest s })
-case_kept s seat (steps.Read n x) answers.Absent t c = kept_as s t _ c.new_is (record { observers = refl; seats = refl; marks = same_rest s })
-case_kept s seat (steps.ReadAt n x v) (answers.Locked u p) t c = kept_as s t _ c.new_is (record { observers = refl; seats = refl; marks = same_rest s })
-case_kept s seat (steps.ReadAt n x v) (answers.Found u k d) t c = kept_as s t _ c.new_is (record { observers = refl; seats = refl; marks = same_rest s })
-case_kept s seat (steps.ReadAt n x v) answers.Absent t c = kept_as s t _ c.new_is (record { observers = refl; seats = refl; marks = same_rest s })
-case_kept s seat (steps.Declare n what) answers.Done t c = kept_as s t _ c.new_is (record { observers = refl; seats = refl; marks = same_rest s })
-case_kept s seat (steps.Prewrite n x) answers.Done t c = kept_as s t _ c.new_is (record { observers = refl; seats = refl; marks = same_rest s })
-case_kept s seat (steps.Prewrite n x) answers.Conflict t c = kept_as s t _ c.new_is (record { observers = refl; seats = refl; marks = same_rest s })
-case_kept s seat (steps.Stamp n) (answers.At k) t c = kept_as s t _ c.new_is (record { observers = refl; seats = refl; marks = same_rest s })
-case_kept s seat (steps.CommitPrimary n) answers.Committed t c = kept_as s t _ c.new_is (record { observers = refl; seats = refl; marks = marked s.observers s.marks c.primary })
-case_kept s seat (steps.CommitPrimary n) answers.Lost t c = kept_as s t _ c.new_is (record { observers = refl; seats = refl; marks = same_rest s })
-case_kept s seat (steps.CommitSecondary n x) answers.Done t c = kept_as s t _ c.new_is (kept_if_locked s _ _ _ _)
-case_kept s seat (steps.Settle x) answers.Absent t c = kept_as s t _ c.new_is (record { observers = refl; seats = refl; marks = same_rest s })
-case_kept s seat (steps.Settle x) (answers.Locked u p) t c = kept_as s t _ c.new_is (record { observers = refl; seats = refl; marks = same_rest s })
-case_kept s seat (steps.Settle x) answers.RolledBack t c = kept_as s t _ c.new_is (record { observers = refl; seats = refl; marks = same_rest s })
-case_kept s seat (steps.Clear x) answers.Absent t c = kept_as s t _ c.new_is (record { observers = refl; seats = refl; marks = same_rest s })
-case_kept s seat (steps.Clear x) answers.Waits t c = kept_as s t _ c.new_is (record { observers = refl; seats = refl; marks = same_rest s })
-case_kept s seat (steps.Clear x) (answers.CommittedAt k) t c = kept_as s t _ c.new_is (record { observers = refl; seats = refl; marks = marked s.observers s.marks x })
-case_kept s seat (steps.Clear x) answers.RolledBack t c = kept_as s t _ c.new_is (record { observers = refl; seats = refl; marks = same_rest s })
-case_kept s seat (steps.NextMark after) (answers.Marked x) t c = kept_as s t _ c.new_is (record { observers = refl; seats = refl; marks = same_rest s })
-case_kept s seat (steps.NextMark after) answers.NoMark t c = kept_as s t _ c.new_is (record { observers = refl; seats = refl; marks = same_rest s })
-case_kept s seat (steps.Sweep x) answers.NoMark t c = kept_as s t _ c.new_is (record { observers = refl; seats = refl; marks = same_rest s })
-case_kept s seat (steps.Sweep x) answers.StillBehind t c = kept_as s t _ c.new_is (record { observers = refl; seats = refl; marks = same_rest s })
-case_kept s seat (steps.Sweep x) answers.Done t c = kept_as s t _ c.new_is (record { observers = refl; seats = refl; marks = unmarked s.marks x })
+case_kept s seat (Step.Begin work) (Answer.At n) t c = kept_as s t _ c.new_is (record { observers = refl; seats = refl; marks = same_rest s })
+case_kept s seat (Step.Read n x) (Answer.Locked u p) t c = kept_as s t _ c.new_is (record { observers = refl; seats = refl; marks = same_rest s })
+case_kept s seat (Step.Read n x) (Answer.Found u k d) t c = kept_as s t _ c.new_is (record { observers = refl; seats = refl; marks = same_rest s })
+case_kept s seat (Step.Read n x) Answer.Absent t c = kept_as s t _ c.new_is (record { observers = refl; seats = refl; marks = same_rest s })
+case_kept s seat (Step.ReadAt n x v) (Answer.Locked u p) t c = kept_as s t _ c.new_is (record { observers = refl; seats = refl; marks = same_rest s })
+case_kept s seat (Step.ReadAt n x v) (Answer.Found u k d) t c = kept_as s t _ c.new_is (record { observers = refl; seats = refl; marks = same_rest s })
+case_kept s seat (Step.ReadAt n x v) Answer.Absent t c = kept_as s t _ c.new_is (record { observers = refl; seats = refl; marks = same_rest s })
+case_kept s seat (Step.Declare n what) Answer.Done t c = kept_as s t _ c.new_is (record { observers = refl; seats = refl; marks = same_rest s })
+case_kept s seat (Step.Prewrite n x) Answer.Done t c = kept_as s t _ c.new_is (record { observers = refl; seats = refl; marks = same_rest s })
+case_kept s seat (Step.Prewrite n x) Answer.Conflict t c = kept_as s t _ c.new_is (record { observers = refl; seats = refl; marks = same_rest s })
+case_kept s seat (Step.Stamp n) (Answer.At k) t c = kept_as s t _ c.new_is (record { observers = refl; seats = refl; marks = same_rest s })
+case_kept s seat (Step.CommitPrimary n) Answer.Committed t c = kept_as s t _ c.new_is (record { observers = refl; seats = refl; marks = marked s.observers s.marks c.primary })
+case_kept s seat (Step.CommitPrimary n) Answer.Lost t c = kept_as s t _ c.new_is (record { observers = refl; seats = refl; marks = same_rest s })
+case_kept s seat (Step.CommitSecondary n x) Answer.Done t c = kept_as s t _ c.new_is (kept_if_locked s _ _ _ _)
+case_kept s seat (Step.Settle x) Answer.Absent t c = kept_as s t _ c.new_is (record { observers = refl; seats = refl; marks = same_rest s })
+case_kept s seat (Step.Settle x) (Answer.Locked u p) t c = kept_as s t _ c.new_is (record { observers = refl; seats = refl; marks = same_rest s })
+case_kept s seat (Step.Settle x) Answer.RolledBack t c = kept_as s t _ c.new_is (record { observers = refl; seats = refl; marks = same_rest s })
+case_kept s seat (Step.Clear x) Answer.Absent t c = kept_as s t _ c.new_is (record { observers = refl; seats = refl; marks = same_rest s })
+case_kept s seat (Step.Clear x) Answer.Waits t c = kept_as s t _ c.new_is (record { observers = refl; seats = refl; marks = same_rest s })
+case_kept s seat (Step.Clear x) (Answer.CommittedAt k) t c = kept_as s t _ c.new_is (record { observers = refl; seats = refl; marks = marked s.observers s.marks x })
+case_kept s seat (Step.Clear x) Answer.RolledBack t c = kept_as s t _ c.new_is (record { observers = refl; seats = refl; marks = same_rest s })
+case_kept s seat (Step.NextMark after) (Answer.Marked x) t c = kept_as s t _ c.new_is (record { observers = refl; seats = refl; marks = same_rest s })
+case_kept s seat (Step.NextMark after) Answer.NoMark t c = kept_as s t _ c.new_is (record { observers = refl; seats = refl; marks = same_rest s })
+case_kept s seat (Step.Sweep x) Answer.NoMark t c = kept_as s t _ c.new_is (record { observers = refl; seats = refl; marks = same_rest s })
+case_kept s seat (Step.Sweep x) Answer.StillBehind t c = kept_as s t _ c.new_is (record { observers = refl; seats = refl; marks = same_rest s })
+case_kept s seat (Step.Sweep x) Answer.Done t c = kept_as s t _ c.new_is (record { observers = refl; seats = refl; marks = unmarked s.marks x })
 case_kept s seat _ _ t c = absurd c

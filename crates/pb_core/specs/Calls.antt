@@ -2,7 +2,6 @@
 -- whoever shares a table promises what its calls were.
 use Rattle.std.specs.Prelude.{◌≡◌, ℕ, ◌+◌, ◌<◌, Bool, ◌==◌, nat_lt, if◌then◌else◌, List, [], ◌∷◌, ◌++◌, length, Option, Some, None, slice_index_or}
 use Rattle.pb_base.specs.declared.refusal.Reason.{Reason}
-use Rattle.pb_base.specs.declared.refusal.Reason.TheVariants.{JournalFull}
 use Rattle.pb_base.specs.Reasons.{reason_code}
 use Rattle.pb_steps.specs.declared.step.Step.{Step}
 use Rattle.pb_steps.specs.declared.step.Answer.{Answer}
@@ -26,8 +25,8 @@ pub record SeatOf : Type 0 where
 
 -- 44 where the journal is full, unless a lower number applies
 abbrev pub or_full : Option Reason → Bool → Option Reason
-or_full None full = if full then Some JournalFull else None
-or_full (Some r) full = if full then (if nat_lt (reason_code JournalFull) (reason_code r) then Some JournalFull else Some r) else Some r
+or_full None full = if full then Some Reason.JournalFull else None
+or_full (Some r) full = if full then (if nat_lt (reason_code Reason.JournalFull) (reason_code r) then Some Reason.JournalFull else Some r) else Some r
 
 -- why a call is refused, if it is: the reason with the lowest number
 abbrev pub call_reason : SharedOf → ℕ → Step → Option Reason

@@ -1,31 +1,24 @@
 -- What is read at the front is spelt so, and what is spelt so is read.
-use Rattle.std.proofs.Common.{◌≡◌, ℕ, ◌⊎◌, inl, inr, ◌+◌, ◌*◌, ◌/◌, ◌%◌, ◌^◌, ◌<◌, ◌≤◌, ℤ, Bool, true, false, cond, List, [], ◌++◌, length, drop, Option, Some, None, Result, Ok, Err, refl, sym, ap, subst, ◌∙◌, append_assoc, arith}
-use Rattle.std.specs.Prelude.{ok_or, ◌==◌, nat_lt, FitsSigned}
+use Rattle.std.proofs.Common.{◌≡◌, ℕ, ◌⊎◌, inl, inr, ◌+◌, ◌*◌, ◌/◌, ◌%◌, ◌^◌, ◌<◌, ◌≤◌, ℤ, Bool, true, false, cond, List, [], ◌++◌, length, drop, Option, Some, None, Result, Ok, Err, refl, sym, ap, subst, ◌∙◌, append_assoc, arith, ok_or, ◌==◌, nat_lt, FitsSigned}
 use Rattle.std.specs.Int.{w16, w32, cast_signed, cast_unsigned}
 use Rattle.std.proofs.lemmas.Bool.{eqb-true, and_parts, ltb-false, le-ltb}
 use Rattle.std.proofs.lemmas.List.{append-nil, length-append}
 use Rattle.std.proofs.lemmas.Int.{to_z-of_z, of_z-to_z}
 use Rattle.std.proofs.Math.Facts.{sfits_to_z, Fits-of_z}
 use Rattle.pb_isa.specs.declared.insn.Insn.{Insn}
-use Rattle.pb_isa.specs.declared.insn.Insn.TheVariants.{Alu, MovSx, Neg, LoadImm, Load, StoreImm, Store, Jump, JumpIf, Call, Exit}
 use Rattle.pb_isa.specs.declared.insn.Operand.{Operand}
-use Rattle.pb_isa.specs.declared.insn.Operand.TheVariants as operand
 use Rattle.pb_isa.specs.declared.insn.AluOp.{AluOp}
-use Rattle.pb_isa.specs.declared.insn.AluOp.TheVariants.{Mov}
 use Rattle.pb_isa.specs.declared.insn.Width.{Width}
 use Rattle.pb_isa.specs.declared.insn.Size.{Size}
-use Rattle.pb_isa.specs.declared.insn.Size.TheVariants.{B, H, W, Dw}
 use Rattle.pb_isa.specs.declared.insn.Reg.{Reg}
 use Rattle.pb_isa.specs.declared.profile.Profile.{Profile}
 use Rattle.pb_isa.specs.Profiles.{IsOf}
 use Rattle.pb_isa.specs.Registers.{number, reg_of}
 use Rattle.pb_isa.specs.Bounds.{Fits}
 use Rattle.pb_decode.specs.declared.forms.Form.{Form}
-use Rattle.pb_decode.specs.declared.forms.Form.TheVariants as form
-use Rattle.pb_decode.specs.declared.forms.Source.TheVariants.{K, X}
+use Rattle.pb_decode.specs.declared.forms.Source.{Source}
 use Rattle.pb_decode.specs.declared.fields.SlotFields.{SlotFields}
 use Rattle.pb_decode.specs.declared.fault.DecodeCode.{DecodeCode}
-use Rattle.pb_decode.specs.declared.fault.DecodeCode.TheVariants.{Opcode, Register, Unused, CutOff, SecondSlot}
 use Rattle.pb_decode.specs.Opcodes.{opcode, IsFormOf, form_of}
 use Rattle.pb_decode.specs.Fields.{slot_bytes, slot_of_bytes}
 use Rattle.pb_decode.specs.Encoding.{bits_of, first_slot, second_slot, second_bytes, insn_bytes}
@@ -57,7 +50,7 @@ ok_or_ok c (Some y) x e = ap Some (ok_is y x e)
 ok_or_ok c None x e = absurd cc
 
 -- a form that comes through the test of its fields has none that isn't zero
-clean_ok : (p : Profile) (f g : Form) (s : SlotFields) (b : Bool) → is_clean p f s ≡ b → cond b (Ok f) (Err Unused) ≡ done g → (b ≡ true) × (f ≡ g)
+clean_ok : (p : Profile) (f g : Form) (s : SlotFields) (b : Bool) → is_clean p f s ≡ b → cond b (Ok f) (Err DecodeCode.Unused) ≡ done g → (b ≡ true) × (f ≡ g)
 clean_ok p f g s true is e = (refl, ok_is f g e)
 clean_ok p f g s false is e = absurd cc
 
@@ -83,14 +76,14 @@ off_fits n lt = sfits_to_z {w = w16} {n = n} (record { fits = lt })
 
 -- a pair that is read has its second slot, with nothing but an immediate
 pair_cases : (d : Reg) (s : SlotFields) (rest : List ℕ) (x : Read) (short clean : Bool) → nat_lt (length rest) 8 ≡ short → is_second (slot_of_bytes rest) ≡ clean
-    → cond short (Err CutOff) (cond clean (Ok (LoadImm d (s.imm + 2 ^ 32 * (slot_of_bytes rest).imm), drop 8 rest)) (Err SecondSlot)) ≡ done x
-    → (8 ≤ length rest) × (is_second (slot_of_bytes rest) ≡ true) × ((LoadImm d (s.imm + 2 ^ 32 * (slot_of_bytes rest).imm), drop 8 rest) ≡ x)
+    → cond short (Err DecodeCode.CutOff) (cond clean (Ok (Insn.LoadImm d (s.imm + 2 ^ 32 * (slot_of_bytes rest).imm), drop 8 rest)) (Err DecodeCode.SecondSlot)) ≡ done x
+    → (8 ≤ length rest) × (is_second (slot_of_bytes rest) ≡ true) × ((Insn.LoadImm d (s.imm + 2 ^ 32 * (slot_of_bytes rest).imm), drop 8 rest) ≡ x)
 pair_cases d s rest x true clean p q e = absurd cc
 pair_cases d s rest x false false p q e = absurd cc
-pair_cases d s rest x false true p q e = (ltb-false _ _ p, q, ok_is (LoadImm d (s.imm + 2 ^ 32 * (slot_of_bytes rest).imm), drop 8 rest) x e)
+pair_cases d s rest x false true p q e = (ltb-false _ _ p, q, ok_is (Insn.LoadImm d (s.imm + 2 ^ 32 * (slot_of_bytes rest).imm), drop 8 rest) x e)
 
 -- a pair that is read is spelt so: both halves are those of its number
-pair_takes : (profile : Profile) (d : Reg) (s : SlotFields) (rest : List ℕ) (x : Read) → opcode form.LoadImm ≡ s.opcode → number d ≡ s.dst → 0 ≡ s.src → 0 ≡ s.offset → IsSlot s → AreBytes rest → pair_of d s.imm rest ≡ Ok x → Takes profile s rest x
+pair_takes : (profile : Profile) (d : Reg) (s : SlotFields) (rest : List ℕ) (x : Read) → opcode Form.LoadImm ≡ s.opcode → number d ≡ s.dst → 0 ≡ s.src → 0 ≡ s.offset → IsSlot s → AreBytes rest → pair_of d s.imm rest ≡ Ok x → Takes profile s rest x
 pair_takes profile d s rest x o p z f is fits e =
     let c = pair_cases d s rest x (nat_lt (length rest) 8) (is_second (slot_of_bytes rest)) refl refl e in
     let t = slot_of_bytes rest in
@@ -102,65 +95,65 @@ pair_takes profile d s rest x o p z f is fits e =
     let b = and_parts (t.dst == 0) _ a.1 in
     let g = and_parts (t.src == 0) _ b.1 in
     let v = low + 2 ^ 32 * high in
-    let first : first_slot (LoadImm d v) ≡ s = same_slot s _ _ _ _ _ o p z f (omega (arith, below)) in
+    let first : first_slot (Insn.LoadImm d v) ≡ s = same_slot s _ _ _ _ _ o p z f (omega (arith, below)) in
     let second : second_slot (v / 2 ^ 32) ≡ t = same_slot t _ _ _ _ _ (is_zero t.opcode a.0) (is_zero t.dst b.0) (is_zero t.src g.0) (is_zero t.offset g.1) (omega (arith, below)) in
-    let behind : rest ≡ second_bytes (LoadImm d v) ++ drop 8 rest = front_slot rest fits c.0 ∙ ap (λ (u : SlotFields). slot_bytes u ++ drop 8 rest) (sym second) in
-    let parts : slot_bytes s ++ rest ≡ insn_bytes (LoadImm d v) ++ drop 8 rest =
-    ap (λ (u : SlotFields). slot_bytes u ++ rest) (sym first) ∙ ap (λ (bs : List ℕ). slot_bytes (first_slot (LoadImm d v)) ++ bs) behind ∙ sym (append_assoc (slot_bytes (first_slot (LoadImm d v))) (second_bytes (LoadImm d v)) (drop 8 rest)) in
+    let behind : rest ≡ second_bytes (Insn.LoadImm d v) ++ drop 8 rest = front_slot rest fits c.0 ∙ ap (λ (u : SlotFields). slot_bytes u ++ drop 8 rest) (sym second) in
+    let parts : slot_bytes s ++ rest ≡ insn_bytes (Insn.LoadImm d v) ++ drop 8 rest =
+    ap (λ (u : SlotFields). slot_bytes u ++ rest) (sym first) ∙ ap (λ (bs : List ℕ). slot_bytes (first_slot (Insn.LoadImm d v)) ++ bs) behind ∙ sym (append_assoc (slot_bytes (first_slot (Insn.LoadImm d v))) (second_bytes (Insn.LoadImm d v)) (drop 8 rest)) in
     let v-fits : v < 2 ^ 64 = omega (arith, below, over) in
-    subst (Takes profile s rest) c.2 (parts, v-fits, is_plain profile (LoadImm d v) tt)
+    subst (Takes profile s rest) c.2 (parts, v-fits, is_plain profile (Insn.LoadImm d v) tt)
 
 -- arithmetic that was read with this offset
 abbrev IsAluRead : AluOp → Width → Reg → Reg → Operand → List ℕ → Read → ℕ → Type 0
-IsAluRead op w d r a rest x n = done (cond (n == 0) (Alu op w d a) (MovSx w (size_of_bits n) d r), rest) ≡ Ok x
+IsAluRead op w d r a rest x n = done (cond (n == 0) (Insn.Alu op w d a) (Insn.MovSx w (size_of_bits n) d r), rest) ≡ Ok x
 
 -- arithmetic with a register that is read is spelt so, with an offset or without
-register_takes : (profile : Profile) (op : AluOp) (w : Width) (d r : Reg) (s : SlotFields) (rest : List ℕ) (x : Read) → opcode (form.Alu op w X) ≡ s.opcode → number d ≡ s.dst → number r ≡ s.src → 0 ≡ s.imm
-    → (0 ≡ s.offset) ⊎ IsExtending profile op w s.offset → IsAluRead op w d r (operand.Reg r) rest x s.offset → Takes profile s rest x
+register_takes : (profile : Profile) (op : AluOp) (w : Width) (d r : Reg) (s : SlotFields) (rest : List ℕ) (x : Read) → opcode (Form.Alu op w Source.X) ≡ s.opcode → number d ≡ s.dst → number r ≡ s.src → 0 ≡ s.imm
+    → (0 ≡ s.offset) ⊎ IsExtending profile op w s.offset → IsAluRead op w d r (Operand.Reg r) rest x s.offset → Takes profile s rest x
 register_takes profile op w d r s rest x o p q z (inl f) e =
-    single profile (Alu op w d (operand.Reg r)) s rest x (same_slot s _ _ _ _ _ o p q f z) refl tt (is_plain profile _ tt) (subst (IsAluRead op w d r (operand.Reg r) rest x) (sym f) e)
+    single profile (Insn.Alu op w d (Operand.Reg r)) s rest x (same_slot s _ _ _ _ _ o p q f z) refl tt (is_plain profile _ tt) (subst (IsAluRead op w d r (Operand.Reg r) rest x) (sym f) e)
 register_takes profile op w d r s rest x o p q z (inr h) e =
-    let read = subst (IsAluRead op w d r (operand.Reg r) rest x) h.bits e in
-    let extends : done (MovSx w h.size d r, rest) ≡ Ok x = rw (some_bits h.size, size_back w h.size h.narrower) at read in
-    let move : opcode (form.Alu Mov w X) ≡ s.opcode = subst (λ (a : AluOp). opcode (form.Alu a w X) ≡ s.opcode) h.move o in
-    single profile (MovSx w h.size d r) s rest x (same_slot s _ _ _ _ _ move p q (sym h.bits) z) refl tt (h.of_profile d r) extends
+    let read = subst (IsAluRead op w d r (Operand.Reg r) rest x) h.bits e in
+    let extends : done (Insn.MovSx w h.size d r, rest) ≡ Ok x = rw (some_bits h.size, size_back w h.size h.narrower) at read in
+    let move : opcode (Form.Alu AluOp.Mov w Source.X) ≡ s.opcode = subst (λ (a : AluOp). opcode (Form.Alu a w Source.X) ≡ s.opcode) h.move o in
+    single profile (Insn.MovSx w h.size d r) s rest x (same_slot s _ _ _ _ _ move p q (sym h.bits) z) refl tt (h.of_profile d r) extends
 
 -- what is read as an instruction of a form is spelt so: a case for each form
 form_takes : (profile : Profile) (f : Form) (d r : Reg) (s : SlotFields) (rest : List ℕ) (x : Read) → opcode f ≡ s.opcode → IsFormOf profile f → number d ≡ s.dst → number r ≡ s.src → IsSlot s → AreBytes rest → is_clean profile f s ≡ true → insn_of_form f d r s rest ≡ Ok x → Takes profile s rest x
-form_takes profile (form.Alu op w K) d r s rest x o of p q is fits clean e =
+form_takes profile (Form.Alu op w Source.K) d r s rest x o of p q is fits clean e =
     let a = and_parts (s.src == 0) (s.offset == 0) clean in
-    let i = Alu op w d (operand.Imm (cast_signed w32 s.imm)) in
+    let i = Insn.Alu op w d (Operand.Imm (cast_signed w32 s.imm)) in
     let zero = is_zero s.offset a.1 in
-    single profile i s rest x (same_slot s _ _ _ _ _ o p (is_zero s.src a.0) zero (of_z-to_z w32 s.imm is.imm)) refl (imm_fits s.imm is.imm) (is_plain profile i tt) (subst (IsAluRead op w d r (operand.Imm (cast_signed w32 s.imm)) rest x) (sym zero) e)
-form_takes profile (form.Alu op w X) d r s rest x o of p q is fits clean e =
+    single profile i s rest x (same_slot s _ _ _ _ _ o p (is_zero s.src a.0) zero (of_z-to_z w32 s.imm is.imm)) refl (imm_fits s.imm is.imm) (is_plain profile i tt) (subst (IsAluRead op w d r (Operand.Imm (cast_signed w32 s.imm)) rest x) (sym zero) e)
+form_takes profile (Form.Alu op w Source.X) d r s rest x o of p q is fits clean e =
     let a = and_parts (is_alu_offset profile op w s.offset) (s.imm == 0) clean in
     register_takes profile op w d r s rest x o p q (is_zero s.imm a.1) (alu_offset profile op w s.offset a.0) e
-form_takes profile (form.Neg w) d r s rest x o of p q is fits clean e =
+form_takes profile (Form.Neg w) d r s rest x o of p q is fits clean e =
     let a = and_parts (s.src == 0) _ clean in
     let b = and_parts (s.offset == 0) (s.imm == 0) a.1 in
     single profile _ s rest x (same_slot s _ _ _ _ _ o p (is_zero s.src a.0) (is_zero s.offset b.0) (is_zero s.imm b.1)) refl tt (is_plain profile _ tt) e
-form_takes profile form.LoadImm d r s rest x o of p q is fits clean e =
+form_takes profile Form.LoadImm d r s rest x o of p q is fits clean e =
     let a = and_parts (s.src == 0) (s.offset == 0) clean in
     pair_takes profile d s rest x o p (is_zero s.src a.0) (is_zero s.offset a.1) is fits e
-form_takes profile (form.Load z x) d r s rest y o of p q is fits clean e =
+form_takes profile (Form.Load z x) d r s rest y o of p q is fits clean e =
     single profile _ s rest y (same_slot s _ _ _ _ _ o p q (of_z-to_z w16 s.offset is.offset) (is_zero s.imm clean)) refl (off_fits s.offset is.offset) (load_insn profile z x d r _ of) e
-form_takes profile (form.StoreImm z) d r s rest x o of p q is fits clean e =
+form_takes profile (Form.StoreImm z) d r s rest x o of p q is fits clean e =
     single profile _ s rest x (same_slot s _ _ _ _ _ o p (is_zero s.src clean) (of_z-to_z w16 s.offset is.offset) (of_z-to_z w32 s.imm is.imm)) refl (off_fits s.offset is.offset, imm_fits s.imm is.imm) (is_plain profile _ tt) e
-form_takes profile (form.Store z) d r s rest x o of p q is fits clean e =
+form_takes profile (Form.Store z) d r s rest x o of p q is fits clean e =
     single profile _ s rest x (same_slot s _ _ _ _ _ o p q (of_z-to_z w16 s.offset is.offset) (is_zero s.imm clean)) refl (off_fits s.offset is.offset) (is_plain profile _ tt) e
-form_takes profile form.Jump d r s rest x o of p q is fits clean e =
+form_takes profile Form.Jump d r s rest x o of p q is fits clean e =
     let a = and_parts (s.dst == 0) _ clean in
     let b = and_parts (s.src == 0) (s.imm == 0) a.1 in
     single profile _ s rest x (same_slot s _ _ _ _ _ o (is_zero s.dst a.0) (is_zero s.src b.0) (of_z-to_z w16 s.offset is.offset) (is_zero s.imm b.1)) refl (off_fits s.offset is.offset) (is_plain profile _ tt) e
-form_takes profile (form.JumpIf c w K) d r s rest x o of p q is fits clean e =
+form_takes profile (Form.JumpIf c w Source.K) d r s rest x o of p q is fits clean e =
     single profile _ s rest x (same_slot s _ _ _ _ _ o p (is_zero s.src clean) (of_z-to_z w16 s.offset is.offset) (of_z-to_z w32 s.imm is.imm)) refl (imm_fits s.imm is.imm, off_fits s.offset is.offset) (is_plain profile _ tt) e
-form_takes profile (form.JumpIf c w X) d r s rest x o of p q is fits clean e =
+form_takes profile (Form.JumpIf c w Source.X) d r s rest x o of p q is fits clean e =
     single profile _ s rest x (same_slot s _ _ _ _ _ o p q (of_z-to_z w16 s.offset is.offset) (is_zero s.imm clean)) refl (tt, off_fits s.offset is.offset) (is_plain profile _ tt) e
-form_takes profile form.Call d r s rest x o of p q is fits clean e =
+form_takes profile Form.Call d r s rest x o of p q is fits clean e =
     let a = and_parts (s.dst == 0) _ clean in
     let b = and_parts (s.src == 0) (s.offset == 0) a.1 in
     single profile _ s rest x (same_slot s _ _ _ _ _ o (is_zero s.dst a.0) (is_zero s.src b.0) (is_zero s.offset b.1) (of_z-to_z w32 s.imm is.imm)) refl (imm_fits s.imm is.imm) (is_plain profile _ tt) e
-form_takes profile form.Exit d r s rest x o of p q is fits clean e =
+form_takes profile Form.Exit d r s rest x o of p q is fits clean e =
     let a = and_parts (s.dst == 0) _ clean in
     let b = and_parts (s.src == 0) _ a.1 in
     let g = and_parts (s.offset == 0) (s.imm == 0) b.1 in
@@ -170,14 +163,14 @@ form_takes profile form.Exit d r s rest x o of p q is fits clean e =
 with_takes : (p : Profile) (s : SlotFields) (rest : List ℕ) (x : Read) → IsSlot s → AreBytes rest → first_with p s rest ≡ Ok x → Takes p s rest x
 unfolding first_with
 with_takes p s rest x is fits e =
-    let a = bind_ok (ok_or (form_of p s.opcode) Opcode) _ x e in
-    let b = bind_ok (ok_or (reg_of s.dst) Register) _ x a.2 in
-    let c = bind_ok (ok_or (reg_of s.src) Register) _ x b.2 in
+    let a = bind_ok (ok_or (form_of p s.opcode) DecodeCode.Opcode) _ x e in
+    let b = bind_ok (ok_or (reg_of s.dst) DecodeCode.Register) _ x a.2 in
+    let c = bind_ok (ok_or (reg_of s.src) DecodeCode.Register) _ x b.2 in
     let d = bind_ok (clean_or_code p a.0 s) _ x c.2 in
     let clean = clean_ok p a.0 d.0 s (is_clean p a.0 s) refl d.1 in
     let g : insn_of_form a.0 b.0 c.0 s rest ≡ Ok x = subst (λ (f : Form). insn_of_form f b.0 c.0 s rest ≡ Ok x) (sym clean.1) d.2 in
-    let f = form_front p s.opcode a.0 (ok_or_ok Opcode (form_of p s.opcode) a.0 a.1) in
-    form_takes p a.0 b.0 c.0 s rest x f.0 f.1 (reg_front s.dst b.0 (ok_or_ok Register (reg_of s.dst) b.0 b.1)) (reg_front s.src c.0 (ok_or_ok Register (reg_of s.src) c.0 c.1)) is fits clean.0 g
+    let f = form_front p s.opcode a.0 (ok_or_ok DecodeCode.Opcode (form_of p s.opcode) a.0 a.1) in
+    form_takes p a.0 b.0 c.0 s rest x f.0 f.1 (reg_front s.dst b.0 (ok_or_ok DecodeCode.Register (reg_of s.dst) b.0 b.1)) (reg_front s.src c.0 (ok_or_ok DecodeCode.Register (reg_of s.src) c.0 c.1)) is fits clean.0 g
 
 -- what is read at the front is spelt so
 pub first_takes : (p : Profile) (bytes : List ℕ) (x : Read) → AreBytes bytes → 8 ≤ length bytes → first_of p bytes ≡ Ok x → (bytes ≡ insn_bytes x.0 ++ x.1) × Fits x.0 × IsOf p x.0
@@ -211,26 +204,26 @@ zero_imm : 0 < 2 ^ 32
 zero_imm = omega arith
 
 bits_low : (z : Size) → bits_of z < 2 ^ 16
-bits_low B = omega arith
-bits_low H = omega arith
-bits_low W = omega arith
-bits_low Dw = omega arith
+bits_low Size.B = omega arith
+bits_low Size.H = omega arith
+bits_low Size.W = omega arith
+bits_low Size.Dw = omega arith
 
 -- since its numbers fit, they have
 slot_is_low : (i : Insn) → Fits i → low_slot i
-slot_is_low (Alu op w d (operand.Imm k)) fits = (reg_low d, zero_low, record { offset = zero_off; imm = imm_below k fits })
-slot_is_low (Alu op w d (operand.Reg s)) fits = (reg_low d, reg_low s, record { offset = zero_off; imm = zero_imm })
-slot_is_low (MovSx w z d s) fits = (reg_low d, reg_low s, record { offset = bits_low z; imm = zero_imm })
-slot_is_low (Neg w d) fits = (reg_low d, zero_low, record { offset = zero_off; imm = zero_imm })
-slot_is_low (LoadImm d v) fits = (reg_low d, zero_low, record { offset = zero_off; imm = omega arith })
-slot_is_low (Load z x d b o) fits = (reg_low d, reg_low b, record { offset = off_below o fits; imm = zero_imm })
-slot_is_low (StoreImm z b o k) fits = (reg_low b, zero_low, record { offset = off_below o fits.0; imm = imm_below k fits.1 })
-slot_is_low (Store z b s o) fits = (reg_low b, reg_low s, record { offset = off_below o fits; imm = zero_imm })
-slot_is_low (Jump o) fits = (zero_low, zero_low, record { offset = off_below o fits; imm = zero_imm })
-slot_is_low (JumpIf c w d (operand.Imm k) o) fits = (reg_low d, zero_low, record { offset = off_below o fits.1; imm = imm_below k fits.0 })
-slot_is_low (JumpIf c w d (operand.Reg s) o) fits = (reg_low d, reg_low s, record { offset = off_below o fits.1; imm = zero_imm })
-slot_is_low (Call k) fits = (zero_low, zero_low, record { offset = zero_off; imm = imm_below k fits })
-slot_is_low Exit fits = (zero_low, zero_low, record { offset = zero_off; imm = zero_imm })
+slot_is_low (Insn.Alu op w d (Operand.Imm k)) fits = (reg_low d, zero_low, record { offset = zero_off; imm = imm_below k fits })
+slot_is_low (Insn.Alu op w d (Operand.Reg s)) fits = (reg_low d, reg_low s, record { offset = zero_off; imm = zero_imm })
+slot_is_low (Insn.MovSx w z d s) fits = (reg_low d, reg_low s, record { offset = bits_low z; imm = zero_imm })
+slot_is_low (Insn.Neg w d) fits = (reg_low d, zero_low, record { offset = zero_off; imm = zero_imm })
+slot_is_low (Insn.LoadImm d v) fits = (reg_low d, zero_low, record { offset = zero_off; imm = omega arith })
+slot_is_low (Insn.Load z x d b o) fits = (reg_low d, reg_low b, record { offset = off_below o fits; imm = zero_imm })
+slot_is_low (Insn.StoreImm z b o k) fits = (reg_low b, zero_low, record { offset = off_below o fits.0; imm = imm_below k fits.1 })
+slot_is_low (Insn.Store z b s o) fits = (reg_low b, reg_low s, record { offset = off_below o fits; imm = zero_imm })
+slot_is_low (Insn.Jump o) fits = (zero_low, zero_low, record { offset = off_below o fits; imm = zero_imm })
+slot_is_low (Insn.JumpIf c w d (Operand.Imm k) o) fits = (reg_low d, zero_low, record { offset = off_below o fits.1; imm = imm_below k fits.0 })
+slot_is_low (Insn.JumpIf c w d (Operand.Reg s) o) fits = (reg_low d, reg_low s, record { offset = off_below o fits.1; imm = zero_imm })
+slot_is_low (Insn.Call k) fits = (zero_low, zero_low, record { offset = zero_off; imm = imm_below k fits })
+slot_is_low Insn.Exit fits = (zero_low, zero_low, record { offset = zero_off; imm = zero_imm })
 
 -- an immediate is read back with its sign, and so is an offset
 imm_again : (z : ℤ) → FitsSigned w32 z → cast_signed w32 (cast_unsigned w32 z) ≡ z
@@ -247,39 +240,39 @@ high_fits : (v : ℕ) → v < 2 ^ 64 → v / 2 ^ 32 < 2 ^ 32
 high_fits v lt = omega (arith, lt)
 
 -- a second slot with this high half makes a pair
-pair_made : (d : Reg) (low h : ℕ) (rest : List ℕ) → 8 ≤ length rest → slot_of_bytes rest ≡ second_slot h → pair_of d low rest ≡ Ok (LoadImm d (low + 2 ^ 32 * h), drop 8 rest)
+pair_made : (d : Reg) (low h : ℕ) (rest : List ℕ) → 8 ≤ length rest → slot_of_bytes rest ≡ second_slot h → pair_of d low rest ≡ Ok (Insn.LoadImm d (low + 2 ^ 32 * h), drop 8 rest)
 pair_made d low h rest long is =
-    ap (λ (b : Bool). cond b (Err CutOff) (cond (is_second (slot_of_bytes rest)) (Ok (LoadImm d (low + 2 ^ 32 * (slot_of_bytes rest).imm), drop 8 rest)) (Err SecondSlot))) (le-ltb (length rest) 8 long)
-    ∙ ap (λ (t : SlotFields). cond (is_second t) (Ok (LoadImm d (low + 2 ^ 32 * t.imm), drop 8 rest)) (Err SecondSlot)) is
+    ap (λ (b : Bool). cond b (Err DecodeCode.CutOff) (cond (is_second (slot_of_bytes rest)) (Ok (Insn.LoadImm d (low + 2 ^ 32 * (slot_of_bytes rest).imm), drop 8 rest)) (Err DecodeCode.SecondSlot))) (le-ltb (length rest) 8 long)
+    ∙ ap (λ (t : SlotFields). cond (is_second t) (Ok (Insn.LoadImm d (low + 2 ^ 32 * t.imm), drop 8 rest)) (Err DecodeCode.SecondSlot)) is
 
 long_enough : (s : SlotFields) (rest : List ℕ) → 8 ≤ length (slot_bytes s ++ rest)
 long_enough s rest = let l = length-append (slot_bytes s) rest in omega (arith, l)
 
 -- the halves of a 64-bit immediate are read back as one
-pair_again : (d : Reg) (v : ℕ) (rest : List ℕ) → v < 2 ^ 64 → pair_of d (v % 2 ^ 32) (second_bytes (LoadImm d v) ++ rest) ≡ Ok (LoadImm d v, rest)
+pair_again : (d : Reg) (v : ℕ) (rest : List ℕ) → v < 2 ^ 64 → pair_of d (v % 2 ^ 32) (second_bytes (Insn.LoadImm d v) ++ rest) ≡ Ok (Insn.LoadImm d v, rest)
 pair_again d v rest lt =
     let second = second_slot (v / 2 ^ 32) in
     pair_made d (v % 2 ^ 32) (v / 2 ^ 32) (slot_bytes second ++ rest) (long_enough second rest) (slot_back second rest zero_low zero_low (record { offset = zero_off; imm = high_fits v lt }))
-    ∙ ap (λ (n : ℕ). Ok (LoadImm d n, rest)) (halves v)
+    ∙ ap (λ (n : ℕ). Ok (Insn.LoadImm d n, rest)) (halves v)
 
 -- the slot of an instruction is read as it: a case for each
 with_again : (p : Profile) (i : Insn) (rest : List ℕ) → Fits i → IsOf p i → first_with p (first_slot i) (second_bytes i ++ rest) ≡ Ok (i, rest)
 unfolding first_with
-with_again p (Alu op w d (operand.Imm k)) rest fits of = rw (form_back p (form.Alu op w K) (plain_form p (form.Alu op w K) tt), reg_back d, imm_again k fits) refl
-with_again p (Alu op w d (operand.Reg s)) rest fits of = rw (form_back p (form.Alu op w X) (plain_form p (form.Alu op w X) tt), reg_back d, reg_back s, zero_offset p op w) refl
-with_again p (MovSx w z d s) rest fits of =
+with_again p (Insn.Alu op w d (Operand.Imm k)) rest fits of = rw (form_back p (Form.Alu op w Source.K) (plain_form p (Form.Alu op w Source.K) tt), reg_back d, imm_again k fits) refl
+with_again p (Insn.Alu op w d (Operand.Reg s)) rest fits of = rw (form_back p (Form.Alu op w Source.X) (plain_form p (Form.Alu op w Source.X) tt), reg_back d, reg_back s, zero_offset p op w) refl
+with_again p (Insn.MovSx w z d s) rest fits of =
     let h = extending_offset p w z d s of in
-    rw (form_back p (form.Alu Mov w X) (plain_form p (form.Alu Mov w X) tt), reg_back d, reg_back s, h.0, some_bits z, size_back w z h.1) refl
-with_again p (Neg w d) rest fits of = rw (form_back p (form.Neg w) (plain_form p (form.Neg w) tt), reg_back d) refl
-with_again p (LoadImm d v) rest fits of = rw (form_back p form.LoadImm (plain_form p form.LoadImm tt), reg_back d) (pair_again d v rest fits)
-with_again p (Load z x d b o) rest fits of = rw (form_back p (form.Load z x) (load_form p z x d b o of), reg_back d, reg_back b, off_again o fits) refl
-with_again p (StoreImm z b o k) rest fits of = rw (form_back p (form.StoreImm z) (plain_form p (form.StoreImm z) tt), reg_back b, off_again o fits.0, imm_again k fits.1) refl
-with_again p (Store z b s o) rest fits of = rw (form_back p (form.Store z) (plain_form p (form.Store z) tt), reg_back b, reg_back s, off_again o fits) refl
-with_again p (Jump o) rest fits of = rw (form_back p form.Jump (plain_form p form.Jump tt), off_again o fits) refl
-with_again p (JumpIf c w d (operand.Imm k) o) rest fits of = rw (form_back p (form.JumpIf c w K) (plain_form p (form.JumpIf c w K) tt), reg_back d, off_again o fits.1, imm_again k fits.0) refl
-with_again p (JumpIf c w d (operand.Reg s) o) rest fits of = rw (form_back p (form.JumpIf c w X) (plain_form p (form.JumpIf c w X) tt), reg_back d, reg_back s, off_again o fits.1) refl
-with_again p (Call k) rest fits of = rw (form_back p form.Call (plain_form p form.Call tt), imm_again k fits) refl
-with_again p Exit rest fits of = rw (form_back p form.Exit (plain_form p form.Exit tt)) refl
+    rw (form_back p (Form.Alu AluOp.Mov w Source.X) (plain_form p (Form.Alu AluOp.Mov w Source.X) tt), reg_back d, reg_back s, h.0, some_bits z, size_back w z h.1) refl
+with_again p (Insn.Neg w d) rest fits of = rw (form_back p (Form.Neg w) (plain_form p (Form.Neg w) tt), reg_back d) refl
+with_again p (Insn.LoadImm d v) rest fits of = rw (form_back p Form.LoadImm (plain_form p Form.LoadImm tt), reg_back d) (pair_again d v rest fits)
+with_again p (Insn.Load z x d b o) rest fits of = rw (form_back p (Form.Load z x) (load_form p z x d b o of), reg_back d, reg_back b, off_again o fits) refl
+with_again p (Insn.StoreImm z b o k) rest fits of = rw (form_back p (Form.StoreImm z) (plain_form p (Form.StoreImm z) tt), reg_back b, off_again o fits.0, imm_again k fits.1) refl
+with_again p (Insn.Store z b s o) rest fits of = rw (form_back p (Form.Store z) (plain_form p (Form.Store z) tt), reg_back b, reg_back s, off_again o fits) refl
+with_again p (Insn.Jump o) rest fits of = rw (form_back p Form.Jump (plain_form p Form.Jump tt), off_again o fits) refl
+with_again p (Insn.JumpIf c w d (Operand.Imm k) o) rest fits of = rw (form_back p (Form.JumpIf c w Source.K) (plain_form p (Form.JumpIf c w Source.K) tt), reg_back d, off_again o fits.1, imm_again k fits.0) refl
+with_again p (Insn.JumpIf c w d (Operand.Reg s) o) rest fits of = rw (form_back p (Form.JumpIf c w Source.X) (plain_form p (Form.JumpIf c w Source.X) tt), reg_back d, reg_back s, off_again o fits.1) refl
+with_again p (Insn.Call k) rest fits of = rw (form_back p Form.Call (plain_form p Form.Call tt), imm_again k fits) refl
+with_again p Insn.Exit rest fits of = rw (form_back p Form.Exit (plain_form p Form.Exit tt)) refl
 
 -- what is spelt so is read, whatever stands behind it
 pub first_again : (p : Profile) (i : Insn) (rest : List ℕ) → Fits i → IsOf p i → first_of p (insn_bytes i ++ rest) ≡ Ok (i, rest)

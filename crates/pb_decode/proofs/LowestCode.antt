@@ -1,18 +1,14 @@
 -- What is read at the front is at fault exactly by the lowest code that applies there.
-use Rattle.std.proofs.Common.{◌≡◌, ℕ, ◌≤◌, inl, inr, Bool, true, false, cond, List, ◌++◌, length, drop, Option, Some, None, Result, Ok, Err, refl, sym, ap, subst, ◌∙◌, arith}
-use Rattle.std.specs.Prelude.{ok_or, nat_eq, nat_lt}
+use Rattle.std.proofs.Common.{◌≡◌, ℕ, ◌≤◌, inl, inr, Bool, true, false, cond, List, ◌++◌, length, drop, Option, Some, None, Result, Ok, Err, refl, sym, ap, subst, ◌∙◌, arith, ok_or, nat_eq, nat_lt}
 use Rattle.std.proofs.lemmas.Bool.{ltb-true, ltb-false}
 use Rattle.pb_isa.specs.declared.insn.Insn.{Insn}
 use Rattle.pb_isa.specs.declared.insn.Reg.{Reg}
 use Rattle.pb_isa.specs.declared.profile.Profile.{Profile}
-use Rattle.pb_isa.specs.declared.profile.Profile.TheVariants.{One, Two}
 use Rattle.pb_isa.specs.Profiles.{IsOf}
 use Rattle.pb_isa.specs.Registers.{reg_of}
 use Rattle.pb_decode.specs.declared.forms.Form.{Form}
-use Rattle.pb_decode.specs.declared.forms.Form.TheVariants.{Alu, Neg, LoadImm, Load, StoreImm, Store, Jump, JumpIf, Call, Exit}
-use Rattle.pb_decode.specs.declared.forms.Source.TheVariants.{K, X}
+use Rattle.pb_decode.specs.declared.forms.Source.{Source}
 use Rattle.pb_decode.specs.declared.fault.DecodeCode.{DecodeCode}
-use Rattle.pb_decode.specs.declared.fault.DecodeCode.TheVariants.{Length, TooLong, Opcode, Register, Unused, CutOff, SecondSlot}
 use Rattle.pb_decode.specs.Opcodes.{opcode, IsFormOf, form_of}
 use Rattle.pb_decode.specs.Fields.{slot_of_bytes}
 use Rattle.pb_reading.specs.Reading.{◌>>=◌}
@@ -38,24 +34,24 @@ same_form : (profile : Profile) (f g : Form) (n : ℕ) → form_of profile n ≡
 same_form profile f g n is of p = some_same (form_of profile n) g f (ap (form_of profile) (sym p) ∙ form_back profile g of) is
 
 -- each profile has the pair
-has_pair : (profile : Profile) → IsFormOf profile LoadImm
-has_pair One = refl
-has_pair Two = refl
+has_pair : (profile : Profile) → IsFormOf profile Form.LoadImm
+has_pair Profile.One = refl
+has_pair Profile.Two = refl
 
 -- ---- step by step
 
 -- no code below 12 applies to a slot, since 10 and 11 are of the whole
 least_opcode : (profile : Profile) (bytes : List ℕ) (other : DecodeCode) → Applies profile bytes other → 12 ≤ decode_code other
-least_opcode profile bytes Length h = absurd h
-least_opcode profile bytes TooLong h = absurd h
-least_opcode profile bytes Opcode h = omega arith
-least_opcode profile bytes Register h = omega arith
-least_opcode profile bytes Unused h = omega arith
-least_opcode profile bytes CutOff h = omega arith
-least_opcode profile bytes SecondSlot h = omega arith
+least_opcode profile bytes DecodeCode.Length h = absurd h
+least_opcode profile bytes DecodeCode.TooLong h = absurd h
+least_opcode profile bytes DecodeCode.Opcode h = omega arith
+least_opcode profile bytes DecodeCode.Register h = omega arith
+least_opcode profile bytes DecodeCode.Unused h = omega arith
+least_opcode profile bytes DecodeCode.CutOff h = omega arith
+least_opcode profile bytes DecodeCode.SecondSlot h = omega arith
 
 -- an opcode that no form has is told as 12
-no_opcode : (profile : Profile) (bytes : List ℕ) → form_of profile (slot_of_bytes bytes).opcode ≡ None → IsLowest profile bytes Opcode
+no_opcode : (profile : Profile) (bytes : List ℕ) → form_of profile (slot_of_bytes bytes).opcode ≡ None → IsLowest profile bytes DecodeCode.Opcode
 no_opcode profile bytes none =
     record {
       applies = λ f of p. no_none (form_of profile (slot_of_bytes bytes).opcode) f (ap (form_of profile) (sym p) ∙ form_back profile f of) none;
@@ -63,23 +59,23 @@ no_opcode profile bytes none =
     }
 
 -- where a form has the opcode, no code below 13 applies; and so from code to code
-least_register : (profile : Profile) (bytes : List ℕ) → (Applies profile bytes Opcode → ⊥) → (other : DecodeCode) → Applies profile bytes other → 13 ≤ decode_code other
-least_register profile bytes known Length h = absurd h
-least_register profile bytes known TooLong h = absurd h
-least_register profile bytes known Opcode h = absurd (known h)
-least_register profile bytes known Register h = omega arith
-least_register profile bytes known Unused h = omega arith
-least_register profile bytes known CutOff h = omega arith
-least_register profile bytes known SecondSlot h = omega arith
+least_register : (profile : Profile) (bytes : List ℕ) → (Applies profile bytes DecodeCode.Opcode → ⊥) → (other : DecodeCode) → Applies profile bytes other → 13 ≤ decode_code other
+least_register profile bytes known DecodeCode.Length h = absurd h
+least_register profile bytes known DecodeCode.TooLong h = absurd h
+least_register profile bytes known DecodeCode.Opcode h = absurd (known h)
+least_register profile bytes known DecodeCode.Register h = omega arith
+least_register profile bytes known DecodeCode.Unused h = omega arith
+least_register profile bytes known DecodeCode.CutOff h = omega arith
+least_register profile bytes known DecodeCode.SecondSlot h = omega arith
 
-least_unused : (profile : Profile) (bytes : List ℕ) → (Applies profile bytes Opcode → ⊥) → (Applies profile bytes Register → ⊥) → (other : DecodeCode) → Applies profile bytes other → 14 ≤ decode_code other
-least_unused profile bytes known low Length h = absurd h
-least_unused profile bytes known low TooLong h = absurd h
-least_unused profile bytes known low Opcode h = absurd (known h)
-least_unused profile bytes known low Register h = absurd (low h)
-least_unused profile bytes known low Unused h = omega arith
-least_unused profile bytes known low CutOff h = omega arith
-least_unused profile bytes known low SecondSlot h = omega arith
+least_unused : (profile : Profile) (bytes : List ℕ) → (Applies profile bytes DecodeCode.Opcode → ⊥) → (Applies profile bytes DecodeCode.Register → ⊥) → (other : DecodeCode) → Applies profile bytes other → 14 ≤ decode_code other
+least_unused profile bytes known low DecodeCode.Length h = absurd h
+least_unused profile bytes known low DecodeCode.TooLong h = absurd h
+least_unused profile bytes known low DecodeCode.Opcode h = absurd (known h)
+least_unused profile bytes known low DecodeCode.Register h = absurd (low h)
+least_unused profile bytes known low DecodeCode.Unused h = omega arith
+least_unused profile bytes known low DecodeCode.CutOff h = omega arith
+least_unused profile bytes known low DecodeCode.SecondSlot h = omega arith
 
 -- the codes before those of the pair do not apply
 record Passed (profile : Profile) (bytes : List ℕ) (f : Form) : Type 0 where
@@ -89,81 +85,81 @@ record Passed (profile : Profile) (bytes : List ℕ) (f : Form) : Type 0 where
   clean : is_clean profile f (slot_of_bytes bytes) ≡ true
 
 -- 12 doesn't apply where a form is found, 13 where both numbers are registers', and 14 where unused fields are zero
-known_opcode : (profile : Profile) (bytes : List ℕ) (f : Form) → form_of profile (slot_of_bytes bytes).opcode ≡ Some f → Applies profile bytes Opcode → ⊥
+known_opcode : (profile : Profile) (bytes : List ℕ) (f : Form) → form_of profile (slot_of_bytes bytes).opcode ≡ Some f → Applies profile bytes DecodeCode.Opcode → ⊥
 known_opcode profile bytes f is h = let o = form_front profile (slot_of_bytes bytes).opcode f is in h f o.1 o.0
 
-low_registers : (profile : Profile) (bytes : List ℕ) → (slot_of_bytes bytes).dst ≤ 10 → (slot_of_bytes bytes).src ≤ 10 → Applies profile bytes Register → ⊥
+low_registers : (profile : Profile) (bytes : List ℕ) → (slot_of_bytes bytes).dst ≤ 10 → (slot_of_bytes bytes).src ≤ 10 → Applies profile bytes DecodeCode.Register → ⊥
 low_registers profile bytes d s (inl h) = omega (arith, d, h)
 low_registers profile bytes d s (inr h) = omega (arith, s, h)
 
-clean_fields : (profile : Profile) (bytes : List ℕ) (f : Form) → form_of profile (slot_of_bytes bytes).opcode ≡ Some f → is_clean profile f (slot_of_bytes bytes) ≡ true → Applies profile bytes Unused → ⊥
+clean_fields : (profile : Profile) (bytes : List ℕ) (f : Form) → form_of profile (slot_of_bytes bytes).opcode ≡ Some f → is_clean profile f (slot_of_bytes bytes) ≡ true → Applies profile bytes DecodeCode.Unused → ⊥
 clean_fields profile bytes f is clean h =
     let same = same_form profile f h.0 (slot_of_bytes bytes).opcode is h.1 h.2 in
     not_false (is_clean profile f (slot_of_bytes bytes)) clean (subst (λ (g : Form). is_clean profile g (slot_of_bytes bytes) ≡ false) same h.3)
 
 -- behind the first three tests only the two codes of a pair are left
-only_pair : (profile : Profile) (bytes : List ℕ) (f : Form) → Passed profile bytes f → (Applies profile bytes CutOff → ⊥) → (Applies profile bytes SecondSlot → ⊥) → (code : DecodeCode) → Applies profile bytes code → ⊥
-only_pair profile bytes f p a b Length h = h
-only_pair profile bytes f p a b TooLong h = h
-only_pair profile bytes f p a b Opcode h = known_opcode profile bytes f p.is h
-only_pair profile bytes f p a b Register h = low_registers profile bytes p.dst p.src h
-only_pair profile bytes f p a b Unused h = clean_fields profile bytes f p.is p.clean h
-only_pair profile bytes f p a b CutOff h = a h
-only_pair profile bytes f p a b SecondSlot h = b h
+only_pair : (profile : Profile) (bytes : List ℕ) (f : Form) → Passed profile bytes f → (Applies profile bytes DecodeCode.CutOff → ⊥) → (Applies profile bytes DecodeCode.SecondSlot → ⊥) → (code : DecodeCode) → Applies profile bytes code → ⊥
+only_pair profile bytes f p a b DecodeCode.Length h = h
+only_pair profile bytes f p a b DecodeCode.TooLong h = h
+only_pair profile bytes f p a b DecodeCode.Opcode h = known_opcode profile bytes f p.is h
+only_pair profile bytes f p a b DecodeCode.Register h = low_registers profile bytes p.dst p.src h
+only_pair profile bytes f p a b DecodeCode.Unused h = clean_fields profile bytes f p.is p.clean h
+only_pair profile bytes f p a b DecodeCode.CutOff h = a h
+only_pair profile bytes f p a b DecodeCode.SecondSlot h = b h
 
 -- so to a slot of another form than the pair's none applies
-none_applies : (profile : Profile) (bytes : List ℕ) (f : Form) → Passed profile bytes f → (LoadImm ≡ f → ⊥) → (code : DecodeCode) → Applies profile bytes code → ⊥
-none_applies profile bytes f p other = only_pair profile bytes f p (λ h. other (same_form profile f LoadImm (slot_of_bytes bytes).opcode p.is (has_pair profile) h.0)) (λ h. other (same_form profile f LoadImm (slot_of_bytes bytes).opcode p.is (has_pair profile) h.0))
+none_applies : (profile : Profile) (bytes : List ℕ) (f : Form) → Passed profile bytes f → (Form.LoadImm ≡ f → ⊥) → (code : DecodeCode) → Applies profile bytes code → ⊥
+none_applies profile bytes f p other = only_pair profile bytes f p (λ h. other (same_form profile f Form.LoadImm (slot_of_bytes bytes).opcode p.is (has_pair profile) h.0)) (λ h. other (same_form profile f Form.LoadImm (slot_of_bytes bytes).opcode p.is (has_pair profile) h.0))
 
-least_cut : (profile : Profile) (bytes : List ℕ) → Passed profile bytes LoadImm → (other : DecodeCode) → Applies profile bytes other → 15 ≤ decode_code other
-least_cut profile bytes p Length h = absurd h
-least_cut profile bytes p TooLong h = absurd h
-least_cut profile bytes p Opcode h = absurd (known_opcode profile bytes LoadImm p.is h)
-least_cut profile bytes p Register h = absurd (low_registers profile bytes p.dst p.src h)
-least_cut profile bytes p Unused h = absurd (clean_fields profile bytes LoadImm p.is p.clean h)
-least_cut profile bytes p CutOff h = omega arith
-least_cut profile bytes p SecondSlot h = omega arith
+least_cut : (profile : Profile) (bytes : List ℕ) → Passed profile bytes Form.LoadImm → (other : DecodeCode) → Applies profile bytes other → 15 ≤ decode_code other
+least_cut profile bytes p DecodeCode.Length h = absurd h
+least_cut profile bytes p DecodeCode.TooLong h = absurd h
+least_cut profile bytes p DecodeCode.Opcode h = absurd (known_opcode profile bytes Form.LoadImm p.is h)
+least_cut profile bytes p DecodeCode.Register h = absurd (low_registers profile bytes p.dst p.src h)
+least_cut profile bytes p DecodeCode.Unused h = absurd (clean_fields profile bytes Form.LoadImm p.is p.clean h)
+least_cut profile bytes p DecodeCode.CutOff h = omega arith
+least_cut profile bytes p DecodeCode.SecondSlot h = omega arith
 
-not_short : (profile : Profile) (bytes : List ℕ) → 8 ≤ length (drop 8 bytes) → Applies profile bytes CutOff → ⊥
+not_short : (profile : Profile) (bytes : List ℕ) → 8 ≤ length (drop 8 bytes) → Applies profile bytes DecodeCode.CutOff → ⊥
 not_short profile bytes long h = let lt = h.1 in omega (arith, long, lt)
 
-least_second : (profile : Profile) (bytes : List ℕ) → Passed profile bytes LoadImm → 8 ≤ length (drop 8 bytes) → (other : DecodeCode) → Applies profile bytes other → 16 ≤ decode_code other
-least_second profile bytes p long Length h = absurd h
-least_second profile bytes p long TooLong h = absurd h
-least_second profile bytes p long Opcode h = absurd (known_opcode profile bytes LoadImm p.is h)
-least_second profile bytes p long Register h = absurd (low_registers profile bytes p.dst p.src h)
-least_second profile bytes p long Unused h = absurd (clean_fields profile bytes LoadImm p.is p.clean h)
-least_second profile bytes p long CutOff h = absurd (not_short profile bytes long h)
-least_second profile bytes p long SecondSlot h = omega arith
+least_second : (profile : Profile) (bytes : List ℕ) → Passed profile bytes Form.LoadImm → 8 ≤ length (drop 8 bytes) → (other : DecodeCode) → Applies profile bytes other → 16 ≤ decode_code other
+least_second profile bytes p long DecodeCode.Length h = absurd h
+least_second profile bytes p long DecodeCode.TooLong h = absurd h
+least_second profile bytes p long DecodeCode.Opcode h = absurd (known_opcode profile bytes Form.LoadImm p.is h)
+least_second profile bytes p long DecodeCode.Register h = absurd (low_registers profile bytes p.dst p.src h)
+least_second profile bytes p long DecodeCode.Unused h = absurd (clean_fields profile bytes Form.LoadImm p.is p.clean h)
+least_second profile bytes p long DecodeCode.CutOff h = absurd (not_short profile bytes long h)
+least_second profile bytes p long DecodeCode.SecondSlot h = omega arith
 
 -- of a pair the end is told before the second slot
-pair_told : (profile : Profile) (bytes : List ℕ) (x : Read) → Passed profile bytes LoadImm → (short second : Bool) → nat_lt (length (drop 8 bytes)) 8 ≡ short → is_second (slot_of_bytes (drop 8 bytes)) ≡ second → Told profile bytes (cond short (Err CutOff) (cond second (Ok x) (Err SecondSlot)))
-pair_told profile bytes x p true second a b = record { applies = ((form_front profile (slot_of_bytes bytes).opcode LoadImm p.is).0, ltb-true (length (drop 8 bytes)) 8 a); least = least_cut profile bytes p }
-pair_told profile bytes x p false true a b = only_pair profile bytes LoadImm p (not_short profile bytes (ltb-false (length (drop 8 bytes)) 8 a)) (λ h. not_false (is_second (slot_of_bytes (drop 8 bytes))) b h.2)
+pair_told : (profile : Profile) (bytes : List ℕ) (x : Read) → Passed profile bytes Form.LoadImm → (short second : Bool) → nat_lt (length (drop 8 bytes)) 8 ≡ short → is_second (slot_of_bytes (drop 8 bytes)) ≡ second → Told profile bytes (cond short (Err DecodeCode.CutOff) (cond second (Ok x) (Err DecodeCode.SecondSlot)))
+pair_told profile bytes x p true second a b = record { applies = ((form_front profile (slot_of_bytes bytes).opcode Form.LoadImm p.is).0, ltb-true (length (drop 8 bytes)) 8 a); least = least_cut profile bytes p }
+pair_told profile bytes x p false true a b = only_pair profile bytes Form.LoadImm p (not_short profile bytes (ltb-false (length (drop 8 bytes)) 8 a)) (λ h. not_false (is_second (slot_of_bytes (drop 8 bytes))) b h.2)
 pair_told profile bytes x p false false a b =
     let long = ltb-false (length (drop 8 bytes)) 8 a in
-    record { applies = ((form_front profile (slot_of_bytes bytes).opcode LoadImm p.is).0, long, b); least = least_second profile bytes p long }
+    record { applies = ((form_front profile (slot_of_bytes bytes).opcode Form.LoadImm p.is).0, long, b); least = least_second profile bytes p long }
 
 -- an instruction of each form is read with no code, or told with its lowest
 insn_told : (profile : Profile) (bytes : List ℕ) (f : Form) (d r : Reg) → Passed profile bytes f → Told profile bytes (insn_of_form f d r (slot_of_bytes bytes) (drop 8 bytes))
-insn_told profile bytes (Alu op w K) d r p = none_applies profile bytes (Alu op w K) p (λ e. absurd cc)
-insn_told profile bytes (Alu op w X) d r p = none_applies profile bytes (Alu op w X) p (λ e. absurd cc)
-insn_told profile bytes (Neg w) d r p = none_applies profile bytes (Neg w) p (λ e. absurd cc)
-insn_told profile bytes LoadImm d r p = pair_told profile bytes _ p (nat_lt (length (drop 8 bytes)) 8) (is_second (slot_of_bytes (drop 8 bytes))) refl refl
-insn_told profile bytes (Load z x) d r p = none_applies profile bytes (Load z x) p (λ e. absurd cc)
-insn_told profile bytes (StoreImm z) d r p = none_applies profile bytes (StoreImm z) p (λ e. absurd cc)
-insn_told profile bytes (Store z) d r p = none_applies profile bytes (Store z) p (λ e. absurd cc)
-insn_told profile bytes Jump d r p = none_applies profile bytes Jump p (λ e. absurd cc)
-insn_told profile bytes (JumpIf c w K) d r p = none_applies profile bytes (JumpIf c w K) p (λ e. absurd cc)
-insn_told profile bytes (JumpIf c w X) d r p = none_applies profile bytes (JumpIf c w X) p (λ e. absurd cc)
-insn_told profile bytes Call d r p = none_applies profile bytes Call p (λ e. absurd cc)
-insn_told profile bytes Exit d r p = none_applies profile bytes Exit p (λ e. absurd cc)
+insn_told profile bytes (Form.Alu op w Source.K) d r p = none_applies profile bytes (Form.Alu op w Source.K) p (λ e. absurd cc)
+insn_told profile bytes (Form.Alu op w Source.X) d r p = none_applies profile bytes (Form.Alu op w Source.X) p (λ e. absurd cc)
+insn_told profile bytes (Form.Neg w) d r p = none_applies profile bytes (Form.Neg w) p (λ e. absurd cc)
+insn_told profile bytes Form.LoadImm d r p = pair_told profile bytes _ p (nat_lt (length (drop 8 bytes)) 8) (is_second (slot_of_bytes (drop 8 bytes))) refl refl
+insn_told profile bytes (Form.Load z x) d r p = none_applies profile bytes (Form.Load z x) p (λ e. absurd cc)
+insn_told profile bytes (Form.StoreImm z) d r p = none_applies profile bytes (Form.StoreImm z) p (λ e. absurd cc)
+insn_told profile bytes (Form.Store z) d r p = none_applies profile bytes (Form.Store z) p (λ e. absurd cc)
+insn_told profile bytes Form.Jump d r p = none_applies profile bytes Form.Jump p (λ e. absurd cc)
+insn_told profile bytes (Form.JumpIf c w Source.K) d r p = none_applies profile bytes (Form.JumpIf c w Source.K) p (λ e. absurd cc)
+insn_told profile bytes (Form.JumpIf c w Source.X) d r p = none_applies profile bytes (Form.JumpIf c w Source.X) p (λ e. absurd cc)
+insn_told profile bytes Form.Call d r p = none_applies profile bytes Form.Call p (λ e. absurd cc)
+insn_told profile bytes Form.Exit d r p = none_applies profile bytes Form.Exit p (λ e. absurd cc)
 
 abbrev with_registers : Profile → List ℕ → Form → Reg → Reg → Result Read DecodeCode
 with_registers profile bytes f d r = clean_or_code profile f (slot_of_bytes bytes) >>= (λ g. insn_of_form g d r (slot_of_bytes bytes) (drop 8 bytes))
 
 clean_told : (profile : Profile) (bytes : List ℕ) (f : Form) (d r : Reg) → form_of profile (slot_of_bytes bytes).opcode ≡ Some f → (slot_of_bytes bytes).dst ≤ 10 → (slot_of_bytes bytes).src ≤ 10 → (b : Bool) → is_clean profile f (slot_of_bytes bytes) ≡ b
-    → Told profile bytes (cond b (Ok f) (Err Unused) >>= (λ g. insn_of_form g d r (slot_of_bytes bytes) (drop 8 bytes)))
+    → Told profile bytes (cond b (Ok f) (Err DecodeCode.Unused) >>= (λ g. insn_of_form g d r (slot_of_bytes bytes) (drop 8 bytes)))
 clean_told profile bytes f d r is p q true b = insn_told profile bytes f d r (record { is = is; dst = p; src = q; clean = b })
 clean_told profile bytes f d r is p q false b = let o = form_front profile (slot_of_bytes bytes).opcode f is in record { applies = (f, o.1, o.0, b); least = least_unused profile bytes (known_opcode profile bytes f is) (low_registers profile bytes p q) }
 
@@ -171,17 +167,17 @@ low_register : (n : ℕ) (r : Reg) → reg_of n ≡ Some r → n ≤ 10
 low_register n r h = let a = reg_front n r h in let b = number_below r in omega (arith, a, b)
 
 src_told : (profile : Profile) (bytes : List ℕ) (f : Form) (d : Reg) → form_of profile (slot_of_bytes bytes).opcode ≡ Some f → (slot_of_bytes bytes).dst ≤ 10 → (o : Option Reg) → reg_of (slot_of_bytes bytes).src ≡ o
-    → Told profile bytes (ok_or o Register >>= with_registers profile bytes f d)
+    → Told profile bytes (ok_or o DecodeCode.Register >>= with_registers profile bytes f d)
 src_told profile bytes f d is p (Some r) h = clean_told profile bytes f d r is p (low_register (slot_of_bytes bytes).src r h) (is_clean profile f (slot_of_bytes bytes)) refl
 src_told profile bytes f d is p None h = record { applies = inr (reg_none (slot_of_bytes bytes).src h); least = least_register profile bytes (known_opcode profile bytes f is) }
 
 dst_told : (profile : Profile) (bytes : List ℕ) (f : Form) → form_of profile (slot_of_bytes bytes).opcode ≡ Some f → (o : Option Reg) → reg_of (slot_of_bytes bytes).dst ≡ o
-    → Told profile bytes (ok_or o Register >>= (λ d. ok_or (reg_of (slot_of_bytes bytes).src) Register >>= with_registers profile bytes f d))
+    → Told profile bytes (ok_or o DecodeCode.Register >>= (λ d. ok_or (reg_of (slot_of_bytes bytes).src) DecodeCode.Register >>= with_registers profile bytes f d))
 dst_told profile bytes f is (Some d) h = src_told profile bytes f d is (low_register (slot_of_bytes bytes).dst d h) (reg_of (slot_of_bytes bytes).src) refl
 dst_told profile bytes f is None h = record { applies = inl (reg_none (slot_of_bytes bytes).dst h); least = least_register profile bytes (known_opcode profile bytes f is) }
 
 form_told : (profile : Profile) (bytes : List ℕ) (o : Option Form) → form_of profile (slot_of_bytes bytes).opcode ≡ o
-    → Told profile bytes (ok_or o Opcode >>= (λ f. ok_or (reg_of (slot_of_bytes bytes).dst) Register >>= (λ d. ok_or (reg_of (slot_of_bytes bytes).src) Register >>= with_registers profile bytes f d)))
+    → Told profile bytes (ok_or o DecodeCode.Opcode >>= (λ f. ok_or (reg_of (slot_of_bytes bytes).dst) DecodeCode.Register >>= (λ d. ok_or (reg_of (slot_of_bytes bytes).src) DecodeCode.Register >>= with_registers profile bytes f d)))
 form_told profile bytes (Some f) h = dst_told profile bytes f h (reg_of (slot_of_bytes bytes).dst) refl
 form_told profile bytes None h = no_opcode profile bytes h
 
@@ -205,18 +201,18 @@ pub insn_clean : (profile : Profile) (i : Insn) (rest : List ℕ) (code : Decode
 insn_clean profile i rest code fits of h = none_read profile (insn_bytes i ++ rest) (i, rest) code (first_again profile i rest fits of) h
 
 code_of : ℕ → DecodeCode
-code_of n = cond (nat_eq n 10) Length (cond (nat_eq n 11) TooLong (cond (nat_eq n 12) Opcode (cond (nat_eq n 13) Register (cond (nat_eq n 14) Unused (cond (nat_eq n 15) CutOff SecondSlot)))))
+code_of n = cond (nat_eq n 10) DecodeCode.Length (cond (nat_eq n 11) DecodeCode.TooLong (cond (nat_eq n 12) DecodeCode.Opcode (cond (nat_eq n 13) DecodeCode.Register (cond (nat_eq n 14) DecodeCode.Unused (cond (nat_eq n 15) DecodeCode.CutOff DecodeCode.SecondSlot)))))
 
 -- the codes have numbers of their own
 code_back : (c : DecodeCode) → code_of (decode_code c) ≡ c
 unfolding code_of
-code_back Length = refl
-code_back TooLong = refl
-code_back Opcode = refl
-code_back Register = refl
-code_back Unused = refl
-code_back CutOff = refl
-code_back SecondSlot = refl
+code_back DecodeCode.Length = refl
+code_back DecodeCode.TooLong = refl
+code_back DecodeCode.Opcode = refl
+code_back DecodeCode.Register = refl
+code_back DecodeCode.Unused = refl
+code_back DecodeCode.CutOff = refl
+code_back DecodeCode.SecondSlot = refl
 
 same_code : (c d : DecodeCode) → decode_code c ≤ decode_code d → decode_code d ≤ decode_code c → c ≡ d
 same_code c d p q = let e : decode_code c ≡ decode_code d = omega (arith, p, q) in sym (code_back c) ∙ ap code_of e ∙ code_back d

@@ -1,23 +1,18 @@
 -- A list of bytes is one program's, or has one fault.
-use Rattle.std.proofs.Common.{◌≡◌, ℕ, zero, suc, ◌+◌, ◌-◌, ◌*◌, ◌/◌, ◌%◌, ◌<◌, ◌≤◌, ◌⊎◌, Bool, true, false, cond, List, [], ◌∷◌, ◌++◌, length, Option, Some, None, Result, Ok, Err, refl, sym, ap, subst, ◌∙◌, append_assoc, arith, inl, inr}
-use Rattle.std.specs.Prelude.{◌==◌, ◌||◌, not, nat_lt, IfOk, IfErr}
+use Rattle.std.proofs.Common.{◌≡◌, ℕ, zero, suc, ◌+◌, ◌-◌, ◌*◌, ◌/◌, ◌%◌, ◌<◌, ◌≤◌, ◌⊎◌, Bool, true, false, cond, List, [], ◌∷◌, ◌++◌, length, Option, Some, None, Result, Ok, Err, refl, sym, ap, subst, ◌∙◌, append_assoc, arith, inl, inr, ◌==◌, ◌||◌, not, nat_lt, IfOk, IfErr}
 use Rattle.std.specs.List.{AllByRecursion}
 use Rattle.std.proofs.lemmas.Bool.{eqb-true, ltb-false, le-ltb}
 use Rattle.std.proofs.lemmas.List.{append-nil, length-append}
 use Rattle.std.proofs.lemmas.Grind.{flat_map-append}
 use Rattle.pb_isa.specs.declared.insn.Insn.{Insn}
-use Rattle.pb_isa.specs.declared.insn.Insn.TheVariants.{Alu, MovSx, Neg, LoadImm, Load, StoreImm, Store, Jump, JumpIf, Call, Exit}
-use Rattle.pb_isa.specs.declared.insn.Operand.TheVariants as operand
+use Rattle.pb_isa.specs.declared.insn.Operand.{Operand}
 use Rattle.pb_isa.specs.Bounds.{Fits}
 use Rattle.pb_isa.specs.Slots.{places_of, layout, slots}
 use Rattle.pb_isa.specs.declared.profile.Profile.{Profile}
-use Rattle.pb_isa.specs.declared.profile.Profile.TheVariants as profiles
 use Rattle.pb_isa.specs.Profiles.{IsOf, max_slots}
 use Rattle.pb_isa.specs.Programs.{ProgramOf, IsProgram}
 use Rattle.pb_decode.specs.declared.fault.DecodeCode.{DecodeCode}
-use Rattle.pb_decode.specs.declared.fault.DecodeCode.TheVariants.{Length, TooLong}
 use Rattle.pb_decode.specs.declared.fault.DecodeFault.{DecodeFault}
-use Rattle.pb_decode.specs.declared.fault.DecodeFault.TheVariants as faults
 use Rattle.pb_decode.specs.Encoding.{insn_bytes, encoding, in_profile, Encodes}
 use Rattle.pb_decode.specs.Reading.{first_of}
 use Rattle.pb_decode.specs.Faults.{decode_code, whole_fault, IsFaultAt, IsDecodeFault, AreRefusedAs, AreBytes, HasProgram, HasFault, AreSpelt, IsRefusal, IsNoMemory, IsNoMemoryOr}
@@ -31,19 +26,19 @@ use Rattle.pb_base.proofs.Logic.{positive as not_zero, one_value as some_same}
 
 -- an instruction has eight bytes for each slot
 insn_len : (i : Insn) → length (insn_bytes i) ≡ 8 * length (places_of i)
-insn_len (Alu op w d (operand.Imm k)) = refl
-insn_len (Alu op w d (operand.Reg s)) = refl
-insn_len (MovSx w z d s) = refl
-insn_len (Neg w d) = refl
-insn_len (LoadImm d v) = refl
-insn_len (Load z x d b o) = refl
-insn_len (StoreImm z b o k) = refl
-insn_len (Store z b s o) = refl
-insn_len (Jump o) = refl
-insn_len (JumpIf c w d (operand.Imm k) o) = refl
-insn_len (JumpIf c w d (operand.Reg s) o) = refl
-insn_len (Call k) = refl
-insn_len Exit = refl
+insn_len (Insn.Alu op w d (Operand.Imm k)) = refl
+insn_len (Insn.Alu op w d (Operand.Reg s)) = refl
+insn_len (Insn.MovSx w z d s) = refl
+insn_len (Insn.Neg w d) = refl
+insn_len (Insn.LoadImm d v) = refl
+insn_len (Insn.Load z x d b o) = refl
+insn_len (Insn.StoreImm z b o k) = refl
+insn_len (Insn.Store z b s o) = refl
+insn_len (Insn.Jump o) = refl
+insn_len (Insn.JumpIf c w d (Operand.Imm k) o) = refl
+insn_len (Insn.JumpIf c w d (Operand.Reg s) o) = refl
+insn_len (Insn.Call k) = refl
+insn_len Insn.Exit = refl
 
 -- and so have several
 pub bytes_len : (p : List Insn) → length (encoding p) ≡ 8 * slots p
@@ -150,7 +145,7 @@ pub record IsWhole (profile : Profile) (n : ℕ) : Type 0 where
   pub even : n % 8 ≡ 0
   pub most : n ≤ 8 * max_slots profile
 
-tests : (profile : Profile) (n : ℕ) (a b c : Bool) → (n == 0) ≡ a → (n % 8 == 0) ≡ b → nat_lt (8 * max_slots profile) n ≡ c → cond (a || not b) (Some Length) (cond c (Some TooLong) None) ≡ None → IsWhole profile n
+tests : (profile : Profile) (n : ℕ) (a b c : Bool) → (n == 0) ≡ a → (n % 8 == 0) ≡ b → nat_lt (8 * max_slots profile) n ≡ c → cond (a || not b) (Some DecodeCode.Length) (cond c (Some DecodeCode.TooLong) None) ≡ None → IsWhole profile n
 tests profile n true b c p q r e = absurd cc
 tests profile n false false c p q r e = absurd cc
 tests profile n false true true p q r e = absurd cc
@@ -266,14 +261,14 @@ IsAnswer profile bytes r = IfOk r (λ q. Encodes bytes q) × IfOk r (λ q. q.pro
 -- for a program's bytes nothing but it comes back, unless memory is refused
 pub only_program : (profile : Profile) (r : Result ProgramOf DecodeFault) (bytes : List ℕ) → IsAnswer profile bytes r → (p : ProgramOf) → p.profile ≡ profile → Encodes bytes p → IfOk r (λ q. q ≡ p) × IfErr r IsNoMemory
 only_program profile (Ok q) bytes a p is h = (one_program bytes q p (a.1 ∙ sym is) a.0 h, tt)
-only_program profile (Err faults.NoMemory) bytes a p is h = (tt, tt)
-only_program profile (Err (faults.Refused f)) bytes a p is h = absurd (no_fault profile bytes p f.slot a.2.0 is h a.2.2)
+only_program profile (Err DecodeFault.NoMemory) bytes a p is h = (tt, tt)
+only_program profile (Err (DecodeFault.Refused f)) bytes a p is h = absurd (no_fault profile bytes p f.slot a.2.0 is h a.2.2)
 
 -- for bytes with a fault nothing but it is told, unless memory is refused
 pub only_fault : (profile : Profile) (r : Result ProgramOf DecodeFault) (bytes : List ℕ) → IsAnswer profile bytes r → (slot told : ℕ) → AreRefusedAs profile bytes slot told → IfOk r (λ _. ⊥) × IfErr r (IsNoMemoryOr slot told)
 only_fault profile (Ok q) bytes a slot told h = absurd (no_fault profile bytes q slot h.0 a.1 a.0 h.2)
-only_fault profile (Err faults.NoMemory) bytes a slot told h = (tt, tt)
-only_fault profile (Err (faults.Refused f)) bytes a slot told h =
+only_fault profile (Err DecodeFault.NoMemory) bytes a slot told h = (tt, tt)
+only_fault profile (Err (DecodeFault.Refused f)) bytes a slot told h =
     let o = one_fault profile bytes f.slot slot a.2.0 h.0 a.2.2 h.2 in
     (tt, (o.0, a.2.1 ∙ ap decode_code o.1 ∙ sym h.1))
 
@@ -303,11 +298,11 @@ fault_at profile bytes rest p code slot parts all some is at =
 
 -- ---- profile 1 in profile 2
 
-next : (p : ProgramOf) → IsProgram (in_profile profiles.One p) → IsProgram (in_profile profiles.Two p)
+next : (p : ProgramOf) → IsProgram (in_profile Profile.One p) → IsProgram (in_profile Profile.Two p)
 next p is = let most = is.most in record { some = is.some; most = omega (arith, most); of_profile = all_next p.insns is.of_profile }
 
 -- bytes of a program of profile 1 are those of the same instructions' in profile 2
-pub read_alike : (bytes : List ℕ) (p : ProgramOf) → p.profile ≡ profiles.One → Encodes bytes p → Encodes bytes (in_profile profiles.Two p)
+pub read_alike : (bytes : List ℕ) (p : ProgramOf) → p.profile ≡ Profile.One → Encodes bytes p → Encodes bytes (in_profile Profile.Two p)
 read_alike bytes p one h =
-    let is : IsProgram (in_profile profiles.One p) = subst (λ (v : Profile). IsProgram (in_profile v p)) one h.program in
+    let is : IsProgram (in_profile Profile.One p) = subst (λ (v : Profile). IsProgram (in_profile v p)) one h.program in
     record { program = next p is; fits = h.fits; spelt = h.spelt }

@@ -5,18 +5,15 @@ use Rattle.std.specs.Prelude.{◌≡◌, ℕ, ◌/◌, ◌%◌, ◌^◌, ◌++�
 use Rattle.std.specs.Int.{w16, w32, cast_unsigned}
 use Rattle.std.specs.List.{flat_map, AllByRecursion}
 use Rattle.pb_isa.specs.declared.insn.Insn.{Insn}
-use Rattle.pb_isa.specs.declared.insn.Insn.TheVariants.{Alu, MovSx, Neg, LoadImm, Load, StoreImm, Store, Jump, JumpIf, Call, Exit}
-use Rattle.pb_isa.specs.declared.insn.AluOp.TheVariants.{Mov}
+use Rattle.pb_isa.specs.declared.insn.AluOp.{AluOp}
 use Rattle.pb_isa.specs.declared.insn.Size.{Size}
-use Rattle.pb_isa.specs.declared.insn.Size.TheVariants.{B, H, W, Dw}
-use Rattle.pb_isa.specs.declared.insn.Operand.TheVariants.{Imm, Reg}
+use Rattle.pb_isa.specs.declared.insn.Operand.{Operand}
 use Rattle.pb_isa.specs.Registers.{number}
 use Rattle.pb_isa.specs.Bounds.{Fits}
 use Rattle.pb_isa.specs.declared.profile.Profile.{Profile}
 use Rattle.pb_isa.specs.Programs.{ProgramOf, IsProgram}
 use Rattle.pb_decode.specs.declared.forms.Form.{Form}
-use Rattle.pb_decode.specs.declared.forms.Form.TheVariants as form
-use Rattle.pb_decode.specs.declared.forms.Source.TheVariants.{K, X}
+use Rattle.pb_decode.specs.declared.forms.Source.{Source}
 use Rattle.pb_decode.specs.declared.fields.SlotFields.{SlotFields}
 use Rattle.pb_decode.specs.Opcodes.{opcode}
 use Rattle.pb_decode.specs.Fields.{slot_bytes}
@@ -27,26 +24,26 @@ slot f dst src offset imm = record { opcode = opcode f; dst = dst; src = src; of
 
 -- how many bits a sign-extending move takes of its source, which its offset says (section 4.1)
 abbrev pub bits_of : Size → ℕ
-bits_of B = 8
-bits_of H = 16
-bits_of W = 32
-bits_of Dw = 64
+bits_of Size.B = 8
+bits_of Size.H = 16
+bits_of Size.W = 32
+bits_of Size.Dw = 64
 
 -- The first slot of an instruction, signed numbers in two's complement. A sign-extending move has the opcode of a move.
 abbrev pub first_slot : Insn → SlotFields
-first_slot (Alu op w dst (Imm imm)) = slot (form.Alu op w K) (number dst) 0 0 (cast_unsigned w32 imm)
-first_slot (Alu op w dst (Reg src)) = slot (form.Alu op w X) (number dst) (number src) 0 0
-first_slot (MovSx w z dst src) = slot (form.Alu Mov w X) (number dst) (number src) (bits_of z) 0
-first_slot (Neg w dst) = slot (form.Neg w) (number dst) 0 0 0
-first_slot (LoadImm dst imm) = slot form.LoadImm (number dst) 0 0 (imm % 2 ^ 32)
-first_slot (Load z x dst src offset) = slot (form.Load z x) (number dst) (number src) (cast_unsigned w16 offset) 0
-first_slot (StoreImm z dst offset imm) = slot (form.StoreImm z) (number dst) 0 (cast_unsigned w16 offset) (cast_unsigned w32 imm)
-first_slot (Store z dst src offset) = slot (form.Store z) (number dst) (number src) (cast_unsigned w16 offset) 0
-first_slot (Jump offset) = slot form.Jump 0 0 (cast_unsigned w16 offset) 0
-first_slot (JumpIf c w dst (Imm imm) offset) = slot (form.JumpIf c w K) (number dst) 0 (cast_unsigned w16 offset) (cast_unsigned w32 imm)
-first_slot (JumpIf c w dst (Reg src) offset) = slot (form.JumpIf c w X) (number dst) (number src) (cast_unsigned w16 offset) 0
-first_slot (Call imm) = slot form.Call 0 0 0 (cast_unsigned w32 imm)
-first_slot Exit = slot form.Exit 0 0 0 0
+first_slot (Insn.Alu op w dst (Operand.Imm imm)) = slot (Form.Alu op w Source.K) (number dst) 0 0 (cast_unsigned w32 imm)
+first_slot (Insn.Alu op w dst (Operand.Reg src)) = slot (Form.Alu op w Source.X) (number dst) (number src) 0 0
+first_slot (Insn.MovSx w z dst src) = slot (Form.Alu AluOp.Mov w Source.X) (number dst) (number src) (bits_of z) 0
+first_slot (Insn.Neg w dst) = slot (Form.Neg w) (number dst) 0 0 0
+first_slot (Insn.LoadImm dst imm) = slot Form.LoadImm (number dst) 0 0 (imm % 2 ^ 32)
+first_slot (Insn.Load z x dst src offset) = slot (Form.Load z x) (number dst) (number src) (cast_unsigned w16 offset) 0
+first_slot (Insn.StoreImm z dst offset imm) = slot (Form.StoreImm z) (number dst) 0 (cast_unsigned w16 offset) (cast_unsigned w32 imm)
+first_slot (Insn.Store z dst src offset) = slot (Form.Store z) (number dst) (number src) (cast_unsigned w16 offset) 0
+first_slot (Insn.Jump offset) = slot Form.Jump 0 0 (cast_unsigned w16 offset) 0
+first_slot (Insn.JumpIf c w dst (Operand.Imm imm) offset) = slot (Form.JumpIf c w Source.K) (number dst) 0 (cast_unsigned w16 offset) (cast_unsigned w32 imm)
+first_slot (Insn.JumpIf c w dst (Operand.Reg src) offset) = slot (Form.JumpIf c w Source.X) (number dst) (number src) (cast_unsigned w16 offset) 0
+first_slot (Insn.Call imm) = slot Form.Call 0 0 0 (cast_unsigned w32 imm)
+first_slot Insn.Exit = slot Form.Exit 0 0 0 0
 
 -- a second slot: all is zero but the immediate
 abbrev pub second_slot : ℕ → SlotFields
@@ -54,7 +51,7 @@ second_slot imm = record { opcode = 0; dst = 0; src = 0; offset = 0; imm = imm }
 
 -- the bytes behind the first slot: the 64-bit immediate has its high half in a second one (section 5.4)
 abbrev pub second_bytes : Insn → List ℕ
-second_bytes (LoadImm dst imm) = slot_bytes (second_slot (imm / 2 ^ 32))
+second_bytes (Insn.LoadImm dst imm) = slot_bytes (second_slot (imm / 2 ^ 32))
 second_bytes i = []
 
 -- the eight or sixteen bytes of an instruction

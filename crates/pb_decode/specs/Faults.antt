@@ -10,11 +10,8 @@ use Rattle.pb_isa.specs.Profiles.{IsOf, max_slots}
 use Rattle.pb_isa.specs.Slots.{slots}
 use Rattle.pb_isa.specs.Programs.{ProgramOf}
 use Rattle.pb_decode.specs.declared.fault.DecodeCode.{DecodeCode}
-use Rattle.pb_decode.specs.declared.fault.DecodeCode.TheVariants.{Length, TooLong, Opcode, Register, Unused, CutOff, SecondSlot}
 use Rattle.pb_decode.specs.declared.fault.DecodeFault.{DecodeFault}
-use Rattle.pb_decode.specs.declared.fault.DecodeFault.TheVariants.{NoMemory, Refused}
 use Rattle.pb_decode.specs.declared.forms.Form.{Form}
-use Rattle.pb_decode.specs.declared.forms.Form.TheVariants.{LoadImm}
 use Rattle.pb_decode.specs.Opcodes.{opcode, IsFormOf}
 use Rattle.pb_decode.specs.Fields.{slot_of_bytes}
 use Rattle.pb_decode.specs.Encoding.{encoding, Encodes}
@@ -22,25 +19,25 @@ use Rattle.pb_decode.specs.Reading.{is_clean, is_second}
 
 -- the numbers by which the faults are told
 abbrev pub decode_code : DecodeCode → ℕ
-decode_code Length = 10
-decode_code TooLong = 11
-decode_code Opcode = 12
-decode_code Register = 13
-decode_code Unused = 14
-decode_code CutOff = 15
-decode_code SecondSlot = 16
+decode_code DecodeCode.Length = 10
+decode_code DecodeCode.TooLong = 11
+decode_code DecodeCode.Opcode = 12
+decode_code DecodeCode.Register = 13
+decode_code DecodeCode.Unused = 14
+decode_code DecodeCode.CutOff = 15
+decode_code DecodeCode.SecondSlot = 16
 
 -- When a code applies to the bytes at the front, told by their first slot and the bytes behind it: no form of the profile
 -- has the opcode; a register is over 10, in either half; the form doesn't use a field that is not zero; the opcode is the
 -- pair's, and no slot stands behind, or one with more than an immediate. The codes of the whole apply to no slot.
 abbrev pub Applies : Profile → List ℕ → DecodeCode → Type 0
-Applies p bytes Length = ⊥
-Applies p bytes TooLong = ⊥
-Applies p bytes Opcode = (f : Form) → IsFormOf p f → opcode f ≢ (slot_of_bytes bytes).opcode
-Applies p bytes Register = (10 < (slot_of_bytes bytes).dst) ⊎ (10 < (slot_of_bytes bytes).src)
-Applies p bytes Unused = (f : Form) × IsFormOf p f × (opcode f ≡ (slot_of_bytes bytes).opcode) × (is_clean p f (slot_of_bytes bytes) ≡ false)
-Applies p bytes CutOff = (opcode LoadImm ≡ (slot_of_bytes bytes).opcode) × (length (drop 8 bytes) < 8)
-Applies p bytes SecondSlot = (opcode LoadImm ≡ (slot_of_bytes bytes).opcode) × (8 ≤ length (drop 8 bytes)) × (is_second (slot_of_bytes (drop 8 bytes)) ≡ false)
+Applies p bytes DecodeCode.Length = ⊥
+Applies p bytes DecodeCode.TooLong = ⊥
+Applies p bytes DecodeCode.Opcode = (f : Form) → IsFormOf p f → opcode f ≢ (slot_of_bytes bytes).opcode
+Applies p bytes DecodeCode.Register = (10 < (slot_of_bytes bytes).dst) ⊎ (10 < (slot_of_bytes bytes).src)
+Applies p bytes DecodeCode.Unused = (f : Form) × IsFormOf p f × (opcode f ≡ (slot_of_bytes bytes).opcode) × (is_clean p f (slot_of_bytes bytes) ≡ false)
+Applies p bytes DecodeCode.CutOff = (opcode Form.LoadImm ≡ (slot_of_bytes bytes).opcode) × (length (drop 8 bytes) < 8)
+Applies p bytes DecodeCode.SecondSlot = (opcode Form.LoadImm ≡ (slot_of_bytes bytes).opcode) × (8 ≤ length (drop 8 bytes)) × (is_second (slot_of_bytes (drop 8 bytes)) ≡ false)
 
 -- the lowest code that applies
 pub record IsLowest (p : Profile) (bytes : List ℕ) (code : DecodeCode) : Type 0 where
@@ -49,13 +46,13 @@ pub record IsLowest (p : Profile) (bytes : List ℕ) (code : DecodeCode) : Type 
 
 -- a fault, told
 abbrev pub told_as : ℕ → DecodeCode → DecodeFault
-told_as slot code = Refused (record { slot = slot; code = decode_code code })
+told_as slot code = DecodeFault.Refused (record { slot = slot; code = decode_code code })
 
 -- the fault of the whole, which is told before all others: no slots at all, or more than the profile has
 abbrev pub whole_fault : Profile → List ℕ → Option DecodeCode
 whole_fault p bytes =
-    if (length bytes == 0) || not (length bytes % 8 == 0) then Some Length
-    else if nat_lt (8 * max_slots p) (length bytes) then Some TooLong
+    if (length bytes == 0) || not (length bytes % 8 == 0) then Some DecodeCode.Length
+    else if nat_lt (8 * max_slots p) (length bytes) then Some DecodeCode.TooLong
     else None
 
 -- The instructions in front are of the profile and spelt as they have to be, and a code applies to what stands behind
@@ -80,13 +77,13 @@ AreRefusedAs p bytes slot told = (code : DecodeCode) × (told ≡ decode_code co
 
 -- why no program came back: memory was refused, or that is the fault
 abbrev pub IsRefusal : Profile → List ℕ → DecodeFault → Type 0
-IsRefusal p bytes NoMemory = Unit {0}
-IsRefusal p bytes (Refused r) = AreRefusedAs p bytes r.slot r.code
+IsRefusal p bytes DecodeFault.NoMemory = Unit {0}
+IsRefusal p bytes (DecodeFault.Refused r) = AreRefusedAs p bytes r.slot r.code
 
 -- the refusal is that of memory, which is the only one for a program's bytes
 abbrev pub IsNoMemory : DecodeFault → Type 0
-IsNoMemory NoMemory = Unit {0}
-IsNoMemory (Refused r) = ⊥
+IsNoMemory DecodeFault.NoMemory = Unit {0}
+IsNoMemory (DecodeFault.Refused r) = ⊥
 
 -- each number is a byte's, as all that is handed in are
 abbrev pub AreBytes : List ℕ → Type 0
@@ -102,8 +99,8 @@ HasFault p bytes = (slot : ℕ) × (code : DecodeCode) × IsDecodeFault p bytes 
 
 -- memory was refused, or what is told is that fault
 abbrev pub IsNoMemoryOr : ℕ → ℕ → DecodeFault → Type 0
-IsNoMemoryOr slot told NoMemory = Unit {0}
-IsNoMemoryOr slot told (Refused r) = (r.slot ≡ slot) × (r.code ≡ told)
+IsNoMemoryOr slot told DecodeFault.NoMemory = Unit {0}
+IsNoMemoryOr slot told (DecodeFault.Refused r) = (r.slot ≡ slot) × (r.code ≡ told)
 
 -- the bytes are those of these instructions of the profile, however many there are
 pub record AreSpelt (p : Profile) (bytes : List ℕ) (is : List Insn) : Type 0 where
@@ -113,5 +110,5 @@ pub record AreSpelt (p : Profile) (bytes : List ℕ) (is : List Insn) : Type 0 w
 
 -- memory was refused, or a slot is at fault
 abbrev pub IsRefusalInside : Profile → List ℕ → DecodeFault → Type 0
-IsRefusalInside p bytes NoMemory = Unit {0}
-IsRefusalInside p bytes (Refused r) = (code : DecodeCode) × (r.code ≡ decode_code code) × IsFaultAt p bytes r.slot code
+IsRefusalInside p bytes DecodeFault.NoMemory = Unit {0}
+IsRefusalInside p bytes (DecodeFault.Refused r) = (code : DecodeCode) × (r.code ≡ decode_code code) × IsFaultAt p bytes r.slot code

@@ -10,7 +10,6 @@ use Rattle.pb_worker.specs.Swaps.{Spare}
 use Rattle.pb_worker.specs.Work.{KeepsOpening}
 use Rattle.pb_base.specs.Taking.{Taking}
 use Rattle.pb_driver.specs.declared.fault.RunFault.{RunFault}
-use Rattle.pb_driver.specs.declared.fault.RunFault.TheVariants as faults
 use Rattle.pb_driver.specs.declared.run.Ran.{Ran}
 use Rattle.pb_driver.specs.Runs.{Remains, WorkersLeave, FinishAccepts, Concludes, RunsOn}
 
@@ -32,10 +31,10 @@ module _ (law : ChangesAreMade) (before : SharedOf) (olds : List SeatOf) (batche
 
   pub concluded : (out : Taking) (r : Result Ran RunFault) → Concludes left out r → RunsOn before olds batches spares out r
   concluded out (Ok ran) c = record { left = left; accepts = accepts c.0 c.1; undone = c.2; wrote = c.3 }
-  concluded out (Err faults.Output) c = record { left = left; accepts = accepts c.0 c.1; began = c.2 }
-  concluded out (Err faults.SeatsDiffer) c = (record { left = left; leave = leave; differ = c.0 }, c.1)
-  concluded out (Err faults.NoMemory) c = c
-  concluded out (Err (faults.Manifest f)) c = absurd c
-  concluded out (Err (faults.Script f)) c = absurd c
-  concluded out (Err (faults.Schedule f)) c = absurd c
-  concluded out (Err (faults.Event f)) c = absurd c
+  concluded out (Err RunFault.Output) c = record { left = left; accepts = accepts c.0 c.1; began = c.2 }
+  concluded out (Err RunFault.SeatsDiffer) c = (record { left = left; leave = leave; differ = c.0 }, c.1)
+  concluded out (Err RunFault.NoMemory) c = c
+  concluded out (Err (RunFault.Manifest f)) c = absurd c
+  concluded out (Err (RunFault.Script f)) c = absurd c
+  concluded out (Err (RunFault.Schedule f)) c = absurd c
+  concluded out (Err (RunFault.Event f)) c = absurd c

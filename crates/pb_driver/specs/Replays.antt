@@ -2,7 +2,7 @@
 -- they left. `replay_texts` promises it; where an event is at fault, nothing is reported.
 use Rattle.std.specs.Prelude.{◌≡◌, ◌≢◌, ℕ, ◌==◌, if◌then◌else◌, List, length, Result, Ok, Err}
 use Rattle.pb_base.specs.declared.limits.TheConstants.{MAX_SEATS}
-use Rattle.pb_base.specs.declared.refusal.Reason.TheVariants.{NoMemory}
+use Rattle.pb_base.specs.declared.refusal.Reason.{Reason}
 use Rattle.pb_base.specs.Reasons.{reason_code}
 use Rattle.pb_base.specs.Batch.{Writes}
 use Rattle.pb_verify.specs.Observers.{ObserverOf}
@@ -14,12 +14,11 @@ use Rattle.pb_world.specs.Events.{WorldOf, idle_actors, RunsTo, StopsAtEvent}
 use Rattle.pb_base.specs.Taking.{Taking, TookNothing}
 use Rattle.pb_script.specs.TableReports.{Wrote, Began}
 use Rattle.pb_driver.specs.declared.fault.RunFault.{RunFault}
-use Rattle.pb_driver.specs.declared.fault.RunFault.TheVariants as faults
 use Rattle.pb_driver.specs.Texts.{IsReplayRead, IsReplayUnread, fresh}
 
 -- the fault of a replay with an event at fault
 abbrev pub of_event : WorldFault → RunFault
-of_event f = if f.code == reason_code NoMemory then faults.NoMemory else faults.Event f
+of_event f = if f.code == reason_code Reason.NoMemory then RunFault.NoMemory else RunFault.Event f
 
 -- ---- the events and their report
 
@@ -39,16 +38,16 @@ pub record BeganReport (w : WorldOf) (events : List Event) (out : Taking) : Type
 
 -- an event was at fault by itself
 pub record Stopped (w : WorldOf) (events : List Event) (f : WorldFault) : Type 0 where
-  pub other : f.code ≢ reason_code NoMemory
+  pub other : f.code ≢ reason_code Reason.NoMemory
   pub after : WorldOf
   pub stops : StopsAtEvent w events f.event f.code after
 
 -- how a run of events in a world ended, and what the sink took
 abbrev pub EventsEnd : WorldOf → List Event → Taking → Result (Unit {0}) RunFault → Type 0
 EventsEnd w events out (Ok u) = Reported w events out
-EventsEnd w events out (Err faults.Output) = BeganReport w events out
-EventsEnd w events out (Err (faults.Event f)) = Stopped w events f × TookNothing out
-EventsEnd w events out (Err faults.NoMemory) = TookNothing out
+EventsEnd w events out (Err RunFault.Output) = BeganReport w events out
+EventsEnd w events out (Err (RunFault.Event f)) = Stopped w events f × TookNothing out
+EventsEnd w events out (Err RunFault.NoMemory) = TookNothing out
 EventsEnd w events out (Err _) = ⊥
 
 -- a world of a table with all its seats, where these changes may be launched, as it is opened
@@ -77,7 +76,7 @@ pub record ReplayedOn (last : ℕ) (manifest script schedule : List ℕ) (out : 
 -- how a replay of three texts ended, and what the sink took
 abbrev pub ReplaysTexts : ℕ → List ℕ → List ℕ → List ℕ → Taking → Result (Unit {0}) RunFault → Type 0
 ReplaysTexts last manifest script schedule out (Ok u) = ReplayedOn last manifest script schedule out (Ok u)
-ReplaysTexts last manifest script schedule out (Err faults.NoMemory) = TookNothing out
-ReplaysTexts last manifest script schedule out (Err faults.Output) = ReplayedOn last manifest script schedule out (Err faults.Output)
-ReplaysTexts last manifest script schedule out (Err (faults.Event f)) = ReplayedOn last manifest script schedule out (Err (faults.Event f))
+ReplaysTexts last manifest script schedule out (Err RunFault.NoMemory) = TookNothing out
+ReplaysTexts last manifest script schedule out (Err RunFault.Output) = ReplayedOn last manifest script schedule out (Err RunFault.Output)
+ReplaysTexts last manifest script schedule out (Err (RunFault.Event f)) = ReplayedOn last manifest script schedule out (Err (RunFault.Event f))
 ReplaysTexts last manifest script schedule out (Err f) = IsReplayUnread manifest script schedule f × TookNothing out

@@ -15,7 +15,6 @@ use Rattle.pb_worker.specs.Work.{WorkedOn, KeepsOpening}
 use Rattle.pb_base.specs.Taking.{Taking, TookNothing}
 use Rattle.pb_script.specs.TableReports.{Wrote, Began}
 use Rattle.pb_driver.specs.declared.fault.RunFault.{RunFault}
-use Rattle.pb_driver.specs.declared.fault.RunFault.TheVariants as faults
 use Rattle.pb_driver.specs.declared.run.Ran.{Ran}
 use Rattle.pb_driver.specs.Texts.{IsRunRead, IsRunUnread, fresh}
 
@@ -50,9 +49,9 @@ TellsUndone ran left = (ran.refusals.items ≡ left.refusals) × (ran.unfinished
 -- how it ended for what was left, and what the sink took
 abbrev pub Concludes : Remains → Taking → Result Ran RunFault → Type 0
 Concludes left out (Ok ran) = IsLegalTable left.table × Agree left.table left.seats × TellsUndone ran left × Wrote left.table out
-Concludes left out (Err faults.Output) = IsLegalTable left.table × Agree left.table left.seats × Began left.table out
-Concludes left out (Err faults.SeatsDiffer) = (Agree left.table left.seats → ⊥) × TookNothing out
-Concludes left out (Err faults.NoMemory) = TookNothing out
+Concludes left out (Err RunFault.Output) = IsLegalTable left.table × Agree left.table left.seats × Began left.table out
+Concludes left out (Err RunFault.SeatsDiffer) = (Agree left.table left.seats → ⊥) × TookNothing out
+Concludes left out (Err RunFault.NoMemory) = TookNothing out
 Concludes left out (Err _) = ⊥
 
 -- the report of what workers left was written, and what they left undone is told
@@ -77,9 +76,9 @@ pub record Differ (before : SharedOf) (olds : List SeatOf) (batches : List Write
 -- how a run on a table as opened ended, and what the sink took
 abbrev pub RunsOn : SharedOf → List SeatOf → List Writes → List Spare → Taking → Result Ran RunFault → Type 0
 RunsOn before olds batches spares out (Ok ran) = Reported before olds batches spares ran out
-RunsOn before olds batches spares out (Err faults.Output) = BeganReport before olds batches spares out
-RunsOn before olds batches spares out (Err faults.SeatsDiffer) = Differ before olds batches spares × TookNothing out
-RunsOn before olds batches spares out (Err faults.NoMemory) = TookNothing out
+RunsOn before olds batches spares out (Err RunFault.Output) = BeganReport before olds batches spares out
+RunsOn before olds batches spares out (Err RunFault.SeatsDiffer) = Differ before olds batches spares × TookNothing out
+RunsOn before olds batches spares out (Err RunFault.NoMemory) = TookNothing out
 RunsOn before olds batches spares out (Err _) = ⊥
 
 -- ---- the whole
@@ -97,7 +96,7 @@ pub record RanOn (manifest script : List ℕ) (workers last : ℕ) (spares : Lis
 -- how a run of two texts ended, and what the sink took
 abbrev pub RunsTexts : List ℕ → List ℕ → ℕ → ℕ → List Spare → Taking → Result Ran RunFault → Type 0
 RunsTexts manifest script workers last spares out (Ok ran) = RanOn manifest script workers last spares out (Ok ran)
-RunsTexts manifest script workers last spares out (Err faults.NoMemory) = TookNothing out
-RunsTexts manifest script workers last spares out (Err faults.Output) = RanOn manifest script workers last spares out (Err faults.Output)
-RunsTexts manifest script workers last spares out (Err faults.SeatsDiffer) = RanOn manifest script workers last spares out (Err faults.SeatsDiffer)
+RunsTexts manifest script workers last spares out (Err RunFault.NoMemory) = TookNothing out
+RunsTexts manifest script workers last spares out (Err RunFault.Output) = RanOn manifest script workers last spares out (Err RunFault.Output)
+RunsTexts manifest script workers last spares out (Err RunFault.SeatsDiffer) = RanOn manifest script workers last spares out (Err RunFault.SeatsDiffer)
 RunsTexts manifest script workers last spares out (Err f) = IsRunUnread manifest script f × TookNothing out

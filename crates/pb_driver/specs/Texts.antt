@@ -12,33 +12,31 @@ use Rattle.pb_parse.specs.ScriptLines.{script_of}
 use Rattle.pb_parse.specs.declared.event.Event.{Event}
 use Rattle.pb_parse.specs.Schedules.{schedule_of}
 use Rattle.pb_script.specs.declared.fault.ReportFault.{ReportFault}
-use Rattle.pb_script.specs.declared.fault.ReportFault.TheVariants as ends
 use Rattle.pb_driver.specs.declared.fault.RunFault.{RunFault}
-use Rattle.pb_driver.specs.declared.fault.RunFault.TheVariants as faults
 
 -- the fault of a run or a replay whose report ended so
 abbrev pub of_report : ReportFault → RunFault
-of_report ends.Output = faults.Output
-of_report ends.NoMemory = faults.NoMemory
+of_report ReportFault.Output = RunFault.Output
+of_report ReportFault.NoMemory = RunFault.NoMemory
 
 -- ---- each text
 
 -- the manifest is refused with this fault, or memory was refused
 abbrev pub IsBadManifest : List ℕ → RunFault → Type 0
-IsBadManifest manifest (faults.Manifest f) = ReadsManifest manifest (Err f)
-IsBadManifest manifest faults.NoMemory = Unit {0}
+IsBadManifest manifest (RunFault.Manifest f) = ReadsManifest manifest (Err f)
+IsBadManifest manifest RunFault.NoMemory = Unit {0}
 IsBadManifest manifest _ = ⊥
 
 -- the script is refused with this fault, or memory was refused
 abbrev pub IsBadScript : List ℕ → RunFault → Type 0
-IsBadScript script (faults.Script f) = script_of script ≡ Err (f.line, f.code)
-IsBadScript script faults.NoMemory = Unit {0}
+IsBadScript script (RunFault.Script f) = script_of script ≡ Err (f.line, f.code)
+IsBadScript script RunFault.NoMemory = Unit {0}
 IsBadScript script _ = ⊥
 
 -- the schedule is refused with this fault, for these observers, or memory was refused
 abbrev pub IsBadSchedule : List ObserverOf → List ℕ → RunFault → Type 0
-IsBadSchedule observers schedule (faults.Schedule f) = schedule_of observers schedule ≡ Err (f.line, f.code)
-IsBadSchedule observers schedule faults.NoMemory = Unit {0}
+IsBadSchedule observers schedule (RunFault.Schedule f) = schedule_of observers schedule ≡ Err (f.line, f.code)
+IsBadSchedule observers schedule RunFault.NoMemory = Unit {0}
 IsBadSchedule observers schedule _ = ⊥
 
 -- ---- the texts of a run
@@ -50,9 +48,9 @@ pub record IsRunRead (manifest script : List ℕ) (observers : List ObserverOf) 
 
 -- the first text that isn't read tells its fault
 abbrev pub IsRunUnread : List ℕ → List ℕ → RunFault → Type 0
-IsRunUnread manifest script (faults.Manifest f) = ReadsManifest manifest (Err f)
-IsRunUnread manifest script (faults.Script f) = (observers : List ObserverOf) × ReadsManifest manifest (Ok observers) × (script_of script ≡ Err (f.line, f.code))
-IsRunUnread manifest script faults.NoMemory = Unit {0}
+IsRunUnread manifest script (RunFault.Manifest f) = ReadsManifest manifest (Err f)
+IsRunUnread manifest script (RunFault.Script f) = (observers : List ObserverOf) × ReadsManifest manifest (Ok observers) × (script_of script ≡ Err (f.line, f.code))
+IsRunUnread manifest script RunFault.NoMemory = Unit {0}
 IsRunUnread manifest script _ = ⊥
 
 -- ---- the texts of a replay
@@ -64,7 +62,7 @@ pub record IsReplayRead (manifest script schedule : List ℕ) (observers : List 
 
 -- the first text that isn't read tells its fault
 abbrev pub IsReplayUnread : List ℕ → List ℕ → List ℕ → RunFault → Type 0
-IsReplayUnread manifest script schedule (faults.Schedule f) = (observers : List ObserverOf) × (batches : List Writes) × IsRunRead manifest script observers batches × (schedule_of observers schedule ≡ Err (f.line, f.code))
+IsReplayUnread manifest script schedule (RunFault.Schedule f) = (observers : List ObserverOf) × (batches : List Writes) × IsRunRead manifest script observers batches × (schedule_of observers schedule ≡ Err (f.line, f.code))
 IsReplayUnread manifest script schedule f = IsRunUnread manifest script f
 
 -- ---- the table

@@ -1,14 +1,11 @@
 -- The codes of a call's rules are listed lowest first.
-use Rattle.std.proofs.Common.{ℕ, ◌≤◌, Bool, true, false, not, List, [], ◌∷◌, ◌++◌, arith}
-use Rattle.std.specs.Prelude.{if◌then◌else◌, Option, Some, None}
+use Rattle.std.proofs.Common.{ℕ, ◌≤◌, Bool, true, false, not, List, [], ◌∷◌, ◌++◌, arith, if◌then◌else◌, Option, Some, None}
 use Rattle.pb_isa.specs.Helpers.{Helper, Read, Write, Delete, Start}
 use Rattle.pb_kinds.specs.declared.frame.Kind.{Kind}
-use Rattle.pb_kinds.specs.declared.frame.Kind.TheVariants.{Unset, Number, Stack, Record}
 use Rattle.pb_kinds.specs.declared.frame.Frame.{Frame}
 use Rattle.pb_kinds.specs.Frames.{kind_of, is_unset}
 use Rattle.pb_kinds.specs.Ranges.{in_stack, are_written}
 use Rattle.pb_helpers.specs.declared.code.RuleCode.{RuleCode}
-use Rattle.pb_helpers.specs.declared.code.RuleCode.TheVariants.{ReadsUnset, OutsideStack, UnwrittenByte, WrongArgument}
 use Rattle.pb_helpers.specs.Codes.{code_number, when, CodesRiseWithin}
 use Rattle.pb_helpers.specs.Arguments.{unset, stack_writes, filled_bytes, taken_bytes, is_cell, call_rules}
 
@@ -28,8 +25,8 @@ one a true c l = (l, omega arith)
 one a false c l = l
 
 -- a read of stack bytes breaks 25 or 26, and never both
-read_or_outside : (t u : Bool) → CodesRiseWithin 21 26 (if t then when u UnwrittenByte else OutsideStack ∷ [])
-read_or_outside true u = one 21 u UnwrittenByte (omega arith)
+read_or_outside : (t u : Bool) → CodesRiseWithin 21 26 (if t then when u RuleCode.UnwrittenByte else RuleCode.OutsideStack ∷ [])
+read_or_outside true u = one 21 u RuleCode.UnwrittenByte (omega arith)
 read_or_outside false u = (omega arith, omega arith)
 
 -- codes that rise up to b rise up to any c above it
@@ -39,28 +36,28 @@ to_higher a b c (x ∷ xs) l h = (h.0, to_higher (code_number x) b c xs l h.1)
 
 -- the bytes of a read break nothing above 26
 filled : (k : Kind) → CodesRiseWithin 21 26 (filled_bytes k)
-filled Unset = omega arith
-filled Number = omega arith
-filled (Stack k) = to_higher 21 25 26 (stack_writes k 32) (omega arith) (one 21 (not (in_stack k 32)) OutsideStack (omega arith))
-filled (Record k) = omega arith
+filled Kind.Unset = omega arith
+filled Kind.Number = omega arith
+filled (Kind.Stack k) = to_higher 21 25 26 (stack_writes k 32) (omega arith) (one 21 (not (in_stack k 32)) RuleCode.OutsideStack (omega arith))
+filled (Kind.Record k) = omega arith
 
 -- nor do those of a write
 taken : (f : Frame) (k : Kind) → CodesRiseWithin 21 26 (taken_bytes f k)
-taken f Unset = omega arith
-taken f Number = omega arith
-taken f (Stack k) = read_or_outside (in_stack k 32) (not (are_written f k 32))
-taken f (Record k) = omega arith
+taken f Kind.Unset = omega arith
+taken f Kind.Number = omega arith
+taken f (Kind.Stack k) = read_or_outside (in_stack k 32) (not (are_written f k 32))
+taken f (Kind.Record k) = omega arith
 
 pub reads : (f : Frame) (r : ℕ) → CodesRiseWithin 21 21 (unset f r)
-reads f r = one 21 (is_unset (kind_of f r)) ReadsUnset (omega arith)
+reads f r = one 21 (is_unset (kind_of f r)) RuleCode.ReadsUnset (omega arith)
 
-wrong : (t : Bool) → CodesRiseWithin 26 31 (when t WrongArgument)
-wrong t = one 26 t WrongArgument (omega arith)
+wrong : (t : Bool) → CodesRiseWithin 26 31 (when t RuleCode.WrongArgument)
+wrong t = one 26 t RuleCode.WrongArgument (omega arith)
 
 -- three registers, then the bytes, then the wrong argument: the order of the rules is that of the codes
-with_place : (f : Frame) (cs : List RuleCode) (t : Bool) → CodesRiseWithin 21 26 cs → CodesRiseWithin 21 31 (unset f 1 ++ unset f 2 ++ unset f 3 ++ cs ++ when t WrongArgument)
+with_place : (f : Frame) (cs : List RuleCode) (t : Bool) → CodesRiseWithin 21 26 cs → CodesRiseWithin 21 31 (unset f 1 ++ unset f 2 ++ unset f 3 ++ cs ++ when t RuleCode.WrongArgument)
 with_place f cs t h =
-    joined 21 26 31 (unset f 1 ++ unset f 2 ++ unset f 3 ++ cs) (when t WrongArgument)
+    joined 21 26 31 (unset f 1 ++ unset f 2 ++ unset f 3 ++ cs) (when t RuleCode.WrongArgument)
     (joined 21 21 26 (unset f 1 ++ unset f 2 ++ unset f 3) cs
     (joined 21 21 21 (unset f 1 ++ unset f 2) (unset f 3) (joined 21 21 21 (unset f 1) (unset f 2) (reads f 1) (reads f 2)) (reads f 3)) h)
     (wrong t)

@@ -3,29 +3,27 @@
 use Rattle.std.specs.Prelude.{◌≡◌, ℕ, Bool, true, false, ◌-◌, List, ◌++◌, length, replicate}
 use Rattle.pb_isa.specs.declared.limits.TheConstants.{RECORD_BYTES, MAX_RECORD_BYTES}
 use Rattle.pb_helpers.specs.declared.change.Bytes.{Bytes}
-use Rattle.pb_helpers.specs.declared.change.Bytes.TheVariants as bytes
 use Rattle.pb_helpers.specs.declared.change.Version.{Version}
-use Rattle.pb_helpers.specs.declared.change.Version.TheVariants as versions
 
 -- the bytes, of whichever version
 abbrev pub all_bytes : Bytes → List ℕ
-all_bytes (bytes.First bs) = bs
-all_bytes (bytes.Second bs) = bs
+all_bytes (Bytes.First bs) = bs
+all_bytes (Bytes.Second bs) = bs
 
 -- as many as the version has
 abbrev pub IsSized : Bytes → Type 0
-IsSized (bytes.First bs) = length bs ≡ RECORD_BYTES
-IsSized (bytes.Second bs) = length bs ≡ MAX_RECORD_BYTES
+IsSized (Bytes.First bs) = length bs ≡ RECORD_BYTES
+IsSized (Bytes.Second bs) = length bs ≡ MAX_RECORD_BYTES
 
 -- 80 or 120, which is also the size that a program of that version is judged for
 abbrev pub size_of : Version → ℕ
-size_of versions.First = RECORD_BYTES
-size_of versions.Second = MAX_RECORD_BYTES
+size_of Version.First = RECORD_BYTES
+size_of Version.Second = MAX_RECORD_BYTES
 
 -- whether it tells what the cell held at the acknowledged timestamp
 abbrev pub is_second : Version → Bool
-is_second versions.First = false
-is_second versions.Second = true
+is_second Version.First = false
+is_second Version.Second = true
 
 -- a record with zeros up to the most bytes that one has
 abbrev pub padded : List ℕ → List ℕ

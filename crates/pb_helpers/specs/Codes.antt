@@ -2,28 +2,27 @@
 -- instruction breaks, by rising number, so that the lowest is the first, whatever order a body tests them in.
 use Rattle.std.specs.Prelude.{ℕ, ◌≤◌, Bool, true, false, List, [], ◌∷◌, map, Option, Some, None}
 use Rattle.pb_helpers.specs.declared.code.RuleCode.{RuleCode}
-use Rattle.pb_helpers.specs.declared.code.RuleCode.TheVariants.{ReadsUnset, WritesR10, PointerArithmetic, PointerStored, OutsideStack, UnwrittenByte, OutsideRecord, WritesRecord, ThroughNumber, NotDeclared, WrongArgument, BackwardJump, JumpOutside, JumpIntoPair, Unreachable, FallsOff, ExitsWithPointer, PointerCompared}
 
 -- the number by which a code is told
 abbrev pub code_number : RuleCode → ℕ
-code_number ReadsUnset = 21
-code_number WritesR10 = 22
-code_number PointerArithmetic = 23
-code_number PointerStored = 24
-code_number OutsideStack = 25
-code_number UnwrittenByte = 26
-code_number OutsideRecord = 27
-code_number WritesRecord = 28
-code_number ThroughNumber = 29
-code_number NotDeclared = 30
-code_number WrongArgument = 31
-code_number BackwardJump = 32
-code_number JumpOutside = 33
-code_number JumpIntoPair = 34
-code_number Unreachable = 35
-code_number FallsOff = 36
-code_number ExitsWithPointer = 37
-code_number PointerCompared = 38
+code_number RuleCode.ReadsUnset = 21
+code_number RuleCode.WritesR10 = 22
+code_number RuleCode.PointerArithmetic = 23
+code_number RuleCode.PointerStored = 24
+code_number RuleCode.OutsideStack = 25
+code_number RuleCode.UnwrittenByte = 26
+code_number RuleCode.OutsideRecord = 27
+code_number RuleCode.WritesRecord = 28
+code_number RuleCode.ThroughNumber = 29
+code_number RuleCode.NotDeclared = 30
+code_number RuleCode.WrongArgument = 31
+code_number RuleCode.BackwardJump = 32
+code_number RuleCode.JumpOutside = 33
+code_number RuleCode.JumpIntoPair = 34
+code_number RuleCode.Unreachable = 35
+code_number RuleCode.FallsOff = 36
+code_number RuleCode.ExitsWithPointer = 37
+code_number RuleCode.PointerCompared = 38
 
 -- a code is listed where its rule is broken
 abbrev pub when : Bool → RuleCode → List RuleCode

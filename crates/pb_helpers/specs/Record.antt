@@ -5,7 +5,6 @@ use Rattle.std.specs.Int.{from_le_bytes, to_le_bytes}
 use mir.Syntax.{w64}
 use Rattle.pb_base.specs.declared.cell.Cell.{Cell}
 use Rattle.pb_base.specs.declared.content.Content.{Content}
-use Rattle.pb_base.specs.declared.content.Content.TheVariants.{Value, Deleted, Stamp}
 use Rattle.pb_base.specs.declared.content.Revision.{Revision}
 use Rattle.pb_base.specs.Cell.{row_of, column_of}
 
@@ -15,15 +14,15 @@ word_bytes n = to_le_bytes w64 n
 
 -- 1 for a value, else 0
 abbrev pub present : Content → ℕ
-present (Value v) = 1
-present Deleted = 0
-present (Stamp t) = 0
+present (Content.Value v) = 1
+present Content.Deleted = 0
+present (Content.Stamp t) = 0
 
 -- zeros where there is no value
 abbrev pub value_bytes : Content → List ℕ
-value_bytes (Value v) = v
-value_bytes Deleted = replicate 32 0
-value_bytes (Stamp t) = replicate 32 0
+value_bytes (Content.Value v) = v
+value_bytes Content.Deleted = replicate 32 0
+value_bytes (Content.Stamp t) = replicate 32 0
 
 -- the 80 bytes of version 1, for a version of a cell and the timestamp acknowledged before
 abbrev pub record_of : Cell → Revision → ℕ → List ℕ

@@ -4,7 +4,6 @@ use Rattle.std.specs.Prelude.{Some, None}
 use Rattle.pb_isa.specs.Machine as machine
 use Rattle.pb_helpers.specs.declared.ask.Ask.{Ask}
 use Rattle.pb_helpers.specs.declared.ask.Reply.{Reply}
-use Rattle.pb_helpers.specs.declared.ask.Reply.TheVariants.{Found, Absent}
 
 -- a cell that is asked for, by its numbers
 abbrev pub ask_of : Ask → machine.Ask
@@ -12,5 +11,5 @@ ask_of q = record { row = q.row.0; column = q.column }
 
 -- the bytes of the value, or none
 abbrev pub reply_of : Reply → machine.Reply
-reply_of (Found v) = Some v
-reply_of Absent = None
+reply_of (Reply.Found v) = Some v
+reply_of Reply.Absent = None

@@ -1,9 +1,8 @@
 -- The acknowledged timestamp that a read tells is the start of a run committed up to the start of the reader.
 use Rattle.std.proofs.Common.{◌≡◌, ℕ, ◌≤◌, inr, List, ap, arith}
-use Rattle.pb_base.specs.declared.cell.Cell.TheVariants.{Ack}
+use Rattle.pb_base.specs.declared.cell.Cell.{Cell}
 use Rattle.pb_base.specs.declared.names.Row.{Row}
 use Rattle.pb_steps.specs.declared.step.Answer.{Answer}
-use Rattle.pb_steps.specs.declared.step.Answer.TheVariants.{Found}
 use Rattle.pb_verify.specs.Observers.{ObserverOf}
 use Rattle.pb_steps.specs.Reads.{stamp_of, acknowledged_in}
 use Rattle.pb_steps.specs.State.{StateOf}
@@ -19,8 +18,8 @@ use Rattle.pb_history.proofs.SnapshotsTold.{phase_in_view, tells_snapshots}
 use Rattle.pb_history.proofs.Acknowledgments.{acknowledged_by}
 
 module _ (journal : List Entry) (state : StateOf) (a : Agrees journal state) (i : IsSoundTable state) where
-  earlier : (s : ℕ) (o : ℕ) (row : Row) (column : ℕ) (answer : Answer) → TellsSnapshot state.observers journal s (Ack o row column) answer → (acknowledged_in answer).0 ≤ s
-  earlier s o row column (Found start commit content) h =
+  earlier : (s : ℕ) (o : ℕ) (row : Row) (column : ℕ) (answer : Answer) → TellsSnapshot state.observers journal s (Cell.Ack o row column) answer → (acknowledged_in answer).0 ≤ s
+  earlier s o row column (Answer.Found start commit content) h =
       let k = acknowledged_by journal state a i h.m h.in_history o row column content h.writes in
       let is : (stamp_of content).0 ≡ h.m.start = ap (λ z. (stamp_of z).0) k.stamp in
       let above = (i.stamped h.m.start h.m.commit (inr (phase_in_view journal state a i h.m h.in_history))).0 in

@@ -2,18 +2,15 @@
 use Rattle.std.proofs.Common.{◌≡◌, ℕ, true, false, cond, List, ◌∷◌, Some, refl, sym, ap, subst, ◌∙◌}
 use Rattle.std.specs.Ordering.{eq_by_cmp}
 use Rattle.std.specs.Cmp.{Equal-is}
-use Rattle.pb_base.specs.declared.cell.Cell.TheVariants.{Ack}
+use Rattle.pb_base.specs.declared.cell.Cell.{Cell}
 use Rattle.pb_base.specs.declared.names.Row.{Row}
 use Rattle.pb_base.specs.declared.content.Content.{Content}
-use Rattle.pb_base.specs.declared.content.Content.TheVariants.{Stamp}
 use Rattle.pb_base.specs.Cell.{cell_cmp, cell_cmp-IsAntisymmetric}
 use Rattle.pb_base.specs.Batch.{Writes, content_in}
 use Rattle.pb_sound.specs.RunWrites.{AreRunWrites}
 use Rattle.pb_steps.specs.declared.seen.RecordedRead.{RecordedRead}
 use Rattle.pb_steps.specs.declared.step.Work.{Work}
-use Rattle.pb_steps.specs.declared.step.Work.TheVariants as works
 use Rattle.pb_steps.specs.declared.step.Declared.{Declared}
-use Rattle.pb_steps.specs.declared.step.Declared.TheVariants as declared
 use Rattle.pb_verify.specs.Observers.{ObserverOf, observed_column, acknowledgment}
 use Rattle.pb_steps.specs.Phases.{is_reading}
 use Rattle.pb_steps.specs.Declarations.{IsKnown, MayDeclare}
@@ -30,50 +27,50 @@ use Rattle.pb_history.proofs.DeclaredCells.{no_ack, batch_plain, run_plain}
 
 -- who writes it, where, and with which stamp
 pub record Acknowledges (observers : List ObserverOf) (work : Work) (s : ℕ) (o : ℕ) (row : Row) (column : ℕ) (k : Content) : Type 0 where
-  pub run : work ≡ works.Run o row
+  pub run : work ≡ Work.Run o row
   pub place : column ≡ observed_column observers o
-  pub stamp : k ≡ Stamp (ts s)
+  pub stamp : k ≡ Content.Stamp (ts s)
 
 -- an acknowledgment that a run writes is its own, with its start as the stamp
-own_ack : (observers : List ObserverOf) (p : ℕ) (r : Row) (s o : ℕ) (row : Row) (column : ℕ) (k : Content) → Ack o row column ≡ acknowledgment observers p r → Stamp (ts s) ≡ k → Acknowledges observers (works.Run p r) s o row column k
+own_ack : (observers : List ObserverOf) (p : ℕ) (r : Row) (s o : ℕ) (row : Row) (column : ℕ) (k : Content) → Cell.Ack o row column ≡ acknowledgment observers p r → Content.Stamp (ts s) ≡ k → Acknowledges observers (Work.Run p r) s o row column k
 own_ack observers p r s o row column k e stamp =
     let po : o ≡ p = cc in
     let pr : row ≡ r = cc in
     let pc : column ≡ observed_column observers p = cc in
-    record { run = λ i. works.Run (sym po i) (sym pr i); place = pc ∙ ap (observed_column observers) (sym po); stamp = sym stamp }
+    record { run = λ i. Work.Run (sym po i) (sym pr i); place = pc ∙ ap (observed_column observers) (sym po); stamp = sym stamp }
 
 -- a run writes no acknowledgment but that, since its program's writes are data cells
 run_acks : (observers : List ObserverOf) (p : ℕ) (r : Row) (s : ℕ) (ws : Writes) (o : ℕ) (row : Row) (column : ℕ) (k : Content) → AreRunWrites ws
-    → content_in ((acknowledgment observers p r, Stamp (ts s)) ∷ ws) (Ack o row column) ≡ Some k → Acknowledges observers (works.Run p r) s o row column k
+    → content_in ((acknowledgment observers p r, Content.Stamp (ts s)) ∷ ws) (Cell.Ack o row column) ≡ Some k → Acknowledges observers (Work.Run p r) s o row column k
 run_acks observers p r s ws o row column k few e =
-    elim (eq_by_cmp cell_cmp (Ack o row column) (acknowledgment observers p r)) as (λ b. eq_by_cmp cell_cmp (Ack o row column) (acknowledgment observers p r) ≡ b → cond b (Some (Stamp (ts s))) (content_in ws (Ack o row column)) ≡ Some k → Acknowledges observers (works.Run p r) s o row column k) [
-      | true ↦ λ t f. own_ack observers p r s o row column k (cell_cmp-IsAntisymmetric (Ack o row column) (acknowledgment observers p r) ((Equal-is (cell_cmp (Ack o row column) (acknowledgment observers p r))).0 t)) cc
+    elim (eq_by_cmp cell_cmp (Cell.Ack o row column) (acknowledgment observers p r)) as (λ b. eq_by_cmp cell_cmp (Cell.Ack o row column) (acknowledgment observers p r) ≡ b → cond b (Some (Content.Stamp (ts s))) (content_in ws (Cell.Ack o row column)) ≡ Some k → Acknowledges observers (Work.Run p r) s o row column k) [
+      | true ↦ λ t f. own_ack observers p r s o row column k (cell_cmp-IsAntisymmetric (Cell.Ack o row column) (acknowledgment observers p r) ((Equal-is (cell_cmp (Cell.Ack o row column) (acknowledgment observers p r))).0 t)) cc
       | false ↦ λ t f. let none = no_ack ws o row column (run_plain ws few) in absurd cc
     ] refl e
 
 -- so whoever declares an acknowledgment is a run of its observer
 ack_declared : (observers : List ObserverOf) (work : Work) (s : ℕ) (reads : List RecordedRead) (what : Declared) → MayDeclare observers work s reads what → IsKnown what
-    → (o : ℕ) (row : Row) (column : ℕ) (k : Content) → content_in (cells_of observers work s what) (Ack o row column) ≡ Some k → Acknowledges observers work s o row column k
-ack_declared observers works.Script s reads (declared.Script batch) may known o row column k e = let none = no_ack batch o row column (batch_plain batch known) in absurd cc
-ack_declared observers (works.Run p r) s reads (declared.Run q f) may known o row column k e = run_acks observers p r s f.writes o row column k known.1 e
-ack_declared observers works.Script s reads (declared.Run q f) may known o row column k e = absurd may
-ack_declared observers (works.Run p r) s reads (declared.Script batch) may known o row column k e = absurd may
+    → (o : ℕ) (row : Row) (column : ℕ) (k : Content) → content_in (cells_of observers work s what) (Cell.Ack o row column) ≡ Some k → Acknowledges observers work s o row column k
+ack_declared observers Work.Script s reads (Declared.Script batch) may known o row column k e = let none = no_ack batch o row column (batch_plain batch known) in absurd cc
+ack_declared observers (Work.Run p r) s reads (Declared.Run q f) may known o row column k e = run_acks observers p r s f.writes o row column k known.1 e
+ack_declared observers Work.Script s reads (Declared.Run q f) may known o row column k e = absurd may
+ack_declared observers (Work.Run p r) s reads (Declared.Script batch) may known o row column k e = absurd may
 
 module _ (journal : List Entry) (state : StateOf) (a : Agrees journal state) (i : IsSoundTable state) where
-  pub acknowledged_by : (m : Member) → InHistory state.observers journal m → (o : ℕ) (row : Row) (column : ℕ) (k : Content) → content_in m.writes (Ack o row column) ≡ Some k → Acknowledges state.observers m.work m.start o row column k
+  pub acknowledged_by : (m : Member) → InHistory state.observers journal m → (o : ℕ) (row : Row) (column : ℕ) (k : Content) → content_in m.writes (Cell.Ack o row column) ≡ Some k → Acknowledges state.observers m.work m.start o row column k
   acknowledged_by m h o row column k e =
       let c = is_committed journal state a m h in
       let past : is_reading c.t.phase ≡ false = ap is_reading c.phase in
       let d = (a.logged m.start c.t c.there).declared past in
       subst (λ w. Acknowledges state.observers w m.start o row column k) (sym c.work)
-      (ack_declared state.observers c.t.work m.start c.t.reads d.0 d.4 d.3 o row column k (ap (λ ws. content_in ws (Ack o row column)) (sym (c.writes ∙ d.2)) ∙ e))
+      (ack_declared state.observers c.t.work m.start c.t.reads d.0 d.4 d.3 o row column k (ap (λ ws. content_in ws (Cell.Ack o row column)) (sym (c.writes ∙ d.2)) ∙ e))
 
   -- the data of an acknowledgment's write record are the stamp of its start
-  pub stamp_stands : (o : ℕ) (row : Row) (column c s : ℕ) → write_at state.entries (Ack o row column) c ≡ Some s → data_at state.entries (Ack o row column) s ≡ Some (Stamp (ts s))
+  pub stamp_stands : (o : ℕ) (row : Row) (column c s : ℕ) → write_at state.entries (Cell.Ack o row column) c ≡ Some s → data_at state.entries (Cell.Ack o row column) s ≡ Some (Content.Stamp (ts s))
   stamp_stands o row column c s e =
-      let w = written_by journal state a i (Ack o row column) c s e in
+      let w = written_by journal state a i (Cell.Ack o row column) c s e in
       let ack = acknowledged_by w.m w.in_history o row column w.content w.writes in
-      i.record_data (Ack o row column) c s e
-      ∙ ap (λ z. (view_of state).content z (Ack o row column)) (sym w.start_is)
-      ∙ content_in_view journal state a i w.m w.in_history (Ack o row column)
-      ∙ w.writes ∙ ap Some (ack.stamp ∙ ap (λ z. Stamp (ts z)) w.start_is)
+      i.record_data (Cell.Ack o row column) c s e
+      ∙ ap (λ z. (view_of state).content z (Cell.Ack o row column)) (sym w.start_is)
+      ∙ content_in_view journal state a i w.m w.in_history (Cell.Ack o row column)
+      ∙ w.writes ∙ ap Some (ack.stamp ∙ ap (λ z. Content.Stamp (ts z)) w.start_is)

@@ -7,11 +7,8 @@ use Rattle.pb_base.specs.declared.cell.Cell.{Cell}
 use Rattle.pb_base.specs.declared.names.Ts.{Ts}
 use Rattle.pb_steps.specs.declared.step.Declared.{Declared}
 use Rattle.pb_steps.specs.declared.step.Step.{Step}
-use Rattle.pb_steps.specs.declared.step.Step.TheVariants.{Begin, Read, ReadAt, Declare, Stamp, CommitPrimary}
 use Rattle.pb_steps.specs.declared.step.Answer.{Answer}
-use Rattle.pb_steps.specs.declared.step.Answer.TheVariants.{At, Found, Absent, Done, Committed}
 use Rattle.pb_steps.specs.declared.phase.Phase.{Phase}
-use Rattle.pb_steps.specs.declared.phase.Phase.TheVariants as phases
 use Rattle.pb_steps.specs.declared.seen.RecordedRead.{RecordedRead}
 use Rattle.pb_steps.specs.State.{StateOf, TransactionOf, Transactions, cells_of}
 use Rattle.pb_verify.specs.Observers.{ObserverOf}
@@ -32,8 +29,8 @@ read_of x at answer = record { cell = x; at = at; answer = answer }
 
 -- the step by which a transaction of start s made it
 abbrev pub step_by : ℕ → Cell → Option Ts → Step
-step_by s x None = Read (ts s) x
-step_by s x (Some t) = ReadAt (ts s) x t
+step_by s x None = Step.Read (ts s) x
+step_by s x (Some t) = Step.ReadAt (ts s) x t
 
 -- the transaction of a start, if there is one
 abbrev pub got : StateOf → ℕ → Option TransactionOf
@@ -43,27 +40,27 @@ got state s = map.get state.transactions s
 
 -- stamped with c, or past that
 abbrev pub PastStamp : Phase → ℕ → Type 0
-PastStamp h c = (h ≡ phases.Stamped (ts c)) ⊎ ((h ≡ phases.Committed (ts c)) ⊎ (h ≡ phases.Failed))
+PastStamp h c = (h ≡ Phase.Stamped (ts c)) ⊎ ((h ≡ Phase.Committed (ts c)) ⊎ (h ≡ Phase.Failed))
 
 -- what an answered step says of its transaction from then on
 abbrev pub Told : StateOf → ℕ → Step → Answer → Type 0
-Told state seat (Begin work) (At s) = (t : TransactionOf) × (got state s.0 ≡ Some t) × (t.seat ≡ seat) × (t.work ≡ work)
-Told state seat (Read s x) (Found start commit content) = (t : TransactionOf) × (got state s.0 ≡ Some t) × Has t.reads (read_of x None (Found start commit content))
-Told state seat (Read s x) Absent = (t : TransactionOf) × (got state s.0 ≡ Some t) × Has t.reads (read_of x None Absent)
-Told state seat (ReadAt s x at) (Found start commit content) = (t : TransactionOf) × (got state s.0 ≡ Some t) × Has t.reads (read_of x (Some at) (Found start commit content))
-Told state seat (ReadAt s x at) Absent = (t : TransactionOf) × (got state s.0 ≡ Some t) × Has t.reads (read_of x (Some at) Absent)
-Told state seat (Declare s what) Done = (t : TransactionOf) × (got state s.0 ≡ Some t) × (is_reading t.phase ≡ false) × (t.declared ≡ cells_of state.observers t.work s.0 what) × IsKnown what × IsForWork state.observers t.work what
-Told state seat (Stamp s) (At c) = (t : TransactionOf) × (got state s.0 ≡ Some t) × PastStamp t.phase c.0
-Told state seat (CommitPrimary s) Committed = (t : TransactionOf) × (got state s.0 ≡ Some t) × (c : ℕ) × (t.phase ≡ phases.Committed (ts c))
+Told state seat (Step.Begin work) (Answer.At s) = (t : TransactionOf) × (got state s.0 ≡ Some t) × (t.seat ≡ seat) × (t.work ≡ work)
+Told state seat (Step.Read s x) (Answer.Found start commit content) = (t : TransactionOf) × (got state s.0 ≡ Some t) × Has t.reads (read_of x None (Answer.Found start commit content))
+Told state seat (Step.Read s x) Answer.Absent = (t : TransactionOf) × (got state s.0 ≡ Some t) × Has t.reads (read_of x None Answer.Absent)
+Told state seat (Step.ReadAt s x at) (Answer.Found start commit content) = (t : TransactionOf) × (got state s.0 ≡ Some t) × Has t.reads (read_of x (Some at) (Answer.Found start commit content))
+Told state seat (Step.ReadAt s x at) Answer.Absent = (t : TransactionOf) × (got state s.0 ≡ Some t) × Has t.reads (read_of x (Some at) Answer.Absent)
+Told state seat (Step.Declare s what) Answer.Done = (t : TransactionOf) × (got state s.0 ≡ Some t) × (is_reading t.phase ≡ false) × (t.declared ≡ cells_of state.observers t.work s.0 what) × IsKnown what × IsForWork state.observers t.work what
+Told state seat (Step.Stamp s) (Answer.At c) = (t : TransactionOf) × (got state s.0 ≡ Some t) × PastStamp t.phase c.0
+Told state seat (Step.CommitPrimary s) Answer.Committed = (t : TransactionOf) × (got state s.0 ≡ Some t) × (c : ℕ) × (t.phase ≡ Phase.Committed (ts c))
 Told state seat _ _ = Unit {0}
 
 -- the entries that a transaction has behind it
 pub record Logged (observers : List ObserverOf) (journal : List Entry) (s : ℕ) (t : TransactionOf) : Type 0 where
-  pub begun : IsEntry journal t.seat (Begin t.work) (At (ts s))
+  pub begun : IsEntry journal t.seat (Step.Begin t.work) (Answer.At (ts s))
   pub reads : (r : RecordedRead) → Has t.reads r → IsEntry journal t.seat (step_by s r.cell r.at) r.answer
-  pub declared : is_reading t.phase ≡ false → (what : Declared) × IsEntry journal t.seat (Declare (ts s) what) Done × (t.declared ≡ cells_of observers t.work s what) × IsKnown what × MayDeclare observers t.work s t.reads what
-  pub stamped : (c : ℕ) → (t.phase ≡ phases.Stamped (ts c)) ⊎ (t.phase ≡ phases.Committed (ts c)) → IsEntry journal t.seat (Stamp (ts s)) (At (ts c))
-  pub committed : (c : ℕ) → t.phase ≡ phases.Committed (ts c) → IsEntry journal t.seat (CommitPrimary (ts s)) Committed
+  pub declared : is_reading t.phase ≡ false → (what : Declared) × IsEntry journal t.seat (Step.Declare (ts s) what) Answer.Done × (t.declared ≡ cells_of observers t.work s what) × IsKnown what × MayDeclare observers t.work s t.reads what
+  pub stamped : (c : ℕ) → (t.phase ≡ Phase.Stamped (ts c)) ⊎ (t.phase ≡ Phase.Committed (ts c)) → IsEntry journal t.seat (Step.Stamp (ts s)) (Answer.At (ts c))
+  pub committed : (c : ℕ) → t.phase ≡ Phase.Committed (ts c) → IsEntry journal t.seat (Step.CommitPrimary (ts s)) Answer.Committed
 
 -- what each entry said still holds of its transaction, and what a transaction has done stands in the journal
 pub record Agrees (journal : List Entry) (state : StateOf) : Type 0 where
@@ -78,7 +75,7 @@ pub record Later (t u : TransactionOf) : Type 0 where
   pub past : is_reading t.phase ≡ false → (is_reading u.phase ≡ false) × (u.declared ≡ t.declared)
   pub reads : (r : RecordedRead) → Has t.reads r → Has u.reads r
   pub stamped : (c : ℕ) → PastStamp t.phase c → PastStamp u.phase c
-  pub committed : (c : ℕ) → t.phase ≡ phases.Committed (ts c) → u.phase ≡ phases.Committed (ts c)
+  pub committed : (c : ℕ) → t.phase ≡ Phase.Committed (ts c) → u.phase ≡ Phase.Committed (ts c)
 
 -- a transaction that isn't touched goes on as it is
 later_same : (t : TransactionOf) → Later t t
@@ -90,14 +87,14 @@ Grows old new = (s : ℕ) (t : TransactionOf) → got old s ≡ Some t → (u : 
 
 -- what an entry said holds on, since transactions only go on
 told_on : (old new : StateOf) → new.observers ≡ old.observers → Grows old new → (seat : ℕ) (step : Step) (answer : Answer) → Told old seat step answer → Told new seat step answer
-told_on old new obs g seat (Begin work) (At s) t = let u = g s.0 t.0 t.1 in (u.0, u.1, u.2.seat ∙ t.2, u.2.work ∙ t.3)
-told_on old new obs g seat (Read s x) (Found start commit content) t = let u = g s.0 t.0 t.1 in (u.0, u.1, u.2.reads _ t.2)
-told_on old new obs g seat (Read s x) Absent t = let u = g s.0 t.0 t.1 in (u.0, u.1, u.2.reads _ t.2)
-told_on old new obs g seat (ReadAt s x at) (Found start commit content) t = let u = g s.0 t.0 t.1 in (u.0, u.1, u.2.reads _ t.2)
-told_on old new obs g seat (ReadAt s x at) Absent t = let u = g s.0 t.0 t.1 in (u.0, u.1, u.2.reads _ t.2)
-told_on old new obs g seat (Declare s what) Done t = let u = g s.0 t.0 t.1 in let p = u.2.past t.2 in (u.0, u.1, p.0, p.1 ∙ t.3 ∙ sym (λ i. cells_of (obs i) (u.2.work i) s.0 what), t.4, subst (λ o. IsForWork o u.0.work what) (sym obs) (subst (λ w. IsForWork old.observers w what) (sym u.2.work) t.5))
-told_on old new obs g seat (Stamp s) (At c) t = let u = g s.0 t.0 t.1 in (u.0, u.1, u.2.stamped c.0 t.2)
-told_on old new obs g seat (CommitPrimary s) Committed t = let u = g s.0 t.0 t.1 in (u.0, u.1, t.2, u.2.committed t.2 t.3)
+told_on old new obs g seat (Step.Begin work) (Answer.At s) t = let u = g s.0 t.0 t.1 in (u.0, u.1, u.2.seat ∙ t.2, u.2.work ∙ t.3)
+told_on old new obs g seat (Step.Read s x) (Answer.Found start commit content) t = let u = g s.0 t.0 t.1 in (u.0, u.1, u.2.reads _ t.2)
+told_on old new obs g seat (Step.Read s x) Answer.Absent t = let u = g s.0 t.0 t.1 in (u.0, u.1, u.2.reads _ t.2)
+told_on old new obs g seat (Step.ReadAt s x at) (Answer.Found start commit content) t = let u = g s.0 t.0 t.1 in (u.0, u.1, u.2.reads _ t.2)
+told_on old new obs g seat (Step.ReadAt s x at) Answer.Absent t = let u = g s.0 t.0 t.1 in (u.0, u.1, u.2.reads _ t.2)
+told_on old new obs g seat (Step.Declare s what) Answer.Done t = let u = g s.0 t.0 t.1 in let p = u.2.past t.2 in (u.0, u.1, p.0, p.1 ∙ t.3 ∙ sym (λ i. cells_of (obs i) (u.2.work i) s.0 what), t.4, subst (λ o. IsForWork o u.0.work what) (sym obs) (subst (λ w. IsForWork old.observers w what) (sym u.2.work) t.5))
+told_on old new obs g seat (Step.Stamp s) (Answer.At c) t = let u = g s.0 t.0 t.1 in (u.0, u.1, u.2.stamped c.0 t.2)
+told_on old new obs g seat (Step.CommitPrimary s) Answer.Committed t = let u = g s.0 t.0 t.1 in (u.0, u.1, t.2, u.2.committed t.2 t.3)
 told_on old new obs g seat _ _ t = tt
 
 -- one entry more leaves the others where they were

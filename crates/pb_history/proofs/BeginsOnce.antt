@@ -1,14 +1,10 @@
 -- A transaction begins once, before all other entries that name its start.
-use Rattle.std.proofs.Common.{◌≡◌, ℕ, ◌+◌, ◌≤◌, ◌⊎◌, inl, inr, Bool, true, false, cond, ◌||◌, List, [], ◌∷◌, Option, Some, None, refl, sym, ap, subst, ◌∙◌, arith}
-use Rattle.std.specs.Prelude.{◌==◌, option_map}
+use Rattle.std.proofs.Common.{◌≡◌, ℕ, ◌+◌, ◌≤◌, ◌⊎◌, inl, inr, Bool, true, false, cond, ◌||◌, List, [], ◌∷◌, Option, Some, None, refl, sym, ap, subst, ◌∙◌, arith, ◌==◌, option_map, nat_cmp}
 use Rattle.std.specs.List.{list_any}
-use Rattle.std.specs.Ordering.{nat_cmp}
 use Rattle.std.specs.FinMap as map
 use Rattle.std.proofs.lemmas.Bool.{eqb-true}
 use Rattle.pb_steps.specs.declared.step.Step.{Step}
-use Rattle.pb_steps.specs.declared.step.Step.TheVariants.{Begin, Read, ReadAt, Declare, Prewrite, Stamp, CommitPrimary, CommitSecondary, Settle, Clear, NextMark, Sweep}
 use Rattle.pb_steps.specs.declared.step.Answer.{Answer}
-use Rattle.pb_steps.specs.declared.step.Answer.TheVariants.{At, Locked, Found, Absent, Done, Conflict, Committed, Lost, RolledBack, Waits, CommittedAt, Marked, NoMark, StillBehind}
 use Rattle.pb_verify.specs.Observers.{ObserverOf}
 use Rattle.pb_steps.specs.State.{StateOf, TransactionOf, opening, new_transaction}
 use Rattle.pb_steps.specs.Reasons.{IsOwn}
@@ -43,32 +39,32 @@ module _ (old : StateOf) (seat : ℕ) (new : StateOf) (s : ℕ) where
   -- what names s begins it, with a fresh start, or finds it there as its seat's
   pub named : (step : Step) (answer : Answer) → StepCase old seat step answer new → names_start s step answer ≡ true
       → ((is_begin step ≡ true) × (s ≡ old.clock + 1)) ⊎ ((is_begin step ≡ false) × Owns old seat s)
-  named (Begin work) (At n) m e = inl (refl, eqb-true s n.0 e ∙ m.fresh)
-  named (Read n x) (Locked start primary) m e = inr (refl, there n.0 m.t e m.own)
-  named (Read n x) (Found start commit content) m e = inr (refl, there n.0 m.t e m.own)
-  named (Read n x) Absent m e = inr (refl, there n.0 m.t e m.own)
-  named (ReadAt n x at) (Locked start primary) m e = inr (refl, there n.0 m.t e m.own)
-  named (ReadAt n x at) (Found start commit content) m e = inr (refl, there n.0 m.t e m.own)
-  named (ReadAt n x at) Absent m e = inr (refl, there n.0 m.t e m.own)
-  named (Declare n what) Done m e = inr (refl, there n.0 m.t e m.own)
-  named (Prewrite n x) Done m e = inr (refl, there n.0 m.t e m.own)
-  named (Prewrite n x) Conflict m e = inr (refl, there n.0 m.t e m.own)
-  named (Stamp n) (At c) m e = inr (refl, there n.0 m.t e m.own)
-  named (CommitPrimary n) Committed m e = inr (refl, there n.0 m.t e m.own)
-  named (CommitPrimary n) Lost m e = inr (refl, there n.0 m.t e m.own)
-  named (CommitSecondary n x) Done m e = inr (refl, there n.0 m.t e m.own)
-  named (Settle x) Absent m e = cc
-  named (Settle x) (Locked start primary) m e = cc
-  named (Settle x) RolledBack m e = cc
-  named (Clear x) Absent m e = cc
-  named (Clear x) Waits m e = cc
-  named (Clear x) (CommittedAt c) m e = cc
-  named (Clear x) RolledBack m e = cc
-  named (NextMark after) (Marked x) m e = cc
-  named (NextMark after) NoMark m e = cc
-  named (Sweep x) NoMark m e = cc
-  named (Sweep x) StillBehind m e = cc
-  named (Sweep x) Done m e = cc
+  named (Step.Begin work) (Answer.At n) m e = inl (refl, eqb-true s n.0 e ∙ m.fresh)
+  named (Step.Read n x) (Answer.Locked start primary) m e = inr (refl, there n.0 m.t e m.own)
+  named (Step.Read n x) (Answer.Found start commit content) m e = inr (refl, there n.0 m.t e m.own)
+  named (Step.Read n x) Answer.Absent m e = inr (refl, there n.0 m.t e m.own)
+  named (Step.ReadAt n x at) (Answer.Locked start primary) m e = inr (refl, there n.0 m.t e m.own)
+  named (Step.ReadAt n x at) (Answer.Found start commit content) m e = inr (refl, there n.0 m.t e m.own)
+  named (Step.ReadAt n x at) Answer.Absent m e = inr (refl, there n.0 m.t e m.own)
+  named (Step.Declare n what) Answer.Done m e = inr (refl, there n.0 m.t e m.own)
+  named (Step.Prewrite n x) Answer.Done m e = inr (refl, there n.0 m.t e m.own)
+  named (Step.Prewrite n x) Answer.Conflict m e = inr (refl, there n.0 m.t e m.own)
+  named (Step.Stamp n) (Answer.At c) m e = inr (refl, there n.0 m.t e m.own)
+  named (Step.CommitPrimary n) Answer.Committed m e = inr (refl, there n.0 m.t e m.own)
+  named (Step.CommitPrimary n) Answer.Lost m e = inr (refl, there n.0 m.t e m.own)
+  named (Step.CommitSecondary n x) Answer.Done m e = inr (refl, there n.0 m.t e m.own)
+  named (Step.Settle x) Answer.Absent m e = cc
+  named (Step.Settle x) (Answer.Locked start primary) m e = cc
+  named (Step.Settle x) Answer.RolledBack m e = cc
+  named (Step.Clear x) Answer.Absent m e = cc
+  named (Step.Clear x) Answer.Waits m e = cc
+  named (Step.Clear x) (Answer.CommittedAt c) m e = cc
+  named (Step.Clear x) Answer.RolledBack m e = cc
+  named (Step.NextMark after) (Answer.Marked x) m e = cc
+  named (Step.NextMark after) Answer.NoMark m e = cc
+  named (Step.Sweep x) Answer.NoMark m e = cc
+  named (Step.Sweep x) Answer.StillBehind m e = cc
+  named (Step.Sweep x) Answer.Done m e = cc
   named _ _ m e = absurd m
 
 -- ---- the transaction after it
@@ -79,22 +75,22 @@ IsOf seat o = (u : TransactionOf) × (o ≡ Some u) × (u.seat ≡ seat)
 
 pub begun : (observers : List ObserverOf) (seat s : ℕ) (step : Step) (answer : Answer) (o : Option TransactionOf) → is_begin step ≡ true → names_start s step answer ≡ true
     → IsOf seat (transaction_after observers seat step answer o)
-begun observers seat s (Begin work) (At n) o b e = (new_transaction seat work, refl, refl)
-begun observers seat s (Begin work) _ o b e = absurd cc
+begun observers seat s (Step.Begin work) (Answer.At n) o b e = (new_transaction seat work, refl, refl)
+begun observers seat s (Step.Begin work) _ o b e = absurd cc
 begun observers seat s _ _ o b e = absurd cc
 
 stays : (observers : List ObserverOf) (seat : ℕ) (step : Step) (answer : Answer) (t : TransactionOf) → is_begin step ≡ false → IsOf t.seat (transaction_after observers seat step answer (Some t))
-stays observers seat (Begin work) answer t b = absurd cc
-stays observers seat (Read s x) (Found start commit content) t b = (_, refl, refl)
-stays observers seat (Read s x) Absent t b = (_, refl, refl)
-stays observers seat (ReadAt s x at) (Found start commit content) t b = (_, refl, refl)
-stays observers seat (ReadAt s x at) Absent t b = (_, refl, refl)
-stays observers seat (Declare s what) Done t b = (_, refl, refl)
-stays observers seat (Prewrite s x) Done t b = (_, refl, refl)
-stays observers seat (Prewrite s x) Conflict t b = (_, refl, refl)
-stays observers seat (Stamp s) (At c) t b = (_, refl, refl)
-stays observers seat (CommitPrimary s) Committed t b = (_, refl, refl)
-stays observers seat (CommitPrimary s) Lost t b = (_, refl, refl)
+stays observers seat (Step.Begin work) answer t b = absurd cc
+stays observers seat (Step.Read s x) (Answer.Found start commit content) t b = (_, refl, refl)
+stays observers seat (Step.Read s x) Answer.Absent t b = (_, refl, refl)
+stays observers seat (Step.ReadAt s x at) (Answer.Found start commit content) t b = (_, refl, refl)
+stays observers seat (Step.ReadAt s x at) Answer.Absent t b = (_, refl, refl)
+stays observers seat (Step.Declare s what) Answer.Done t b = (_, refl, refl)
+stays observers seat (Step.Prewrite s x) Answer.Done t b = (_, refl, refl)
+stays observers seat (Step.Prewrite s x) Answer.Conflict t b = (_, refl, refl)
+stays observers seat (Step.Stamp s) (Answer.At c) t b = (_, refl, refl)
+stays observers seat (Step.CommitPrimary s) Answer.Committed t b = (_, refl, refl)
+stays observers seat (Step.CommitPrimary s) Answer.Lost t b = (_, refl, refl)
 stays observers seat _ _ t b = (t, refl, refl)
 
 pub stays_by : (observers : List ObserverOf) (seat : ℕ) (step : Step) (answer : Answer) (o : Option TransactionOf) (h : (t : TransactionOf) × (o ≡ Some t)) → is_begin step ≡ false

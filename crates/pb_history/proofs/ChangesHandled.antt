@@ -3,14 +3,12 @@
 use Rattle.std.proofs.Common.{◌≡◌, ℕ, zero, suc, ◌<◌, ◌≤◌, ◌^◌, cond, ◌⊎◌, inl, inr, List, ◌∷◌, Some, sym, ap, subst, ◌∙◌, arith}
 use Rattle.std.specs.FinMap as map
 use Rattle.pb_base.specs.declared.cell.Cell.{Cell}
-use Rattle.pb_base.specs.declared.cell.Cell.TheVariants.{Data, Ack}
 use Rattle.pb_base.specs.declared.names.Row.{Row}
 use Rattle.pb_base.specs.declared.names.Ts.{Ts}
 use Rattle.pb_base.specs.declared.content.Content.{Content}
-use Rattle.pb_base.specs.declared.content.Content.TheVariants.{Stamp}
 use Rattle.pb_base.specs.Batch.{Writes, content_in}
-use Rattle.pb_steps.specs.declared.step.Work.TheVariants as works
-use Rattle.pb_steps.specs.declared.phase.Phase.TheVariants as phases
+use Rattle.pb_steps.specs.declared.step.Work.{Work}
+use Rattle.pb_steps.specs.declared.phase.Phase.{Phase}
 use Rattle.pb_steps.specs.State.{StateOf, TransactionOf}
 use Rattle.pb_verify.specs.Observers.{ObserverOf, column_or_zero, observed_column, acknowledgment}
 use Rattle.pb_steps.specs.Readings.{write_at}
@@ -38,19 +36,19 @@ unfolding same_cell
 own_content x k ws = ap (λ b. cond b (Some k) (content_in ws x)) (same_cell_itself x)
 
 -- two stamps alike are of one timestamp
-same_stamps : (a b : ℕ) → Stamp (ts a) ≡ Stamp (ts b) → a ≡ b
+same_stamps : (a b : ℕ) → Content.Stamp (ts a) ≡ Content.Stamp (ts b) → a ≡ b
 same_stamps a b e = let same : ts a ≡ ts b = cc in ap (λ (t : Ts). t.0) same
 
 module _ (journal : List Entry) (state : StateOf) (a : Agrees journal state) (i : IsSoundTable state) (cov : IsCovered state) where
   -- a run writes its acknowledgment, with its start
-  writes_ack : (m : Member) → InHistory state.observers journal m → (o : ℕ) (row : Row) → m.work ≡ works.Run o row → WritesTo m (acknowledgment state.observers o row) (Stamp (ts m.start))
+  writes_ack : (m : Member) → InHistory state.observers journal m → (o : ℕ) (row : Row) → m.work ≡ Work.Run o row → WritesTo m (acknowledgment state.observers o row) (Content.Stamp (ts m.start))
   writes_ack m h o row work =
       let r = run_of_member journal state a i m o row h work in
-      ap (λ ws. content_in ws (acknowledgment state.observers o row)) r.writes_are ∙ own_content (acknowledgment state.observers o row) (Stamp (ts m.start)) r.writes
+      ap (λ ws. content_in ws (acknowledgment state.observers o row)) r.writes_are ∙ own_content (acknowledgment state.observers o row) (Content.Stamp (ts m.start)) r.writes
 
   -- whose stamp it is
-  stamp_of_writer : (m : Member) → InHistory state.observers journal m → (o : ℕ) (row : Row) (b : ℕ) → WritesTo m (acknowledgment state.observers o row) (Stamp (ts b)) → b ≡ m.start
-  stamp_of_writer m h o row b w = same_stamps b m.start (acknowledged_by journal state a i m h o row (observed_column state.observers o) (Stamp (ts b)) w).stamp
+  stamp_of_writer : (m : Member) → InHistory state.observers journal m → (o : ℕ) (row : Row) (b : ℕ) → WritesTo m (acknowledgment state.observers o row) (Content.Stamp (ts b)) → b ≡ m.start
+  stamp_of_writer m h o row b w = same_stamps b m.start (acknowledged_by journal state a i m h o row (observed_column state.observers o) (Content.Stamp (ts b)) w).stamp
 
   above : (m : Member) → InHistory state.observers journal m → m.start < m.commit
   above m h = (i.stamped m.start m.commit (inr (phase_in_view journal state a i m h))).0
@@ -62,16 +60,16 @@ module _ (journal : List Entry) (state : StateOf) (a : Agrees journal state) (i 
       let seen = p.seen in
       let newer = q.newer in
       elim q.acknowledges [
-        | inl z ↦ (let l = z.0 m (Stamp (ts m.start)) hm wm in omega (arith, l, after))
+        | inl z ↦ (let l = z.0 m (Content.Stamp (ts m.start)) hm wm in omega (arith, l, after))
         | inr z ↦
             (let s = z.2 in
             let stamp : q.acknowledged ≡ s.m.start = stamp_of_writer s.m s.in_history o row q.acknowledged s.writes in
-            let most = s.greatest m (Stamp (ts m.start)) hm wm (omega (arith, after)) in
+            let most = s.greatest m (Content.Stamp (ts m.start)) hm wm (omega (arith, after)) in
             let is = s.commit_is in
             let up = above s.m s.in_history in
             elim (same_number m.start s.m.start) [
               | inl e ↦ omega (arith, e, stamp, seen, newer)
-              | inr e ↦ elim (apart journal state a i m s.m hm s.in_history e (acknowledgment state.observers o row) (Stamp (ts m.start)) (Stamp (ts q.acknowledged)) wm s.writes) [
+              | inr e ↦ elim (apart journal state a i m s.m hm s.in_history e (acknowledgment state.observers o row) (Content.Stamp (ts m.start)) (Content.Stamp (ts q.acknowledged)) wm s.writes) [
                 | inl l ↦ (let first = above m hm in omega (arith, l, first, stamp, seen, newer))
                 | inr l ↦ (let first = above m hm in omega (arith, l, first, most, is))
               ]
@@ -84,7 +82,7 @@ module _ (journal : List Entry) (state : StateOf) (a : Agrees journal state) (i 
       let c = is_committed journal state a m hm in
       let d = is_committed journal state a n hn in
       let same : c.t ≡ d.t = one _ d.t c.t (subst (λ s. got_there s d.t) (sym start) d.there) c.there in
-      let phase : phases.Committed (ts m.commit) ≡ phases.Committed (ts n.commit) = sym c.phase ∙ ap (λ (t : TransactionOf). t.phase) same ∙ d.phase in
+      let phase : Phase.Committed (ts m.commit) ≡ Phase.Committed (ts n.commit) = sym c.phase ∙ ap (λ (t : TransactionOf). t.phase) same ∙ d.phase in
       let commit : m.commit ≡ n.commit = same_commits m.commit n.commit phase in
       let seat : m.seat ≡ n.seat = c.seat ∙ ap (λ (t : TransactionOf). t.seat) same ∙ sym d.seat in
       let work : m.work ≡ n.work = c.work ∙ ap (λ (t : TransactionOf). t.work) same ∙ sym d.work in
@@ -94,20 +92,20 @@ module _ (journal : List Entry) (state : StateOf) (a : Agrees journal state) (i 
       got_there : ℕ → TransactionOf → Type 0
       got_there s t = map.get state.transactions s ≡ Some t
 
-      same_commits : (c d : ℕ) → phases.Committed (ts c) ≡ phases.Committed (ts d) → c ≡ d
+      same_commits : (c d : ℕ) → Phase.Committed (ts c) ≡ Phase.Committed (ts d) → c ≡ d
       same_commits c d e = let k : ts c ≡ ts d = cc in ap (λ (t : Ts). t.0) k
 
   once : TellsOneHandler journal state
   once m n hm hn o row c p q = elim (same_number m.start n.start) [
     | inl e ↦ same_member m n hm hn e
-    | inr e ↦ elim (apart journal state a i m n hm hn e (acknowledgment state.observers o row) (Stamp (ts m.start)) (Stamp (ts n.start)) (writes_ack m hm o row p.run) (writes_ack n hn o row q.run)) [
+    | inr e ↦ elim (apart journal state a i m n hm hn e (acknowledgment state.observers o row) (Content.Stamp (ts m.start)) (Content.Stamp (ts n.start)) (writes_ack m hm o row p.run) (writes_ack n hn o row q.run)) [
       | inl l ↦ absurd (not_again m n hm hn o row c p q l)
       | inr l ↦ absurd (not_again n m hn hm o row c q p l)
     ]
   ]
 
   -- from a run at or after c, down to the one that handles c
-  first_run : (fuel : ℕ) (m : Member) → InHistory state.observers journal m → (o : ℕ) (row : Row) (c : ℕ) → m.work ≡ works.Run o row → 0 < c → c ≤ m.start → m.start < fuel
+  first_run : (fuel : ℕ) (m : Member) → InHistory state.observers journal m → (o : ℕ) (row : Row) (c : ℕ) → m.work ≡ Work.Run o row → 0 < c → c ≤ m.start → m.start < fuel
       → (n : Member) × InHistory state.observers journal n × Handles state.observers journal n o row c
   first_run zero m h o row c work some low up = absurd (omega (arith, up))
   first_run (suc fuel) m h o row c work some low up =
@@ -119,7 +117,7 @@ module _ (journal : List Entry) (state : StateOf) (a : Agrees journal state) (i 
           | inl z ↦ (let none = z.1 in absurd (omega (arith, none, l, some)))
           | inr z ↦
               (let s = z.2 in
-              let by = acknowledged_by journal state a i s.m s.in_history o row (observed_column state.observers o) (Stamp (ts r.acknowledged)) s.writes in
+              let by = acknowledged_by journal state a i s.m s.in_history o row (observed_column state.observers o) (Content.Stamp (ts r.acknowledged)) s.writes in
               let stamp = same_stamps r.acknowledged s.m.start by.stamp in
               let is = s.commit_is in
               let early = s.seen in
@@ -131,14 +129,14 @@ module _ (journal : List Entry) (state : StateOf) (a : Agrees journal state) (i 
   handlers : TellsHandlers journal state
   handlers quiet u h o observer there row content w =
       let column : observed_column state.observers o ≡ observer.column = ap column_or_zero there in
-      let x : Cell = Data row observer.column in
-      let wx : WritesTo u x content = ap (λ c. content_in u.writes (Data row c)) (sym column) ∙ w in
+      let x : Cell = Cell.Data row observer.column in
+      let wx : WritesTo u x content = ap (λ c. content_in u.writes (Cell.Data row c)) (sym column) ∙ w in
       let written : write_at state.entries x u.commit ≡ Some u.start = elim (stands_at journal state a i u h x content wx) [
         | inl p ↦ p
         | inr p ↦ (let none = quiet.unlocked x u.start (small_start u h) in let there = p.1 in absurd cc)
       ] in
       let k = cov.covers o observer there row (quiet.unmarked x) u.commit u.start written in
-      let m = written_by journal state a i (Ack o row observer.column) k.0 k.1 k.2 in
+      let m = written_by journal state a i (Cell.Ack o row observer.column) k.0 k.1 k.2 in
       let by = acknowledged_by journal state a i m.m m.in_history o row observer.column m.content m.writes in
       let first = above u h in
       let start = m.start_is in

@@ -3,10 +3,9 @@ use Rattle.std.proofs.Common.{◌≡◌, ℕ, inl, inr, false, List, Option, Som
 use Rattle.pb_base.specs.declared.names.Ts.{Ts}
 use Rattle.pb_base.specs.Batch.{are_distinct}
 use Rattle.pb_steps.specs.declared.step.Declared.{Declared}
-use Rattle.pb_steps.specs.declared.step.Step.TheVariants.{Begin, Declare, Stamp, CommitPrimary}
-use Rattle.pb_steps.specs.declared.step.Answer.TheVariants.{At, Done, Committed}
+use Rattle.pb_steps.specs.declared.step.Step.{Step}
+use Rattle.pb_steps.specs.declared.step.Answer.{Answer}
 use Rattle.pb_steps.specs.declared.phase.Phase.{Phase}
-use Rattle.pb_steps.specs.declared.phase.Phase.TheVariants as phases
 use Rattle.pb_steps.specs.State.{StateOf, TransactionOf, cells_of}
 use Rattle.pb_verify.specs.Observers.{ObserverOf}
 use Rattle.pb_steps.specs.Phases.{is_reading}
@@ -22,7 +21,7 @@ pub one : (o : Option TransactionOf) (t u : TransactionOf) → o ≡ Some t → 
 one o t u p q = cc
 
 -- a committed transaction has one commit
-pub same_stamp : (h : Phase) (c d : ℕ) → h ≡ phases.Committed (ts c) → PastStamp h d → c ≡ d
+pub same_stamp : (h : Phase) (c d : ℕ) → h ≡ Phase.Committed (ts c) → PastStamp h d → c ≡ d
 same_stamp h c d e p = elim p [
   | inl q ↦ cc
   | inr r ↦ elim r [ inl q ↦ (let k : ts c ≡ ts d = cc in ap (λ (t : Ts). t.0) k) | inr q ↦ cc ]
@@ -41,7 +40,7 @@ module _ (journal : List Entry) (state : StateOf) (a : Agrees journal state) whe
       record {
         t = c.0;
         there = c.1;
-        phase = c.3 ∙ ap (λ n. phases.Committed (ts n)) commit;
+        phase = c.3 ∙ ap (λ n. Phase.Committed (ts n)) commit;
         seat = sym b.2 ∙ ap (λ (t : TransactionOf). t.seat) (one o c.0 b.0 c.1 b.1);
         work = sym b.3 ∙ ap (λ (t : TransactionOf). t.work) (one o c.0 b.0 c.1 b.1);
         writes = h.writes_are ∙ ap (λ w. cells_of state.observers w m.start h.what) work ∙ sym d.3 ∙ ap (λ (t : TransactionOf). t.declared) (one o c.0 d.0 c.1 d.1);
@@ -53,15 +52,15 @@ module _ (journal : List Entry) (state : StateOf) (a : Agrees journal state) whe
       let past : is_reading h.t.phase ≡ false = ap is_reading h.phase in
       let d = l.declared past in
       record {
-        begun = subst (λ n. IsEntry journal n (Begin m.work) (At (ts m.start))) (sym h.seat) (subst (λ w. IsEntry journal h.t.seat (Begin w) (At (ts m.start))) (sym h.work) l.begun);
+        begun = subst (λ n. IsEntry journal n (Step.Begin m.work) (Answer.At (ts m.start))) (sym h.seat) (subst (λ w. IsEntry journal h.t.seat (Step.Begin w) (Answer.At (ts m.start))) (sym h.work) l.begun);
         what = d.0;
-        declared = subst (λ n. IsEntry journal n (Declare (ts m.start) d.0) Done) (sym h.seat) d.1;
+        declared = subst (λ n. IsEntry journal n (Step.Declare (ts m.start) d.0) Answer.Done) (sym h.seat) d.1;
         writes_are = h.writes ∙ d.2 ∙ ap (λ w. cells_of state.observers w m.start d.0) (sym h.work);
-        stamped = subst (λ n. IsEntry journal n (Stamp (ts m.start)) (At (ts m.commit))) (sym h.seat) (l.stamped m.commit (inr h.phase));
-        committed = subst (λ n. IsEntry journal n (CommitPrimary (ts m.start)) Committed) (sym h.seat) (l.committed m.commit h.phase);
+        stamped = subst (λ n. IsEntry journal n (Step.Stamp (ts m.start)) (Answer.At (ts m.commit))) (sym h.seat) (l.stamped m.commit (inr h.phase));
+        committed = subst (λ n. IsEntry journal n (Step.CommitPrimary (ts m.start)) Answer.Committed) (sym h.seat) (l.committed m.commit h.phase);
       }
 
-  is_declared_by : (seat start : ℕ) (what : Declared) → IsEntry journal seat (Declare (ts start) what) Done → IsDeclared state start what
+  is_declared_by : (seat start : ℕ) (what : Declared) → IsEntry journal seat (Step.Declare (ts start) what) Answer.Done → IsDeclared state start what
   is_declared_by seat start what h = let d = a.told _ h in record { t = d.0; there = d.1; declared = d.3; distinct = ap are_distinct d.3 ∙ cells_distinct state.observers d.0.work start what d.4; known = d.4; for_work = d.5 }
 
 pub tells : (observers : List ObserverOf) (seats clock : ℕ) (journal : List Entry) (state : StateOf) → IsLegal observers seats clock journal state → TellsHistory journal state

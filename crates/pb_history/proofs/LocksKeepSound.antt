@@ -1,13 +1,11 @@
 -- The table stays sound where a cell is prewritten, a lock becomes a write record, and a lock is rolled back.
-use Rattle.std.proofs.Common.{◌≡◌, ◌≢◌, ℕ, ◌<◌, ◌≤◌, Bool, true, ◌⊎◌, Some, None, refl, sym, ap, ◌∙◌, subst, inl, inr, arith}
-use Rattle.std.specs.Prelude.{◌||◌}
+use Rattle.std.proofs.Common.{◌≡◌, ◌≢◌, ℕ, ◌<◌, ◌≤◌, Bool, true, ◌⊎◌, Some, None, refl, sym, ap, ◌∙◌, subst, inl, inr, arith, ◌||◌}
 use Rattle.pb_base.specs.declared.cell.Cell.{Cell}
 use Rattle.pb_base.specs.declared.content.Content.{Content}
-use Rattle.pb_steps.specs.declared.phase.Phase.TheVariants.{Reading, Declared}
+use Rattle.pb_steps.specs.declared.phase.Phase.{Phase}
 use Rattle.pb_steps.specs.declared.seen.RecordedRead.{RecordedRead}
 use Rattle.pb_steps.specs.declared.step.Answer.{Answer}
 use Rattle.pb_steps.specs.Reads.{read_up_to}
-use Rattle.pb_steps.specs.declared.step.Answer.TheVariants.{Found, Absent}
 use Rattle.pb_history.specs.History.{Has}
 use Rattle.pb_history.specs.TableView.{TableView}
 use Rattle.pb_history.specs.Sound.{HasStamp, LacksPrimary, ReadTells, IsSoundView}
@@ -22,11 +20,11 @@ with_prewrite v s x p k = record v { prewritten = set1 v.prewritten s (λ y. v.p
 
 -- what a read tells does not turn on phases: it stands where its write record and data do
 pub tells_on : (v w : TableView) (s : ℕ) (x : Cell) (answer : Answer) → ((start c : ℕ) → v.write x c ≡ Some start → w.write x c ≡ Some start) → ((start c : ℕ) → v.write x c ≡ Some start → w.stored x start ≡ v.stored x start) → ((c u : ℕ) → c ≤ s → w.write x c ≡ Some u → v.write x c ≡ Some u) → ReadTells v s x answer → ReadTells w s x answer
-tells_on v w s x (Found start commit content) f g h t = (t.0, f start.0 commit.0 t.1, g start.0 commit.0 t.1 ∙ t.2, λ c u l e. t.3 c u l (h c u l e))
-tells_on v w s x Absent f g h t = λ c u l e. t c u l (h c u l e)
+tells_on v w s x (Answer.Found start commit content) f g h t = (t.0, f start.0 commit.0 t.1, g start.0 commit.0 t.1 ∙ t.2, λ c u l e. t.3 c u l (h c u l e))
+tells_on v w s x Answer.Absent f g h t = λ c u l e. t c u l (h c u l e)
 tells_on v w s x _ f g h t = absurd t
 
-module _ (v : TableView) (i : IsSoundView v) (s : ℕ) (x p : Cell) (k : Content) (was : v.phase s ≡ Some Declared) (first : v.primary s ≡ Some p) (declared : v.content s x ≡ Some k) (order : (x ≡ p) ⊎ (v.prewritten s p ≡ true)) (once : v.prewritten s x ≢ true) (unlocked : (u : ℕ) → v.lock x u ≡ None) (early : (c u : ℕ) → v.write x c ≡ Some u → c < s) where
+module _ (v : TableView) (i : IsSoundView v) (s : ℕ) (x p : Cell) (k : Content) (was : v.phase s ≡ Some Phase.Declared) (first : v.primary s ≡ Some p) (declared : v.content s x ≡ Some k) (order : (x ≡ p) ⊎ (v.prewritten s p ≡ true)) (once : v.prewritten s x ≢ true) (unlocked : (u : ℕ) → v.lock x u ≡ None) (early : (c u : ℕ) → v.write x c ≡ Some u → c < s) where
   pre_back : (u : ℕ) (y : Cell) → (with_prewrite v s x p k).prewritten u y ≡ true → ((u ≡ s) × (y ≡ x)) ⊎ (v.prewritten u y ≡ true)
   pre_back u y e = elim (changed v.prewritten s (λ z. v.prewritten s z || same_cell x z) u ((with_prewrite v s x p k).prewritten u) refl) [
     | inl q ↦ elim (or_cases (v.prewritten s y) (same_cell x y) (ap (λ (f : Cell → Bool). f y) q.1 ∙ e)) [ inl b ↦ inr (subst (λ w. v.prewritten w y ≡ true) (sym q.0) b) | inr a ↦ inl (q.0, sym (same_cell_is x y a)) ]
@@ -42,8 +40,8 @@ module _ (v : TableView) (i : IsSoundView v) (s : ℕ) (x p : Cell) (k : Content
   pre_here : (with_prewrite v s x p k).prewritten s x ≡ true
   pre_here = ap (λ (f : Cell → Bool). f x) (set1_here v.prewritten s (λ w. v.prewritten s w || same_cell x w)) ∙ or_right (v.prewritten s x) (same_cell x x) (same_cell_itself x)
 
-  away : (u : ℕ) (y : Cell) → v.phase u ≢ Some Declared → Apart y u x s
-  away u y n a b = n (subst (λ w. v.phase w ≡ Some Declared) (sym b) was)
+  away : (u : ℕ) (y : Cell) → v.phase u ≢ Some Phase.Declared → Apart y u x s
+  away u y n a b = n (subst (λ w. v.phase w ≡ Some Phase.Declared) (sym b) was)
 
   complete_away : (u c : ℕ) (y : Cell) → v.phase u ≡ Some (committed_at c) → Apart y u x s
   complete_away u c y e = away u y (λ f. cc)
@@ -66,7 +64,7 @@ module _ (v : TableView) (i : IsSoundView v) (s : ℕ) (x p : Cell) (k : Content
     one_stamp = i.one_stamp;
     was_declared = λ u y e. elim (pre_back u y e) [ inl q ↦ (k, (λ j. v.content (q.0 j) (q.1 j)) ∙ declared) | inr b ↦ i.was_declared u y b ];
     past_reading = λ u y e. elim (pre_back u y e) [
-      | inl q ↦ (let z : v.phase u ≡ Some Declared = ap v.phase q.0 ∙ was in (λ f. cc, λ f. cc))
+      | inl q ↦ (let z : v.phase u ≡ Some Phase.Declared = ap v.phase q.0 ∙ was in (λ f. cc, λ f. cc))
       | inr b ↦ i.past_reading u y b
     ];
     primary_first = λ u y q e g. elim (pre_back u y e) [
@@ -257,7 +255,7 @@ module _ (v : TableView) (i : IsSoundView v) (s c : ℕ) (x p : Cell) (locked : 
     one_stamp = λ u w d a b. i.one_stamp u w d (stamp_was u d a) (stamp_was w d b);
     was_declared = i.was_declared;
     past_reading = λ u y e. (
-      λ f. elim (changed v.phase s (Some (committed_at c)) u (Some Reading) f) [ inl q ↦ cc | inr q ↦ (i.past_reading u y e).0 q.0 ],
+      λ f. elim (changed v.phase s (Some (committed_at c)) u (Some Phase.Reading) f) [ inl q ↦ cc | inr q ↦ (i.past_reading u y e).0 q.0 ],
       λ f. elim (changed v.phase s (Some (committed_at c)) u None f) [ inl q ↦ cc | inr q ↦ (i.past_reading u y e).1 q.0 ],
     );
     primary_first = i.primary_first;

@@ -1,24 +1,19 @@
 -- Where an observed cell isn't marked, each of its changes is acknowledged by a run that began later.
-use Rattle.std.proofs.Common.{◌≡◌, ℕ, zero, suc, ◌<◌, ◌≤◌, Bool, true, false, cond, ◌⊎◌, inl, inr, List, [], ◌∷◌, ◌++◌, Option, Some, None, refl, sym, ap, subst, ◌∙◌, arith}
-use Rattle.std.specs.Prelude.{◌||◌, ◌==◌, is_some, slice_get}
+use Rattle.std.proofs.Common.{◌≡◌, ℕ, zero, suc, ◌<◌, ◌≤◌, Bool, true, false, cond, ◌⊎◌, inl, inr, List, [], ◌∷◌, ◌++◌, Option, Some, None, refl, sym, ap, subst, ◌∙◌, arith, ◌||◌, ◌==◌, is_some, slice_get}
 use Rattle.std.specs.List.{list_any}
 use Rattle.std.specs.Ordering.{eq_by_cmp}
 use Rattle.std.specs.FinMap as map
 use Rattle.std.proofs.lemmas.Bool.{eq-eqb, or_right as or_true}
 use Rattle.pb_base.specs.declared.cell.Cell.{Cell}
-use Rattle.pb_base.specs.declared.cell.Cell.TheVariants.{Data, Ack}
 use Rattle.pb_base.specs.declared.names.Row.{Row}
-use Rattle.pb_base.specs.declared.content.Content.TheVariants.{Stamp}
+use Rattle.pb_base.specs.declared.content.Content.{Content}
 use Rattle.pb_base.specs.declared.content.Revision.{Revision}
 use Rattle.pb_base.specs.Cell.{cell_cmp, cell_cmp_total}
-use Rattle.pb_store.specs.declared.slot.Sort.TheVariants as sorts
+use Rattle.pb_store.specs.declared.slot.Sort.{Sort}
 use Rattle.pb_store.specs.Slot.{slot_cmp}
 use Rattle.pb_store.specs.Contents.{Marks, slot_at}
 use Rattle.pb_steps.specs.declared.step.Step.{Step}
-use Rattle.pb_steps.specs.declared.step.Step.TheVariants.{Begin, Read, ReadAt, Declare, Prewrite, CommitPrimary, CommitSecondary, Settle, Clear, NextMark, Sweep}
-use Rattle.pb_steps.specs.declared.step.Step.TheVariants as steps
 use Rattle.pb_steps.specs.declared.step.Answer.{Answer}
-use Rattle.pb_steps.specs.declared.step.Answer.TheVariants as answers
 use Rattle.pb_steps.specs.State.{StateOf, opening}
 use Rattle.pb_verify.specs.Observers.{ObserverOf}
 use Rattle.pb_steps.specs.Reads.{stamp_of}
@@ -46,8 +41,8 @@ use Rattle.pb_history.proofs.Acknowledgments.{stamp_stands}
 -- by observers, whether a cell is marked, and write records
 abbrev Covers : List ObserverOf → (Cell → Bool) → (Cell → ℕ → Option ℕ) → Type 0
 Covers observers marked write =
-    (o : ℕ) (observer : ObserverOf) → slice_get observers o ≡ Some observer → (row : Row) → marked (Data row observer.column) ≡ false
-    → (c u : ℕ) → write (Data row observer.column) c ≡ Some u → (d : ℕ) × (s : ℕ) × (write (Ack o row observer.column) d ≡ Some s) × (c ≤ s)
+    (o : ℕ) (observer : ObserverOf) → slice_get observers o ≡ Some observer → (row : Row) → marked (Cell.Data row observer.column) ≡ false
+    → (c u : ℕ) → write (Cell.Data row observer.column) c ≡ Some u → (d : ℕ) × (s : ℕ) × (write (Cell.Ack o row observer.column) d ≡ Some s) × (c ≤ s)
 
 -- where an observed cell isn't marked, each of its write records has a later run's acknowledgment
 pub record IsCovered (state : StateOf) : Type 0 where
@@ -99,11 +94,11 @@ module _ (journal : List Entry) (old : StateOf) (a : Agrees journal old) (i : Is
   small x c s e = let b = (i.stamped s c (inr (i.record_committed x c s e))).1 in let k = i.small in omega (arith, b, k)
 
   -- the stamp of an acknowledgment's version is its start
-  stamp_is : (p : ℕ) (row : Row) (column s : ℕ) (v : Revision) → IsVersion old.entries (Ack p row column) s v → stamp_in (Some v) ≡ v.start.0
+  stamp_is : (p : ℕ) (row : Row) (column s : ℕ) (v : Revision) → IsVersion old.entries (Cell.Ack p row column) s v → stamp_in (Some v) ≡ v.start.0
   stamp_is p row column s v n =
       let there = n.content in
       let stands = stamp_stands journal old a i p row column v.commit.0 v.start.0 n.written in
-      let same : v.content ≡ Stamp (ts v.start.0) = cc in
+      let same : v.content ≡ Content.Stamp (ts v.start.0) = cc in
       ap (λ k. (stamp_of k).0) same
 
   kept : (new : StateOf) → new.observers ≡ old.observers → new.marks ≡ old.marks → write_at new.entries ≡ write_at old.entries → IsCovered new
@@ -118,7 +113,7 @@ module _ (journal : List Entry) (old : StateOf) (a : Agrees journal old) (i : Is
       let w = ap write_at entries ∙ write_after_commit old.entries x s c in
       record {
         covers = λ o observer there row unmarked d u e.
-            let y : Cell = Data row observer.column in
+            let y : Cell = Cell.Data row observer.column in
             let known : slice_get old.observers o ≡ Some observer = ap (λ os. slice_get os o) (sym obs) ∙ there in
             let off : is_marked (with_mark old.observers old.marks x) y ≡ false = ap (λ m. is_marked m y) (sym marks) ∙ unmarked in
             let e' = ap (λ (f : Cell → ℕ → Option ℕ). f y d) (sym w) ∙ e in
@@ -129,24 +124,24 @@ module _ (journal : List Entry) (old : StateOf) (a : Agrees journal old) (i : Is
                   absurd cc)
               | inr b ↦
                   (let was = cov.covers o observer known row (marks_were old.marks x old.observers y off) d u b.0 in
-                  (was.0, was.1, ap (λ (f : Cell → ℕ → Option ℕ). f (Ack o row observer.column) was.0) w ∙ write_on (view_of old) i s c x p locked may (Ack o row observer.column) was.0 was.1 was.2, was.3))
+                  (was.0, was.1, ap (λ (f : Cell → ℕ → Option ℕ). f (Cell.Ack o row observer.column) was.0) w ∙ write_on (view_of old) i s c x p locked may (Cell.Ack o row observer.column) was.0 was.1 was.2, was.3))
             ];
       }
 
-  up_to_date : (p : ℕ) (row : Row) (observer : ObserverOf) → slice_get old.observers p ≡ Some observer → AllUpToDate old.observers old.entries (Data row observer.column)
-      → (c u : ℕ) → write_at old.entries (Data row observer.column) c ≡ Some u → (d : ℕ) × (s : ℕ) × (write_at old.entries (Ack p row observer.column) d ≡ Some s) × (c ≤ s)
+  up_to_date : (p : ℕ) (row : Row) (observer : ObserverOf) → slice_get old.observers p ≡ Some observer → AllUpToDate old.observers old.entries (Cell.Data row observer.column)
+      → (c u : ℕ) → write_at old.entries (Cell.Data row observer.column) c ≡ Some u → (d : ℕ) × (s : ℕ) × (write_at old.entries (Cell.Ack p row observer.column) d ≡ Some s) × (c ≤ s)
   up_to_date p row observer there all c u e =
-      let above = (i.stamped u c (inr (i.record_committed (Data row observer.column) c u e))).0 in
-      let k = all p observer there refl c (small (Data row observer.column) c u e) (ap is_some e) in
+      let above = (i.stamped u c (inr (i.record_committed (Cell.Data row observer.column) c u e))).0 in
+      let k = all p observer there refl c (small (Cell.Data row observer.column) c u e) (ap is_some e) in
       by k.0 k.1 k.2 above
     where
-      by : (v : Option Revision) → IsNewestVersion old.entries (Ack p row observer.column) v → c ≤ stamp_in v → u < c → (d : ℕ) × (s : ℕ) × (write_at old.entries (Ack p row observer.column) d ≡ Some s) × (c ≤ s)
+      by : (v : Option Revision) → IsNewestVersion old.entries (Cell.Ack p row observer.column) v → c ≤ stamp_in v → u < c → (d : ℕ) × (s : ℕ) × (write_at old.entries (Cell.Ack p row observer.column) d ≡ Some s) × (c ≤ s)
       by None n low above = absurd (omega (arith, low, above))
       by (Some v) n low above = let same = stamp_is p row observer.column last_timestamp v n in (v.commit.0, v.start.0, n.written, omega (arith, low, same))
 
   swept : (new : StateOf) (x : Cell) → AllUpToDate old.observers old.entries x → new ≡ record old { marks = map.remove old.marks x } → IsCovered new
   swept new x all is = subst IsCovered (sym is) (record {
-    covers = λ o observer there row unmarked c u e. elim (marked_less old.marks x (Data row observer.column) unmarked) [
+    covers = λ o observer there row unmarked c u e. elim (marked_less old.marks x (Cell.Data row observer.column) unmarked) [
       | inl q ↦ up_to_date o row observer there (subst (AllUpToDate old.observers old.entries) (sym q) all) c u e
       | inr q ↦ cov.covers o observer there row q c u e
     ];
@@ -168,38 +163,38 @@ module _ (journal : List Entry) (old : StateOf) (a : Agrees journal old) (i : Is
       ] refl m.new_is
 
   case_covers : (seat : ℕ) (step : Step) (answer : Answer) (new : StateOf) → StepCase old seat step answer new → IsCovered new
-  case_covers seat (Begin work) (answers.At s) new m = beside new _ m.new_is refl refl refl
-  case_covers seat (Read s x) (answers.Locked start primary) new m = same new m.new_is
-  case_covers seat (Read s x) (answers.Found start commit content) new m = beside new _ m.new_is refl refl refl
-  case_covers seat (Read s x) answers.Absent new m = beside new _ m.new_is refl refl refl
-  case_covers seat (ReadAt s x t) (answers.Locked start primary) new m = same new m.new_is
-  case_covers seat (ReadAt s x t) (answers.Found start commit content) new m = beside new _ m.new_is refl refl refl
-  case_covers seat (ReadAt s x t) answers.Absent new m = beside new _ m.new_is refl refl refl
-  case_covers seat (Declare s what) answers.Done new m = beside new _ m.new_is refl refl refl
-  case_covers seat (Prewrite s x) answers.Done new m = beside new _ m.new_is refl refl (write_after_put old.entries x s.0 m.content m.primary)
-  case_covers seat (Prewrite s x) answers.Conflict new m = beside new _ m.new_is refl refl refl
-  case_covers seat (steps.Stamp s) (answers.At c) new m = beside new _ m.new_is refl refl refl
-  case_covers seat (CommitPrimary s) answers.Committed new m =
+  case_covers seat (Step.Begin work) (Answer.At s) new m = beside new _ m.new_is refl refl refl
+  case_covers seat (Step.Read s x) (Answer.Locked start primary) new m = same new m.new_is
+  case_covers seat (Step.Read s x) (Answer.Found start commit content) new m = beside new _ m.new_is refl refl refl
+  case_covers seat (Step.Read s x) Answer.Absent new m = beside new _ m.new_is refl refl refl
+  case_covers seat (Step.ReadAt s x t) (Answer.Locked start primary) new m = same new m.new_is
+  case_covers seat (Step.ReadAt s x t) (Answer.Found start commit content) new m = beside new _ m.new_is refl refl refl
+  case_covers seat (Step.ReadAt s x t) Answer.Absent new m = beside new _ m.new_is refl refl refl
+  case_covers seat (Step.Declare s what) Answer.Done new m = beside new _ m.new_is refl refl refl
+  case_covers seat (Step.Prewrite s x) Answer.Done new m = beside new _ m.new_is refl refl (write_after_put old.entries x s.0 m.content m.primary)
+  case_covers seat (Step.Prewrite s x) Answer.Conflict new m = beside new _ m.new_is refl refl refl
+  case_covers seat (Step.Stamp s) (Answer.At c) new m = beside new _ m.new_is refl refl refl
+  case_covers seat (Step.CommitPrimary s) Answer.Committed new m =
       let held = some_is (lock_at old.entries m.primary s.0) m.locked in
       let own = (i.lock_prewritten m.primary s.0 held.0 held.1).1 in
       let mine : (view_of old).primary s.0 ≡ Some m.primary = ap primary_by m.own.there ∙ m.primary_is in
       let is : m.primary ≡ held.0 = cc in
       committed new s.0 m.c m.primary held.0 held.1 (inr (ap phase_by m.own.there ∙ ap Some m.stamped, is)) (ap (λ (z : StateOf). z.observers) m.new_is) (ap (λ (z : StateOf). z.entries) m.new_is) (ap (λ (z : StateOf). z.marks) m.new_is)
-  case_covers seat (CommitPrimary s) answers.Lost new m = beside new _ m.new_is refl refl refl
-  case_covers seat (CommitSecondary s x) answers.Done new m = secondary new seat s.0 x m
-  case_covers seat (Settle x) answers.Absent new m = same new m.new_is
-  case_covers seat (Settle x) (answers.Locked start primary) new m = same new m.new_is
-  case_covers seat (Settle x) answers.RolledBack new m = beside new _ m.new_is refl refl (write_after_back old.entries x m.start)
-  case_covers seat (Clear x) answers.Absent new m = same new m.new_is
-  case_covers seat (Clear x) answers.Waits new m = same new m.new_is
-  case_covers seat (Clear x) (answers.CommittedAt c) new m =
+  case_covers seat (Step.CommitPrimary s) Answer.Lost new m = beside new _ m.new_is refl refl refl
+  case_covers seat (Step.CommitSecondary s x) Answer.Done new m = secondary new seat s.0 x m
+  case_covers seat (Step.Settle x) Answer.Absent new m = same new m.new_is
+  case_covers seat (Step.Settle x) (Answer.Locked start primary) new m = same new m.new_is
+  case_covers seat (Step.Settle x) Answer.RolledBack new m = beside new _ m.new_is refl refl (write_after_back old.entries x m.start)
+  case_covers seat (Step.Clear x) Answer.Absent new m = same new m.new_is
+  case_covers seat (Step.Clear x) Answer.Waits new m = same new m.new_is
+  case_covers seat (Step.Clear x) (Answer.CommittedAt c) new m =
       committed new m.start c.0 x m.primary m.locked.locked (inl (i.record_committed m.primary c.0 m.start m.written)) (ap (λ (z : StateOf). z.observers) m.new_is) (ap (λ (z : StateOf). z.entries) m.new_is) (ap (λ (z : StateOf). z.marks) m.new_is)
-  case_covers seat (Clear x) answers.RolledBack new m = beside new _ m.new_is refl refl (write_after_back old.entries x m.start)
-  case_covers seat (NextMark after) (answers.Marked x) new m = same new m.new_is
-  case_covers seat (NextMark after) answers.NoMark new m = same new m.new_is
-  case_covers seat (Sweep x) answers.NoMark new m = same new m.new_is
-  case_covers seat (Sweep x) answers.StillBehind new m = same new m.new_is
-  case_covers seat (Sweep x) answers.Done new m = swept new x m.up_to_date m.new_is
+  case_covers seat (Step.Clear x) Answer.RolledBack new m = beside new _ m.new_is refl refl (write_after_back old.entries x m.start)
+  case_covers seat (Step.NextMark after) (Answer.Marked x) new m = same new m.new_is
+  case_covers seat (Step.NextMark after) Answer.NoMark new m = same new m.new_is
+  case_covers seat (Step.Sweep x) Answer.NoMark new m = same new m.new_is
+  case_covers seat (Step.Sweep x) Answer.StillBehind new m = same new m.new_is
+  case_covers seat (Step.Sweep x) Answer.Done new m = swept new x m.up_to_date m.new_is
   case_covers seat _ _ new m = absurd m
 
 -- ---- a legal journal
@@ -213,7 +208,7 @@ module _ (observers : List ObserverOf) (seats clock : ℕ) where
       run_covers (before ++ e ∷ []) es r.0 new legal next r.2
 
   nothing_covers : IsCovered (opening observers seats clock)
-  nothing_covers = record { covers = λ o observer there row unmarked c u e. let none = ap start_of (map.get-empty slot_cmp (slot_at (Data row observer.column) sorts.Write c)) in absurd cc }
+  nothing_covers = record { covers = λ o observer there row unmarked c u e. let none = ap start_of (map.get-empty slot_cmp (slot_at (Cell.Data row observer.column) Sort.Write c)) in absurd cc }
 
   pub legal_covers : (journal : List Entry) (state : StateOf) → IsLegal observers seats clock journal state → IsCovered state
   legal_covers journal state l = run_covers [] journal (opening observers seats clock) state (record { fits = l.fits; run = refl }) nothing_covers l.run
@@ -232,36 +227,36 @@ module _ (journal : List Entry) (state : StateOf) (a : Agrees journal state) (i 
   ]
 
   -- an acknowledgment of a start at least c tells a stamp at least c
-  acknowledged_by_then : (p : ℕ) (row : Row) (column c d s : ℕ) (v : Option Revision) → IsNewestVersion state.entries (Ack p row column) v → write_at state.entries (Ack p row column) d ≡ Some s → c ≤ s → c ≤ stamp_in v
-  acknowledged_by_then p row column c d s None n e low = let none = n d (small journal state a i cov (Ack p row column) d s e) in absurd cc
+  acknowledged_by_then : (p : ℕ) (row : Row) (column c d s : ℕ) (v : Option Revision) → IsNewestVersion state.entries (Cell.Ack p row column) v → write_at state.entries (Cell.Ack p row column) d ≡ Some s → c ≤ s → c ≤ stamp_in v
+  acknowledged_by_then p row column c d s None n e low = let none = n d (small journal state a i cov (Cell.Ack p row column) d s e) in absurd cc
   acknowledged_by_then p row column c d s (Some v) n e low =
       let same = stamp_is journal state a i cov p row column last_timestamp v n in
       elim (above d v.commit.0) [
-        | inl g ↦ (let none = n.newest d g (small journal state a i cov (Ack p row column) d s e) in absurd cc)
-        | inr g ↦ (let order = in_order (Ack p row column) v.commit.0 v.start.0 d s n.written e g in omega (arith, order, low, same))
+        | inl g ↦ (let none = n.newest d g (small journal state a i cov (Cell.Ack p row column) d s e) in absurd cc)
+        | inr g ↦ (let order = in_order (Cell.Ack p row column) v.commit.0 v.start.0 d s n.written e g in omega (arith, order, low, same))
       ]
     where
       above : (b c : ℕ) → (c < b) ⊎ (b ≤ c)
       above b c = grind arith
 
-  unmarked_is_current : (row : Row) (column p : ℕ) → IsBehind state.observers state.entries row column p → is_marked state.marks (Data row column) ≡ false → ⊥
+  unmarked_is_current : (row : Row) (column p : ℕ) → IsBehind state.observers state.entries row column p → is_marked state.marks (Cell.Data row column) ≡ false → ⊥
   unmarked_is_current row column p h off =
       let k = h.acknowledges in
-      let at : is_marked state.marks (Data row k.observer.column) ≡ false = ap (λ c. is_marked state.marks (Data row c)) k.observes ∙ off in
-      let written : write_at state.entries (Data row k.observer.column) h.version.commit.0 ≡ Some h.version.start.0 = ap (λ c. write_at state.entries (Data row c) h.version.commit.0) k.observes ∙ h.newest.written in
+      let at : is_marked state.marks (Cell.Data row k.observer.column) ≡ false = ap (λ c. is_marked state.marks (Cell.Data row c)) k.observes ∙ off in
+      let written : write_at state.entries (Cell.Data row k.observer.column) h.version.commit.0 ≡ Some h.version.start.0 = ap (λ c. write_at state.entries (Cell.Data row c) h.version.commit.0) k.observes ∙ h.newest.written in
       let w = cov.covers p k.observer k.there row at h.version.commit.0 h.version.start.0 written in
-      let ack : write_at state.entries (Ack p row column) w.0 ≡ Some w.1 = ap (λ c. write_at state.entries (Ack p row c) w.0) (sym k.observes) ∙ w.2 in
+      let ack : write_at state.entries (Cell.Ack p row column) w.0 ≡ Some w.1 = ap (λ c. write_at state.entries (Cell.Ack p row c) w.0) (sym k.observes) ∙ w.2 in
       let low = acknowledged_by_then p row column h.version.commit.0 w.0 w.1 h.acknowledged k.newest ack w.3 in
       let newer = h.newer in
       omega (arith, low, newer)
 
   behind_marked : (x : Cell) → SomeBehind state.observers state.entries x → is_marked state.marks x ≡ true
-  behind_marked (Data row column) h = by (is_marked state.marks (Data row column)) (unmarked_is_current row column h.0 h.1)
+  behind_marked (Cell.Data row column) h = by (is_marked state.marks (Cell.Data row column)) (unmarked_is_current row column h.0 h.1)
     where
       by : (b : Bool) → (b ≡ false → ⊥) → b ≡ true
       by true n = refl
       by false n = absurd (n refl)
-  behind_marked (Ack o row column) h = absurd h
+  behind_marked (Cell.Ack o row column) h = absurd h
 
 pub tells_marks : (observers : List ObserverOf) (seats clock : ℕ) (journal : List Entry) (state : StateOf) → IsLegal observers seats clock journal state → TellsMarks state
 tells_marks observers seats clock journal state l = behind_marked journal state (legal_agrees observers seats clock journal state l) (legal_sound observers seats clock journal state l) (legal_covers observers seats clock journal state l)

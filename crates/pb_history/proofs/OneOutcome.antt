@@ -1,10 +1,8 @@
 -- A step of a sound table has one outcome.
-use Rattle.std.proofs.Common.{◌≡◌, ℕ, ◌<◌, ◌⊎◌, true, false, inl, inr, List, [], ◌∷◌, ◌++◌, Option, Some, None, refl, sym, ap, ◌∙◌, arith}
-use Rattle.std.specs.Prelude.{is_some}
+use Rattle.std.proofs.Common.{◌≡◌, ℕ, ◌<◌, ◌⊎◌, true, false, inl, inr, List, [], ◌∷◌, ◌++◌, Option, Some, None, refl, sym, ap, ◌∙◌, arith, is_some}
 use Rattle.std.specs.Ordering.{eq_by_cmp}
 use Rattle.std.specs.FinMap as map
 use Rattle.pb_base.specs.declared.cell.Cell.{Cell}
-use Rattle.pb_base.specs.declared.cell.Cell.TheVariants.{Data, Ack}
 use Rattle.pb_base.specs.declared.names.Ts.{Ts}
 use Rattle.pb_base.specs.declared.content.Revision.{Revision}
 use Rattle.pb_base.specs.Cell.{cell_cmp}
@@ -13,11 +11,8 @@ use Rattle.pb_store.specs.Contents.{Entries, Marks, IsNextMark}
 use Rattle.pb_steps.specs.declared.step.Step.{Step}
 use Rattle.pb_steps.specs.declared.step.Work.{Work}
 use Rattle.pb_steps.specs.declared.step.Declared.{Declared}
-use Rattle.pb_steps.specs.declared.step.Step.TheVariants as steps
 use Rattle.pb_steps.specs.declared.step.Answer.{Answer}
-use Rattle.pb_steps.specs.declared.step.Answer.TheVariants as answers
 use Rattle.pb_steps.specs.declared.phase.Phase.{Phase}
-use Rattle.pb_steps.specs.declared.phase.Phase.TheVariants as phases
 use Rattle.pb_verify.specs.Observers.{ObserverOf}
 use Rattle.pb_steps.specs.Marks.{stamp_in, SomeBehind, AllUpToDate}
 use Rattle.pb_steps.specs.State.{StateOf, TransactionOf, with_transaction, new_transaction, phase_in, cells_of}
@@ -103,14 +98,14 @@ one_mark marks after x y p q = elim (first_of_two x y) [
 
 -- an observer is behind, or all are up to date
 behind_or_not : (observers : List ObserverOf) (e : Entries) (x : Cell) → SomeBehind observers e x → AllUpToDate observers e x → ⊥
-behind_or_not observers e (Data row column) b all =
+behind_or_not observers e (Cell.Data row column) b all =
     let o = b.1.acknowledges in
     let u = all b.0 o.observer o.there o.observes b.1.version.commit.0 b.1.newest.low (ap is_some b.1.newest.written) in
-    let same = ap stamp_in (one_newest e (Ack b.0 row column) u.0 b.1.acknowledged u.1 o.newest) in
+    let same = ap stamp_in (one_newest e (Cell.Ack b.0 row column) u.0 b.1.acknowledged u.1 o.newest) in
     let newer = b.1.newer in
     let le = u.2 in
     omega (arith, same, newer, le)
-behind_or_not observers e (Ack o row column) b all = absurd b
+behind_or_not observers e (Cell.Ack o row column) b all = absurd b
 
 -- ---- the steps, each case against each that the same step may have
 
@@ -122,19 +117,19 @@ module _ (old : StateOf) (i : IsSoundTable old) (seat : ℕ) (new other : StateO
   left : (a : Answer) (to : StateOf) → new ≡ to → other ≡ to → Same a a
   left a to p q = record { answer = refl; state = p ∙ sym q }
 
-  begins : (work : Work) (s u : Ts) → Begins old seat work s.0 new → Begins old seat work u.0 other → Same (answers.At s) (answers.At u)
+  begins : (work : Work) (s u : Ts) → Begins old seat work s.0 new → Begins old seat work u.0 other → Same (Answer.At s) (Answer.At u)
   begins work s u m n =
       let is : s ≡ u = (let e : s.0 ≡ u.0 = m.fresh ∙ sym n.fresh in λ j. record { 0 = e j }) in
-      record { answer = ap answers.At is; state = m.new_is ∙ ap (λ (z : Ts). record old { clock = z.0; transactions = map.insert old.transactions z.0 (new_transaction seat work) }) is ∙ sym n.new_is }
+      record { answer = ap Answer.At is; state = m.new_is ∙ ap (λ (z : Ts). record old { clock = z.0; transactions = map.insert old.transactions z.0 (new_transaction seat work) }) is ∙ sym n.new_is }
 
   -- ---- reads
 
   module _ (s : ℕ) (x : Cell) (at : Option Ts) where
-    locked_once : (start stop : Ts) (p q : Cell) → ReadsLocked old seat s x at start.0 p new → ReadsLocked old seat s x at stop.0 q other → Same (answers.Locked start p) (answers.Locked stop q)
+    locked_once : (start stop : Ts) (p q : Cell) → ReadsLocked old seat s x at (start.0, p) new → ReadsLocked old seat s x at (stop.0, q) other → Same (Answer.Locked start p) (Answer.Locked stop q)
     locked_once start stop p q m n =
         let e : start.0 ≡ stop.0 = ordered start.0 stop.0 (λ lt. some_none _ _ n.locked (m.newest stop.0 lt n.low)) (λ lt. some_none _ _ m.locked (n.newest start.0 lt m.low)) in
         let primary : p ≡ q = one_value (lock_at old.entries x start.0) p q m.locked (ap (lock_at old.entries x) e ∙ n.locked) in
-        record { answer = λ j. answers.Locked (record { 0 = e j }) (primary j); state = m.new_is ∙ sym n.new_is }
+        record { answer = λ j. Answer.Locked (record { 0 = e j }) (primary j); state = m.new_is ∙ sym n.new_is }
 
     found_once : (v w : Revision) → ReadsFound old seat s x at v new → ReadsFound old seat s x at w other → Same (found_answer v) (found_answer w)
     found_once v w m n =
@@ -142,68 +137,68 @@ module _ (old : StateOf) (i : IsSoundTable old) (seat : ℕ) (new other : StateO
         let t = one_transaction old seat s m.t n.t m.own n.own in
         record { answer = ap found_answer is; state = m.new_is ∙ (λ j. with_transaction old s (with_read (t j) x at (found_answer (is j)))) ∙ sym n.new_is }
 
-    absent_once : ReadsAbsent old seat s x at new → ReadsAbsent old seat s x at other → Same answers.Absent answers.Absent
-    absent_once m n = record { answer = refl; state = m.new_is ∙ ap (λ u. with_transaction old s (with_read u x at answers.Absent)) (one_transaction old seat s m.t n.t m.own n.own) ∙ sym n.new_is }
+    absent_once : ReadsAbsent old seat s x at new → ReadsAbsent old seat s x at other → Same Answer.Absent Answer.Absent
+    absent_once m n = record { answer = refl; state = m.new_is ∙ ap (λ u. with_transaction old s (with_read u x at Answer.Absent)) (one_transaction old seat s m.t n.t m.own n.own) ∙ sym n.new_is }
 
   -- a lock, and no lock, up to the timestamp read at
-  locked_or_not : (s start : ℕ) (x : Cell) (at : Option Ts) (p : Cell) (to : StateOf) → ReadsLocked old seat s x at start p to → NoLockUpTo old.entries x (read_up_to s at) → ⊥
+  locked_or_not : (s start : ℕ) (x : Cell) (at : Option Ts) (p : Cell) (to : StateOf) → ReadsLocked old seat s x at (start, p) to → NoLockUpTo old.entries x (read_up_to s at) → ⊥
   locked_or_not s start x at p to m none = some_none _ _ m.locked (none start m.low)
 
   -- what a read may have, by its answer
   ReadCase : ℕ → Cell → Option Ts → Answer → StateOf → Type 0
-  ReadCase s x at (answers.Locked start primary) to = ReadsLocked old seat s x at start.0 primary to
-  ReadCase s x at (answers.Found start commit content) to = ReadsFound old seat s x at (record { start = start; commit = commit; content = content }) to
-  ReadCase s x at answers.Absent to = ReadsAbsent old seat s x at to
+  ReadCase s x at (Answer.Locked start primary) to = ReadsLocked old seat s x at (start.0, primary) to
+  ReadCase s x at (Answer.Found start commit content) to = ReadsFound old seat s x at (record { start = start; commit = commit; content = content }) to
+  ReadCase s x at Answer.Absent to = ReadsAbsent old seat s x at to
   ReadCase s x at _ to = ⊥
 
-  after_locked : (s : ℕ) (x : Cell) (at : Option Ts) (start : Ts) (p : Cell) (b : Answer) → ReadsLocked old seat s x at start.0 p new → ReadCase s x at b other → Same (answers.Locked start p) b
+  after_locked : (s : ℕ) (x : Cell) (at : Option Ts) (start : Ts) (p : Cell) (b : Answer) → ReadsLocked old seat s x at (start.0, p) new → ReadCase s x at b other → Same (Answer.Locked start p) b
   unfolding ReadCase
-  after_locked s x at start p (answers.Locked stop q) m n = locked_once s x at start stop p q m n
-  after_locked s x at start p (answers.Found a c k) m n = absurd (locked_or_not s start.0 x at p new m n.unlocked)
-  after_locked s x at start p answers.Absent m n = absurd (locked_or_not s start.0 x at p new m n.unlocked)
+  after_locked s x at start p (Answer.Locked stop q) m n = locked_once s x at start stop p q m n
+  after_locked s x at start p (Answer.Found a c k) m n = absurd (locked_or_not s start.0 x at p new m n.unlocked)
+  after_locked s x at start p Answer.Absent m n = absurd (locked_or_not s start.0 x at p new m n.unlocked)
   after_locked s x at start p _ m n = absurd n
 
   after_found : (s : ℕ) (x : Cell) (at : Option Ts) (v : Revision) (b : Answer) → ReadsFound old seat s x at v new → ReadCase s x at b other → Same (found_answer v) b
   unfolding ReadCase
-  after_found s x at v (answers.Locked stop q) m n = absurd (locked_or_not s stop.0 x at q other n m.unlocked)
-  after_found s x at v (answers.Found a c k) m n = found_once s x at v (record { start = a; commit = c; content = k }) m n
-  after_found s x at v answers.Absent m n = absurd (version_or_none old.entries x (read_up_to s at) v m.version n.none)
+  after_found s x at v (Answer.Locked stop q) m n = absurd (locked_or_not s stop.0 x at q other n m.unlocked)
+  after_found s x at v (Answer.Found a c k) m n = found_once s x at v (record { start = a; commit = c; content = k }) m n
+  after_found s x at v Answer.Absent m n = absurd (version_or_none old.entries x (read_up_to s at) v m.version n.none)
   after_found s x at v _ m n = absurd n
 
-  after_absent : (s : ℕ) (x : Cell) (at : Option Ts) (b : Answer) → ReadsAbsent old seat s x at new → ReadCase s x at b other → Same answers.Absent b
+  after_absent : (s : ℕ) (x : Cell) (at : Option Ts) (b : Answer) → ReadsAbsent old seat s x at new → ReadCase s x at b other → Same Answer.Absent b
   unfolding ReadCase
-  after_absent s x at (answers.Locked stop q) m n = absurd (locked_or_not s stop.0 x at q other n m.unlocked)
-  after_absent s x at (answers.Found a c k) m n = absurd (version_or_none old.entries x (read_up_to s at) (record { start = a; commit = c; content = k }) n.version m.none)
-  after_absent s x at answers.Absent m n = absent_once s x at m n
+  after_absent s x at (Answer.Locked stop q) m n = absurd (locked_or_not s stop.0 x at q other n m.unlocked)
+  after_absent s x at (Answer.Found a c k) m n = absurd (version_or_none old.entries x (read_up_to s at) (record { start = a; commit = c; content = k }) n.version m.none)
+  after_absent s x at Answer.Absent m n = absent_once s x at m n
   after_absent s x at _ m n = absurd n
 
   reads : (s : ℕ) (x : Cell) (at : Option Ts) (a b : Answer) → ReadCase s x at a new → ReadCase s x at b other → Same a b
   unfolding ReadCase
-  reads s x at (answers.Locked start p) b m n = after_locked s x at start p b m n
-  reads s x at (answers.Found start commit content) b m n = after_found s x at (record { start = start; commit = commit; content = content }) b m n
-  reads s x at answers.Absent b m n = after_absent s x at b m n
+  reads s x at (Answer.Locked start p) b m n = after_locked s x at start p b m n
+  reads s x at (Answer.Found start commit content) b m n = after_found s x at (record { start = start; commit = commit; content = content }) b m n
+  reads s x at Answer.Absent b m n = after_absent s x at b m n
   reads s x at _ b m n = absurd m
 
-  read_case : (s : Ts) (x : Cell) (a : Answer) (to : StateOf) → StepCase old seat (steps.Read s x) a to → ReadCase s.0 x None a to
+  read_case : (s : Ts) (x : Cell) (a : Answer) (to : StateOf) → StepCase old seat (Step.Read s x) a to → ReadCase s.0 x None a to
   unfolding ReadCase
-  read_case s x (answers.Locked start p) to m = m
-  read_case s x (answers.Found start commit content) to m = m
-  read_case s x answers.Absent to m = m
+  read_case s x (Answer.Locked start p) to m = m
+  read_case s x (Answer.Found start commit content) to m = m
+  read_case s x Answer.Absent to m = m
   read_case s x _ to m = absurd m
 
-  read_at_case : (s : Ts) (x : Cell) (t : Ts) (a : Answer) (to : StateOf) → StepCase old seat (steps.ReadAt s x t) a to → ReadCase s.0 x (Some t) a to
+  read_at_case : (s : Ts) (x : Cell) (t : Ts) (a : Answer) (to : StateOf) → StepCase old seat (Step.ReadAt s x t) a to → ReadCase s.0 x (Some t) a to
   unfolding ReadCase
-  read_at_case s x t (answers.Locked start p) to m = m
-  read_at_case s x t (answers.Found start commit content) to m = m
-  read_at_case s x t answers.Absent to m = m
+  read_at_case s x t (Answer.Locked start p) to m = m
+  read_at_case s x t (Answer.Found start commit content) to m = m
+  read_at_case s x t Answer.Absent to m = m
   read_at_case s x t _ to m = absurd m
 
   -- ---- a transaction's own steps
 
-  declares : (s : ℕ) (what : Declared) → Declares old seat s what new → Declares old seat s what other → Same answers.Done answers.Done
-  declares s what m n = record { answer = refl; state = m.new_is ∙ ap (λ (u : TransactionOf). with_transaction old s (record u { phase = phases.Declared; declared = cells_of old.observers u.work s what })) (one_transaction old seat s m.t n.t m.own n.own) ∙ sym n.new_is }
+  declares : (s : ℕ) (what : Declared) → Declares old seat s what new → Declares old seat s what other → Same Answer.Done Answer.Done
+  declares s what m n = record { answer = refl; state = m.new_is ∙ ap (λ (u : TransactionOf). with_transaction old s (record u { phase = Phase.Declared; declared = cells_of old.observers u.work s what })) (one_transaction old seat s m.t n.t m.own n.own) ∙ sym n.new_is }
 
-  prewrites : (s : ℕ) (x : Cell) → Prewrites old seat s x new → Prewrites old seat s x other → Same answers.Done answers.Done
+  prewrites : (s : ℕ) (x : Cell) → Prewrites old seat s x new → Prewrites old seat s x other → Same Answer.Done Answer.Done
   prewrites s x m n =
       let t = one_transaction old seat s m.t n.t m.own n.own in
       let content = one_value (content_in m.t.declared x) m.content n.content m.declares (ap (λ (u : TransactionOf). content_in u.declared x) t ∙ n.declares) in
@@ -216,27 +211,27 @@ module _ (old : StateOf) (i : IsSoundTable old) (seat : ℕ) (new other : StateO
     | inr w ↦ some_none_test _ w.3 (m.no_later w.0 w.1 w.2)
   ]
 
-  conflicts : (s : ℕ) (x : Cell) → Conflicts old seat s x new → Conflicts old seat s x other → Same answers.Conflict answers.Conflict
-  conflicts s x m n = record { answer = refl; state = m.new_is ∙ ap (λ (u : TransactionOf). with_transaction old s (record u { phase = phases.Failed })) (one_transaction old seat s m.t n.t m.own n.own) ∙ sym n.new_is }
+  conflicts : (s : ℕ) (x : Cell) → Conflicts old seat s x new → Conflicts old seat s x other → Same Answer.Conflict Answer.Conflict
+  conflicts s x m n = record { answer = refl; state = m.new_is ∙ ap (λ (u : TransactionOf). with_transaction old s (record u { phase = Phase.Failed })) (one_transaction old seat s m.t n.t m.own n.own) ∙ sym n.new_is }
 
-  stamps : (s : ℕ) (c d : Ts) → Stamps old seat s c.0 new → Stamps old seat s d.0 other → Same (answers.At c) (answers.At d)
+  stamps : (s : ℕ) (c d : Ts) → Stamps old seat s c.0 new → Stamps old seat s d.0 other → Same (Answer.At c) (Answer.At d)
   stamps s c d m n =
       let e : c.0 ≡ d.0 = m.fresh ∙ sym n.fresh in
       let t = one_transaction old seat s m.t n.t m.own n.own in
-      record { answer = λ j. answers.At (record { 0 = e j }); state = m.new_is ∙ (λ j. record old { clock = e j; transactions = map.insert old.transactions s (record (t j) { phase = phases.Stamped (record { 0 = e j }) }) }) ∙ sym n.new_is }
+      record { answer = λ j. Answer.At (record { 0 = e j }); state = m.new_is ∙ (λ j. record old { clock = e j; transactions = map.insert old.transactions s (record (t j) { phase = Phase.Stamped (record { 0 = e j }) }) }) ∙ sym n.new_is }
 
-  stamp_in_phase : (h : Phase) (c d : ℕ) → h ≡ phases.Stamped (record { 0 = c }) → h ≡ phases.Stamped (record { 0 = d }) → c ≡ d
-  stamp_in_phase h c d p q = let is : ◌≡◌ {A = Phase} (phases.Stamped (record { 0 = c })) (phases.Stamped (record { 0 = d })) = sym p ∙ q in let t : ◌≡◌ {A = Ts} (record { 0 = c }) (record { 0 = d }) = cc in ap (λ (z : Ts). z.0) t
+  stamp_in_phase : (h : Phase) (c d : ℕ) → h ≡ Phase.Stamped (record { 0 = c }) → h ≡ Phase.Stamped (record { 0 = d }) → c ≡ d
+  stamp_in_phase h c d p q = let is : ◌≡◌ {A = Phase} (Phase.Stamped (record { 0 = c })) (Phase.Stamped (record { 0 = d })) = sym p ∙ q in let t : ◌≡◌ {A = Ts} (record { 0 = c }) (record { 0 = d }) = cc in ap (λ (z : Ts). z.0) t
 
-  commit_in_phase : (h : Phase) (c d : ℕ) → h ≡ phases.Committed (record { 0 = c }) → h ≡ phases.Committed (record { 0 = d }) → c ≡ d
-  commit_in_phase h c d p q = let is : ◌≡◌ {A = Phase} (phases.Committed (record { 0 = c })) (phases.Committed (record { 0 = d })) = sym p ∙ q in let t : ◌≡◌ {A = Ts} (record { 0 = c }) (record { 0 = d }) = cc in ap (λ (z : Ts). z.0) t
+  commit_in_phase : (h : Phase) (c d : ℕ) → h ≡ Phase.Committed (record { 0 = c }) → h ≡ Phase.Committed (record { 0 = d }) → c ≡ d
+  commit_in_phase h c d p q = let is : ◌≡◌ {A = Phase} (Phase.Committed (record { 0 = c })) (Phase.Committed (record { 0 = d })) = sym p ∙ q in let t : ◌≡◌ {A = Ts} (record { 0 = c }) (record { 0 = d }) = cc in ap (λ (z : Ts). z.0) t
 
-  commits_once : (s : ℕ) → CommitsPrimary old seat s new → CommitsPrimary old seat s other → Same answers.Committed answers.Committed
+  commits_once : (s : ℕ) → CommitsPrimary old seat s new → CommitsPrimary old seat s other → Same Answer.Committed Answer.Committed
   commits_once s m n =
       let t = one_transaction old seat s m.t n.t m.own n.own in
       let primary = one_value (primary_in m.t.declared) m.primary n.primary m.primary_is (ap (λ (u : TransactionOf). primary_in u.declared) t ∙ n.primary_is) in
       let c = stamp_in_phase m.t.phase m.c n.c m.stamped (ap (λ (u : TransactionOf). u.phase) t ∙ n.stamped) in
-      record { answer = refl; state = m.new_is ∙ (λ j. with_transaction (commits old (primary j) s (c j)) s (record (t j) { phase = phases.Committed (record { 0 = c j }) })) ∙ sym n.new_is }
+      record { answer = refl; state = m.new_is ∙ (λ j. with_transaction (commits old (primary j) s (c j)) s (record (t j) { phase = Phase.Committed (record { 0 = c j }) })) ∙ sym n.new_is }
 
   commits_or_loses : (s : ℕ) (to from : StateOf) → CommitsPrimary old seat s to → Loses old seat s from → ⊥
   commits_or_loses s to from m n =
@@ -246,10 +241,10 @@ module _ (old : StateOf) (i : IsSoundTable old) (seat : ℕ) (new other : StateO
       let gone : is_some (lock_at old.entries m.primary s) ≡ false = ap (λ p. is_some (lock_at old.entries p s)) primary ∙ n.unlocked in
       cc
 
-  loses : (s : ℕ) → Loses old seat s new → Loses old seat s other → Same answers.Lost answers.Lost
-  loses s m n = record { answer = refl; state = m.new_is ∙ ap (λ (u : TransactionOf). with_transaction old s (record u { phase = phases.Failed })) (one_transaction old seat s m.t n.t m.own n.own) ∙ sym n.new_is }
+  loses : (s : ℕ) → Loses old seat s new → Loses old seat s other → Same Answer.Lost Answer.Lost
+  loses s m n = record { answer = refl; state = m.new_is ∙ ap (λ (u : TransactionOf). with_transaction old s (record u { phase = Phase.Failed })) (one_transaction old seat s m.t n.t m.own n.own) ∙ sym n.new_is }
 
-  secondaries : (s : ℕ) (x : Cell) → CommitsSecondary old seat s x new → CommitsSecondary old seat s x other → Same answers.Done answers.Done
+  secondaries : (s : ℕ) (x : Cell) → CommitsSecondary old seat s x new → CommitsSecondary old seat s x other → Same Answer.Done Answer.Done
   secondaries s x m n =
       let t = one_transaction old seat s m.t n.t m.own n.own in
       let c = commit_in_phase m.t.phase m.c n.c m.committed (ap (λ (u : TransactionOf). u.phase) t ∙ n.committed) in
@@ -257,12 +252,12 @@ module _ (old : StateOf) (i : IsSoundTable old) (seat : ℕ) (new other : StateO
 
   -- ---- steps of anyone
 
-  secondary_locks : (x : Cell) (s u : Ts) (p q : Cell) → MeetsSecondary old x s.0 p new → MeetsSecondary old x u.0 q other → Same (answers.Locked s p) (answers.Locked u q)
+  secondary_locks : (x : Cell) (s u : Ts) (p q : Cell) → MeetsSecondary old x s.0 p new → MeetsSecondary old x u.0 q other → Same (Answer.Locked s p) (Answer.Locked u q)
   secondary_locks x s u p q m n =
       let l = one_lock_on old.entries x s.0 u.0 p q m.locked n.locked in
-      record { answer = λ j. answers.Locked (record { 0 = l.0 j }) (l.1 j); state = m.new_is ∙ sym n.new_is }
+      record { answer = λ j. Answer.Locked (record { 0 = l.0 j }) (l.1 j); state = m.new_is ∙ sym n.new_is }
 
-  settles : (x : Cell) → Settles old x new → Settles old x other → Same answers.RolledBack answers.RolledBack
+  settles : (x : Cell) → Settles old x new → Settles old x other → Same Answer.RolledBack Answer.RolledBack
   settles x m n = record { answer = refl; state = m.new_is ∙ ap (rolls_back old x) (one_lock_on old.entries x m.start n.start x x m.locked n.locked).0 ∙ sym n.new_is }
 
   waits_or_goes : (x : Cell) (s u : ℕ) (p q : Cell) → IsLockOn old.entries x s p → (eq_by_cmp cell_cmp p x ≡ true) ⊎ (is_some (lock_at old.entries p s) ≡ true) → IsLockOn old.entries x u q → eq_by_cmp cell_cmp q x ≡ false → is_some (lock_at old.entries q u) ≡ false → ⊥
@@ -271,16 +266,16 @@ module _ (old : StateOf) (i : IsSoundTable old) (seat : ℕ) (new other : StateO
     | inr there ↦ (let l = one_lock_on old.entries x s u p q a b in let none : is_some (lock_at old.entries p s) ≡ false = (λ j. is_some (lock_at old.entries (l.1 j) (l.0 j))) ∙ gone in cc)
   ]
 
-  clears_committed : (x : Cell) (c d : Ts) → ClearsCommitted old x c.0 new → ClearsCommitted old x d.0 other → Same (answers.CommittedAt c) (answers.CommittedAt d)
+  clears_committed : (x : Cell) (c d : Ts) → ClearsCommitted old x c.0 new → ClearsCommitted old x d.0 other → Same (Answer.CommittedAt c) (Answer.CommittedAt d)
   clears_committed x c d m n =
       let l = one_lock_on old.entries x m.start n.start m.primary n.primary m.locked n.locked in
       let first = i.record_committed m.primary c.0 m.start m.written in
       let second = i.record_committed n.primary d.0 n.start n.written in
       let e : c.0 ≡ d.0 = one_commit (phase_in old m.start) c.0 d.0 first (ap (phase_in old) l.0 ∙ second) in
-      record { answer = λ j. answers.CommittedAt (record { 0 = e j }); state = m.new_is ∙ (λ j. commits old x (l.0 j) (e j)) ∙ sym n.new_is }
+      record { answer = λ j. Answer.CommittedAt (record { 0 = e j }); state = m.new_is ∙ (λ j. commits old x (l.0 j) (e j)) ∙ sym n.new_is }
     where
-      one_commit : (o : Option Phase) (a b : ℕ) → o ≡ Some (phases.Committed (record { 0 = a })) → o ≡ Some (phases.Committed (record { 0 = b })) → a ≡ b
-      one_commit o a b p q = commit_in_phase (phases.Committed (record { 0 = a })) a b refl (one_value o _ _ p q)
+      one_commit : (o : Option Phase) (a b : ℕ) → o ≡ Some (Phase.Committed (record { 0 = a })) → o ≡ Some (Phase.Committed (record { 0 = b })) → a ≡ b
+      one_commit o a b p q = commit_in_phase (Phase.Committed (record { 0 = a })) a b refl (one_value o _ _ p q)
 
   committed_or_back : (x : Cell) (c : ℕ) (to from : StateOf) → ClearsCommitted old x c to → ClearsBack old x from → ⊥
   committed_or_back x c to from m n =
@@ -289,150 +284,150 @@ module _ (old : StateOf) (i : IsSoundTable old) (seat : ℕ) (new other : StateO
       let small = i.small in
       n.none c (omega (arith, le, small)) ((λ j. write_at old.entries (sym l.1 j) c) ∙ m.written ∙ ap Some l.0)
 
-  clears_back : (x : Cell) → ClearsBack old x new → ClearsBack old x other → Same answers.RolledBack answers.RolledBack
+  clears_back : (x : Cell) → ClearsBack old x new → ClearsBack old x other → Same Answer.RolledBack Answer.RolledBack
   clears_back x m n = record { answer = refl; state = m.new_is ∙ ap (rolls_back old x) (one_lock_on old.entries x m.start n.start m.primary n.primary m.locked n.locked).0 ∙ sym n.new_is }
 
-  marks_found : (after : Option Cell) (x y : Cell) → FindsMark old after x new → FindsMark old after y other → Same (answers.Marked x) (answers.Marked y)
-  marks_found after x y m n = record { answer = ap answers.Marked (one_mark old.marks after x y m.first n.first); state = m.new_is ∙ sym n.new_is }
+  marks_found : (after : Option Cell) (x y : Cell) → FindsMark old after x new → FindsMark old after y other → Same (Answer.Marked x) (Answer.Marked y)
+  marks_found after x y m n = record { answer = ap Answer.Marked (one_mark old.marks after x y m.first n.first); state = m.new_is ∙ sym n.new_is }
 
   mark_or_none : (after : Option Cell) (x : Cell) (to from : StateOf) → FindsMark old after x to → FindsNone old after from → ⊥
   mark_or_none after x to from m n = let marked = m.first.0 in let unmarked = n.none x m.first.1 in cc
 
   -- ---- by step and answer
 
-  begin_case : (work : Work) (s : Ts) (b : Answer) → Begins old seat work s.0 new → StepCase old seat (steps.Begin work) b other → Same (answers.At s) b
-  begin_case work s (answers.At u) m n = begins work s u m n
+  begin_case : (work : Work) (s : Ts) (b : Answer) → Begins old seat work s.0 new → StepCase old seat (Step.Begin work) b other → Same (Answer.At s) b
+  begin_case work s (Answer.At u) m n = begins work s u m n
   begin_case work s _ m n = absurd n
 
-  declare_case : (s : Ts) (what : Declared) (b : Answer) → Declares old seat s.0 what new → StepCase old seat (steps.Declare s what) b other → Same answers.Done b
-  declare_case s what answers.Done m n = declares s.0 what m n
+  declare_case : (s : Ts) (what : Declared) (b : Answer) → Declares old seat s.0 what new → StepCase old seat (Step.Declare s what) b other → Same Answer.Done b
+  declare_case s what Answer.Done m n = declares s.0 what m n
   declare_case s what _ m n = absurd n
 
-  prewrite_case : (s : Ts) (x : Cell) (b : Answer) → Prewrites old seat s.0 x new → StepCase old seat (steps.Prewrite s x) b other → Same answers.Done b
-  prewrite_case s x answers.Done m n = prewrites s.0 x m n
-  prewrite_case s x answers.Conflict m n = absurd (prewrites_or_conflicts s.0 x new other m n)
+  prewrite_case : (s : Ts) (x : Cell) (b : Answer) → Prewrites old seat s.0 x new → StepCase old seat (Step.Prewrite s x) b other → Same Answer.Done b
+  prewrite_case s x Answer.Done m n = prewrites s.0 x m n
+  prewrite_case s x Answer.Conflict m n = absurd (prewrites_or_conflicts s.0 x new other m n)
   prewrite_case s x _ m n = absurd n
 
-  conflict_case : (s : Ts) (x : Cell) (b : Answer) → Conflicts old seat s.0 x new → StepCase old seat (steps.Prewrite s x) b other → Same answers.Conflict b
-  conflict_case s x answers.Done m n = absurd (prewrites_or_conflicts s.0 x other new n m)
-  conflict_case s x answers.Conflict m n = conflicts s.0 x m n
+  conflict_case : (s : Ts) (x : Cell) (b : Answer) → Conflicts old seat s.0 x new → StepCase old seat (Step.Prewrite s x) b other → Same Answer.Conflict b
+  conflict_case s x Answer.Done m n = absurd (prewrites_or_conflicts s.0 x other new n m)
+  conflict_case s x Answer.Conflict m n = conflicts s.0 x m n
   conflict_case s x _ m n = absurd n
 
-  stamp_case : (s c : Ts) (b : Answer) → Stamps old seat s.0 c.0 new → StepCase old seat (steps.Stamp s) b other → Same (answers.At c) b
-  stamp_case s c (answers.At d) m n = stamps s.0 c d m n
+  stamp_case : (s c : Ts) (b : Answer) → Stamps old seat s.0 c.0 new → StepCase old seat (Step.Stamp s) b other → Same (Answer.At c) b
+  stamp_case s c (Answer.At d) m n = stamps s.0 c d m n
   stamp_case s c _ m n = absurd n
 
-  commit_case : (s : Ts) (b : Answer) → CommitsPrimary old seat s.0 new → StepCase old seat (steps.CommitPrimary s) b other → Same answers.Committed b
-  commit_case s answers.Committed m n = commits_once s.0 m n
-  commit_case s answers.Lost m n = absurd (commits_or_loses s.0 new other m n)
+  commit_case : (s : Ts) (b : Answer) → CommitsPrimary old seat s.0 new → StepCase old seat (Step.CommitPrimary s) b other → Same Answer.Committed b
+  commit_case s Answer.Committed m n = commits_once s.0 m n
+  commit_case s Answer.Lost m n = absurd (commits_or_loses s.0 new other m n)
   commit_case s _ m n = absurd n
 
-  lost_case : (s : Ts) (b : Answer) → Loses old seat s.0 new → StepCase old seat (steps.CommitPrimary s) b other → Same answers.Lost b
-  lost_case s answers.Committed m n = absurd (commits_or_loses s.0 other new n m)
-  lost_case s answers.Lost m n = loses s.0 m n
+  lost_case : (s : Ts) (b : Answer) → Loses old seat s.0 new → StepCase old seat (Step.CommitPrimary s) b other → Same Answer.Lost b
+  lost_case s Answer.Committed m n = absurd (commits_or_loses s.0 other new n m)
+  lost_case s Answer.Lost m n = loses s.0 m n
   lost_case s _ m n = absurd n
 
-  secondary_case : (s : Ts) (x : Cell) (b : Answer) → CommitsSecondary old seat s.0 x new → StepCase old seat (steps.CommitSecondary s x) b other → Same answers.Done b
-  secondary_case s x answers.Done m n = secondaries s.0 x m n
+  secondary_case : (s : Ts) (x : Cell) (b : Answer) → CommitsSecondary old seat s.0 x new → StepCase old seat (Step.CommitSecondary s x) b other → Same Answer.Done b
+  secondary_case s x Answer.Done m n = secondaries s.0 x m n
   secondary_case s x _ m n = absurd n
 
-  unsettled_case : (x : Cell) (b : Answer) → MeetsNoLock old x new → StepCase old seat (steps.Settle x) b other → Same answers.Absent b
-  unsettled_case x answers.Absent m n = left answers.Absent old m.new_is n.new_is
-  unsettled_case x (answers.Locked s p) m n = absurd (lock_or_none old.entries x s.0 p n.locked m.unlocked)
-  unsettled_case x answers.RolledBack m n = absurd (lock_or_none old.entries x n.start x n.locked m.unlocked)
+  unsettled_case : (x : Cell) (b : Answer) → MeetsNoLock old x new → StepCase old seat (Step.Settle x) b other → Same Answer.Absent b
+  unsettled_case x Answer.Absent m n = left Answer.Absent old m.new_is n.new_is
+  unsettled_case x (Answer.Locked s p) m n = absurd (lock_or_none old.entries x s.0 p n.locked m.unlocked)
+  unsettled_case x Answer.RolledBack m n = absurd (lock_or_none old.entries x n.start x n.locked m.unlocked)
   unsettled_case x _ m n = absurd n
 
-  other_lock_case : (x : Cell) (s : Ts) (p : Cell) (b : Answer) → MeetsSecondary old x s.0 p new → StepCase old seat (steps.Settle x) b other → Same (answers.Locked s p) b
-  other_lock_case x s p answers.Absent m n = absurd (lock_or_none old.entries x s.0 p m.locked n.unlocked)
-  other_lock_case x s p (answers.Locked u q) m n = secondary_locks x s u p q m n
-  other_lock_case x s p answers.RolledBack m n = absurd (other_or_own old.entries x s.0 n.start p m.locked m.other n.locked)
+  other_lock_case : (x : Cell) (s : Ts) (p : Cell) (b : Answer) → MeetsSecondary old x s.0 p new → StepCase old seat (Step.Settle x) b other → Same (Answer.Locked s p) b
+  other_lock_case x s p Answer.Absent m n = absurd (lock_or_none old.entries x s.0 p m.locked n.unlocked)
+  other_lock_case x s p (Answer.Locked u q) m n = secondary_locks x s u p q m n
+  other_lock_case x s p Answer.RolledBack m n = absurd (other_or_own old.entries x s.0 n.start p m.locked m.other n.locked)
   other_lock_case x s p _ m n = absurd n
 
-  settled_case : (x : Cell) (b : Answer) → Settles old x new → StepCase old seat (steps.Settle x) b other → Same answers.RolledBack b
-  settled_case x answers.Absent m n = absurd (lock_or_none old.entries x m.start x m.locked n.unlocked)
-  settled_case x (answers.Locked u q) m n = absurd (other_or_own old.entries x u.0 m.start q n.locked n.other m.locked)
-  settled_case x answers.RolledBack m n = settles x m n
+  settled_case : (x : Cell) (b : Answer) → Settles old x new → StepCase old seat (Step.Settle x) b other → Same Answer.RolledBack b
+  settled_case x Answer.Absent m n = absurd (lock_or_none old.entries x m.start x m.locked n.unlocked)
+  settled_case x (Answer.Locked u q) m n = absurd (other_or_own old.entries x u.0 m.start q n.locked n.other m.locked)
+  settled_case x Answer.RolledBack m n = settles x m n
   settled_case x _ m n = absurd n
 
-  uncleared_case : (x : Cell) (b : Answer) → MeetsNoLock old x new → StepCase old seat (steps.Clear x) b other → Same answers.Absent b
-  uncleared_case x answers.Absent m n = left answers.Absent old m.new_is n.new_is
-  uncleared_case x answers.Waits m n = absurd (lock_or_none old.entries x n.start n.primary n.locked m.unlocked)
-  uncleared_case x (answers.CommittedAt c) m n = absurd (lock_or_none old.entries x n.start n.primary n.locked m.unlocked)
-  uncleared_case x answers.RolledBack m n = absurd (lock_or_none old.entries x n.start n.primary n.locked m.unlocked)
+  uncleared_case : (x : Cell) (b : Answer) → MeetsNoLock old x new → StepCase old seat (Step.Clear x) b other → Same Answer.Absent b
+  uncleared_case x Answer.Absent m n = left Answer.Absent old m.new_is n.new_is
+  uncleared_case x Answer.Waits m n = absurd (lock_or_none old.entries x n.start n.primary n.locked m.unlocked)
+  uncleared_case x (Answer.CommittedAt c) m n = absurd (lock_or_none old.entries x n.start n.primary n.locked m.unlocked)
+  uncleared_case x Answer.RolledBack m n = absurd (lock_or_none old.entries x n.start n.primary n.locked m.unlocked)
   uncleared_case x _ m n = absurd n
 
-  waits_case : (x : Cell) (b : Answer) → ClearWaits old x new → StepCase old seat (steps.Clear x) b other → Same answers.Waits b
-  waits_case x answers.Absent m n = absurd (lock_or_none old.entries x m.start m.primary m.locked n.unlocked)
-  waits_case x answers.Waits m n = left answers.Waits old m.new_is n.new_is
-  waits_case x (answers.CommittedAt c) m n = absurd (waits_or_goes x m.start n.start m.primary n.primary m.locked m.why n.locked n.other n.unlocked)
-  waits_case x answers.RolledBack m n = absurd (waits_or_goes x m.start n.start m.primary n.primary m.locked m.why n.locked n.other n.unlocked)
+  waits_case : (x : Cell) (b : Answer) → ClearWaits old x new → StepCase old seat (Step.Clear x) b other → Same Answer.Waits b
+  waits_case x Answer.Absent m n = absurd (lock_or_none old.entries x m.start m.primary m.locked n.unlocked)
+  waits_case x Answer.Waits m n = left Answer.Waits old m.new_is n.new_is
+  waits_case x (Answer.CommittedAt c) m n = absurd (waits_or_goes x m.start n.start m.primary n.primary m.locked m.why n.locked n.other n.unlocked)
+  waits_case x Answer.RolledBack m n = absurd (waits_or_goes x m.start n.start m.primary n.primary m.locked m.why n.locked n.other n.unlocked)
   waits_case x _ m n = absurd n
 
-  cleared_case : (x : Cell) (c : Ts) (b : Answer) → ClearsCommitted old x c.0 new → StepCase old seat (steps.Clear x) b other → Same (answers.CommittedAt c) b
-  cleared_case x c answers.Absent m n = absurd (lock_or_none old.entries x m.start m.primary m.locked n.unlocked)
-  cleared_case x c answers.Waits m n = absurd (waits_or_goes x n.start m.start n.primary m.primary n.locked n.why m.locked m.other m.unlocked)
-  cleared_case x c (answers.CommittedAt d) m n = clears_committed x c d m n
-  cleared_case x c answers.RolledBack m n = absurd (committed_or_back x c.0 new other m n)
+  cleared_case : (x : Cell) (c : Ts) (b : Answer) → ClearsCommitted old x c.0 new → StepCase old seat (Step.Clear x) b other → Same (Answer.CommittedAt c) b
+  cleared_case x c Answer.Absent m n = absurd (lock_or_none old.entries x m.start m.primary m.locked n.unlocked)
+  cleared_case x c Answer.Waits m n = absurd (waits_or_goes x n.start m.start n.primary m.primary n.locked n.why m.locked m.other m.unlocked)
+  cleared_case x c (Answer.CommittedAt d) m n = clears_committed x c d m n
+  cleared_case x c Answer.RolledBack m n = absurd (committed_or_back x c.0 new other m n)
   cleared_case x c _ m n = absurd n
 
-  back_case : (x : Cell) (b : Answer) → ClearsBack old x new → StepCase old seat (steps.Clear x) b other → Same answers.RolledBack b
-  back_case x answers.Absent m n = absurd (lock_or_none old.entries x m.start m.primary m.locked n.unlocked)
-  back_case x answers.Waits m n = absurd (waits_or_goes x n.start m.start n.primary m.primary n.locked n.why m.locked m.other m.unlocked)
-  back_case x (answers.CommittedAt d) m n = absurd (committed_or_back x d.0 other new n m)
-  back_case x answers.RolledBack m n = clears_back x m n
+  back_case : (x : Cell) (b : Answer) → ClearsBack old x new → StepCase old seat (Step.Clear x) b other → Same Answer.RolledBack b
+  back_case x Answer.Absent m n = absurd (lock_or_none old.entries x m.start m.primary m.locked n.unlocked)
+  back_case x Answer.Waits m n = absurd (waits_or_goes x n.start m.start n.primary m.primary n.locked n.why m.locked m.other m.unlocked)
+  back_case x (Answer.CommittedAt d) m n = absurd (committed_or_back x d.0 other new n m)
+  back_case x Answer.RolledBack m n = clears_back x m n
   back_case x _ m n = absurd n
 
-  mark_case : (after : Option Cell) (x : Cell) (b : Answer) → FindsMark old after x new → StepCase old seat (steps.NextMark after) b other → Same (answers.Marked x) b
-  mark_case after x (answers.Marked y) m n = marks_found after x y m n
-  mark_case after x answers.NoMark m n = absurd (mark_or_none after x new other m n)
+  mark_case : (after : Option Cell) (x : Cell) (b : Answer) → FindsMark old after x new → StepCase old seat (Step.NextMark after) b other → Same (Answer.Marked x) b
+  mark_case after x (Answer.Marked y) m n = marks_found after x y m n
+  mark_case after x Answer.NoMark m n = absurd (mark_or_none after x new other m n)
   mark_case after x _ m n = absurd n
 
-  no_mark_case : (after : Option Cell) (b : Answer) → FindsNone old after new → StepCase old seat (steps.NextMark after) b other → Same answers.NoMark b
-  no_mark_case after (answers.Marked y) m n = absurd (mark_or_none after y other new n m)
-  no_mark_case after answers.NoMark m n = left answers.NoMark old m.new_is n.new_is
+  no_mark_case : (after : Option Cell) (b : Answer) → FindsNone old after new → StepCase old seat (Step.NextMark after) b other → Same Answer.NoMark b
+  no_mark_case after (Answer.Marked y) m n = absurd (mark_or_none after y other new n m)
+  no_mark_case after Answer.NoMark m n = left Answer.NoMark old m.new_is n.new_is
   no_mark_case after _ m n = absurd n
 
-  unswept_case : (x : Cell) (b : Answer) → SweepsNothing old x new → StepCase old seat (steps.Sweep x) b other → Same answers.NoMark b
-  unswept_case x answers.NoMark m n = left answers.NoMark old m.new_is n.new_is
-  unswept_case x answers.StillBehind m n = let no = m.unmarked in let yes = n.marked in absurd cc
-  unswept_case x answers.Done m n = let no = m.unmarked in let yes = n.marked in absurd cc
+  unswept_case : (x : Cell) (b : Answer) → SweepsNothing old x new → StepCase old seat (Step.Sweep x) b other → Same Answer.NoMark b
+  unswept_case x Answer.NoMark m n = left Answer.NoMark old m.new_is n.new_is
+  unswept_case x Answer.StillBehind m n = let no = m.unmarked in let yes = n.marked in absurd cc
+  unswept_case x Answer.Done m n = let no = m.unmarked in let yes = n.marked in absurd cc
   unswept_case x _ m n = absurd n
 
-  behind_case : (x : Cell) (b : Answer) → StaysMarked old x new → StepCase old seat (steps.Sweep x) b other → Same answers.StillBehind b
-  behind_case x answers.NoMark m n = let yes = m.marked in let no = n.unmarked in absurd cc
-  behind_case x answers.StillBehind m n = left answers.StillBehind old m.new_is n.new_is
-  behind_case x answers.Done m n = absurd (behind_or_not old.observers old.entries x m.behind n.up_to_date)
+  behind_case : (x : Cell) (b : Answer) → StaysMarked old x new → StepCase old seat (Step.Sweep x) b other → Same Answer.StillBehind b
+  behind_case x Answer.NoMark m n = let yes = m.marked in let no = n.unmarked in absurd cc
+  behind_case x Answer.StillBehind m n = left Answer.StillBehind old m.new_is n.new_is
+  behind_case x Answer.Done m n = absurd (behind_or_not old.observers old.entries x m.behind n.up_to_date)
   behind_case x _ m n = absurd n
 
-  swept_case : (x : Cell) (b : Answer) → Sweeps old x new → StepCase old seat (steps.Sweep x) b other → Same answers.Done b
-  swept_case x answers.NoMark m n = let yes = m.marked in let no = n.unmarked in absurd cc
-  swept_case x answers.StillBehind m n = absurd (behind_or_not old.observers old.entries x n.behind m.up_to_date)
-  swept_case x answers.Done m n = left answers.Done (record old { marks = map.remove old.marks x }) m.new_is n.new_is
+  swept_case : (x : Cell) (b : Answer) → Sweeps old x new → StepCase old seat (Step.Sweep x) b other → Same Answer.Done b
+  swept_case x Answer.NoMark m n = let yes = m.marked in let no = n.unmarked in absurd cc
+  swept_case x Answer.StillBehind m n = absurd (behind_or_not old.observers old.entries x n.behind m.up_to_date)
+  swept_case x Answer.Done m n = left Answer.Done (record old { marks = map.remove old.marks x }) m.new_is n.new_is
   swept_case x _ m n = absurd n
 
   case_outcome : (step : Step) (a b : Answer) → StepCase old seat step a new → StepCase old seat step b other → Same a b
-  case_outcome (steps.Begin work) (answers.At s) b m n = begin_case work s b m n
-  case_outcome (steps.Read s x) a b m n = reads s.0 x None a b (read_case s x a new m) (read_case s x b other n)
-  case_outcome (steps.ReadAt s x t) a b m n = reads s.0 x (Some t) a b (read_at_case s x t a new m) (read_at_case s x t b other n)
-  case_outcome (steps.Declare s what) answers.Done b m n = declare_case s what b m n
-  case_outcome (steps.Prewrite s x) answers.Done b m n = prewrite_case s x b m n
-  case_outcome (steps.Prewrite s x) answers.Conflict b m n = conflict_case s x b m n
-  case_outcome (steps.Stamp s) (answers.At c) b m n = stamp_case s c b m n
-  case_outcome (steps.CommitPrimary s) answers.Committed b m n = commit_case s b m n
-  case_outcome (steps.CommitPrimary s) answers.Lost b m n = lost_case s b m n
-  case_outcome (steps.CommitSecondary s x) answers.Done b m n = secondary_case s x b m n
-  case_outcome (steps.Settle x) answers.Absent b m n = unsettled_case x b m n
-  case_outcome (steps.Settle x) (answers.Locked s p) b m n = other_lock_case x s p b m n
-  case_outcome (steps.Settle x) answers.RolledBack b m n = settled_case x b m n
-  case_outcome (steps.Clear x) answers.Absent b m n = uncleared_case x b m n
-  case_outcome (steps.Clear x) answers.Waits b m n = waits_case x b m n
-  case_outcome (steps.Clear x) (answers.CommittedAt c) b m n = cleared_case x c b m n
-  case_outcome (steps.Clear x) answers.RolledBack b m n = back_case x b m n
-  case_outcome (steps.NextMark after) (answers.Marked x) b m n = mark_case after x b m n
-  case_outcome (steps.NextMark after) answers.NoMark b m n = no_mark_case after b m n
-  case_outcome (steps.Sweep x) answers.NoMark b m n = unswept_case x b m n
-  case_outcome (steps.Sweep x) answers.StillBehind b m n = behind_case x b m n
-  case_outcome (steps.Sweep x) answers.Done b m n = swept_case x b m n
+  case_outcome (Step.Begin work) (Answer.At s) b m n = begin_case work s b m n
+  case_outcome (Step.Read s x) a b m n = reads s.0 x None a b (read_case s x a new m) (read_case s x b other n)
+  case_outcome (Step.ReadAt s x t) a b m n = reads s.0 x (Some t) a b (read_at_case s x t a new m) (read_at_case s x t b other n)
+  case_outcome (Step.Declare s what) Answer.Done b m n = declare_case s what b m n
+  case_outcome (Step.Prewrite s x) Answer.Done b m n = prewrite_case s x b m n
+  case_outcome (Step.Prewrite s x) Answer.Conflict b m n = conflict_case s x b m n
+  case_outcome (Step.Stamp s) (Answer.At c) b m n = stamp_case s c b m n
+  case_outcome (Step.CommitPrimary s) Answer.Committed b m n = commit_case s b m n
+  case_outcome (Step.CommitPrimary s) Answer.Lost b m n = lost_case s b m n
+  case_outcome (Step.CommitSecondary s x) Answer.Done b m n = secondary_case s x b m n
+  case_outcome (Step.Settle x) Answer.Absent b m n = unsettled_case x b m n
+  case_outcome (Step.Settle x) (Answer.Locked s p) b m n = other_lock_case x s p b m n
+  case_outcome (Step.Settle x) Answer.RolledBack b m n = settled_case x b m n
+  case_outcome (Step.Clear x) Answer.Absent b m n = uncleared_case x b m n
+  case_outcome (Step.Clear x) Answer.Waits b m n = waits_case x b m n
+  case_outcome (Step.Clear x) (Answer.CommittedAt c) b m n = cleared_case x c b m n
+  case_outcome (Step.Clear x) Answer.RolledBack b m n = back_case x b m n
+  case_outcome (Step.NextMark after) (Answer.Marked x) b m n = mark_case after x b m n
+  case_outcome (Step.NextMark after) Answer.NoMark b m n = no_mark_case after b m n
+  case_outcome (Step.Sweep x) Answer.NoMark b m n = unswept_case x b m n
+  case_outcome (Step.Sweep x) Answer.StillBehind b m n = behind_case x b m n
+  case_outcome (Step.Sweep x) Answer.Done b m n = swept_case x b m n
   case_outcome _ _ b m n = absurd m
 
 pub one_outcome : (old : StateOf) (seat : ℕ) (step : Step) (a : Answer) (new : StateOf) (b : Answer) (other : StateOf) → IsSoundTable old → TableStep old seat step a new → TableStep old seat step b other → AreSame a new b other

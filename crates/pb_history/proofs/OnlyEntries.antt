@@ -1,6 +1,5 @@
 -- The steps that finish or undo what others left change entries alone.
-use Rattle.std.proofs.Common.{◌≡◌, ℕ, Bool, true, false, refl, ap, ◌∙◌}
-use Rattle.std.specs.Prelude.{is_some}
+use Rattle.std.proofs.Common.{◌≡◌, ℕ, Bool, true, false, refl, ap, ◌∙◌, is_some}
 use Rattle.pb_base.specs.declared.cell.Cell.{Cell}
 use Rattle.pb_steps.specs.State.{StateOf}
 use Rattle.pb_steps.specs.Readings.{lock_at}

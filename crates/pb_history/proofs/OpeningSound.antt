@@ -1,12 +1,10 @@
 -- The table as it is opened is sound.
-use Rattle.std.proofs.Common.{◌≡◌, ℕ, ◌<◌, ◌^◌, false, List, [], None, sym, subst, inl, inr}
-use Rattle.std.specs.Ordering.{nat_cmp}
+use Rattle.std.proofs.Common.{◌≡◌, ℕ, ◌<◌, ◌^◌, false, List, [], None, sym, subst, inl, inr, nat_cmp, option_map}
 use Rattle.std.specs.FinMap as map
-use Rattle.std.specs.Prelude.{option_map}
 use Rattle.pb_base.specs.Batch.{content_in, primary_in}
 use Rattle.pb_store.specs.Slot.{slot_cmp}
 use Rattle.pb_store.specs.Contents.{slot_at}
-use Rattle.pb_store.specs.declared.slot.Sort.TheVariants as sorts
+use Rattle.pb_store.specs.declared.slot.Sort.{Sort}
 use Rattle.pb_verify.specs.Observers.{ObserverOf}
 use Rattle.pb_steps.specs.State.{TransactionOf, opening, is_in}
 use Rattle.pb_steps.specs.Readings.{data_of, primary_of, start_of}
@@ -26,9 +24,9 @@ view_at_opening observers seats clock i = record {
   primary = λ s. primary_in (declared_by (map.get-empty nat_cmp s i));
   prewritten = λ s. is_in (prewritten_by (map.get-empty nat_cmp s i));
   reads = λ s. reads_by (map.get-empty nat_cmp s i);
-  lock = λ x s. primary_of (map.get-empty slot_cmp (slot_at x sorts.Lock s) i);
-  stored = λ x s. data_of (map.get-empty slot_cmp (slot_at x sorts.Data s) i);
-  write = λ x c. start_of (map.get-empty slot_cmp (slot_at x sorts.Write c) i);
+  lock = λ x s. primary_of (map.get-empty slot_cmp (slot_at x Sort.Lock s) i);
+  stored = λ x s. data_of (map.get-empty slot_cmp (slot_at x Sort.Data s) i);
+  write = λ x c. start_of (map.get-empty slot_cmp (slot_at x Sort.Write c) i);
 }
 
 -- nothing has a commit timestamp there

@@ -4,7 +4,6 @@ use Rattle.pb_base.specs.declared.cell.Cell.{Cell}
 use Rattle.pb_base.specs.declared.content.Content.{Content}
 use Rattle.pb_base.specs.declared.names.Ts.{Ts}
 use Rattle.pb_steps.specs.declared.phase.Phase.{Phase}
-use Rattle.pb_steps.specs.declared.phase.Phase.TheVariants.{Reading, Declared, Stamped, Committed}
 use Rattle.pb_steps.specs.declared.seen.RecordedRead.{RecordedRead}
 use Rattle.pb_steps.specs.declared.step.Answer.{Answer}
 use Rattle.pb_steps.specs.Reads.{read_up_to}
@@ -16,15 +15,15 @@ use Rattle.pb_history.proofs.Updates.{set1, changed, set1_there, none_if, has_mo
 use Rattle.pb_base.proofs.Logic.{same_some as same_phase}
 
 abbrev pub stamped_at : ℕ → Phase
-stamped_at c = Stamped (record { 0 = c })
+stamped_at c = Phase.Stamped (record { 0 = c })
 
 abbrev pub committed_at : ℕ → Phase
-committed_at c = Committed (record { 0 = c })
+committed_at c = Phase.Committed (record { 0 = c })
 
-one_commit : (c d : Ts) → Some (Committed c) ≡ Some (Committed d) → c ≡ d
+one_commit : (c d : Ts) → Some (Phase.Committed c) ≡ Some (Phase.Committed d) → c ≡ d
 one_commit c d e = cc
 
-one_stamp : (c d : Ts) → Some (Stamped c) ≡ Some (Stamped d) → c ≡ d
+one_stamp : (c d : Ts) → Some (Phase.Stamped c) ≡ Some (Phase.Stamped d) → c ≡ d
 one_stamp c d e = cc
 
 -- a phase has one commit
@@ -42,7 +41,7 @@ IsPlain h = (c : ℕ) → (h ≢ stamped_at c) × (h ≢ committed_at c)
 abbrev pub with_phase : TableView → ℕ → Phase → ℕ → TableView
 with_phase v s h k = record v { clock = k; phase = set1 v.phase s (Some h) }
 
-module _ (v : TableView) (i : IsSoundView v) (s : ℕ) (h : Phase) (plain : IsPlain h) (open_still : (c : ℕ) → v.phase s ≢ Some (committed_at c)) (k : ℕ) (low : v.clock ≤ k) (mine : s ≤ k) (small : k < 2 ^ 64) (ready : (x : Cell) → v.prewritten s x ≡ true → h ≢ Reading) where
+module _ (v : TableView) (i : IsSoundView v) (s : ℕ) (h : Phase) (plain : IsPlain h) (open_still : (c : ℕ) → v.phase s ≢ Some (committed_at c)) (k : ℕ) (low : v.clock ≤ k) (mine : s ≤ k) (small : k < 2 ^ 64) (ready : (x : Cell) → v.prewritten s x ≡ true → h ≢ Phase.Reading) where
   stamp_back : (u c : ℕ) → HasStamp (with_phase v s h k) u c → HasStamp v u c
   stamp_back u c (inl e) = elim (changed v.phase s (Some h) u (Some (stamped_at c)) e) [ inl p ↦ absurd ((plain c).0 (same_phase _ _ p.1)) | inr q ↦ inl q.0 ]
   stamp_back u c (inr e) = elim (changed v.phase s (Some h) u (Some (committed_at c)) e) [ inl p ↦ absurd ((plain c).1 (same_phase _ _ p.1)) | inr q ↦ inr q.0 ]
@@ -64,7 +63,7 @@ module _ (v : TableView) (i : IsSoundView v) (s : ℕ) (h : Phase) (plain : IsPl
     one_stamp = λ u w c a b. i.one_stamp u w c (stamp_back u c a) (stamp_back w c b);
     was_declared = i.was_declared;
     past_reading = λ u x e. (
-      λ f. elim (changed v.phase s (Some h) u (Some Reading) f) [ inl p ↦ ready x (subst (λ w. v.prewritten w x ≡ true) p.0 e) (same_phase _ _ p.1) | inr q ↦ (i.past_reading u x e).0 q.0 ],
+      λ f. elim (changed v.phase s (Some h) u (Some Phase.Reading) f) [ inl p ↦ ready x (subst (λ w. v.prewritten w x ≡ true) p.0 e) (same_phase _ _ p.1) | inr q ↦ (i.past_reading u x e).0 q.0 ],
       λ f. elim (changed v.phase s (Some h) u None f) [ inl p ↦ cc | inr q ↦ (i.past_reading u x e).1 q.0 ],
     );
     primary_first = i.primary_first;
@@ -196,13 +195,13 @@ module _ (v : TableView) (i : IsSoundView v) (s : ℕ) (f : Cell → Option Cont
 abbrev pub with_stamp : TableView → ℕ → ℕ → TableView
 with_stamp v s c = record v { clock = c; phase = set1 v.phase s (Some (stamped_at c)) }
 
-module _ (v : TableView) (i : IsSoundView v) (s c : ℕ) (fresh : c ≡ v.clock + 1) (small : c < 2 ^ 64) (was : v.phase s ≡ Some Declared) (ready : (x : Cell) (k : Content) → v.content s x ≡ Some k → v.prewritten s x ≡ true) where
+module _ (v : TableView) (i : IsSoundView v) (s c : ℕ) (fresh : c ≡ v.clock + 1) (small : c < 2 ^ 64) (was : v.phase s ≡ Some Phase.Declared) (ready : (x : Cell) (k : Content) → v.content s x ≡ Some k → v.prewritten s x ≡ true) where
   stamps_back : (u d : ℕ) → HasStamp (with_stamp v s c) u d → ((u ≡ s) × (d ≡ c)) ⊎ HasStamp v u d
   stamps_back u d (inl e) = elim (changed v.phase s (Some (stamped_at c)) u (Some (stamped_at d)) e) [ inl p ↦ inl (p.0, same_stamp d c (sym p.1)) | inr q ↦ inr (inl q.0) ]
   stamps_back u d (inr e) = elim (changed v.phase s (Some (stamped_at c)) u (Some (committed_at d)) e) [ inl p ↦ cc | inr q ↦ inr (inr q.0) ]
 
   own : s ≤ v.clock
-  own = i.begun s Declared was
+  own = i.begun s Phase.Declared was
 
   not_own : (u d : ℕ) → HasStamp v u d → d ≢ c
   not_own u d e q = let p = i.stamped u d e in absurd (omega arith)
@@ -221,7 +220,7 @@ module _ (v : TableView) (i : IsSoundView v) (s c : ℕ) (fresh : c ≡ v.clock 
     ];
     was_declared = i.was_declared;
     past_reading = λ u x e. (
-      λ f. elim (changed v.phase s (Some (stamped_at c)) u (Some Reading) f) [ inl p ↦ cc | inr q ↦ (i.past_reading u x e).0 q.0 ],
+      λ f. elim (changed v.phase s (Some (stamped_at c)) u (Some Phase.Reading) f) [ inl p ↦ cc | inr q ↦ (i.past_reading u x e).0 q.0 ],
       λ f. elim (changed v.phase s (Some (stamped_at c)) u None f) [ inl p ↦ cc | inr q ↦ (i.past_reading u x e).1 q.0 ],
     );
     primary_first = i.primary_first;

@@ -1,16 +1,12 @@
 -- Marks are found, and go once no observer is behind.
-use Rattle.std.proofs.Common.{◌≡◌, ℕ, true, cond, ◌⊎◌, inl, inr, Option, Some, None, refl, ap, ◌∙◌}
-use Rattle.std.specs.Prelude.{is_some}
-use Rattle.std.specs.declared.cmp.Ordering.TheVariants.{Less, Equal, Greater}
+use Rattle.std.proofs.Common.{◌≡◌, ℕ, true, cond, ◌⊎◌, inl, inr, Option, Some, None, refl, ap, ◌∙◌, is_some, Less, Equal, Greater}
 use Rattle.std.specs.Ordering.{ordering_reverse}
 use Rattle.std.specs.FinMap as map
 use Rattle.pb_base.specs.declared.cell.Cell.{Cell}
 use Rattle.pb_base.specs.Cell.{cell_cmp, cell_cmp_total, cell_cmp-IsAntisymmetric}
 use Rattle.pb_store.specs.Contents.{Marks, ComesAfter, IsNextMark}
 use Rattle.pb_steps.specs.declared.step.Step.{Step}
-use Rattle.pb_steps.specs.declared.step.Step.TheVariants.{NextMark, Sweep}
 use Rattle.pb_steps.specs.declared.step.Answer.{Answer}
-use Rattle.pb_steps.specs.declared.step.Answer.TheVariants.{Marked, NoMark, StillBehind, Done}
 use Rattle.pb_steps.specs.State.{StateOf}
 use Rattle.pb_steps.specs.Marks.{is_marked}
 use Rattle.pb_steps.specs.Steps.{StepCase, TableStep}
@@ -35,19 +31,19 @@ at_most_others marks after y h x marked comes = elim (first_of_two x y) [
 
 module _ (old : StateOf) (seat : ℕ) (new : StateOf) where
   case_first : (step : Step) (answer : Answer) → StepCase old seat step answer new → TellsFirstMark old step answer
-  case_first (NextMark after) (Marked y) m = λ x marked comes. (y, refl, m.first.0, m.first.1, at_most_others old.marks after y m.first x marked comes)
-  case_first (NextMark after) NoMark m = λ x marked comes. let unmarked = m.none x comes in absurd cc
-  case_first (NextMark after) _ m = absurd m
+  case_first (Step.NextMark after) (Answer.Marked y) m = λ x marked comes. (y, refl, m.first.0, m.first.1, at_most_others old.marks after y m.first x marked comes)
+  case_first (Step.NextMark after) Answer.NoMark m = λ x marked comes. let unmarked = m.none x comes in absurd cc
+  case_first (Step.NextMark after) _ m = absurd m
   case_first _ _ m = tt
 
   case_unmarks : (step : Step) (answer : Answer) → StepCase old seat step answer new → TellsUnmarked old step new
   unfolding same_cell
-  case_unmarks (Sweep x) NoMark m = λ nobody. ap (λ (z : StateOf). is_marked z.marks x) m.new_is ∙ m.unmarked
-  case_unmarks (Sweep x) StillBehind m = λ nobody. absurd (nobody m.behind)
-  case_unmarks (Sweep x) Done m = λ nobody.
+  case_unmarks (Step.Sweep x) Answer.NoMark m = λ nobody. ap (λ (z : StateOf). is_marked z.marks x) m.new_is ∙ m.unmarked
+  case_unmarks (Step.Sweep x) Answer.StillBehind m = λ nobody. absurd (nobody m.behind)
+  case_unmarks (Step.Sweep x) Answer.Done m = λ nobody.
       ap (λ (z : StateOf). is_marked z.marks x) m.new_is
       ∙ ap is_some (map.get-remove cell_cmp_total old.marks x x ∙ ap (λ b. cond b None (map.get old.marks x)) (same_cell_itself x))
-  case_unmarks (Sweep x) _ m = absurd m
+  case_unmarks (Step.Sweep x) _ m = absurd m
   case_unmarks _ _ m = tt
 
 pub finds_first : (old : StateOf) (seat : ℕ) (step : Step) (answer : Answer) (new : StateOf) → TableStep old seat step answer new → TellsFirstMark old step answer

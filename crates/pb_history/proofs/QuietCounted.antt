@@ -1,6 +1,5 @@
 -- After a legal journal, neither mark nor lock is counted exactly where neither stands.
-use Rattle.std.proofs.Common.{◌≡◌, ℕ, ◌+◌, ◌<◌, ◌^◌, Bool, true, false, cond, inl, inr, List, [], ◌∷◌, Option, Some, None, length, refl, sym, ap, subst, ◌∙◌, arith}
-use Rattle.std.specs.Prelude.{count_by, is_some}
+use Rattle.std.proofs.Common.{◌≡◌, ℕ, ◌+◌, ◌<◌, ◌^◌, Bool, true, false, cond, inl, inr, List, [], ◌∷◌, Option, Some, None, length, refl, sym, ap, subst, ◌∙◌, arith, count_by, is_some}
 use Rattle.std.specs.Ordering.{is_eq, eq_by_cmp}
 use Rattle.std.specs.Cmp.{Equal-is, tied_itself}
 use Rattle.std.specs.FinMap as map
@@ -9,15 +8,11 @@ use Rattle.pb_base.specs.declared.cell.Cell.{Cell}
 use Rattle.pb_base.specs.Cell.{cell_cmp, cell_cmp_total}
 use Rattle.pb_store.specs.declared.slot.Slot.{Slot}
 use Rattle.pb_store.specs.declared.slot.Item.{Item}
-use Rattle.pb_store.specs.declared.slot.Item.TheVariants as items
 use Rattle.pb_store.specs.declared.slot.Sort.{Sort}
-use Rattle.pb_store.specs.declared.slot.Sort.TheVariants as sorts
 use Rattle.pb_store.specs.Slot.{slot_cmp, slot_cmp_total, slot_cmp-IsAntisymmetric}
 use Rattle.pb_store.specs.Contents.{Entries, Marks, slot_at, IsOfSort}
 use Rattle.pb_steps.specs.declared.step.Step.{Step}
-use Rattle.pb_steps.specs.declared.step.Step.TheVariants.{Begin, Read, ReadAt, Declare, Prewrite, Stamp, CommitPrimary, CommitSecondary, Settle, Clear, NextMark, Sweep}
 use Rattle.pb_steps.specs.declared.step.Answer.{Answer}
-use Rattle.pb_steps.specs.declared.step.Answer.TheVariants.{At, Locked, Found, Absent, Done, Conflict, Committed, Lost, RolledBack, Waits, CommittedAt, Marked, NoMark, StillBehind}
 use Rattle.pb_verify.specs.Observers.{ObserverOf}
 use Rattle.pb_steps.specs.State.{StateOf, opening}
 use Rattle.pb_steps.specs.Marks.{is_marked}
@@ -61,10 +56,10 @@ removed e k h q found there = by (eq_by_cmp slot_cmp q k) (sym (map.get-remove s
     by false is = h q found is
 
 committed : (e : Entries) (x : Cell) (s c : ℕ) → Keeps e (commit_lock e x s c)
-committed e x s c h = inserted (map.remove e (slot_at x sorts.Lock s)) (slot_at x sorts.Write c) (items.Write (record { 0 = s })) tt (removed e (slot_at x sorts.Lock s) h)
+committed e x s c h = inserted (map.remove e (slot_at x Sort.Lock s)) (slot_at x Sort.Write c) (Item.Write (record { 0 = s })) tt (removed e (slot_at x Sort.Lock s) h)
 
 erased : (e : Entries) (x : Cell) (s : ℕ) → Keeps e (erase_lock e x s)
-erased e x s h = removed (map.remove e (slot_at x sorts.Lock s)) (slot_at x sorts.Data s) (removed e (slot_at x sorts.Lock s) h)
+erased e x s h = removed (map.remove e (slot_at x Sort.Lock s)) (slot_at x Sort.Data s) (removed e (slot_at x Sort.Lock s) h)
 
 committed_if : (old : StateOf) (locked : Bool) (x : Cell) (s c : ℕ) → Keeps old.entries (if_locked old locked x s c).entries
 committed_if old true x s c = committed old.entries x s c
@@ -78,35 +73,35 @@ module _ (old : StateOf) (seat : ℕ) (new : StateOf) (h : AreOfSort old.entries
   stays is = subst AreOfSort (sym is) h
 
   case_sorts : (step : Step) (answer : Answer) → StepCase old seat step answer new → AreOfSort new.entries
-  case_sorts (Begin work) (At s) m = stays (ap (λ (z : StateOf). z.entries) m.new_is)
-  case_sorts (Read s x) (Locked start primary) m = stays (ap (λ (z : StateOf). z.entries) m.new_is)
-  case_sorts (Read s x) (Found start commit content) m = stays (ap (λ (z : StateOf). z.entries) m.new_is)
-  case_sorts (Read s x) Absent m = stays (ap (λ (z : StateOf). z.entries) m.new_is)
-  case_sorts (ReadAt s x t) (Locked start primary) m = stays (ap (λ (z : StateOf). z.entries) m.new_is)
-  case_sorts (ReadAt s x t) (Found start commit content) m = stays (ap (λ (z : StateOf). z.entries) m.new_is)
-  case_sorts (ReadAt s x t) Absent m = stays (ap (λ (z : StateOf). z.entries) m.new_is)
-  case_sorts (Declare s what) Done m = stays (ap (λ (z : StateOf). z.entries) m.new_is)
-  case_sorts (Prewrite s x) Done m =
-      let first = inserted old.entries (slot_at x sorts.Data s.0) (items.Data m.content) tt h in
+  case_sorts (Step.Begin work) (Answer.At s) m = stays (ap (λ (z : StateOf). z.entries) m.new_is)
+  case_sorts (Step.Read s x) (Answer.Locked start primary) m = stays (ap (λ (z : StateOf). z.entries) m.new_is)
+  case_sorts (Step.Read s x) (Answer.Found start commit content) m = stays (ap (λ (z : StateOf). z.entries) m.new_is)
+  case_sorts (Step.Read s x) Answer.Absent m = stays (ap (λ (z : StateOf). z.entries) m.new_is)
+  case_sorts (Step.ReadAt s x t) (Answer.Locked start primary) m = stays (ap (λ (z : StateOf). z.entries) m.new_is)
+  case_sorts (Step.ReadAt s x t) (Answer.Found start commit content) m = stays (ap (λ (z : StateOf). z.entries) m.new_is)
+  case_sorts (Step.ReadAt s x t) Answer.Absent m = stays (ap (λ (z : StateOf). z.entries) m.new_is)
+  case_sorts (Step.Declare s what) Answer.Done m = stays (ap (λ (z : StateOf). z.entries) m.new_is)
+  case_sorts (Step.Prewrite s x) Answer.Done m =
+      let first = inserted old.entries (slot_at x Sort.Data s.0) (Item.Data m.content) tt h in
       subst AreOfSort (sym (ap (λ (z : StateOf). z.entries) m.new_is))
-      (inserted (map.insert old.entries (slot_at x sorts.Data s.0) (items.Data m.content)) (slot_at x sorts.Lock s.0) (items.Lock m.primary) tt first)
-  case_sorts (Prewrite s x) Conflict m = stays (ap (λ (z : StateOf). z.entries) m.new_is)
-  case_sorts (Stamp s) (At c) m = stays (ap (λ (z : StateOf). z.entries) m.new_is)
-  case_sorts (CommitPrimary s) Committed m = subst AreOfSort (sym (ap (λ (z : StateOf). z.entries) m.new_is)) (committed old.entries m.primary s.0 m.c h)
-  case_sorts (CommitPrimary s) Lost m = stays (ap (λ (z : StateOf). z.entries) m.new_is)
-  case_sorts (CommitSecondary s x) Done m = becomes (if_locked old (is_some (lock_at old.entries x s.0)) x s.0 m.c) m.new_is (committed_if old (is_some (lock_at old.entries x s.0)) x s.0 m.c)
-  case_sorts (Settle x) Absent m = stays (ap (λ (z : StateOf). z.entries) m.new_is)
-  case_sorts (Settle x) (Locked start primary) m = stays (ap (λ (z : StateOf). z.entries) m.new_is)
-  case_sorts (Settle x) RolledBack m = subst AreOfSort (sym (ap (λ (z : StateOf). z.entries) m.new_is)) (erased old.entries x m.start h)
-  case_sorts (Clear x) Absent m = stays (ap (λ (z : StateOf). z.entries) m.new_is)
-  case_sorts (Clear x) Waits m = stays (ap (λ (z : StateOf). z.entries) m.new_is)
-  case_sorts (Clear x) (CommittedAt c) m = subst AreOfSort (sym (ap (λ (z : StateOf). z.entries) m.new_is)) (committed old.entries x m.start c.0 h)
-  case_sorts (Clear x) RolledBack m = subst AreOfSort (sym (ap (λ (z : StateOf). z.entries) m.new_is)) (erased old.entries x m.start h)
-  case_sorts (NextMark after) (Marked x) m = stays (ap (λ (z : StateOf). z.entries) m.new_is)
-  case_sorts (NextMark after) NoMark m = stays (ap (λ (z : StateOf). z.entries) m.new_is)
-  case_sorts (Sweep x) NoMark m = stays (ap (λ (z : StateOf). z.entries) m.new_is)
-  case_sorts (Sweep x) StillBehind m = stays (ap (λ (z : StateOf). z.entries) m.new_is)
-  case_sorts (Sweep x) Done m = stays (ap (λ (z : StateOf). z.entries) m.new_is)
+      (inserted (map.insert old.entries (slot_at x Sort.Data s.0) (Item.Data m.content)) (slot_at x Sort.Lock s.0) (Item.Lock m.primary) tt first)
+  case_sorts (Step.Prewrite s x) Answer.Conflict m = stays (ap (λ (z : StateOf). z.entries) m.new_is)
+  case_sorts (Step.Stamp s) (Answer.At c) m = stays (ap (λ (z : StateOf). z.entries) m.new_is)
+  case_sorts (Step.CommitPrimary s) Answer.Committed m = subst AreOfSort (sym (ap (λ (z : StateOf). z.entries) m.new_is)) (committed old.entries m.primary s.0 m.c h)
+  case_sorts (Step.CommitPrimary s) Answer.Lost m = stays (ap (λ (z : StateOf). z.entries) m.new_is)
+  case_sorts (Step.CommitSecondary s x) Answer.Done m = becomes (if_locked old (is_some (lock_at old.entries x s.0)) x s.0 m.c) m.new_is (committed_if old (is_some (lock_at old.entries x s.0)) x s.0 m.c)
+  case_sorts (Step.Settle x) Answer.Absent m = stays (ap (λ (z : StateOf). z.entries) m.new_is)
+  case_sorts (Step.Settle x) (Answer.Locked start primary) m = stays (ap (λ (z : StateOf). z.entries) m.new_is)
+  case_sorts (Step.Settle x) Answer.RolledBack m = subst AreOfSort (sym (ap (λ (z : StateOf). z.entries) m.new_is)) (erased old.entries x m.start h)
+  case_sorts (Step.Clear x) Answer.Absent m = stays (ap (λ (z : StateOf). z.entries) m.new_is)
+  case_sorts (Step.Clear x) Answer.Waits m = stays (ap (λ (z : StateOf). z.entries) m.new_is)
+  case_sorts (Step.Clear x) (Answer.CommittedAt c) m = subst AreOfSort (sym (ap (λ (z : StateOf). z.entries) m.new_is)) (committed old.entries x m.start c.0 h)
+  case_sorts (Step.Clear x) Answer.RolledBack m = subst AreOfSort (sym (ap (λ (z : StateOf). z.entries) m.new_is)) (erased old.entries x m.start h)
+  case_sorts (Step.NextMark after) (Answer.Marked x) m = stays (ap (λ (z : StateOf). z.entries) m.new_is)
+  case_sorts (Step.NextMark after) Answer.NoMark m = stays (ap (λ (z : StateOf). z.entries) m.new_is)
+  case_sorts (Step.Sweep x) Answer.NoMark m = stays (ap (λ (z : StateOf). z.entries) m.new_is)
+  case_sorts (Step.Sweep x) Answer.StillBehind m = stays (ap (λ (z : StateOf). z.entries) m.new_is)
+  case_sorts (Step.Sweep x) Answer.Done m = stays (ap (λ (z : StateOf). z.entries) m.new_is)
   case_sorts _ _ m = absurd m
 
 -- a run of steps keeps it, since each puts items under their sorts
@@ -153,8 +148,8 @@ found_again (q ∷ es) p has = by (found_again es p) (eq_by_cmp slot_cmp p.0 q.0
     by more false same (inl is) = (let here : eq_by_cmp slot_cmp p.0 q.0 ≡ true = ap (λ (z : Slot × Item). eq_by_cmp slot_cmp p.0 z.0) is ∙ itself p.0 in absurd cc)
     by more false same (inr rest) = (let r = more rest in (r.0, ap (λ b. cond b (Some q.1) (map.find slot_cmp p.0 es)) same ∙ r.1))
 
-lock_item : (o : Option Item) (p : Cell) → primary_of o ≡ Some p → o ≡ Some (items.Lock p)
-lock_item (Some (items.Lock q)) p e = ap (λ (c : Option Cell). elim c as (λ _. Option Item) [ None ↦ None | Some z ↦ Some (items.Lock z) ]) e
+lock_item : (o : Option Item) (p : Cell) → primary_of o ≡ Some p → o ≡ Some (Item.Lock p)
+lock_item (Some (Item.Lock q)) p e = ap (λ (c : Option Cell). elim c as (λ _. Option Item) [ None ↦ None | Some z ↦ Some (Item.Lock z) ]) e
 lock_item _ p e = absurd cc
 
 -- a map without a marked cell has no length
@@ -178,13 +173,13 @@ module _ (state : StateOf) (i : IsSoundTable state) (sorted : AreOfSort state.en
 
   -- an entry under a lock's slot is a lock
   unlocked_slot : IsQuiet state → (k : Slot) (item : Item) → map.get state.entries k ≡ Some item → (sort : Sort) → k.sort ≡ sort → is_lock sort ≡ false
-  unlocked_slot q k item there sorts.Data is = refl
-  unlocked_slot q k item there sorts.Write is = refl
-  unlocked_slot q k item there sorts.Lock is = by item (subst (λ z. IsOfSort z item) is (sorted k item there)) there
+  unlocked_slot q k item there Sort.Data is = refl
+  unlocked_slot q k item there Sort.Write is = refl
+  unlocked_slot q k item there Sort.Lock is = by item (subst (λ z. IsOfSort z item) is (sorted k item there)) there
     where
-      by : (j : Item) → IsOfSort sorts.Lock j → map.get state.entries k ≡ Some j → is_lock sorts.Lock ≡ false
-      by (items.Lock p) fits at =
-          let here : map.get state.entries (slot_at k.cell sorts.Lock k.ts.0) ≡ Some (items.Lock p) = ap (λ z. map.get state.entries (slot_at k.cell z k.ts.0)) (sym is) ∙ at in
+      by : (j : Item) → IsOfSort Sort.Lock j → map.get state.entries k ≡ Some j → is_lock Sort.Lock ≡ false
+      by (Item.Lock p) fits at =
+          let here : map.get state.entries (slot_at k.cell Sort.Lock k.ts.0) ≡ Some (Item.Lock p) = ap (λ z. map.get state.entries (slot_at k.cell z k.ts.0)) (sym is) ∙ at in
           let locked : lock_at state.entries k.cell k.ts.0 ≡ Some p = ap primary_of here in
           let none = q.unlocked k.cell k.ts.0 (low k.cell k.ts.0 p locked) in
           absurd cc
@@ -193,7 +188,7 @@ module _ (state : StateOf) (i : IsSoundTable state) (sorted : AreOfSort state.en
   quiet_if : map.len state.marks ≡ 0 → lock_count state.entries ≡ 0 → IsQuiet state
   quiet_if marks locks = record {
     unmarked = λ x. ap (λ m. is_marked m x) (map.empty_of_len state.marks marks) ∙ ap is_some (map.get-empty {X = Unit {0}} cell_cmp x);
-    unlocked = λ x u bound. none_if _ (λ p e. counted_none (map.entries state.entries) (slot_at x sorts.Lock u) (items.Lock p) refl (sym (map.get-entries state.entries (slot_at x sorts.Lock u)) ∙ lock_item _ p e) locks);
+    unlocked = λ x u bound. none_if _ (λ p e. counted_none (map.entries state.entries) (slot_at x Sort.Lock u) (Item.Lock p) refl (sym (map.get-entries state.entries (slot_at x Sort.Lock u)) ∙ lock_item _ p e) locks);
   }
 
   pub quiet_counted : TellsQuiet state

@@ -1,7 +1,6 @@
 -- The reasons to refuse a step are listed by rising numbers.
 use Rattle.std.proofs.Common.{ℕ, ◌<◌, Option, Some, None, arith}
 use Rattle.pb_steps.specs.declared.step.Step.{Step}
-use Rattle.pb_steps.specs.declared.step.Step.TheVariants.{Begin, Read, ReadAt, Declare, Prewrite, Stamp, CommitPrimary, CommitSecondary, Settle, Clear, NextMark, Sweep}
 use Rattle.pb_steps.specs.State.{StateOf, TransactionOf}
 use Rattle.pb_steps.specs.Reasons.{Reasons, own_transaction, reasons_of, own_reasons}
 use Rattle.pb_steps.specs.Steps.{step_reasons}
@@ -17,15 +16,15 @@ own_rise : (state : StateOf) (seat start low : ℕ) → low < 41 → (why : Tran
 own_rise state seat start low small why rise = by_transaction low small why rise (own_transaction state seat start)
 
 pub rises : (state : StateOf) (seat : ℕ) (step : Step) → RiseAbove 0 (step_reasons state seat step)
-rises state seat (Begin work) = (omega arith, (omega arith, (omega arith, tt)))
-rises state seat (Read s x) = own_rise state seat s.0 0 (omega arith) _ (λ t. (omega arith, tt))
-rises state seat (ReadAt s x u) = own_rise state seat s.0 0 (omega arith) _ (λ t. (omega arith, (omega arith, tt)))
-rises state seat (Declare s what) = own_rise state seat s.0 0 (omega arith) _ (λ t. (omega arith, (omega arith, tt)))
-rises state seat (Prewrite s x) = own_rise state seat s.0 0 (omega arith) _ (λ t. (omega arith, (omega arith, (omega arith, tt))))
-rises state seat (Stamp s) = (omega arith, own_rise state seat s.0 40 (omega arith) _ (λ t. (omega arith, tt)))
-rises state seat (CommitPrimary s) = own_rise state seat s.0 0 (omega arith) _ (λ t. (omega arith, tt))
-rises state seat (CommitSecondary s x) = own_rise state seat s.0 0 (omega arith) _ (λ t. (omega arith, (omega arith, tt)))
-rises state seat (Settle x) = (omega arith, tt)
-rises state seat (Clear x) = (omega arith, tt)
-rises state seat (NextMark after) = (omega arith, tt)
-rises state seat (Sweep x) = (omega arith, tt)
+rises state seat (Step.Begin work) = (omega arith, (omega arith, (omega arith, tt)))
+rises state seat (Step.Read s x) = own_rise state seat s.0 0 (omega arith) _ (λ t. (omega arith, tt))
+rises state seat (Step.ReadAt s x u) = own_rise state seat s.0 0 (omega arith) _ (λ t. (omega arith, (omega arith, tt)))
+rises state seat (Step.Declare s what) = own_rise state seat s.0 0 (omega arith) _ (λ t. (omega arith, (omega arith, tt)))
+rises state seat (Step.Prewrite s x) = own_rise state seat s.0 0 (omega arith) _ (λ t. (omega arith, (omega arith, (omega arith, tt))))
+rises state seat (Step.Stamp s) = (omega arith, own_rise state seat s.0 40 (omega arith) _ (λ t. (omega arith, tt)))
+rises state seat (Step.CommitPrimary s) = own_rise state seat s.0 0 (omega arith) _ (λ t. (omega arith, tt))
+rises state seat (Step.CommitSecondary s x) = own_rise state seat s.0 0 (omega arith) _ (λ t. (omega arith, (omega arith, tt)))
+rises state seat (Step.Settle x) = (omega arith, tt)
+rises state seat (Step.Clear x) = (omega arith, tt)
+rises state seat (Step.NextMark after) = (omega arith, tt)
+rises state seat (Step.Sweep x) = (omega arith, tt)

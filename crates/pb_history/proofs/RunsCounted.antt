@@ -1,16 +1,12 @@
 -- The committed runs of an observer are counted by the entries that begin them.
-use Rattle.std.proofs.Common.{◌≡◌, ℕ, ◌+◌, ◌≤◌, ◌==◌, ◌&&◌, inl, inr, true, false, cond, List, [], ◌∷◌, length, Option, Some, None, refl, sym, ap, subst, ◌∙◌, arith}
-use Rattle.std.specs.Prelude.{option_map}
+use Rattle.std.proofs.Common.{◌≡◌, ℕ, ◌+◌, ◌≤◌, ◌==◌, ◌&&◌, inl, inr, true, false, cond, List, [], ◌∷◌, length, Option, Some, None, refl, sym, ap, subst, ◌∙◌, arith, option_map}
 use Rattle.std.proofs.lemmas.Bool.{eqb-true, eq-eqb}
 use Rattle.std.proofs.lemmas.List.Sums.{sum_by-cons}
 use Rattle.pb_base.specs.declared.names.Ts.{Ts}
-use Rattle.pb_steps.specs.declared.step.Work.TheVariants as works
+use Rattle.pb_steps.specs.declared.step.Work.{Work}
 use Rattle.pb_steps.specs.declared.step.Step.{Step}
-use Rattle.pb_steps.specs.declared.step.Step.TheVariants.{Begin}
 use Rattle.pb_steps.specs.declared.step.Answer.{Answer}
-use Rattle.pb_steps.specs.declared.step.Answer.TheVariants.{At}
 use Rattle.pb_steps.specs.declared.phase.Phase.{Phase}
-use Rattle.pb_steps.specs.declared.phase.Phase.TheVariants as phases
 use Rattle.pb_steps.specs.State.{StateOf, TransactionOf, phase_in}
 use Rattle.pb_verify.specs.Observers.{ObserverOf}
 use Rattle.pb_history.specs.declared.entry.Entry.{Entry}
@@ -25,21 +21,21 @@ use Rattle.pb_history.proofs.TimestampsRise.{behind, tells_timestamps}
 use Rattle.pb_base.proofs.Logic.{one_value as one, and_true as both}
 
 -- a phase that tests as committed has its commit
-committed_at : (h : Option Phase) → phase_is_committed h ≡ true → (c : Ts) × (h ≡ Some (phases.Committed c))
+committed_at : (h : Option Phase) → phase_is_committed h ≡ true → (c : Ts) × (h ≡ Some (Phase.Committed c))
 committed_at None e = cc
-committed_at (Some phases.Reading) e = cc
-committed_at (Some phases.Declared) e = cc
-committed_at (Some (phases.Stamped c)) e = cc
-committed_at (Some (phases.Committed c)) e = (c, refl)
-committed_at (Some phases.Failed) e = cc
+committed_at (Some Phase.Reading) e = cc
+committed_at (Some Phase.Declared) e = cc
+committed_at (Some (Phase.Stamped c)) e = cc
+committed_at (Some (Phase.Committed c)) e = (c, refl)
+committed_at (Some Phase.Failed) e = cc
 
-phase_there : (o : Option TransactionOf) (t : TransactionOf) (c : Ts) → o ≡ Some t → option_map (λ (u : TransactionOf). u.phase) o ≡ Some (phases.Committed c) → t.phase ≡ phases.Committed c
-phase_there o t c there p = let q : Some t.phase ≡ Some (phases.Committed c) = ap (option_map (λ (u : TransactionOf). u.phase)) (sym there) ∙ p in cc
+phase_there : (o : Option TransactionOf) (t : TransactionOf) (c : Ts) → o ≡ Some t → option_map (λ (u : TransactionOf). u.phase) o ≡ Some (Phase.Committed c) → t.phase ≡ Phase.Committed c
+phase_there o t c there p = let q : Some t.phase ≡ Some (Phase.Committed c) = ap (option_map (λ (u : TransactionOf). u.phase)) (sym there) ∙ p in cc
 
-same_time : (c d : ℕ) (h : Phase) → h ≡ phases.Committed (ts c) → h ≡ phases.Committed (ts d) → c ≡ d
+same_time : (c d : ℕ) (h : Phase) → h ≡ Phase.Committed (ts c) → h ≡ Phase.Committed (ts d) → c ≡ d
 same_time c d h p q = let k : ts c ≡ ts d = cc in ap (λ (t : Ts). t.0) k
 
-same_answer : (c d : ℕ) (a : Answer) → a ≡ At (ts c) → a ≡ At (ts d) → c ≡ d
+same_answer : (c d : ℕ) (a : Answer) → a ≡ Answer.At (ts c) → a ≡ Answer.At (ts d) → c ≡ d
 same_answer c d a p q = let k : ts c ≡ ts d = cc in ap (λ (t : Ts). t.0) k
 
 -- starts that rise from one number rise from a lower one
@@ -53,11 +49,11 @@ module _ (journal : List Entry) (state : StateOf) (a : Agrees journal state) (hi
     m : Member
     in_history : InHistory state.observers journal m
     run : IsRunOf m o
-    step_is : step ≡ Begin m.work
-    answer_is : answer ≡ At (ts m.start)
+    step_is : step ≡ Step.Begin m.work
+    answer_is : answer ≡ Answer.At (ts m.start)
 
   begun : (seat : ℕ) (step : Step) (answer : Answer) → Has journal (record { seat = seat; step = step; answer = answer }) → begins_committed_run state o step answer ≡ true → Begun step answer
-  begun seat (Begin (works.Run p row)) (At s) has e =
+  begun seat (Step.Begin (Work.Run p row)) (Answer.At s) has e =
       let b = both (p == o) (phase_is_committed (phase_in state s.0)) e in
       let t = a.told _ has in
       let c = committed_at (phase_in state s.0) b.1 in
@@ -65,17 +61,17 @@ module _ (journal : List Entry) (state : StateOf) (a : Agrees journal state) (hi
       record {
         m = m;
         in_history = history.member m (record { t = t.0; there = t.1; phase = phase_there (got state s.0) t.0 c.0 t.1 c.1; seat = refl; work = refl; writes = refl });
-        run = (row, t.3 ∙ ap (λ n. works.Run n row) (eqb-true p o b.0));
-        step_is = ap Begin (sym t.3);
+        run = (row, t.3 ∙ ap (λ n. Work.Run n row) (eqb-true p o b.0));
+        step_is = ap Step.Begin (sym t.3);
         answer_is = refl;
       }
   begun seat _ _ has e = cc
 
-  begins : (m : Member) → InHistory state.observers journal m → IsRunOf m o → begins_committed_run state o (Begin m.work) (At (ts m.start)) ≡ true
+  begins : (m : Member) → InHistory state.observers journal m → IsRunOf m o → begins_committed_run state o (Step.Begin m.work) (Answer.At (ts m.start)) ≡ true
   begins m h run =
       let c = history.committed m h in
-      let phase : phase_in state m.start ≡ Some (phases.Committed (ts m.commit)) = ap (option_map (λ (u : TransactionOf). u.phase)) c.there ∙ ap Some c.phase in
-      ap (λ w. begins_committed_run state o (Begin w) (At (ts m.start))) run.1
+      let phase : phase_in state m.start ≡ Some (Phase.Committed (ts m.commit)) = ap (option_map (λ (u : TransactionOf). u.phase)) c.there ∙ ap Some c.phase in
+      ap (λ w. begins_committed_run state o (Step.Begin w) (Answer.At (ts m.start))) run.1
       ∙ ap (λ b. b && phase_is_committed (phase_in state m.start)) (eq-eqb o o refl)
       ∙ ap phase_is_committed phase
 
@@ -96,7 +92,7 @@ module _ (journal : List Entry) (state : StateOf) (a : Agrees journal state) (hi
     ms : List Member
     count : length ms ≡ run_count state o es
     each : (m : Member) → Has ms m → InHistory state.observers journal m × IsRunOf m o
-    whole : (m : Member) → InHistory state.observers journal m → IsRunOf m o → Has es (record { seat = m.seat; step = Begin m.work; answer = At (ts m.start) }) → Has ms m
+    whole : (m : Member) → InHistory state.observers journal m → IsRunOf m o → Has es (record { seat = m.seat; step = Step.Begin m.work; answer = Answer.At (ts m.start) }) → Has ms m
     rising : RiseByStart low ms
 
   by_first : (e : Entry) (es : List Entry) → run_count state o (e ∷ es) ≡ cond (begins_committed_run state o e.step e.answer) 1 0 + run_count state o es
@@ -105,7 +101,7 @@ module _ (journal : List Entry) (state : StateOf) (a : Agrees journal state) (hi
   one_more : (low high : ℕ) (e : Entry) (es : List Entry) → begins_committed_run state o e.step e.answer ≡ true → Begun e.step e.answer → AreRising low high (timestamps (e ∷ es))
       → ((to : ℕ) → AreRising to high (timestamps es) → Counted to es) → Counted low (e ∷ es)
   one_more low high e es is b rise on =
-      let rises : AreRising low high (b.m.start ∷ timestamps es) = subst (λ w. AreRising low high (with_timestamp w (At (ts b.m.start)) (timestamps es))) b.step_is (subst (λ w. AreRising low high (with_timestamp e.step w (timestamps es))) b.answer_is rise) in
+      let rises : AreRising low high (b.m.start ∷ timestamps es) = subst (λ w. AreRising low high (with_timestamp w (Answer.At (ts b.m.start)) (timestamps es))) b.step_is (subst (λ w. AreRising low high (with_timestamp e.step w (timestamps es))) b.answer_is rise) in
       let rest = on b.m.start rises.1 in
       record {
         ms = b.m ∷ rest.ms;
@@ -124,7 +120,7 @@ module _ (journal : List Entry) (state : StateOf) (a : Agrees journal state) (hi
     count = let q : run_count state o (e ∷ es) ≡ 0 + run_count state o es = by_first e es ∙ ap (λ t. cond t 1 0 + run_count state o es) is in let n = rest.count in omega (arith, q, n);
     each = rest.each;
     whole = λ m h run has. elim has [
-      | inl q ↦ let no : begins_committed_run state o (Begin m.work) (At (ts m.start)) ≡ false = subst (λ (d : Entry). begins_committed_run state o d.step d.answer ≡ false) q is in let yes = begins m h run in absurd cc
+      | inl q ↦ let no : begins_committed_run state o (Step.Begin m.work) (Answer.At (ts m.start)) ≡ false = subst (λ (d : Entry). begins_committed_run state o d.step d.answer ≡ false) q is in let yes = begins m h run in absurd cc
       | inr k ↦ rest.whole m h run k
     ];
     rising = rest.rising;

@@ -2,7 +2,7 @@
 use Rattle.std.proofs.Common.{◌≡◌, ℕ, ◌==◌, not, cond, Bool, inl, inr, true, false, List, [], ◌∷◌, Option, Some, None, refl, sym, ap, subst, ◌∙◌, arith}
 use Rattle.std.proofs.lemmas.Bool.{eqb-true}
 use Rattle.pb_base.specs.declared.cell.Cell.{Cell}
-use Rattle.pb_base.specs.declared.content.Content.TheVariants.{Stamp}
+use Rattle.pb_base.specs.declared.content.Content.{Content}
 use Rattle.pb_base.specs.declared.content.Revision.{Revision}
 use Rattle.pb_base.specs.declared.names.Row.{Row}
 use Rattle.pb_base.specs.declared.names.Ts.{Ts}
@@ -14,12 +14,9 @@ use Rattle.pb_vm.specs.Finished.{Meant, IsMeant}
 use Rattle.pb_helpers.specs.OldRecord.{tells_old, record_by}
 use Rattle.pb_steps.specs.declared.seen.RecordedRead.{RecordedRead}
 use Rattle.pb_steps.specs.declared.step.Declared.{Declared}
-use Rattle.pb_steps.specs.declared.step.Declared.TheVariants as declared
-use Rattle.pb_steps.specs.declared.step.Work.TheVariants as works
+use Rattle.pb_steps.specs.declared.step.Work.{Work}
 use Rattle.pb_steps.specs.declared.step.Step.{Step}
-use Rattle.pb_steps.specs.declared.step.Step.TheVariants.{Read, ReadAt}
 use Rattle.pb_steps.specs.declared.step.Answer.{Answer}
-use Rattle.pb_steps.specs.declared.step.Answer.TheVariants.{Found, Absent}
 use Rattle.pb_steps.specs.State.{StateOf, opening, cells_of}
 use Rattle.pb_verify.specs.Observers.{ObserverOf, observed_cell, observed_column, acknowledgment}
 use Rattle.pb_steps.specs.Declarations.{IsKnown, IsReadOf, old_at, WasOld, AreReplies, IsItsRun, MayDeclare}
@@ -45,10 +42,10 @@ use Rattle.pb_history.proofs.Acknowledgments.{acknowledged_by}
 
 -- what a read is answered stands in the table when it is made
 case_tells : (old : StateOf) (seat : ℕ) (step : Step) (answer : Answer) (new : StateOf) → StepCase old seat step answer new → TellsVersion old step answer
-case_tells old seat (Read s x) (Found start commit content) new c = c.version
-case_tells old seat (Read s x) Absent new c = c.none
-case_tells old seat (ReadAt s x t) (Found start commit content) new c = c.version
-case_tells old seat (ReadAt s x t) Absent new c = c.none
+case_tells old seat (Step.Read s x) (Answer.Found start commit content) new c = c.version
+case_tells old seat (Step.Read s x) Answer.Absent new c = c.none
+case_tells old seat (Step.ReadAt s x t) (Answer.Found start commit content) new c = c.version
+case_tells old seat (Step.ReadAt s x t) Answer.Absent new c = c.none
 case_tells old seat _ _ new c = tt
 
 pub tells_reads : (observers : List ObserverOf) (seats clock : ℕ) (journal : List Entry) (state : StateOf) → IsLegal observers seats clock journal state → TellsReads observers seats clock journal
@@ -62,13 +59,13 @@ tells_reads observers seats clock journal state l = record {
 
 -- the answer in which a version was found
 found_is : (a : Answer) (v : Revision) → version_in a ≡ Some v → a ≡ found_answer v
-found_is (Found start commit content) v e = let is : record { start = start; commit = commit; content = content } ≡ v = cc in ap found_answer is
+found_is (Answer.Found start commit content) v e = let is : record { start = start; commit = commit; content = content } ≡ v = cc in ap found_answer is
 found_is _ v e = cc
 
 -- what a run may declare
-run_declared : (observers : List ObserverOf) (o : ℕ) (row : Row) (s : ℕ) (reads : List RecordedRead) (what : Declared) → MayDeclare observers (works.Run o row) s reads what → (by : ℕ) × (f : Meant) × (what ≡ declared.Run by f) × IsItsRun observers o row s reads f
-run_declared observers o row s reads (declared.Script batch) may = absurd may
-run_declared observers o row s reads (declared.Run by f) may = (by, f, refl, may.1)
+run_declared : (observers : List ObserverOf) (o : ℕ) (row : Row) (s : ℕ) (reads : List RecordedRead) (what : Declared) → MayDeclare observers (Work.Run o row) s reads what → (by : ℕ) × (f : Meant) × (what ≡ Declared.Run by f) × IsItsRun observers o row s reads f
+run_declared observers o row s reads (Declared.Script batch) may = absurd may
+run_declared observers o row s reads (Declared.Run by f) may = (by, f, refl, may.1)
 
 module _ (journal : List Entry) (state : StateOf) (a : Agrees journal state) (i : IsSoundTable state) where
   -- every read of a transaction of start s tells this of the history
@@ -79,16 +76,16 @@ module _ (journal : List Entry) (state : StateOf) (a : Agrees journal state) (i 
   told_of s r x named is h = subst (λ z. TellsRecorded state.observers journal (read_up_to s z) x r.answer) is.at (subst (λ y. TellsRecorded state.observers journal (read_up_to s r.at) y r.answer) is.cell h)
 
   stamp_told : (s : ℕ) (o : ℕ) (row : Row) (answer : Answer) → TellsRecorded state.observers journal s (acknowledgment state.observers o row) answer → IsAcknowledgedAt state.observers journal s (acknowledgment state.observers o row) (acknowledged_in answer).0
-  stamp_told s o row (Found start commit content) h =
+  stamp_told s o row (Answer.Found start commit content) h =
       let k = acknowledged_by journal state a i h.m h.in_history o row (observed_column state.observers o) content h.writes in
-      let is : content ≡ Stamp (record { 0 = (stamp_of content).0 }) = k.stamp ∙ ap (λ z. Stamp (record { 0 = (stamp_of z).0 })) (sym k.stamp) in
+      let is : content ≡ Content.Stamp (record { 0 = (stamp_of content).0 }) = k.stamp ∙ ap (λ z. Content.Stamp (record { 0 = (stamp_of z).0 })) (sym k.stamp) in
       inr (start.0, commit.0, subst (IsSnapshot state.observers journal s (acknowledgment state.observers o row) start.0 commit.0) is h)
-  stamp_told s o row Absent h = inl (h, refl)
+  stamp_told s o row Answer.Absent h = inl (h, refl)
   stamp_told s o row _ h = absurd h
 
   value_told : (s : ℕ) (x : Cell) (answer : Answer) (value : Reply) → value ≡ value_in answer → TellsRecorded state.observers journal s x answer → IsValueAt state.observers journal s x value
-  value_told s x (Found start commit content) value e h = inr (start.0, commit.0, content, h, e)
-  value_told s x Absent value e h = inl (h, e)
+  value_told s x (Answer.Found start commit content) value e h = inr (start.0, commit.0, content, h, e)
+  value_told s x Answer.Absent value e h = inl (h, e)
   value_told s x _ value e h = absurd h
 
   replies_told : (s : ℕ) (asked : List RecordedRead) (talk : Talk) → AreReplies asked talk → ((r : RecordedRead) → Has asked r → Tells s r) → AreRepliesAt state.observers journal s talk
@@ -117,7 +114,7 @@ module _ (journal : List Entry) (state : StateOf) (a : Agrees journal state) (i 
 
   -- a declared run of a transaction, in the words of the history
   run_is : (m : Member) (o : ℕ) (row : Row) (reads : List RecordedRead) (by : ℕ) (f : Meant) → ((r : RecordedRead) → Has reads r → Tells m.start r) → IsItsRun state.observers o row m.start reads f → IsMeant f × AreRunWrites f.writes
-      → m.writes ≡ cells_of state.observers (works.Run o row) m.start (declared.Run by f) → IsObserverRun state.observers journal m o row
+      → m.writes ≡ cells_of state.observers (Work.Run o row) m.start (Declared.Run by f) → IsObserverRun state.observers journal m o row
   run_is m o row reads by f told own known writes =
       let was = own.was in
       let x = observed_cell state.observers o row in
@@ -138,21 +135,21 @@ module _ (journal : List Entry) (state : StateOf) (a : Agrees journal state) (i 
         replied = replies_told m.start own.asked f.talk own.replied (λ r h. all r (inr (inr (are_behind (old_at (tells_old own.observer.program) own.seen.acknowledged) x was.rest own.seen.old own.asked was.old r h))));
         result = f.result;
         writes = f.writes;
-        meaning = means_by f own.observer.program (record_by (tells_old own.observer.program) x own.seen.version own.seen.acknowledged.0 own.seen.old) m.start own.program own.bytes own.began known.0;
+        meaning = means_by f own.observer.program (record_by (tells_old own.observer.program) x own.seen.version own.seen.acknowledged.0 own.seen.old) m.start own.program own.bytes own.start known.0;
         few = known.1;
         writes_are = writes;
       }
     where
-      means_by : (f : Meant) (p : JudgedOf) (bytes : List ℕ) (s : ℕ) → f.judged ≡ p → f.bytes ≡ bytes → f.began ≡ s → IsMeant f → Means p bytes s f.talk f.result f.writes
-      means_by f p bytes s e g h m = subst (λ z. Means p bytes z f.talk f.result f.writes) h (subst (λ z. Means p z f.began f.talk f.result f.writes) g (subst (λ z. Means z f.bytes f.began f.talk f.result f.writes) e m))
+      means_by : (f : Meant) (p : JudgedOf) (bytes : List ℕ) (s : ℕ) → f.judged ≡ p → f.bytes ≡ bytes → f.start ≡ s → IsMeant f → Means p bytes s f.talk f.result f.writes
+      means_by f p bytes s e g h m = subst (λ z. Means p bytes z f.talk f.result f.writes) h (subst (λ z. Means p z f.start f.talk f.result f.writes) g (subst (λ z. Means z f.bytes f.start f.talk f.result f.writes) e m))
 
-  pub run_of_member : (m : Member) (o : ℕ) (row : Row) → InHistory state.observers journal m → m.work ≡ works.Run o row → IsObserverRun state.observers journal m o row
+  pub run_of_member : (m : Member) (o : ℕ) (row : Row) → InHistory state.observers journal m → m.work ≡ Work.Run o row → IsObserverRun state.observers journal m o row
   run_of_member m o row h work =
       let c = is_committed journal state a m h in
       let l = a.logged m.start c.t c.there in
       let past : is_reading c.t.phase ≡ false = ap is_reading c.phase in
       let d = l.declared past in
-      let mine : c.t.work ≡ works.Run o row = sym c.work ∙ work in
+      let mine : c.t.work ≡ Work.Run o row = sym c.work ∙ work in
       let may = subst (λ w. MayDeclare state.observers w m.start c.t.reads d.0) mine d.4 in
       let r = run_declared state.observers o row m.start c.t.reads d.0 may in
       let known = subst IsKnown r.2 d.3 in

@@ -1,15 +1,13 @@
 -- The committed transactions of a legal journal are a history of snapshots.
-use Rattle.std.proofs.Common.{◌≡◌, ◌≢◌, ℕ, ◌<◌, ◌≤◌, ◌⊎◌, inl, inr, List, [], ◌∷◌, Option, Some, None, refl, sym, ap, subst, ◌∙◌, arith}
-use Rattle.std.specs.Prelude.{option_map}
+use Rattle.std.proofs.Common.{◌≡◌, ◌≢◌, ℕ, ◌<◌, ◌≤◌, ◌⊎◌, inl, inr, List, [], ◌∷◌, Option, Some, None, refl, sym, ap, subst, ◌∙◌, arith, option_map}
 use Rattle.pb_base.specs.declared.cell.Cell.{Cell}
 use Rattle.pb_base.specs.declared.content.Content.{Content}
 use Rattle.pb_base.specs.declared.names.Ts.{Ts}
 use Rattle.pb_base.specs.Batch.{content_in}
 use Rattle.pb_steps.specs.declared.phase.Phase.{Phase}
 use Rattle.pb_steps.specs.declared.seen.RecordedRead.{RecordedRead}
-use Rattle.pb_steps.specs.declared.step.Step.TheVariants.{Read, ReadAt}
+use Rattle.pb_steps.specs.declared.step.Step.{Step}
 use Rattle.pb_steps.specs.declared.step.Answer.{Answer}
-use Rattle.pb_steps.specs.declared.step.Answer.TheVariants.{Locked, Found, Absent}
 use Rattle.pb_verify.specs.Observers.{ObserverOf}
 use Rattle.pb_steps.specs.Reads.{read_up_to}
 use Rattle.pb_steps.specs.State.{StateOf, TransactionOf}
@@ -36,8 +34,8 @@ transaction_there None h e = cc
 
 -- what a read that is recorded tells
 abbrev pub TellsRecorded : List ObserverOf → List Entry → ℕ → Cell → Answer → Type 0
-TellsRecorded observers journal s x (Found start commit content) = IsSnapshot observers journal s x start.0 commit.0 content
-TellsRecorded observers journal s x Absent = NoSnapshot observers journal s x
+TellsRecorded observers journal s x (Answer.Found start commit content) = IsSnapshot observers journal s x start.0 commit.0 content
+TellsRecorded observers journal s x Answer.Absent = NoSnapshot observers journal s x
 TellsRecorded observers journal s x _ = ⊥
 
 module _ (journal : List Entry) (state : StateOf) (a : Agrees journal state) (i : IsSoundTable state) where
@@ -91,9 +89,9 @@ module _ (journal : List Entry) (state : StateOf) (a : Agrees journal state) (i 
         | inr q ↦ absurd (q.0 (phase_in_view m h))
       ]
 
-  found_at : (s : ℕ) (x : Cell) (at : Option Ts) (start commit : Ts) (content : Content) → Has ((view_of state).reads s) (record { cell = x; at = at; answer = Found start commit content }) → IsSnapshot state.observers journal (read_up_to s at) x start.0 commit.0 content
+  found_at : (s : ℕ) (x : Cell) (at : Option Ts) (start commit : Ts) (content : Content) → Has ((view_of state).reads s) (record { cell = x; at = at; answer = Answer.Found start commit content }) → IsSnapshot state.observers journal (read_up_to s at) x start.0 commit.0 content
   found_at s x at start commit content is =
-      let r : RecordedRead = record { cell = x; at = at; answer = Found start commit content } in
+      let r : RecordedRead = record { cell = x; at = at; answer = Answer.Found start commit content } in
       let t = i.tells s r is in
       let w = written_by x commit.0 start.0 t.1 in
       let kept_there : (view_of state).stored x start.0 ≡ (view_of state).content start.0 x = i.record_data x commit.0 start.0 t.1 in
@@ -107,9 +105,9 @@ module _ (journal : List Entry) (state : StateOf) (a : Agrees journal state) (i 
         greatest = λ n k h v l. t.3 n.commit n.start l (recorded s r is n k h v l);
       }
 
-  absent_at : (s : ℕ) (x : Cell) (at : Option Ts) → Has ((view_of state).reads s) (record { cell = x; at = at; answer = Absent }) → NoSnapshot state.observers journal (read_up_to s at) x
+  absent_at : (s : ℕ) (x : Cell) (at : Option Ts) → Has ((view_of state).reads s) (record { cell = x; at = at; answer = Answer.Absent }) → NoSnapshot state.observers journal (read_up_to s at) x
   absent_at s x at is n k h w =
-      let r : RecordedRead = record { cell = x; at = at; answer = Absent } in
+      let r : RecordedRead = record { cell = x; at = at; answer = Answer.Absent } in
       let t = i.tells s r is in
       elim (below n.commit (read_up_to s at)) [ inl l ↦ absurd (t n.commit n.start l (recorded s r is n k h w l)) | inr l ↦ l ]
     where
@@ -118,29 +116,29 @@ module _ (journal : List Entry) (state : StateOf) (a : Agrees journal state) (i 
 
   -- a read that is recorded found a version, or none
   pub recorded_tells : (s : ℕ) (x : Cell) (at : Option Ts) (answer : Answer) → Has ((view_of state).reads s) (record { cell = x; at = at; answer = answer }) → TellsRecorded state.observers journal (read_up_to s at) x answer
-  recorded_tells s x at (Found start commit content) is = found_at s x at start commit content is
-  recorded_tells s x at Absent is = absent_at s x at is
+  recorded_tells s x at (Answer.Found start commit content) is = found_at s x at start commit content is
+  recorded_tells s x at Answer.Absent is = absent_at s x at is
   recorded_tells s x at answer is = i.tells s (record { cell = x; at = at; answer = answer }) is
 
-  read_tells : (seat : ℕ) (s : Ts) (x : Cell) (answer : Answer) → IsEntry journal seat (Read s x) answer → TellsSnapshot state.observers journal s.0 x answer
-  read_tells seat s x (Found start commit content) e = let told = a.told _ e in found_at s.0 x None start commit content (subst (λ o. Has (reads_by o) (read_of x None (Found start commit content))) (sym told.1) told.2)
-  read_tells seat s x Absent e = let told = a.told _ e in absent_at s.0 x None (subst (λ o. Has (reads_by o) (read_of x None Absent)) (sym told.1) told.2)
+  read_tells : (seat : ℕ) (s : Ts) (x : Cell) (answer : Answer) → IsEntry journal seat (Step.Read s x) answer → TellsSnapshot state.observers journal s.0 x answer
+  read_tells seat s x (Answer.Found start commit content) e = let told = a.told _ e in found_at s.0 x None start commit content (subst (λ o. Has (reads_by o) (read_of x None (Answer.Found start commit content))) (sym told.1) told.2)
+  read_tells seat s x Answer.Absent e = let told = a.told _ e in absent_at s.0 x None (subst (λ o. Has (reads_by o) (read_of x None Answer.Absent)) (sym told.1) told.2)
   read_tells seat s x _ e = tt
 
-  read_at_tells : (seat : ℕ) (s : Ts) (x : Cell) (t : Ts) (answer : Answer) → IsEntry journal seat (ReadAt s x t) answer → TellsSnapshot state.observers journal t.0 x answer
-  read_at_tells seat s x t (Found start commit content) e = let told = a.told _ e in found_at s.0 x (Some t) start commit content (subst (λ o. Has (reads_by o) (read_of x (Some t) (Found start commit content))) (sym told.1) told.2)
-  read_at_tells seat s x t Absent e = let told = a.told _ e in absent_at s.0 x (Some t) (subst (λ o. Has (reads_by o) (read_of x (Some t) Absent)) (sym told.1) told.2)
+  read_at_tells : (seat : ℕ) (s : Ts) (x : Cell) (t : Ts) (answer : Answer) → IsEntry journal seat (Step.ReadAt s x t) answer → TellsSnapshot state.observers journal t.0 x answer
+  read_at_tells seat s x t (Answer.Found start commit content) e = let told = a.told _ e in found_at s.0 x (Some t) start commit content (subst (λ o. Has (reads_by o) (read_of x (Some t) (Answer.Found start commit content))) (sym told.1) told.2)
+  read_at_tells seat s x t Answer.Absent e = let told = a.told _ e in absent_at s.0 x (Some t) (subst (λ o. Has (reads_by o) (read_of x (Some t) Answer.Absent)) (sym told.1) told.2)
   read_at_tells seat s x t _ e = tt
 
 -- a read at a timestamp names none above its transaction's start
-read_in_time : (old : StateOf) (seat : ℕ) (s : Ts) (x : Cell) (t : Ts) (answer : Answer) (new : StateOf) → StepCase old seat (ReadAt s x t) answer new → t.0 ≤ s.0
-read_in_time old seat s x t (Locked start primary) new c = c.in_time
-read_in_time old seat s x t (Found start commit content) new c = c.in_time
-read_in_time old seat s x t Absent new c = c.in_time
+read_in_time : (old : StateOf) (seat : ℕ) (s : Ts) (x : Cell) (t : Ts) (answer : Answer) (new : StateOf) → StepCase old seat (Step.ReadAt s x t) answer new → t.0 ≤ s.0
+read_in_time old seat s x t (Answer.Locked start primary) new c = c.in_time
+read_in_time old seat s x t (Answer.Found start commit content) new c = c.in_time
+read_in_time old seat s x t Answer.Absent new c = c.in_time
 read_in_time old seat s x t _ new c = absurd c
 
 -- a read at a timestamp names none above its transaction's start, else it is refused
-reads_in_time : (old : StateOf) (journal : List Entry) (new : StateOf) → JournalLeads old journal new → (seat : ℕ) (s : Ts) (x : Cell) (t : Ts) (answer : Answer) → IsEntry journal seat (ReadAt s x t) answer → t.0 ≤ s.0
+reads_in_time : (old : StateOf) (journal : List Entry) (new : StateOf) → JournalLeads old journal new → (seat : ℕ) (s : Ts) (x : Cell) (t : Ts) (answer : Answer) → IsEntry journal seat (Step.ReadAt s x t) answer → t.0 ≤ s.0
 reads_in_time old [] new r seat s x t answer e = absurd e
 reads_in_time old (d ∷ ds) new r seat s x t answer (inl is) =
     read_in_time old seat s x t answer r.0 (subst (λ (z : Entry). StepCase old z.seat z.step z.answer r.0) is r.1.taken)

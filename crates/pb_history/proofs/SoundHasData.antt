@@ -1,6 +1,5 @@
 -- In a sound state the data of what stands are there.
-use Rattle.std.proofs.Common.{◌≡◌, ℕ, true, Some, ap, ◌∙◌}
-use Rattle.std.specs.Prelude.{is_some, option_map}
+use Rattle.std.proofs.Common.{◌≡◌, ℕ, true, Some, ap, ◌∙◌, is_some, option_map}
 use Rattle.pb_base.specs.declared.cell.Cell.{Cell}
 use Rattle.pb_steps.specs.State.{StateOf, TransactionOf}
 use Rattle.pb_steps.specs.Readings.{data_at, lock_at, write_at}

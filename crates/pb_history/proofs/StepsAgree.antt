@@ -1,20 +1,14 @@
 -- Each step keeps journal and state in agreement.
-use Rattle.std.proofs.Common.{◌≡◌, ℕ, ◌⊎◌, inl, inr, true, false, List, [], ◌∷◌, ◌++◌, Option, Some, None, refl, sym, ap, subst, ◌∙◌, arith}
+use Rattle.std.proofs.Common.{◌≡◌, ℕ, ◌⊎◌, inl, inr, true, false, List, [], ◌∷◌, ◌++◌, Option, Some, None, refl, sym, ap, subst, ◌∙◌, arith, nat_cmp}
 use Rattle.std.specs.FinMap as map
-use Rattle.std.specs.Ordering.{nat_cmp}
 use Rattle.pb_base.specs.declared.cell.Cell.{Cell}
 use Rattle.pb_base.specs.declared.names.Ts.{Ts}
 use Rattle.pb_steps.specs.declared.step.Work.{Work}
-use Rattle.pb_steps.specs.declared.step.Work.TheVariants as works
 use Rattle.pb_steps.specs.declared.step.Declared.{Declared}
-use Rattle.pb_steps.specs.declared.step.Declared.TheVariants as declared
 use Rattle.pb_steps.specs.declared.step.Step.{Step}
-use Rattle.pb_steps.specs.declared.step.Step.TheVariants.{Begin, Read, ReadAt, Declare, Prewrite, Stamp, CommitPrimary, CommitSecondary, Settle, Clear, NextMark, Sweep}
 use Rattle.pb_steps.specs.declared.seen.RecordedRead.{RecordedRead}
 use Rattle.pb_steps.specs.declared.step.Answer.{Answer}
-use Rattle.pb_steps.specs.declared.step.Answer.TheVariants.{At, Locked, Found, Absent, Done, Conflict, Committed, Lost, RolledBack, Waits, CommittedAt, Marked, NoMark, StillBehind}
 use Rattle.pb_steps.specs.declared.phase.Phase.{Phase}
-use Rattle.pb_steps.specs.declared.phase.Phase.TheVariants as phases
 use Rattle.pb_steps.specs.State.{StateOf, TransactionOf, opening, new_transaction, cells_of}
 use Rattle.pb_verify.specs.Observers.{ObserverOf}
 use Rattle.pb_steps.specs.Declarations.{MayDeclare}
@@ -42,32 +36,32 @@ entry seat step answer = record { seat = seat; step = step; answer = answer }
 
 -- what a transaction may declare is for its work
 for_work : (observers : List ObserverOf) (work : Work) (s : ℕ) (reads : List RecordedRead) (what : Declared) → MayDeclare observers work s reads what → IsForWork observers work what
-for_work observers works.Script s reads (declared.Script batch) may = tt
-for_work observers (works.Run p row) s reads (declared.Run o f) may = (may.0, _, may.1.seen.version, may.1.seen.acknowledged.0, may.1.seen.old, may.1.bytes)
-for_work observers works.Script s reads (declared.Run o f) may = absurd may
-for_work observers (works.Run p row) s reads (declared.Script batch) may = absurd may
+for_work observers Work.Script s reads (Declared.Script batch) may = tt
+for_work observers (Work.Run p row) s reads (Declared.Run o f) may = (may.0, _, may.1.seen.version, may.1.seen.acknowledged.0, may.1.seen.old, may.1.bytes)
+for_work observers Work.Script s reads (Declared.Run o f) may = absurd may
+for_work observers (Work.Run p row) s reads (Declared.Script batch) may = absurd may
 
 no_stamp_declared : (h : Phase) → is_declared h ≡ true → (c : ℕ) → PastStamp h c → ⊥
-no_stamp_declared phases.Declared e c p = elim p [ inl q ↦ cc | inr r ↦ elim r [ inl q ↦ cc | inr q ↦ cc ] ]
-no_stamp_declared phases.Reading e c p = cc
-no_stamp_declared (phases.Stamped d) e c p = cc
-no_stamp_declared (phases.Committed d) e c p = cc
-no_stamp_declared phases.Failed e c p = cc
+no_stamp_declared Phase.Declared e c p = elim p [ inl q ↦ cc | inr r ↦ elim r [ inl q ↦ cc | inr q ↦ cc ] ]
+no_stamp_declared Phase.Reading e c p = cc
+no_stamp_declared (Phase.Stamped d) e c p = cc
+no_stamp_declared (Phase.Committed d) e c p = cc
+no_stamp_declared Phase.Failed e c p = cc
 
 past_declared : (h : Phase) → is_declared h ≡ true → is_reading h ≡ false
-past_declared phases.Declared e = refl
-past_declared phases.Reading e = cc
-past_declared (phases.Stamped d) e = cc
-past_declared (phases.Committed d) e = cc
-past_declared phases.Failed e = cc
+past_declared Phase.Declared e = refl
+past_declared Phase.Reading e = cc
+past_declared (Phase.Stamped d) e = cc
+past_declared (Phase.Committed d) e = cc
+past_declared Phase.Failed e = cc
 
-no_commit_declared : (h : Phase) → is_declared h ≡ true → (c : ℕ) → h ≡ phases.Committed (ts c) → ⊥
+no_commit_declared : (h : Phase) → is_declared h ≡ true → (c : ℕ) → h ≡ Phase.Committed (ts c) → ⊥
 no_commit_declared h e c q = no_stamp_declared h e c (inr (inl q))
 
 module _ (journal : List Entry) (seat : ℕ) (old new : StateOf) (a : Agrees journal old) where
-  begins : (work : Work) (s : ℕ) → Begins old seat work s new → Agrees (journal ++ entry seat (Begin work) (At (ts s)) ∷ []) new
+  begins : (work : Work) (s : ℕ) → Begins old seat work s new → Agrees (journal ++ entry seat (Step.Begin work) (Answer.At (ts s)) ∷ []) new
   begins work s m =
-      let e = entry seat (Begin work) (At (ts s)) in
+      let e = entry seat (Step.Begin work) (Answer.At (ts s)) in
       let clock : new.clock ≡ s = ap (λ (z : StateOf). z.clock) m.new_is in
       let fresh = m.fresh in
       let unknown : got old s ≡ None = none_if _ (λ t h. let z = a.early s t h in omega (arith, z, fresh)) in
@@ -105,14 +99,14 @@ module _ (journal : List Entry) (seat : ℕ) (old new : StateOf) (a : Agrees jou
         committed = λ c q. cc;
       })
 
-  declared_now : (s : Ts) (what : Declared) → Declares old seat s.0 what new → Agrees (journal ++ entry seat (Declare s what) Done ∷ []) new
+  declared_now : (s : Ts) (what : Declared) → Declares old seat s.0 what new → Agrees (journal ++ entry seat (Step.Declare s what) Answer.Done ∷ []) new
   declared_now s what m =
-      let e = entry seat (Declare s what) Done in
+      let e = entry seat (Step.Declare s what) Answer.Done in
       let reading = m.reading in
       let obs : new.observers ≡ old.observers = ap (λ (z : StateOf). z.observers) m.new_is in
       let was = m.own.there in
       let mine = m.own.mine in
-      let u : TransactionOf = record m.t { phase = phases.Declared; declared = cells_of old.observers m.t.work s.0 what } in
+      let u : TransactionOf = record m.t { phase = Phase.Declared; declared = cells_of old.observers m.t.work s.0 what } in
       let clock : new.clock ≡ old.clock = ap (λ (z : StateOf). z.clock) m.new_is in
       let low = a.early s.0 m.t was in
       agrees_change journal e old new a s.0 u (ap (λ (z : StateOf). z.transactions) m.new_is) (omega (arith, clock)) (omega (arith, clock, low)) obs m.t was
@@ -121,14 +115,14 @@ module _ (journal : List Entry) (seat : ℕ) (old new : StateOf) (a : Agrees jou
       (record {
         begun = has_front journal e _ (a.logged s.0 m.t was).begun;
         reads = λ r h. has_front journal e _ ((a.logged s.0 m.t was).reads r h);
-        declared = λ h. (what, subst (λ n. IsEntry (journal ++ e ∷ []) n (Declare s what) Done) (sym mine) (has_last journal e), refl, m.known, m.its);
+        declared = λ h. (what, subst (λ n. IsEntry (journal ++ e ∷ []) n (Step.Declare s what) Answer.Done) (sym mine) (has_last journal e), refl, m.known, m.its);
         stamped = λ c p. absurd (elim p [ inl q ↦ cc | inr q ↦ cc ]);
         committed = λ c q. cc;
       })
 
   -- a declared transaction that prewrites or fails
   goes_on : (step : Step) (answer : Answer) (s : ℕ) (t u : TransactionOf) → got old s ≡ Some t → is_declared t.phase ≡ true → u.seat ≡ t.seat → u.work ≡ t.work → u.reads ≡ t.reads → u.declared ≡ t.declared
-      → (u.phase ≡ t.phase) ⊎ (u.phase ≡ phases.Failed) → new.transactions ≡ map.insert old.transactions s u → new.clock ≡ old.clock → new.observers ≡ old.observers → Told new seat step answer → Agrees (journal ++ entry seat step answer ∷ []) new
+      → (u.phase ≡ t.phase) ⊎ (u.phase ≡ Phase.Failed) → new.transactions ≡ map.insert old.transactions s u → new.clock ≡ old.clock → new.observers ≡ old.observers → Told new seat step answer → Agrees (journal ++ entry seat step answer ∷ []) new
   goes_on step answer s t u was phase same-seat same-work same-reads same-writes how is clock obs told =
       let e = entry seat step answer in
       let low = a.early s t was in
@@ -145,11 +139,11 @@ module _ (journal : List Entry) (seat : ℕ) (old new : StateOf) (a : Agrees jou
       })
       (λ h. told)
       (record {
-        begun = subst (λ n. IsEntry (journal ++ e ∷ []) n (Begin u.work) (At (ts s))) (sym same-seat) (subst (λ w. IsEntry (journal ++ e ∷ []) t.seat (Begin w) (At (ts s))) (sym same-work) (has_front journal e _ l.begun));
+        begun = subst (λ n. IsEntry (journal ++ e ∷ []) n (Step.Begin u.work) (Answer.At (ts s))) (sym same-seat) (subst (λ w. IsEntry (journal ++ e ∷ []) t.seat (Step.Begin w) (Answer.At (ts s))) (sym same-work) (has_front journal e _ l.begun));
         reads = λ r h. subst (λ n. IsEntry (journal ++ e ∷ []) n (step_by s r.cell r.at) r.answer) (sym same-seat) (has_front journal e _ (l.reads r (subst (λ rs. Has rs r) same-reads h)));
         declared = λ h. let d = l.declared past in (
           d.0,
-          subst (λ n. IsEntry (journal ++ e ∷ []) n (Declare (ts s) d.0) Done) (sym same-seat) (has_front journal e _ d.1),
+          subst (λ n. IsEntry (journal ++ e ∷ []) n (Step.Declare (ts s) d.0) Answer.Done) (sym same-seat) (has_front journal e _ d.1),
           same-writes ∙ d.2 ∙ ap (λ w. cells_of old.observers w s d.0) (sym same-work),
           d.3,
           subst (λ w. MayDeclare old.observers w s u.reads d.0) (sym same-work) (subst (λ rs. MayDeclare old.observers t.work s rs d.0) (sym same-reads) d.4),
@@ -161,29 +155,29 @@ module _ (journal : List Entry) (seat : ℕ) (old new : StateOf) (a : Agrees jou
         committed = λ c x. absurd (elim how [ inl q ↦ no_commit_declared t.phase phase c (sym q ∙ x) | inr q ↦ cc ]);
       })
 
-  prewrites : (s : Ts) (x : Cell) → Prewrites old seat s.0 x new → Agrees (journal ++ entry seat (Prewrite s x) Done ∷ []) new
+  prewrites : (s : Ts) (x : Cell) → Prewrites old seat s.0 x new → Agrees (journal ++ entry seat (Step.Prewrite s x) Answer.Done ∷ []) new
   prewrites s x m =
-      goes_on (Prewrite s x) Done s.0 m.t (record m.t { prewritten = m.t.prewritten ++ x ∷ [] }) m.own.there m.phase
+      goes_on (Step.Prewrite s x) Answer.Done s.0 m.t (record m.t { prewritten = m.t.prewritten ++ x ∷ [] }) m.own.there m.phase
       refl refl refl refl (inl refl) (ap (λ (z : StateOf). z.transactions) m.new_is) (ap (λ (z : StateOf). z.clock) m.new_is) (ap (λ (z : StateOf). z.observers) m.new_is) tt
 
-  conflicts : (s : Ts) (x : Cell) → Conflicts old seat s.0 x new → Agrees (journal ++ entry seat (Prewrite s x) Conflict ∷ []) new
+  conflicts : (s : Ts) (x : Cell) → Conflicts old seat s.0 x new → Agrees (journal ++ entry seat (Step.Prewrite s x) Answer.Conflict ∷ []) new
   conflicts s x m =
-      goes_on (Prewrite s x) Conflict s.0 m.t (record m.t { phase = phases.Failed }) m.own.there m.phase
+      goes_on (Step.Prewrite s x) Answer.Conflict s.0 m.t (record m.t { phase = Phase.Failed }) m.own.there m.phase
       refl refl refl refl (inr refl) (ap (λ (z : StateOf). z.transactions) m.new_is) (ap (λ (z : StateOf). z.clock) m.new_is) (ap (λ (z : StateOf). z.observers) m.new_is) tt
 
-  stamps : (s : Ts) (c : ℕ) → Stamps old seat s.0 c new → Agrees (journal ++ entry seat (Stamp s) (At (ts c)) ∷ []) new
+  stamps : (s : Ts) (c : ℕ) → Stamps old seat s.0 c new → Agrees (journal ++ entry seat (Step.Stamp s) (Answer.At (ts c)) ∷ []) new
   stamps s c m =
-      let e = entry seat (Stamp s) (At (ts c)) in
+      let e = entry seat (Step.Stamp s) (Answer.At (ts c)) in
       let phase = m.phase in
       let was = m.own.there in
       let mine = m.own.mine in
       let l = a.logged s.0 m.t was in
       let past = past_declared m.t.phase phase in
-      let u : TransactionOf = record m.t { phase = phases.Stamped (ts c) } in
+      let u : TransactionOf = record m.t { phase = Phase.Stamped (ts c) } in
       let clock : new.clock ≡ c = ap (λ (z : StateOf). z.clock) m.new_is in
       let fresh = m.fresh in
       let low = a.early s.0 m.t was in
-      let logged : IsEntry (journal ++ e ∷ []) m.t.seat (Stamp s) (At (ts c)) = subst (λ n. IsEntry (journal ++ e ∷ []) n (Stamp s) (At (ts c))) (sym mine) (has_last journal e) in
+      let logged : IsEntry (journal ++ e ∷ []) m.t.seat (Step.Stamp s) (Answer.At (ts c)) = subst (λ n. IsEntry (journal ++ e ∷ []) n (Step.Stamp s) (Answer.At (ts c))) (sym mine) (has_last journal e) in
       agrees_change journal e old new a s.0 u (ap (λ (z : StateOf). z.transactions) m.new_is) (omega (arith, clock, fresh)) (omega (arith, clock, fresh, low)) (ap (λ (z : StateOf). z.observers) m.new_is) m.t was
       (record { seat = refl; work = refl; past = λ h. (refl, refl); reads = λ r h. h; stamped = λ d p. absurd (no_stamp_declared m.t.phase phase d p); committed = λ d q. absurd (no_commit_declared m.t.phase phase d q) })
       (λ h. (u, h, inl refl))
@@ -191,19 +185,19 @@ module _ (journal : List Entry) (seat : ℕ) (old new : StateOf) (a : Agrees jou
         begun = has_front journal e _ l.begun;
         reads = λ r h. has_front journal e _ (l.reads r h);
         declared = λ h. let d = l.declared past in (d.0, has_front journal e _ d.1, d.2, d.3, d.4);
-        stamped = λ d p. elim p [ inl q ↦ (let k : ts c ≡ ts d = cc in subst (λ n. IsEntry (journal ++ e ∷ []) m.t.seat (Stamp s) (At n)) k logged) | inr q ↦ cc ];
+        stamped = λ d p. elim p [ inl q ↦ (let k : ts c ≡ ts d = cc in subst (λ n. IsEntry (journal ++ e ∷ []) m.t.seat (Step.Stamp s) (Answer.At n)) k logged) | inr q ↦ cc ];
         committed = λ d q. cc;
       })
 
-  commits_primary : (s : Ts) → CommitsPrimary old seat s.0 new → Agrees (journal ++ entry seat (CommitPrimary s) Committed ∷ []) new
+  commits_primary : (s : Ts) → CommitsPrimary old seat s.0 new → Agrees (journal ++ entry seat (Step.CommitPrimary s) Answer.Committed ∷ []) new
   commits_primary s m =
-      let e = entry seat (CommitPrimary s) Committed in
+      let e = entry seat (Step.CommitPrimary s) Answer.Committed in
       let was = m.own.there in
       let mine = m.own.mine in
       let l = a.logged s.0 m.t was in
       let stamped = m.stamped in
       let past : is_reading m.t.phase ≡ false = ap is_reading stamped in
-      let u : TransactionOf = record m.t { phase = phases.Committed (ts m.c) } in
+      let u : TransactionOf = record m.t { phase = Phase.Committed (ts m.c) } in
       let clock : new.clock ≡ old.clock = ap (λ (z : StateOf). z.clock) m.new_is in
       let low = a.early s.0 m.t was in
       agrees_change journal e old new a s.0 u (ap (λ (z : StateOf). z.transactions) m.new_is) (omega (arith, clock)) (omega (arith, clock, low)) (ap (λ (z : StateOf). z.observers) m.new_is) m.t was
@@ -212,7 +206,7 @@ module _ (journal : List Entry) (seat : ℕ) (old new : StateOf) (a : Agrees jou
         work = refl;
         past = λ h. (refl, refl);
         reads = λ r h. h;
-        stamped = λ d p. inr (inl (elim p [ inl q ↦ (let k : ts m.c ≡ ts d = cc in ap phases.Committed k) | inr r ↦ elim r [ inl q ↦ cc | inr q ↦ cc ] ]));
+        stamped = λ d p. inr (inl (elim p [ inl q ↦ (let k : ts m.c ≡ ts d = cc in ap Phase.Committed k) | inr r ↦ elim r [ inl q ↦ cc | inr q ↦ cc ] ]));
         committed = λ d q. cc;
       })
       (λ h. (u, h, m.c, refl))
@@ -220,18 +214,18 @@ module _ (journal : List Entry) (seat : ℕ) (old new : StateOf) (a : Agrees jou
         begun = has_front journal e _ l.begun;
         reads = λ r h. has_front journal e _ (l.reads r h);
         declared = λ h. let d = l.declared past in (d.0, has_front journal e _ d.1, d.2, d.3, d.4);
-        stamped = λ d p. has_front journal e _ (l.stamped d (inl (elim p [ inl q ↦ cc | inr q ↦ (let k : ts m.c ≡ ts d = cc in stamped ∙ ap phases.Stamped k) ])));
-        committed = λ d q. subst (λ n. IsEntry (journal ++ e ∷ []) n (CommitPrimary s) Committed) (sym mine) (has_last journal e);
+        stamped = λ d p. has_front journal e _ (l.stamped d (inl (elim p [ inl q ↦ cc | inr q ↦ (let k : ts m.c ≡ ts d = cc in stamped ∙ ap Phase.Stamped k) ])));
+        committed = λ d q. subst (λ n. IsEntry (journal ++ e ∷ []) n (Step.CommitPrimary s) Answer.Committed) (sym mine) (has_last journal e);
       })
 
-  loses : (s : Ts) → Loses old seat s.0 new → Agrees (journal ++ entry seat (CommitPrimary s) Lost ∷ []) new
+  loses : (s : Ts) → Loses old seat s.0 new → Agrees (journal ++ entry seat (Step.CommitPrimary s) Answer.Lost ∷ []) new
   loses s m =
-      let e = entry seat (CommitPrimary s) Lost in
+      let e = entry seat (Step.CommitPrimary s) Answer.Lost in
       let stamped = m.stamped in
       let was = m.own.there in
       let l = a.logged s.0 m.t was in
       let past : is_reading m.t.phase ≡ false = ap is_reading stamped in
-      let u : TransactionOf = record m.t { phase = phases.Failed } in
+      let u : TransactionOf = record m.t { phase = Phase.Failed } in
       let clock : new.clock ≡ old.clock = ap (λ (z : StateOf). z.clock) m.new_is in
       let low = a.early s.0 m.t was in
       agrees_change journal e old new a s.0 u (ap (λ (z : StateOf). z.transactions) m.new_is) (omega (arith, clock)) (omega (arith, clock, low)) (ap (λ (z : StateOf). z.observers) m.new_is) m.t was
@@ -255,32 +249,32 @@ module _ (journal : List Entry) (seat : ℕ) (old new : StateOf) (a : Agrees jou
   changes_entries step answer to is kept told = agrees_same journal (entry seat step answer) old new a (only_entries old new to is kept) told
 
   case_agrees : (step : Step) (answer : Answer) → StepCase old seat step answer new → Agrees (journal ++ entry seat step answer ∷ []) new
-  case_agrees (Begin work) (At s) m = begins work s.0 m
-  case_agrees (Read s x) (Locked start primary) m = changes_entries (Read s x) (Locked start primary) old m.new_is nothing_changes tt
-  case_agrees (Read s x) (Found start commit content) m = records s x None (Found start commit content) m.t m.own m.reading m.new_is (λ h. (with_read m.t x None (Found start commit content), h, has_last m.t.reads (read_of x None (Found start commit content))))
-  case_agrees (Read s x) Absent m = records s x None Absent m.t m.own m.reading m.new_is (λ h. (with_read m.t x None Absent, h, has_last m.t.reads (read_of x None Absent)))
-  case_agrees (ReadAt s x at) (Locked start primary) m = changes_entries (ReadAt s x at) (Locked start primary) old m.new_is nothing_changes tt
-  case_agrees (ReadAt s x at) (Found start commit content) m = records s x (Some at) (Found start commit content) m.t m.own m.reading m.new_is (λ h. (with_read m.t x (Some at) (Found start commit content), h, has_last m.t.reads (read_of x (Some at) (Found start commit content))))
-  case_agrees (ReadAt s x at) Absent m = records s x (Some at) Absent m.t m.own m.reading m.new_is (λ h. (with_read m.t x (Some at) Absent, h, has_last m.t.reads (read_of x (Some at) Absent)))
-  case_agrees (Declare s what) Done m = declared_now s what m
-  case_agrees (Prewrite s x) Done m = prewrites s x m
-  case_agrees (Prewrite s x) Conflict m = conflicts s x m
-  case_agrees (Stamp s) (At c) m = stamps s c.0 m
-  case_agrees (CommitPrimary s) Committed m = commits_primary s m
-  case_agrees (CommitPrimary s) Lost m = loses s m
-  case_agrees (CommitSecondary s x) Done m = agrees_same journal (entry seat (CommitSecondary s x) Done) old new a (secondary_keeps old seat s.0 x new m) tt
-  case_agrees (Settle x) Absent m = changes_entries (Settle x) Absent old m.new_is nothing_changes tt
-  case_agrees (Settle x) (Locked start primary) m = changes_entries (Settle x) (Locked start primary) old m.new_is nothing_changes tt
-  case_agrees (Settle x) RolledBack m = changes_entries (Settle x) RolledBack (rolls_back old x m.start) m.new_is entries_change tt
-  case_agrees (Clear x) Absent m = changes_entries (Clear x) Absent old m.new_is nothing_changes tt
-  case_agrees (Clear x) Waits m = changes_entries (Clear x) Waits old m.new_is nothing_changes tt
-  case_agrees (Clear x) (CommittedAt c) m = changes_entries (Clear x) (CommittedAt c) (commits old x m.start c.0) m.new_is entries_change tt
-  case_agrees (Clear x) RolledBack m = changes_entries (Clear x) RolledBack (rolls_back old x m.start) m.new_is entries_change tt
-  case_agrees (NextMark after) (Marked x) m = changes_entries (NextMark after) (Marked x) old m.new_is nothing_changes tt
-  case_agrees (NextMark after) NoMark m = changes_entries (NextMark after) NoMark old m.new_is nothing_changes tt
-  case_agrees (Sweep x) NoMark m = changes_entries (Sweep x) NoMark old m.new_is nothing_changes tt
-  case_agrees (Sweep x) StillBehind m = changes_entries (Sweep x) StillBehind old m.new_is nothing_changes tt
-  case_agrees (Sweep x) Done m = changes_entries (Sweep x) Done (record old { marks = map.remove old.marks x }) m.new_is entries_change tt
+  case_agrees (Step.Begin work) (Answer.At s) m = begins work s.0 m
+  case_agrees (Step.Read s x) (Answer.Locked start primary) m = changes_entries (Step.Read s x) (Answer.Locked start primary) old m.new_is nothing_changes tt
+  case_agrees (Step.Read s x) (Answer.Found start commit content) m = records s x None (Answer.Found start commit content) m.t m.own m.reading m.new_is (λ h. (with_read m.t x None (Answer.Found start commit content), h, has_last m.t.reads (read_of x None (Answer.Found start commit content))))
+  case_agrees (Step.Read s x) Answer.Absent m = records s x None Answer.Absent m.t m.own m.reading m.new_is (λ h. (with_read m.t x None Answer.Absent, h, has_last m.t.reads (read_of x None Answer.Absent)))
+  case_agrees (Step.ReadAt s x at) (Answer.Locked start primary) m = changes_entries (Step.ReadAt s x at) (Answer.Locked start primary) old m.new_is nothing_changes tt
+  case_agrees (Step.ReadAt s x at) (Answer.Found start commit content) m = records s x (Some at) (Answer.Found start commit content) m.t m.own m.reading m.new_is (λ h. (with_read m.t x (Some at) (Answer.Found start commit content), h, has_last m.t.reads (read_of x (Some at) (Answer.Found start commit content))))
+  case_agrees (Step.ReadAt s x at) Answer.Absent m = records s x (Some at) Answer.Absent m.t m.own m.reading m.new_is (λ h. (with_read m.t x (Some at) Answer.Absent, h, has_last m.t.reads (read_of x (Some at) Answer.Absent)))
+  case_agrees (Step.Declare s what) Answer.Done m = declared_now s what m
+  case_agrees (Step.Prewrite s x) Answer.Done m = prewrites s x m
+  case_agrees (Step.Prewrite s x) Answer.Conflict m = conflicts s x m
+  case_agrees (Step.Stamp s) (Answer.At c) m = stamps s c.0 m
+  case_agrees (Step.CommitPrimary s) Answer.Committed m = commits_primary s m
+  case_agrees (Step.CommitPrimary s) Answer.Lost m = loses s m
+  case_agrees (Step.CommitSecondary s x) Answer.Done m = agrees_same journal (entry seat (Step.CommitSecondary s x) Answer.Done) old new a (secondary_keeps old seat s.0 x new m) tt
+  case_agrees (Step.Settle x) Answer.Absent m = changes_entries (Step.Settle x) Answer.Absent old m.new_is nothing_changes tt
+  case_agrees (Step.Settle x) (Answer.Locked start primary) m = changes_entries (Step.Settle x) (Answer.Locked start primary) old m.new_is nothing_changes tt
+  case_agrees (Step.Settle x) Answer.RolledBack m = changes_entries (Step.Settle x) Answer.RolledBack (rolls_back old x m.start) m.new_is entries_change tt
+  case_agrees (Step.Clear x) Answer.Absent m = changes_entries (Step.Clear x) Answer.Absent old m.new_is nothing_changes tt
+  case_agrees (Step.Clear x) Answer.Waits m = changes_entries (Step.Clear x) Answer.Waits old m.new_is nothing_changes tt
+  case_agrees (Step.Clear x) (Answer.CommittedAt c) m = changes_entries (Step.Clear x) (Answer.CommittedAt c) (commits old x m.start c.0) m.new_is entries_change tt
+  case_agrees (Step.Clear x) Answer.RolledBack m = changes_entries (Step.Clear x) Answer.RolledBack (rolls_back old x m.start) m.new_is entries_change tt
+  case_agrees (Step.NextMark after) (Answer.Marked x) m = changes_entries (Step.NextMark after) (Answer.Marked x) old m.new_is nothing_changes tt
+  case_agrees (Step.NextMark after) Answer.NoMark m = changes_entries (Step.NextMark after) Answer.NoMark old m.new_is nothing_changes tt
+  case_agrees (Step.Sweep x) Answer.NoMark m = changes_entries (Step.Sweep x) Answer.NoMark old m.new_is nothing_changes tt
+  case_agrees (Step.Sweep x) Answer.StillBehind m = changes_entries (Step.Sweep x) Answer.StillBehind old m.new_is nothing_changes tt
+  case_agrees (Step.Sweep x) Answer.Done m = changes_entries (Step.Sweep x) Answer.Done (record old { marks = map.remove old.marks x }) m.new_is entries_change tt
   case_agrees _ _ m = absurd m
 
 append_one : (xs : List Entry) (y : Entry) (zs : List Entry) → (xs ++ y ∷ []) ++ zs ≡ xs ++ y ∷ zs

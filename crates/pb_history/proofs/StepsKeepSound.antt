@@ -1,6 +1,5 @@
 -- Each step of the table keeps it sound.
-use Rattle.std.proofs.Common.{◌≡◌, ◌≢◌, ℕ, ◌<◌, ◌≤◌, ◌^◌, Bool, true, false, cond, ◌+◌, ◌⊎◌, List, [], ◌∷◌, ◌++◌, Option, Some, None, refl, sym, ap, ◌∙◌, subst, inl, inr, arith}
-use Rattle.std.specs.Prelude.{◌||◌, option_map, is_some, not, ◌&&◌, ◌==◌}
+use Rattle.std.proofs.Common.{◌≡◌, ◌≢◌, ℕ, ◌<◌, ◌≤◌, ◌^◌, Bool, true, false, cond, ◌+◌, ◌⊎◌, List, [], ◌∷◌, ◌++◌, Option, Some, None, refl, sym, ap, ◌∙◌, subst, inl, inr, arith, ◌||◌, option_map, is_some, not, ◌&&◌, ◌==◌}
 use Rattle.std.proofs.lemmas.Bool.{eq-eqb}
 use Rattle.std.specs.List.{list_all}
 use Rattle.std.specs.Ordering.{eq_by_cmp}
@@ -13,11 +12,8 @@ use Rattle.pb_base.specs.Cell.{cell_cmp}
 use Rattle.pb_base.specs.Batch.{Writes, content_in, primary_in}
 use Rattle.pb_steps.specs.declared.step.Work.{Work}
 use Rattle.pb_steps.specs.declared.step.Step.{Step}
-use Rattle.pb_steps.specs.declared.step.Step.TheVariants.{Begin, Read, ReadAt, Declare, Prewrite, Stamp, CommitPrimary, CommitSecondary, Settle, Clear, NextMark, Sweep}
 use Rattle.pb_steps.specs.declared.step.Answer.{Answer}
-use Rattle.pb_steps.specs.declared.step.Answer.TheVariants as answers
 use Rattle.pb_steps.specs.declared.phase.Phase.{Phase}
-use Rattle.pb_steps.specs.declared.phase.Phase.TheVariants as phases
 use Rattle.pb_steps.specs.State.{StateOf, TransactionOf, new_transaction, with_transaction, cells_of, is_in}
 use Rattle.pb_steps.specs.Reads.{read_up_to}
 use Rattle.pb_steps.specs.Readings.{lock_at, NoLockUpTo}
@@ -59,13 +55,13 @@ cells_by o = is_in (prewritten_by o)
 
 -- ---- phases without a commit
 
-plain_reading : IsPlain phases.Reading
+plain_reading : IsPlain Phase.Reading
 plain_reading c = (λ e. cc, λ e. cc)
 
-plain_declared : IsPlain phases.Declared
+plain_declared : IsPlain Phase.Declared
 plain_declared c = (λ e. cc, λ e. cc)
 
-plain_failed : IsPlain phases.Failed
+plain_failed : IsPlain Phase.Failed
 plain_failed c = (λ e. cc, λ e. cc)
 
 -- ---- options, tests and lists
@@ -148,7 +144,7 @@ module _ (old : StateOf) (i : IsSoundTable old) (seat : ℕ) (new : StateOf) whe
       let unknown : map.get old.transactions s ≡ None = none_if _ (λ t e. let z = i.begun s t.phase (ap phase_by e) in let f = m.fresh in absurd (omega arith)) in
       let fresh = m.fresh in
       let t : TransactionOf = new_transaction seat work in
-      to (with_phase (view_of old) s phases.Reading s) (ap view_of m.new_is ∙ λ j. record {
+      to (with_phase (view_of old) s Phase.Reading s) (ap view_of m.new_is ∙ λ j. record {
         clock = s;
         phase = field_after phase_by old.transactions s t j;
         content = field_same content_by old.transactions s t (ap content_by (sym unknown)) j;
@@ -158,7 +154,7 @@ module _ (old : StateOf) (i : IsSoundTable old) (seat : ℕ) (new : StateOf) whe
         lock = (view_of old).lock;
         stored = (view_of old).stored;
         write = (view_of old).write;
-      }) (phase_kept (view_of old) i s phases.Reading plain_reading (λ c e. let z = ap phase_by unknown in cc) s (omega arith) (omega arith) (fresh_small s m.fresh m.left) (λ x e. absurd ((i.past_reading s x e).1 (ap phase_by unknown))))
+      }) (phase_kept (view_of old) i s Phase.Reading plain_reading (λ c e. let z = ap phase_by unknown in cc) s (omega arith) (omega arith) (fresh_small s m.fresh m.left) (λ x e. absurd ((i.past_reading s x e).1 (ap phase_by unknown))))
 
   -- a read is recorded
   read_keeps : (s : ℕ) (x : Cell) (at : Option Ts) (answer : Answer) (was : TransactionOf) → map.get old.transactions s ≡ Some was → read_up_to s at ≤ s → NoLockUpTo old.entries x (read_up_to s at) → ReadTells (view_of old) (read_up_to s at) x answer → new ≡ with_transaction old s (with_read was x at answer) → IsSoundTable new
@@ -179,18 +175,18 @@ module _ (old : StateOf) (i : IsSoundTable old) (seat : ℕ) (new : StateOf) whe
   found_keep : (s : ℕ) (x : Cell) (at : Option Ts) (start commit : Ts) (content : Content) → ReadsFound old seat s x at (record { start = start; commit = commit; content = content }) new → IsSoundTable new
   found_keep s x at start commit content m =
       let v = m.version in
-      read_keeps s x at (answers.Found start commit content) m.t m.own.there m.in_time m.unlocked
+      read_keeps s x at (Answer.Found start commit content) m.t m.own.there m.in_time m.unlocked
       (v.low, v.written, v.content, λ c u l e. newest_at_most c commit.0 (λ above. let z = v.newest c above l in cc))
       m.new_is
 
   absent_keep : (s : ℕ) (x : Cell) (at : Option Ts) → ReadsAbsent old seat s x at new → IsSoundTable new
-  absent_keep s x at m = read_keeps s x at answers.Absent m.t m.own.there m.in_time m.unlocked (λ c u l e. let z = m.none c l in cc) m.new_is
+  absent_keep s x at m = read_keeps s x at Answer.Absent m.t m.own.there m.in_time m.unlocked (λ c u l e. let z = m.none c l in cc) m.new_is
 
   -- a phase alone changes, and no commit comes
-  fails_keep : (s : ℕ) (was : TransactionOf) → map.get old.transactions s ≡ Some was → ((c : ℕ) → was.phase ≢ committed_at c) → new ≡ with_transaction old s (record was { phase = phases.Failed }) → IsSoundTable new
+  fails_keep : (s : ℕ) (was : TransactionOf) → map.get old.transactions s ≡ Some was → ((c : ℕ) → was.phase ≢ committed_at c) → new ≡ with_transaction old s (record was { phase = Phase.Failed }) → IsSoundTable new
   fails_keep s was is open_still new_is =
-      let t : TransactionOf = record was { phase = phases.Failed } in
-      to (with_phase (view_of old) s phases.Failed old.clock) (ap view_of new_is ∙ λ j. record {
+      let t : TransactionOf = record was { phase = Phase.Failed } in
+      to (with_phase (view_of old) s Phase.Failed old.clock) (ap view_of new_is ∙ λ j. record {
         clock = old.clock;
         phase = field_after phase_by old.transactions s t j;
         content = field_same content_by old.transactions s t (sym (ap content_by is)) j;
@@ -200,14 +196,14 @@ module _ (old : StateOf) (i : IsSoundTable old) (seat : ℕ) (new : StateOf) whe
         lock = (view_of old).lock;
         stored = (view_of old).stored;
         write = (view_of old).write;
-      }) (phase_kept (view_of old) i s phases.Failed plain_failed (λ c e. open_still c (let z = ap phase_by is in cc)) old.clock (omega arith) (i.begun s was.phase (ap phase_by is)) i.small (λ x e f. cc))
+      }) (phase_kept (view_of old) i s Phase.Failed plain_failed (λ c e. open_still c (let z = ap phase_by is in cc)) old.clock (omega arith) (i.begun s was.phase (ap phase_by is)) i.small (λ x e f. cc))
 
-  declared_keep : (s : ℕ) (was : TransactionOf) (writes : Writes) → map.get old.transactions s ≡ Some was → was.phase ≡ phases.Reading → new ≡ with_transaction old s (record was { phase = phases.Declared; declared = writes }) → IsSoundTable new
+  declared_keep : (s : ℕ) (was : TransactionOf) (writes : Writes) → map.get old.transactions s ≡ Some was → was.phase ≡ Phase.Reading → new ≡ with_transaction old s (record was { phase = Phase.Declared; declared = writes }) → IsSoundTable new
   declared_keep s was writes is phase new_is =
-      let reading : (view_of old).phase s ≡ Some phases.Reading = ap phase_by is ∙ ap Some phase in
-      let begun = phase_kept (view_of old) i s phases.Declared plain_declared (λ c e. cc) old.clock (omega arith) (i.begun s phases.Reading reading) i.small (λ x e f. cc) in
-      let t : TransactionOf = record was { phase = phases.Declared; declared = writes } in
-      to (with_declared (with_phase (view_of old) s phases.Declared old.clock) s (content_in writes) (primary_in writes)) (ap view_of new_is ∙ λ j. record {
+      let reading : (view_of old).phase s ≡ Some Phase.Reading = ap phase_by is ∙ ap Some phase in
+      let begun = phase_kept (view_of old) i s Phase.Declared plain_declared (λ c e. cc) old.clock (omega arith) (i.begun s Phase.Reading reading) i.small (λ x e f. cc) in
+      let t : TransactionOf = record was { phase = Phase.Declared; declared = writes } in
+      to (with_declared (with_phase (view_of old) s Phase.Declared old.clock) s (content_in writes) (primary_in writes)) (ap view_of new_is ∙ λ j. record {
         clock = old.clock;
         phase = field_after phase_by old.transactions s t j;
         content = field_after content_by old.transactions s t j;
@@ -217,19 +213,19 @@ module _ (old : StateOf) (i : IsSoundTable old) (seat : ℕ) (new : StateOf) whe
         lock = (view_of old).lock;
         stored = (view_of old).stored;
         write = (view_of old).write;
-      }) (declared_kept (with_phase (view_of old) s phases.Declared old.clock) begun s (content_in writes) (primary_in writes) (λ x e. (i.past_reading s x e).0 reading) (λ c e. not_stamped c e))
+      }) (declared_kept (with_phase (view_of old) s Phase.Declared old.clock) begun s (content_in writes) (primary_in writes) (λ x e. (i.past_reading s x e).0 reading) (λ c e. not_stamped c e))
     where
-      now : (with_phase (view_of old) s phases.Declared old.clock).phase s ≡ Some phases.Declared
-      now = set1_here (view_of old).phase s (Some phases.Declared)
+      now : (with_phase (view_of old) s Phase.Declared old.clock).phase s ≡ Some Phase.Declared
+      now = set1_here (view_of old).phase s (Some Phase.Declared)
 
-      not_stamped : (c : ℕ) → HasStamp (with_phase (view_of old) s phases.Declared old.clock) s c → ⊥
+      not_stamped : (c : ℕ) → HasStamp (with_phase (view_of old) s Phase.Declared old.clock) s c → ⊥
       not_stamped c (inl e) = let n = now in cc
       not_stamped c (inr e) = let n = now in cc
 
   prewrites_keep : (s : ℕ) (x : Cell) → Prewrites old seat s x new → IsSoundTable new
   prewrites_keep s x m =
       let is = m.own.there in
-      let phase : m.t.phase ≡ phases.Declared = declared_is m.t.phase m.phase in
+      let phase : m.t.phase ≡ Phase.Declared = declared_is m.t.phase m.phase in
       let t : TransactionOf = record m.t { prewritten = m.t.prewritten ++ x ∷ [] } in
       let no_later = m.no_later in
       to (with_prewrite (view_of old) s x m.primary m.content) (ap view_of m.new_is ∙ λ j. record {
@@ -341,32 +337,32 @@ module _ (old : StateOf) (i : IsSoundTable old) (seat : ℕ) (new : StateOf) whe
       lock_erased m.start x m.primary m.locked.locked (λ c e. let z = i.primary_stands m.start c m.primary e own.1 in m.none c (write_small m.primary c m.start z) z) (inr (none_is _ m.unlocked)) m.new_is
 
   case_keeps : (step : Step) (answer : Answer) → StepCase old seat step answer new → IsSoundTable new
-  case_keeps (Begin work) (answers.At s) m = begins_keep work s.0 m
-  case_keeps (Read s x) (answers.Locked start primary) m = same_keep m.new_is
-  case_keeps (Read s x) (answers.Found start commit content) m = found_keep s.0 x None start commit content m
-  case_keeps (Read s x) answers.Absent m = absent_keep s.0 x None m
-  case_keeps (ReadAt s x t) (answers.Locked start primary) m = same_keep m.new_is
-  case_keeps (ReadAt s x t) (answers.Found start commit content) m = found_keep s.0 x (Some t) start commit content m
-  case_keeps (ReadAt s x t) answers.Absent m = absent_keep s.0 x (Some t) m
-  case_keeps (Declare s what) answers.Done m = declared_keep s.0 m.t (cells_of old.observers m.t.work s.0 what) m.own.there (reading_is m.t.phase m.reading) m.new_is
-  case_keeps (Prewrite s x) answers.Done m = prewrites_keep s.0 x m
-  case_keeps (Prewrite s x) answers.Conflict m = fails_keep s.0 m.t m.own.there (λ c e. let z = declared_is m.t.phase m.phase in cc) m.new_is
-  case_keeps (Stamp s) (answers.At c) m = stamps_keep s.0 c.0 m
-  case_keeps (CommitPrimary s) answers.Committed m = primary_keep s.0 m
-  case_keeps (CommitPrimary s) answers.Lost m = fails_keep s.0 m.t m.own.there (λ c e. let z = m.stamped in cc) m.new_is
-  case_keeps (CommitSecondary s x) answers.Done m = secondary_keep s.0 x m
-  case_keeps (Settle x) answers.Absent m = same_keep m.new_is
-  case_keeps (Settle x) (answers.Locked start primary) m = same_keep m.new_is
-  case_keeps (Settle x) answers.RolledBack m = settles_keep x m
-  case_keeps (Clear x) answers.Absent m = same_keep m.new_is
-  case_keeps (Clear x) answers.Waits m = same_keep m.new_is
-  case_keeps (Clear x) (answers.CommittedAt c) m = cleared_keep x c.0 m
-  case_keeps (Clear x) answers.RolledBack m = back_keep x m
-  case_keeps (NextMark after) (answers.Marked x) m = same_keep m.new_is
-  case_keeps (NextMark after) answers.NoMark m = same_keep m.new_is
-  case_keeps (Sweep x) answers.NoMark m = same_keep m.new_is
-  case_keeps (Sweep x) answers.StillBehind m = same_keep m.new_is
-  case_keeps (Sweep x) answers.Done m = subst (λ v. IsSoundView v) (sym (ap view_of m.new_is)) i
+  case_keeps (Step.Begin work) (Answer.At s) m = begins_keep work s.0 m
+  case_keeps (Step.Read s x) (Answer.Locked start primary) m = same_keep m.new_is
+  case_keeps (Step.Read s x) (Answer.Found start commit content) m = found_keep s.0 x None start commit content m
+  case_keeps (Step.Read s x) Answer.Absent m = absent_keep s.0 x None m
+  case_keeps (Step.ReadAt s x t) (Answer.Locked start primary) m = same_keep m.new_is
+  case_keeps (Step.ReadAt s x t) (Answer.Found start commit content) m = found_keep s.0 x (Some t) start commit content m
+  case_keeps (Step.ReadAt s x t) Answer.Absent m = absent_keep s.0 x (Some t) m
+  case_keeps (Step.Declare s what) Answer.Done m = declared_keep s.0 m.t (cells_of old.observers m.t.work s.0 what) m.own.there (reading_is m.t.phase m.reading) m.new_is
+  case_keeps (Step.Prewrite s x) Answer.Done m = prewrites_keep s.0 x m
+  case_keeps (Step.Prewrite s x) Answer.Conflict m = fails_keep s.0 m.t m.own.there (λ c e. let z = declared_is m.t.phase m.phase in cc) m.new_is
+  case_keeps (Step.Stamp s) (Answer.At c) m = stamps_keep s.0 c.0 m
+  case_keeps (Step.CommitPrimary s) Answer.Committed m = primary_keep s.0 m
+  case_keeps (Step.CommitPrimary s) Answer.Lost m = fails_keep s.0 m.t m.own.there (λ c e. let z = m.stamped in cc) m.new_is
+  case_keeps (Step.CommitSecondary s x) Answer.Done m = secondary_keep s.0 x m
+  case_keeps (Step.Settle x) Answer.Absent m = same_keep m.new_is
+  case_keeps (Step.Settle x) (Answer.Locked start primary) m = same_keep m.new_is
+  case_keeps (Step.Settle x) Answer.RolledBack m = settles_keep x m
+  case_keeps (Step.Clear x) Answer.Absent m = same_keep m.new_is
+  case_keeps (Step.Clear x) Answer.Waits m = same_keep m.new_is
+  case_keeps (Step.Clear x) (Answer.CommittedAt c) m = cleared_keep x c.0 m
+  case_keeps (Step.Clear x) Answer.RolledBack m = back_keep x m
+  case_keeps (Step.NextMark after) (Answer.Marked x) m = same_keep m.new_is
+  case_keeps (Step.NextMark after) Answer.NoMark m = same_keep m.new_is
+  case_keeps (Step.Sweep x) Answer.NoMark m = same_keep m.new_is
+  case_keeps (Step.Sweep x) Answer.StillBehind m = same_keep m.new_is
+  case_keeps (Step.Sweep x) Answer.Done m = subst (λ v. IsSoundView v) (sym (ap view_of m.new_is)) i
   case_keeps _ _ m = absurd m
 
 pub steps_keep : (old : StateOf) (seat : ℕ) (step : Step) (answer : Answer) (new : StateOf) → IsSoundTable old → TableStep old seat step answer new → IsSoundTable new

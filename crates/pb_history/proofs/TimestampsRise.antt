@@ -2,9 +2,7 @@
 use Rattle.std.proofs.Common.{inl, inr, ◌≡◌, ℕ, ◌<◌, ◌≤◌, List, [], ◌∷◌, ap, subst, arith}
 use Rattle.pb_base.specs.declared.names.Ts.{Ts}
 use Rattle.pb_steps.specs.declared.step.Step.{Step}
-use Rattle.pb_steps.specs.declared.step.Step.TheVariants.{Begin, Read, ReadAt, Declare, Prewrite, Stamp, CommitPrimary, CommitSecondary, Settle, Clear, NextMark, Sweep}
 use Rattle.pb_steps.specs.declared.step.Answer.{Answer}
-use Rattle.pb_steps.specs.declared.step.Answer.TheVariants.{At, Locked, Found, Absent, Done, Conflict, Committed, Lost, RolledBack, Waits, CommittedAt, Marked, NoMark, StillBehind}
 use Rattle.pb_steps.specs.State.{StateOf, opening}
 use Rattle.pb_verify.specs.Observers.{ObserverOf}
 use Rattle.pb_steps.specs.Steps.{StepCase}
@@ -21,32 +19,32 @@ module _ (old : StateOf) (seat : ℕ) (new : StateOf) (P : ℕ → List ℕ → 
   same clock = subst (λ n. P n ts) clock rest
 
   pub case_timestamps : (step : Step) (answer : Answer) → StepCase old seat step answer new → P old.clock (with_timestamp step answer ts)
-  case_timestamps (Begin work) (At s) m = let fresh = m.fresh in next s.0 (ap (λ (z : StateOf). z.clock) m.new_is) (omega (arith, fresh))
-  case_timestamps (Read s x) (Locked start primary) m = same (ap (λ (z : StateOf). z.clock) m.new_is)
-  case_timestamps (Read s x) (Found start commit content) m = same (ap (λ (z : StateOf). z.clock) m.new_is)
-  case_timestamps (Read s x) Absent m = same (ap (λ (z : StateOf). z.clock) m.new_is)
-  case_timestamps (ReadAt s x t) (Locked start primary) m = same (ap (λ (z : StateOf). z.clock) m.new_is)
-  case_timestamps (ReadAt s x t) (Found start commit content) m = same (ap (λ (z : StateOf). z.clock) m.new_is)
-  case_timestamps (ReadAt s x t) Absent m = same (ap (λ (z : StateOf). z.clock) m.new_is)
-  case_timestamps (Declare s what) Done m = same (ap (λ (z : StateOf). z.clock) m.new_is)
-  case_timestamps (Prewrite s x) Done m = same (ap (λ (z : StateOf). z.clock) m.new_is)
-  case_timestamps (Prewrite s x) Conflict m = same (ap (λ (z : StateOf). z.clock) m.new_is)
-  case_timestamps (Stamp s) (At c) m = let fresh = m.fresh in next c.0 (ap (λ (z : StateOf). z.clock) m.new_is) (omega (arith, fresh))
-  case_timestamps (CommitPrimary s) Committed m = same (ap (λ (z : StateOf). z.clock) m.new_is)
-  case_timestamps (CommitPrimary s) Lost m = same (ap (λ (z : StateOf). z.clock) m.new_is)
-  case_timestamps (CommitSecondary s x) Done m = same (secondary_keeps old seat s.0 x new m).clock
-  case_timestamps (Settle x) Absent m = same (ap (λ (z : StateOf). z.clock) m.new_is)
-  case_timestamps (Settle x) (Locked start primary) m = same (ap (λ (z : StateOf). z.clock) m.new_is)
-  case_timestamps (Settle x) RolledBack m = same (ap (λ (z : StateOf). z.clock) m.new_is)
-  case_timestamps (Clear x) Absent m = same (ap (λ (z : StateOf). z.clock) m.new_is)
-  case_timestamps (Clear x) Waits m = same (ap (λ (z : StateOf). z.clock) m.new_is)
-  case_timestamps (Clear x) (CommittedAt c) m = same (ap (λ (z : StateOf). z.clock) m.new_is)
-  case_timestamps (Clear x) RolledBack m = same (ap (λ (z : StateOf). z.clock) m.new_is)
-  case_timestamps (NextMark after) (Marked x) m = same (ap (λ (z : StateOf). z.clock) m.new_is)
-  case_timestamps (NextMark after) NoMark m = same (ap (λ (z : StateOf). z.clock) m.new_is)
-  case_timestamps (Sweep x) NoMark m = same (ap (λ (z : StateOf). z.clock) m.new_is)
-  case_timestamps (Sweep x) StillBehind m = same (ap (λ (z : StateOf). z.clock) m.new_is)
-  case_timestamps (Sweep x) Done m = same (ap (λ (z : StateOf). z.clock) m.new_is)
+  case_timestamps (Step.Begin work) (Answer.At s) m = let fresh = m.fresh in next s.0 (ap (λ (z : StateOf). z.clock) m.new_is) (omega (arith, fresh))
+  case_timestamps (Step.Read s x) (Answer.Locked start primary) m = same (ap (λ (z : StateOf). z.clock) m.new_is)
+  case_timestamps (Step.Read s x) (Answer.Found start commit content) m = same (ap (λ (z : StateOf). z.clock) m.new_is)
+  case_timestamps (Step.Read s x) Answer.Absent m = same (ap (λ (z : StateOf). z.clock) m.new_is)
+  case_timestamps (Step.ReadAt s x t) (Answer.Locked start primary) m = same (ap (λ (z : StateOf). z.clock) m.new_is)
+  case_timestamps (Step.ReadAt s x t) (Answer.Found start commit content) m = same (ap (λ (z : StateOf). z.clock) m.new_is)
+  case_timestamps (Step.ReadAt s x t) Answer.Absent m = same (ap (λ (z : StateOf). z.clock) m.new_is)
+  case_timestamps (Step.Declare s what) Answer.Done m = same (ap (λ (z : StateOf). z.clock) m.new_is)
+  case_timestamps (Step.Prewrite s x) Answer.Done m = same (ap (λ (z : StateOf). z.clock) m.new_is)
+  case_timestamps (Step.Prewrite s x) Answer.Conflict m = same (ap (λ (z : StateOf). z.clock) m.new_is)
+  case_timestamps (Step.Stamp s) (Answer.At c) m = let fresh = m.fresh in next c.0 (ap (λ (z : StateOf). z.clock) m.new_is) (omega (arith, fresh))
+  case_timestamps (Step.CommitPrimary s) Answer.Committed m = same (ap (λ (z : StateOf). z.clock) m.new_is)
+  case_timestamps (Step.CommitPrimary s) Answer.Lost m = same (ap (λ (z : StateOf). z.clock) m.new_is)
+  case_timestamps (Step.CommitSecondary s x) Answer.Done m = same (secondary_keeps old seat s.0 x new m).clock
+  case_timestamps (Step.Settle x) Answer.Absent m = same (ap (λ (z : StateOf). z.clock) m.new_is)
+  case_timestamps (Step.Settle x) (Answer.Locked start primary) m = same (ap (λ (z : StateOf). z.clock) m.new_is)
+  case_timestamps (Step.Settle x) Answer.RolledBack m = same (ap (λ (z : StateOf). z.clock) m.new_is)
+  case_timestamps (Step.Clear x) Answer.Absent m = same (ap (λ (z : StateOf). z.clock) m.new_is)
+  case_timestamps (Step.Clear x) Answer.Waits m = same (ap (λ (z : StateOf). z.clock) m.new_is)
+  case_timestamps (Step.Clear x) (Answer.CommittedAt c) m = same (ap (λ (z : StateOf). z.clock) m.new_is)
+  case_timestamps (Step.Clear x) Answer.RolledBack m = same (ap (λ (z : StateOf). z.clock) m.new_is)
+  case_timestamps (Step.NextMark after) (Answer.Marked x) m = same (ap (λ (z : StateOf). z.clock) m.new_is)
+  case_timestamps (Step.NextMark after) Answer.NoMark m = same (ap (λ (z : StateOf). z.clock) m.new_is)
+  case_timestamps (Step.Sweep x) Answer.NoMark m = same (ap (λ (z : StateOf). z.clock) m.new_is)
+  case_timestamps (Step.Sweep x) Answer.StillBehind m = same (ap (λ (z : StateOf). z.clock) m.new_is)
+  case_timestamps (Step.Sweep x) Answer.Done m = same (ap (λ (z : StateOf). z.clock) m.new_is)
   case_timestamps _ _ m = absurd m
 
 -- what a run of steps gives out rises from its first clock to its last
@@ -70,12 +68,12 @@ lower low to high (t ∷ ts) le r = let lt = r.0 in (omega (arith, le, lt), r.1)
 
 -- those after an entry
 pub behind : (low high : ℕ) (step : Step) (answer : Answer) (ts : List ℕ) → AreRising low high (with_timestamp step answer ts) → AreRising low high ts
-behind low high (Begin work) (At s) ts r = let lt = r.0 in lower low s.0 high ts (omega (arith, lt)) r.1
-behind low high (Stamp s) (At c) ts r = let lt = r.0 in lower low c.0 high ts (omega (arith, lt)) r.1
+behind low high (Step.Begin work) (Answer.At s) ts r = let lt = r.0 in lower low s.0 high ts (omega (arith, lt)) r.1
+behind low high (Step.Stamp s) (Answer.At c) ts r = let lt = r.0 in lower low c.0 high ts (omega (arith, lt)) r.1
 behind low high _ _ ts r = r
 
 -- a commit that was given out is at most the clock
-commit_at_most : (low high seat : ℕ) (s c : Ts) (es : List Entry) → Has es (record { seat = seat; step = Stamp s; answer = At c }) → AreRising low high (timestamps es) → c.0 ≤ high
+commit_at_most : (low high seat : ℕ) (s c : Ts) (es : List Entry) → Has es (record { seat = seat; step = Step.Stamp s; answer = Answer.At c }) → AreRising low high (timestamps es) → c.0 ≤ high
 commit_at_most low high seat s c [] has r = absurd has
 commit_at_most low high seat s c (e ∷ es) (inl q) r = at_most c.0 high (timestamps es) (subst (λ (d : Entry). AreRising low high (with_timestamp d.step d.answer (timestamps es))) q r).1
 commit_at_most low high seat s c (e ∷ es) (inr has) r = commit_at_most low high seat s c es has (behind low high e.step e.answer (timestamps es) r)

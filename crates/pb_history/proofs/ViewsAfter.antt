@@ -1,6 +1,5 @@
 -- What the view of a state is after a change of its entries or of a transaction.
-use Rattle.std.proofs.Common.{◌≡◌, ◌≢◌, ℕ, Bool, true, false, cond, inl, inr, Option, Some, None, refl, sym, ap, ◌∙◌}
-use Rattle.std.specs.Prelude.{nat_eq}
+use Rattle.std.proofs.Common.{◌≡◌, ◌≢◌, ℕ, Bool, true, false, cond, inl, inr, Option, Some, None, refl, sym, ap, ◌∙◌, nat_eq}
 use Rattle.std.specs.Ordering.{is_eq, eq_by_cmp}
 use Rattle.std.specs.Cmp.{Equal-is, tied_itself, nat_cmp_total, unsigned_tied}
 use Rattle.std.specs.FinMap as map
@@ -9,9 +8,7 @@ use Rattle.pb_base.specs.declared.cell.Cell.{Cell}
 use Rattle.pb_base.specs.declared.content.Content.{Content}
 use Rattle.pb_store.specs.declared.slot.Slot.{Slot}
 use Rattle.pb_store.specs.declared.slot.Item.{Item}
-use Rattle.pb_store.specs.declared.slot.Item.TheVariants as items
 use Rattle.pb_store.specs.declared.slot.Sort.{Sort}
-use Rattle.pb_store.specs.declared.slot.Sort.TheVariants as sorts
 use Rattle.pb_store.specs.Slot.{slot_cmp, slot_cmp_total, slot_cmp-IsAntisymmetric}
 use Rattle.pb_store.specs.Contents.{Entries, slot_at}
 use Rattle.pb_steps.specs.State.{TransactionOf, Transactions}
@@ -77,28 +74,28 @@ module _ {A : Type 0} (g : Option Item → A) (e : Entries) (x : Cell) (s : ℕ)
 
 module _ (e : Entries) (x : Cell) (s : ℕ) where
   pub lock_after_commit : (c : ℕ) → lock_at (commit_lock e x s c) ≡ set2 (lock_at e) x s None
-  lock_after_commit c = insert_other primary_of _ x c sorts.Write (items.Write (record { 0 = s })) sorts.Lock (λ q. cc) ∙ remove_same primary_of e x s sorts.Lock
+  lock_after_commit c = insert_other primary_of _ x c Sort.Write (Item.Write (record { 0 = s })) Sort.Lock (λ q. cc) ∙ remove_same primary_of e x s Sort.Lock
 
   pub data_after_commit : (c : ℕ) → data_at (commit_lock e x s c) ≡ data_at e
-  data_after_commit c = insert_other data_of _ x c sorts.Write (items.Write (record { 0 = s })) sorts.Data (λ q. cc) ∙ remove_other data_of e x s sorts.Lock sorts.Data (λ q. cc)
+  data_after_commit c = insert_other data_of _ x c Sort.Write (Item.Write (record { 0 = s })) Sort.Data (λ q. cc) ∙ remove_other data_of e x s Sort.Lock Sort.Data (λ q. cc)
 
   pub write_after_commit : (c : ℕ) → write_at (commit_lock e x s c) ≡ set2 (write_at e) x c (Some s)
-  write_after_commit c = insert_same start_of _ x c sorts.Write (items.Write (record { 0 = s })) ∙ ap (λ f. set2 f x c (Some s)) (remove_other start_of e x s sorts.Lock sorts.Write (λ q. cc))
+  write_after_commit c = insert_same start_of _ x c Sort.Write (Item.Write (record { 0 = s })) ∙ ap (λ f. set2 f x c (Some s)) (remove_other start_of e x s Sort.Lock Sort.Write (λ q. cc))
 
   pub lock_after_back : lock_at (erase_lock e x s) ≡ set2 (lock_at e) x s None
-  lock_after_back = remove_other primary_of _ x s sorts.Data sorts.Lock (λ q. cc) ∙ remove_same primary_of e x s sorts.Lock
+  lock_after_back = remove_other primary_of _ x s Sort.Data Sort.Lock (λ q. cc) ∙ remove_same primary_of e x s Sort.Lock
 
   pub data_after_back : data_at (erase_lock e x s) ≡ set2 (data_at e) x s None
-  data_after_back = remove_same data_of _ x s sorts.Data ∙ ap (λ f. set2 f x s None) (remove_other data_of e x s sorts.Lock sorts.Data (λ q. cc))
+  data_after_back = remove_same data_of _ x s Sort.Data ∙ ap (λ f. set2 f x s None) (remove_other data_of e x s Sort.Lock Sort.Data (λ q. cc))
 
   pub write_after_back : write_at (erase_lock e x s) ≡ write_at e
-  write_after_back = remove_other start_of _ x s sorts.Data sorts.Write (λ q. cc) ∙ remove_other start_of e x s sorts.Lock sorts.Write (λ q. cc)
+  write_after_back = remove_other start_of _ x s Sort.Data Sort.Write (λ q. cc) ∙ remove_other start_of e x s Sort.Lock Sort.Write (λ q. cc)
 
   pub lock_after_put : (k : Content) (p : Cell) → lock_at (put_lock e x s k p) ≡ set2 (lock_at e) x s (Some p)
-  lock_after_put k p = insert_same primary_of _ x s sorts.Lock (items.Lock p) ∙ ap (λ f. set2 f x s (Some p)) (insert_other primary_of e x s sorts.Data (items.Data k) sorts.Lock (λ q. cc))
+  lock_after_put k p = insert_same primary_of _ x s Sort.Lock (Item.Lock p) ∙ ap (λ f. set2 f x s (Some p)) (insert_other primary_of e x s Sort.Data (Item.Data k) Sort.Lock (λ q. cc))
 
   pub data_after_put : (k : Content) (p : Cell) → data_at (put_lock e x s k p) ≡ set2 (data_at e) x s (Some k)
-  data_after_put k p = insert_other data_of _ x s sorts.Lock (items.Lock p) sorts.Data (λ q. cc) ∙ insert_same data_of e x s sorts.Data (items.Data k)
+  data_after_put k p = insert_other data_of _ x s Sort.Lock (Item.Lock p) Sort.Data (λ q. cc) ∙ insert_same data_of e x s Sort.Data (Item.Data k)
 
   pub write_after_put : (k : Content) (p : Cell) → write_at (put_lock e x s k p) ≡ write_at e
-  write_after_put k p = insert_other start_of _ x s sorts.Lock (items.Lock p) sorts.Write (λ q. cc) ∙ insert_other start_of e x s sorts.Data (items.Data k) sorts.Write (λ q. cc)
+  write_after_put k p = insert_other start_of _ x s Sort.Lock (Item.Lock p) Sort.Write (λ q. cc) ∙ insert_other start_of e x s Sort.Data (Item.Data k) Sort.Write (λ q. cc)

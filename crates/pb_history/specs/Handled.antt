@@ -4,7 +4,7 @@ use Rattle.std.specs.FinMap as map
 use Rattle.pb_base.specs.declared.cell.Cell.{Cell}
 use Rattle.pb_base.specs.declared.names.Row.{Row}
 use Rattle.pb_base.specs.declared.content.Content.{Content}
-use Rattle.pb_steps.specs.declared.step.Work.TheVariants as works
+use Rattle.pb_steps.specs.declared.step.Work.{Work}
 use Rattle.pb_steps.specs.State.{StateOf}
 use Rattle.pb_verify.specs.Observers.{ObserverOf, observed_cell, acknowledgment}
 use Rattle.pb_steps.specs.Marks.{is_marked}
@@ -15,7 +15,7 @@ use Rattle.pb_history.specs.RunsTold.{IsAcknowledgedAt}
 
 -- a run of an observer handles the changes of its cell that it saw, from after what was acknowledged up to its start
 pub record Handles (observers : List ObserverOf) (journal : List Entry) (m : Member) (o : ℕ) (row : Row) (commit : ℕ) : Type 0 where
-  pub run : m.work ≡ works.Run o row
+  pub run : m.work ≡ Work.Run o row
   pub acknowledged : ℕ
   pub acknowledges : IsAcknowledgedAt observers journal m.start (acknowledgment observers o row) acknowledged
   pub newer : acknowledged < commit

@@ -8,14 +8,10 @@ use Rattle.pb_base.specs.Batch.{Writes, content_in, are_distinct}
 use Rattle.pb_isa.specs.Machine.{Reply}
 use Rattle.pb_helpers.specs.OldRecord.{record_by}
 use Rattle.pb_steps.specs.declared.step.Work.{Work}
-use Rattle.pb_steps.specs.declared.step.Work.TheVariants as works
 use Rattle.pb_steps.specs.declared.step.Declared.{Declared}
-use Rattle.pb_steps.specs.declared.step.Declared.TheVariants as declared
 use Rattle.pb_steps.specs.declared.step.Step.{Step}
-use Rattle.pb_steps.specs.declared.step.Step.TheVariants.{Begin, Declare, Stamp, CommitPrimary}
 use Rattle.pb_steps.specs.declared.step.Answer.{Answer}
-use Rattle.pb_steps.specs.declared.step.Answer.TheVariants.{At, Done, Committed}
-use Rattle.pb_steps.specs.declared.phase.Phase.TheVariants as phases
+use Rattle.pb_steps.specs.declared.phase.Phase.{Phase}
 use Rattle.pb_steps.specs.State.{StateOf, TransactionOf, cells_of}
 use Rattle.pb_verify.specs.Observers.{ObserverOf, observed_cell}
 use Rattle.pb_steps.specs.Declarations.{IsKnown}
@@ -40,12 +36,12 @@ pub record Member : Type 0 where
 
 -- a transaction of the journal with the answer `Committed`: its commit is its stamp, its writes are what it declared
 pub record InHistory (observers : List ObserverOf) (journal : List Entry) (m : Member) : Type 0 where
-  pub begun : IsEntry journal m.seat (Begin m.work) (At (record { 0 = m.start }))
+  pub begun : IsEntry journal m.seat (Step.Begin m.work) (Answer.At (record { 0 = m.start }))
   pub what : Declared
-  pub declared : IsEntry journal m.seat (Declare (record { 0 = m.start }) what) Done
+  pub declared : IsEntry journal m.seat (Step.Declare (record { 0 = m.start }) what) Answer.Done
   pub writes_are : m.writes ≡ cells_of observers m.work m.start what
-  pub stamped : IsEntry journal m.seat (Stamp (record { 0 = m.start })) (At (record { 0 = m.commit }))
-  pub committed : IsEntry journal m.seat (CommitPrimary (record { 0 = m.start })) Committed
+  pub stamped : IsEntry journal m.seat (Step.Stamp (record { 0 = m.start })) (Answer.At (record { 0 = m.commit }))
+  pub committed : IsEntry journal m.seat (Step.CommitPrimary (record { 0 = m.start })) Answer.Committed
 
 -- x is written with this content
 abbrev pub WritesTo : Member → Cell → Content → Type 0
@@ -69,15 +65,15 @@ NoSnapshot observers journal s x = (n : Member) (k : Content) → InHistory obse
 pub record IsCommitted (state : StateOf) (m : Member) : Type 0 where
   pub t : TransactionOf
   pub there : map.get state.transactions m.start ≡ Some t
-  pub phase : t.phase ≡ phases.Committed (record { 0 = m.commit })
+  pub phase : t.phase ≡ Phase.Committed (record { 0 = m.commit })
   pub seat : m.seat ≡ t.seat
   pub work : m.work ≡ t.work
   pub writes : m.writes ≡ t.declared
 
 -- the declaration is one for this work: a script's batch, or a run of its observer on a record of the cell that it observes
 abbrev pub IsForWork : List ObserverOf → Work → Declared → Type 0
-IsForWork observers works.Script (declared.Script batch) = Unit {0}
-IsForWork observers (works.Run p row) (declared.Run o f) = (o ≡ p) × (second : Bool) × (v : Revision) × (acknowledged : ℕ) × (old : Reply) × (f.bytes ≡ record_by second (observed_cell observers p row) v acknowledged old)
+IsForWork observers Work.Script (Declared.Script batch) = Unit {0}
+IsForWork observers (Work.Run p row) (Declared.Run o f) = (o ≡ p) × (second : Bool) × (v : Revision) × (acknowledged : ℕ) × (old : Reply) × (f.bytes ≡ record_by second (observed_cell observers p row) v acknowledged old)
 IsForWork observers _ _ = ⊥
 
 -- the state has what a declaration named, each cell once, and that is known, and for its transaction's work
@@ -94,4 +90,4 @@ pub record TellsHistory (journal : List Entry) (state : StateOf) : Type 0 where
   pub early : (s : ℕ) (t : TransactionOf) → map.get state.transactions s ≡ Some t → s ≤ state.clock
   pub committed : (m : Member) → InHistory state.observers journal m → IsCommitted state m
   pub member : (m : Member) → IsCommitted state m → InHistory state.observers journal m
-  pub declared : (seat start : ℕ) (what : Declared) → IsEntry journal seat (Declare (record { 0 = start }) what) Done → IsDeclared state start what
+  pub declared : (seat start : ℕ) (what : Declared) → IsEntry journal seat (Step.Declare (record { 0 = start }) what) Answer.Done → IsDeclared state start what

@@ -1,23 +1,21 @@
 -- The answer that a kept one is: what contracts see of `KeptAnswer`, so that no law knows of boxes.
-use Rattle.pb_base.specs.declared.cell.Cell.TheVariants.{Data, Ack}
+use Rattle.pb_base.specs.declared.cell.Cell.{Cell}
 use Rattle.pb_steps.specs.declared.step.Answer.{Answer}
-use Rattle.pb_steps.specs.declared.step.Answer.TheVariants as answers
 use Rattle.pb_history.specs.declared.kept_answer.KeptForm.{KeptForm}
-use Rattle.pb_history.specs.declared.kept_answer.KeptForm.TheVariants as forms
 
 -- the answer that each form stands for
 abbrev pub answer_of : KeptForm → Answer
-answer_of (forms.At at) = answers.At at
-answer_of (forms.Told told) = told.value
-answer_of forms.Absent = answers.Absent
-answer_of forms.Done = answers.Done
-answer_of forms.Conflict = answers.Conflict
-answer_of forms.Committed = answers.Committed
-answer_of forms.Lost = answers.Lost
-answer_of forms.RolledBack = answers.RolledBack
-answer_of forms.Waits = answers.Waits
-answer_of (forms.CommittedAt at) = answers.CommittedAt at
-answer_of (forms.MarkedData column row) = answers.Marked (Data row column)
-answer_of (forms.MarkedAck o column row) = answers.Marked (Ack o row column)
-answer_of forms.NoMark = answers.NoMark
-answer_of forms.StillBehind = answers.StillBehind
+answer_of (KeptForm.At at) = Answer.At at
+answer_of (KeptForm.Told told) = told.value
+answer_of KeptForm.Absent = Answer.Absent
+answer_of KeptForm.Done = Answer.Done
+answer_of KeptForm.Conflict = Answer.Conflict
+answer_of KeptForm.Committed = Answer.Committed
+answer_of KeptForm.Lost = Answer.Lost
+answer_of KeptForm.RolledBack = Answer.RolledBack
+answer_of KeptForm.Waits = Answer.Waits
+answer_of (KeptForm.CommittedAt at) = Answer.CommittedAt at
+answer_of (KeptForm.MarkedData column row) = Answer.Marked (Cell.Data row column)
+answer_of (KeptForm.MarkedAck o column row) = Answer.Marked (Cell.Ack o row column)
+answer_of KeptForm.NoMark = Answer.NoMark
+answer_of KeptForm.StillBehind = Answer.StillBehind

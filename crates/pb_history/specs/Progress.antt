@@ -5,20 +5,18 @@ use Rattle.pb_base.specs.declared.cell.Cell.{Cell}
 use Rattle.pb_base.specs.Cell.{cell_cmp}
 use Rattle.pb_store.specs.Contents.{ComesAfter}
 use Rattle.pb_steps.specs.declared.step.Step.{Step}
-use Rattle.pb_steps.specs.declared.step.Step.TheVariants.{NextMark, Sweep}
 use Rattle.pb_steps.specs.declared.step.Answer.{Answer}
-use Rattle.pb_steps.specs.declared.step.Answer.TheVariants.{Marked}
 use Rattle.pb_steps.specs.State.{StateOf}
 use Rattle.pb_steps.specs.Marks.{is_marked, SomeBehind}
 
 -- where a marked cell comes after the given one, a marked cell after it is answered, which is that one or comes before it
 abbrev pub TellsFirstMark : StateOf → Step → Answer → Type 0
-TellsFirstMark old (NextMark after) answer =
+TellsFirstMark old (Step.NextMark after) answer =
     (x : Cell) → is_marked old.marks x ≡ true → ComesAfter after x
-    → (y : Cell) × (answer ≡ Marked y) × (is_marked old.marks y ≡ true) × ComesAfter after y × ((y ≡ x) ⊎ (cell_cmp y x ≡ Less))
+    → (y : Cell) × (answer ≡ Answer.Marked y) × (is_marked old.marks y ≡ true) × ComesAfter after y × ((y ≡ x) ⊎ (cell_cmp y x ≡ Less))
 TellsFirstMark old _ answer = Unit {0}
 
 -- a cell that is swept has no mark where no observer is behind on it
 abbrev pub TellsUnmarked : StateOf → Step → StateOf → Type 0
-TellsUnmarked old (Sweep x) new = (SomeBehind old.observers old.entries x → ⊥) → is_marked new.marks x ≡ false
+TellsUnmarked old (Step.Sweep x) new = (SomeBehind old.observers old.entries x → ⊥) → is_marked new.marks x ≡ false
 TellsUnmarked old _ new = Unit {0}

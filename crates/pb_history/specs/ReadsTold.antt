@@ -1,9 +1,7 @@
 -- What the reads of a legal journal tell.
 use Rattle.std.specs.Prelude.{◌≡◌, ℕ, List, ◌∷◌, ◌++◌}
 use Rattle.pb_steps.specs.declared.step.Step.{Step}
-use Rattle.pb_steps.specs.declared.step.Step.TheVariants.{Read, ReadAt}
 use Rattle.pb_steps.specs.declared.step.Answer.{Answer}
-use Rattle.pb_steps.specs.declared.step.Answer.TheVariants.{Found, Absent}
 use Rattle.pb_steps.specs.State.{StateOf, opening}
 use Rattle.pb_verify.specs.Observers.{ObserverOf}
 use Rattle.pb_steps.specs.Readings.{IsVersion, NoVersion}
@@ -12,10 +10,10 @@ use Rattle.pb_history.specs.Journals.{JournalLeads}
 
 -- a read tells of the cell the newest version up to its start, or up to the timestamp that it names, or that there is none
 abbrev pub TellsVersion : StateOf → Step → Answer → Type 0
-TellsVersion state (Read s x) (Found start commit content) = IsVersion state.entries x s.0 (record { start = start; commit = commit; content = content })
-TellsVersion state (Read s x) Absent = NoVersion state.entries x s.0
-TellsVersion state (ReadAt s x t) (Found start commit content) = IsVersion state.entries x t.0 (record { start = start; commit = commit; content = content })
-TellsVersion state (ReadAt s x t) Absent = NoVersion state.entries x t.0
+TellsVersion state (Step.Read s x) (Answer.Found start commit content) = IsVersion state.entries x s.0 (record { start = start; commit = commit; content = content })
+TellsVersion state (Step.Read s x) Answer.Absent = NoVersion state.entries x s.0
+TellsVersion state (Step.ReadAt s x t) (Answer.Found start commit content) = IsVersion state.entries x t.0 (record { start = start; commit = commit; content = content })
+TellsVersion state (Step.ReadAt s x t) Answer.Absent = NoVersion state.entries x t.0
 TellsVersion state _ _ = Unit {0}
 
 -- where an entry stands in a journal, the entries before it lead to a state of which it tells

@@ -1,11 +1,9 @@
 -- How many runs of an observer are committed.
 use Rattle.std.specs.Prelude.{◌≡◌, ℕ, ◌<◌, ◌==◌, ◌&&◌, Bool, false, count_by, List, [], ◌∷◌, length, Option, Some, None}
 use Rattle.pb_base.specs.declared.names.Row.{Row}
-use Rattle.pb_steps.specs.declared.step.Work.TheVariants as works
+use Rattle.pb_steps.specs.declared.step.Work.{Work}
 use Rattle.pb_steps.specs.declared.step.Step.{Step}
-use Rattle.pb_steps.specs.declared.step.Step.TheVariants.{Begin}
 use Rattle.pb_steps.specs.declared.step.Answer.{Answer}
-use Rattle.pb_steps.specs.declared.step.Answer.TheVariants.{At}
 use Rattle.pb_steps.specs.declared.phase.Phase.{Phase}
 use Rattle.pb_steps.specs.Phases.{is_committed}
 use Rattle.pb_steps.specs.State.{StateOf, phase_in}
@@ -15,7 +13,7 @@ use Rattle.pb_history.specs.History.{Has, Member, InHistory}
 
 -- a run of this observer, on some row
 abbrev pub IsRunOf : Member → ℕ → Type 0
-IsRunOf m o = (row : Row) × (m.work ≡ works.Run o row)
+IsRunOf m o = (row : Row) × (m.work ≡ Work.Run o row)
 
 -- each starts above the one before
 abbrev pub RiseByStart : ℕ → List Member → Type 0
@@ -37,7 +35,7 @@ phase_is_committed (Some phase) = is_committed phase
 
 -- a run of the observer began, and the state has it as committed
 abbrev pub begins_committed_run : StateOf → ℕ → Step → Answer → Bool
-begins_committed_run state o (Begin (works.Run p row)) (At s) = (p == o) && phase_is_committed (phase_in state s.0)
+begins_committed_run state o (Step.Begin (Work.Run p row)) (Answer.At s) = (p == o) && phase_is_committed (phase_in state s.0)
 begins_committed_run state o _ _ = false
 
 -- the count by entries that begin such runs

@@ -3,14 +3,13 @@ use Rattle.std.specs.Prelude.{◌≡◌, ℕ, ◌<◌, ◌⊎◌, true, List, []
 use Rattle.pb_base.specs.declared.cell.Cell.{Cell}
 use Rattle.pb_base.specs.declared.names.Row.{Row}
 use Rattle.pb_base.specs.declared.content.Content.{Content}
-use Rattle.pb_base.specs.declared.content.Content.TheVariants as contents
 use Rattle.pb_base.specs.declared.content.Revision.{Revision}
 use Rattle.pb_base.specs.Batch.{Writes}
 use Rattle.pb_isa.specs.Machine.{Ask, Reply}
 use Rattle.pb_isa.specs.Meaning.{Talk, Means}
 use Rattle.pb_sound.specs.RunWrites.{AreRunWrites}
 use Rattle.pb_helpers.specs.OldRecord.{tells_old, record_by}
-use Rattle.pb_steps.specs.declared.step.Work.TheVariants as works
+use Rattle.pb_steps.specs.declared.step.Work.{Work}
 use Rattle.pb_steps.specs.State.{StateOf}
 use Rattle.pb_verify.specs.Observers.{ObserverOf, observed_cell, acknowledgment}
 use Rattle.pb_steps.specs.Reads.{asked_cell, value_of}
@@ -21,7 +20,7 @@ use Rattle.pb_history.specs.History.{Member, InHistory, IsSnapshot, NoSnapshot}
 abbrev pub IsAcknowledgedAt : List ObserverOf → List Entry → ℕ → Cell → ℕ → Type 0
 IsAcknowledgedAt observers journal s ack a =
     (NoSnapshot observers journal s ack × (a ≡ 0))
-    ⊎ ((start : ℕ) × (commit : ℕ) × IsSnapshot observers journal s ack start commit (contents.Stamp (record { 0 = a })))
+    ⊎ ((start : ℕ) × (commit : ℕ) × IsSnapshot observers journal s ack start commit (Content.Stamp (record { 0 = a })))
 
 -- the value of a cell in the snapshot at s, and none where it is deleted or absent there
 abbrev pub IsValueAt : List ObserverOf → List Entry → ℕ → Cell → Reply → Type 0
@@ -58,8 +57,8 @@ pub record IsObserverRun (observers : List ObserverOf) (journal : List Entry) (m
   pub writes : Writes
   pub meaning : Means observer.program (record_by (tells_old observer.program) (observed_cell observers o row) version acknowledged old) m.start talk result writes
   pub few : AreRunWrites writes
-  pub writes_are : m.writes ≡ (acknowledgment observers o row, contents.Stamp (record { 0 = m.start })) ∷ writes
+  pub writes_are : m.writes ≡ (acknowledgment observers o row, Content.Stamp (record { 0 = m.start })) ∷ writes
 
 -- each committed transaction of a run is one as above
 pub record TellsRuns (journal : List Entry) (state : StateOf) : Type 0 where
-  pub run : (m : Member) (o : ℕ) (row : Row) → InHistory state.observers journal m → m.work ≡ works.Run o row → IsObserverRun state.observers journal m o row
+  pub run : (m : Member) (o : ℕ) (row : Row) → InHistory state.observers journal m → m.work ≡ Work.Run o row → IsObserverRun state.observers journal m o row

@@ -6,10 +6,8 @@ use Rattle.pb_base.specs.declared.cell.Cell.{Cell}
 use Rattle.pb_base.specs.declared.content.Content.{Content}
 use Rattle.pb_store.specs.Contents.{Entries}
 use Rattle.pb_steps.specs.declared.phase.Phase.{Phase}
-use Rattle.pb_steps.specs.declared.phase.Phase.TheVariants.{Reading, Stamped, Committed}
 use Rattle.pb_steps.specs.declared.seen.RecordedRead.{RecordedRead}
 use Rattle.pb_steps.specs.declared.step.Answer.{Answer}
-use Rattle.pb_steps.specs.declared.step.Answer.TheVariants.{Found, Absent}
 use Rattle.pb_steps.specs.Reads.{read_up_to}
 use Rattle.pb_steps.specs.State.{StateOf, TransactionOf}
 use Rattle.pb_steps.specs.Readings.{data_at, lock_at, write_at}
@@ -18,11 +16,11 @@ use Rattle.pb_history.specs.TableView.{TableView, view_of}
 
 -- the transaction of start s has the commit timestamp c, and isn't committed
 abbrev pub IsStampedAt : TableView → ℕ → ℕ → Type 0
-IsStampedAt v s c = v.phase s ≡ Some (Stamped (record { 0 = c }))
+IsStampedAt v s c = v.phase s ≡ Some (Phase.Stamped (record { 0 = c }))
 
 -- it is committed at c
 abbrev pub IsCommittedAt : TableView → ℕ → ℕ → Type 0
-IsCommittedAt v s c = v.phase s ≡ Some (Committed (record { 0 = c }))
+IsCommittedAt v s c = v.phase s ≡ Some (Phase.Committed (record { 0 = c }))
 
 -- one of both
 abbrev pub HasStamp : TableView → ℕ → ℕ → Type 0
@@ -43,8 +41,8 @@ LacksPrimary v s = (p : Cell) → v.primary s ≡ Some p → v.lock p s ≡ None
 -- a read of x in the snapshot at s tells the newest write record of a commit at most s with its data, or that there is
 -- none
 abbrev pub ReadTells : TableView → ℕ → Cell → Answer → Type 0
-ReadTells v s x (Found start commit content) = (commit.0 ≤ s) × HasRecord v x commit.0 start.0 × (v.stored x start.0 ≡ Some content) × ((c u : ℕ) → c ≤ s → HasRecord v x c u → c ≤ commit.0)
-ReadTells v s x Absent = (c u : ℕ) → c ≤ s → HasRecord v x c u → ⊥
+ReadTells v s x (Answer.Found start commit content) = (commit.0 ≤ s) × HasRecord v x commit.0 start.0 × (v.stored x start.0 ≡ Some content) × ((c u : ℕ) → c ≤ s → HasRecord v x c u → c ≤ commit.0)
+ReadTells v s x Answer.Absent = (c u : ℕ) → c ≤ s → HasRecord v x c u → ⊥
 ReadTells v s x _ = ⊥
 
 -- said of functions, so that a step changes few of them, and each at one timestamp or cell
@@ -64,7 +62,7 @@ pub record IsSoundView (v : TableView) : Type 0 where
   -- what is prewritten was declared
   pub was_declared : (s : ℕ) (x : Cell) → v.prewritten s x ≡ true → (k : Content) × (v.content s x ≡ Some k)
   -- by a transaction that reads no more
-  pub past_reading : (s : ℕ) (x : Cell) → v.prewritten s x ≡ true → (v.phase s ≢ Some Reading) × (v.phase s ≢ None)
+  pub past_reading : (s : ℕ) (x : Cell) → v.prewritten s x ≡ true → (v.phase s ≢ Some Phase.Reading) × (v.phase s ≢ None)
   -- the primary comes before the other cells
   pub primary_first : (s : ℕ) (x p : Cell) → v.prewritten s x ≡ true → v.primary s ≡ Some p → v.prewritten s p ≡ true
   -- a stamped transaction has prewritten all that it declared

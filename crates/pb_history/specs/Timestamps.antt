@@ -1,17 +1,15 @@
 -- The timestamps of a journal, which rise (OSDI 2010, section 2.3).
 use Rattle.std.specs.Prelude.{ℕ, ◌<◌, ◌≤◌, List, [], ◌∷◌}
 use Rattle.pb_steps.specs.declared.step.Step.{Step}
-use Rattle.pb_steps.specs.declared.step.Step.TheVariants.{Begin, Stamp}
 use Rattle.pb_steps.specs.declared.step.Answer.{Answer}
-use Rattle.pb_steps.specs.declared.step.Answer.TheVariants.{At}
 use Rattle.pb_steps.specs.State.{StateOf}
 use Rattle.pb_history.specs.declared.entry.Entry.{Entry}
 use Rattle.pb_history.specs.History.{Member, InHistory}
 
 -- a begin and a stamp are answered with a timestamp, which comes before these
 abbrev pub with_timestamp : Step → Answer → List ℕ → List ℕ
-with_timestamp (Begin work) (At s) ts = s.0 ∷ ts
-with_timestamp (Stamp s) (At c) ts = c.0 ∷ ts
+with_timestamp (Step.Begin work) (Answer.At s) ts = s.0 ∷ ts
+with_timestamp (Step.Stamp s) (Answer.At c) ts = c.0 ∷ ts
 with_timestamp _ _ ts = ts
 
 -- the starts and commits that were handed out, in order

@@ -4,11 +4,8 @@ use Rattle.std.specs.Prelude.{◌≡◌, ℕ, Bool, true, false, ◌==◌, List,
 use Rattle.std.specs.List.{filter, list_any}
 use Rattle.std.specs.FinMap as map
 use Rattle.pb_steps.specs.declared.phase.Phase.{Phase}
-use Rattle.pb_steps.specs.declared.phase.Phase.TheVariants as phases
 use Rattle.pb_steps.specs.declared.step.Step.{Step}
-use Rattle.pb_steps.specs.declared.step.Step.TheVariants.{Begin, Read, ReadAt, Declare, Prewrite, Stamp, CommitPrimary, CommitSecondary}
 use Rattle.pb_steps.specs.declared.step.Answer.{Answer}
-use Rattle.pb_steps.specs.declared.step.Answer.TheVariants.{At, Found, Absent, Done, Conflict, Committed, Lost}
 use Rattle.pb_verify.specs.Observers.{ObserverOf}
 use Rattle.pb_steps.specs.State.{StateOf, TransactionOf, new_transaction, cells_of}
 use Rattle.pb_steps.specs.Read.{with_read}
@@ -17,14 +14,14 @@ use Rattle.pb_history.specs.History.{Has}
 
 -- a step names a start, and a begin the one that it is answered
 abbrev pub names_start : ℕ → Step → Answer → Bool
-names_start s (Begin work) (At start) = s == start.0
-names_start s (Read start x) answer = s == start.0
-names_start s (ReadAt start x t) answer = s == start.0
-names_start s (Declare start what) answer = s == start.0
-names_start s (Prewrite start x) answer = s == start.0
-names_start s (Stamp start) answer = s == start.0
-names_start s (CommitPrimary start) answer = s == start.0
-names_start s (CommitSecondary start x) answer = s == start.0
+names_start s (Step.Begin work) (Answer.At start) = s == start.0
+names_start s (Step.Read start x) answer = s == start.0
+names_start s (Step.ReadAt start x t) answer = s == start.0
+names_start s (Step.Declare start what) answer = s == start.0
+names_start s (Step.Prewrite start x) answer = s == start.0
+names_start s (Step.Stamp start) answer = s == start.0
+names_start s (Step.CommitPrimary start) answer = s == start.0
+names_start s (Step.CommitSecondary start x) answer = s == start.0
 names_start s _ answer = false
 
 -- the entries that name a start, in order
@@ -33,22 +30,22 @@ entries_naming s journal = filter (λ e. names_start s e.step e.answer) journal
 
 -- the phase of a stamped transaction that is committed
 abbrev pub committed_phase : Phase → Phase
-committed_phase (phases.Stamped c) = phases.Committed c
+committed_phase (Phase.Stamped c) = Phase.Committed c
 committed_phase phase = phase
 
 -- what a transaction is after an entry that names its start
 abbrev pub transaction_after : List ObserverOf → ℕ → Step → Answer → Option TransactionOf → Option TransactionOf
-transaction_after observers seat (Begin work) (At s) t = Some (new_transaction seat work)
-transaction_after observers seat (Read s x) (Found start commit content) t = option_map (λ (u : TransactionOf). with_read u x None (Found start commit content)) t
-transaction_after observers seat (Read s x) Absent t = option_map (λ (u : TransactionOf). with_read u x None Absent) t
-transaction_after observers seat (ReadAt s x at) (Found start commit content) t = option_map (λ (u : TransactionOf). with_read u x (Some at) (Found start commit content)) t
-transaction_after observers seat (ReadAt s x at) Absent t = option_map (λ (u : TransactionOf). with_read u x (Some at) Absent) t
-transaction_after observers seat (Declare s what) Done t = option_map (λ (u : TransactionOf). record u { phase = phases.Declared; declared = cells_of observers u.work s.0 what }) t
-transaction_after observers seat (Prewrite s x) Done t = option_map (λ (u : TransactionOf). record u { prewritten = u.prewritten ++ x ∷ [] }) t
-transaction_after observers seat (Prewrite s x) Conflict t = option_map (λ (u : TransactionOf). record u { phase = phases.Failed }) t
-transaction_after observers seat (Stamp s) (At c) t = option_map (λ (u : TransactionOf). record u { phase = phases.Stamped c }) t
-transaction_after observers seat (CommitPrimary s) Committed t = option_map (λ (u : TransactionOf). record u { phase = committed_phase u.phase }) t
-transaction_after observers seat (CommitPrimary s) Lost t = option_map (λ (u : TransactionOf). record u { phase = phases.Failed }) t
+transaction_after observers seat (Step.Begin work) (Answer.At s) t = Some (new_transaction seat work)
+transaction_after observers seat (Step.Read s x) (Answer.Found start commit content) t = option_map (λ (u : TransactionOf). with_read u x None (Answer.Found start commit content)) t
+transaction_after observers seat (Step.Read s x) Answer.Absent t = option_map (λ (u : TransactionOf). with_read u x None Answer.Absent) t
+transaction_after observers seat (Step.ReadAt s x at) (Answer.Found start commit content) t = option_map (λ (u : TransactionOf). with_read u x (Some at) (Answer.Found start commit content)) t
+transaction_after observers seat (Step.ReadAt s x at) Answer.Absent t = option_map (λ (u : TransactionOf). with_read u x (Some at) Answer.Absent) t
+transaction_after observers seat (Step.Declare s what) Answer.Done t = option_map (λ (u : TransactionOf). record u { phase = Phase.Declared; declared = cells_of observers u.work s.0 what }) t
+transaction_after observers seat (Step.Prewrite s x) Answer.Done t = option_map (λ (u : TransactionOf). record u { prewritten = u.prewritten ++ x ∷ [] }) t
+transaction_after observers seat (Step.Prewrite s x) Answer.Conflict t = option_map (λ (u : TransactionOf). record u { phase = Phase.Failed }) t
+transaction_after observers seat (Step.Stamp s) (Answer.At c) t = option_map (λ (u : TransactionOf). record u { phase = Phase.Stamped c }) t
+transaction_after observers seat (Step.CommitPrimary s) Answer.Committed t = option_map (λ (u : TransactionOf). record u { phase = committed_phase u.phase }) t
+transaction_after observers seat (Step.CommitPrimary s) Answer.Lost t = option_map (λ (u : TransactionOf). record u { phase = Phase.Failed }) t
 transaction_after observers seat _ _ t = t
 
 -- what a transaction is after entries that name its start, one after another
@@ -62,7 +59,7 @@ transaction_by observers entries = transaction_from observers None entries
 
 -- the step begins a transaction
 abbrev pub is_begin : Step → Bool
-is_begin (Begin work) = true
+is_begin (Step.Begin work) = true
 is_begin _ = false
 
 -- the first of them begins the transaction, and no later one does

@@ -1,7 +1,6 @@
 -- The slot after an instruction is the first of another, where there is one.
 use Rattle.std.proofs.Common.{◌<◌, ◌≡◌, ◌≢◌, ℕ, zero, suc, ◌+◌, ◌⊎◌, inl, inr, true, List, [], ◌∷◌, length, get_or, Option, Some, None, refl, arith, is_some}
 use Rattle.pb_isa.specs.declared.insn.Insn.{Insn}
-use Rattle.pb_isa.specs.declared.insn.Insn.TheVariants.{LoadImm}
 use Rattle.pb_isa.specs.Slots.{places_of, layout, slots, insn_at}
 use Rattle.pb_isa.specs.NextSlots.{LeadOn}
 
@@ -11,7 +10,7 @@ size i = length (places_of i)
 
 -- an instruction takes one slot, or two of which the second is empty
 parts : (i : Insn) → ((places_of i ≡ Some i ∷ []) × (size i ≡ 1)) ⊎ ((places_of i ≡ Some i ∷ None ∷ []) × (size i ≡ 2))
-parts (LoadImm d v) = inr (refl, refl)
+parts (Insn.LoadImm d v) = inr (refl, refl)
 parts i = inl (refl, refl)
 
 -- some slots begin with an instruction

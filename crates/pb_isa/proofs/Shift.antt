@@ -1,6 +1,5 @@
 -- A shift that copies the sign divides the signed value, rounded down.
-use Rattle.std.proofs.Common.{◌≡◌, ℕ, suc, ◌+◌, ◌-◌, ◌*◌, ◌/◌, ◌%◌, ◌^◌, ◌<◌, ◌≤◌, pos, negsuc, Bool, true, false, cond, refl, sym, ap, subst, ◌∙◌, arith}
-use Rattle.std.specs.Prelude.{nat_lt}
+use Rattle.std.proofs.Common.{◌≡◌, ℕ, suc, ◌+◌, ◌-◌, ◌*◌, ◌/◌, ◌%◌, ◌^◌, ◌<◌, ◌≤◌, pos, negsuc, Bool, true, false, cond, refl, sym, ap, subst, ◌∙◌, arith, nat_lt}
 use Rattle.std.specs.Int.{cast_unsigned, cast_signed, int_shr}
 use Rattle.std.proofs.lemmas.Nat.{div-mul-add, pow-add, pow_pos}
 use Rattle.std.proofs.Math.Nat.{mod-add-div', mod-lt, add-mul, one-mul, div-lt_iff_lt-mul, pow-le-pow_right}

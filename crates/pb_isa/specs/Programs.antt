@@ -6,7 +6,6 @@ use Rattle.std.specs.List.{AllByRecursion}
 use Rattle.pb_isa.specs.declared.insn.Insn.{Insn}
 use Rattle.pb_isa.specs.declared.profile.Profile.{Profile}
 use Rattle.pb_isa.specs.declared.program.NoProgram.{NoProgram}
-use Rattle.pb_isa.specs.declared.program.NoProgram.TheVariants.{NoMemory, NotInRange}
 use Rattle.pb_isa.specs.contracts.insn.Insn as insn
 use Rattle.pb_isa.specs.contracts.profile.Profile as profile
 use Rattle.pb_isa.specs.Profiles.{IsOf, max_slots}
@@ -33,8 +32,8 @@ pub record IsProgram (p : ProgramOf) : Type 0 where
 
 -- the list takes no slot or more than the profile has, and is handed back; or memory was refused
 abbrev pub IsRefused : Profile → List Insn → NoProgram → Type 0
-IsRefused p is NoMemory = Unit {0}
-IsRefused p is (NotInRange back) = (back.items ≡ is) × ((slots is ≡ 0) ⊎ (max_slots p < slots is))
+IsRefused p is NoProgram.NoMemory = Unit {0}
+IsRefused p is (NoProgram.NotInRange back) = (back.items ≡ is) × ((slots is ≡ 0) ⊎ (max_slots p < slots is))
 
 -- a program with what it is judged for: the helpers that it may call, and how many bytes its record has
 pub record JudgedOf : Type 0 where

@@ -1,10 +1,8 @@
 -- The join of two frames knows exactly what both know.
-use Rattle.std.proofs.Common.{◌≡◌, ℕ, zero, suc, Bool, true, false, ◌&&◌, List, [], ◌∷◌, get_or, refl, sym, ap, ◌∙◌, arith}
-use Rattle.std.specs.Prelude.{if◌then◌else◌, ◌≢◌}
+use Rattle.std.proofs.Common.{◌≡◌, ℕ, zero, suc, Bool, true, false, ◌&&◌, List, [], ◌∷◌, get_or, refl, sym, ap, ◌∙◌, arith, if◌then◌else◌, ◌≢◌}
 use Rattle.std.proofs.lemmas.Bool.Decides.{Decides-int_eq}
 use Rattle.std.proofs.Math.Bool.{and-false}
 use Rattle.pb_kinds.specs.declared.frame.Kind.{Kind}
-use Rattle.pb_kinds.specs.declared.frame.Kind.TheVariants.{Unset, Number, Stack, Record}
 use Rattle.pb_kinds.specs.declared.frame.Frame.{Frame}
 use Rattle.pb_kinds.specs.Frames.{has_byte, same_kind, meet, meet_kinds, meet_bytes, join}
 use Rattle.pb_kinds.specs.Meet.{IsMeet}
@@ -12,62 +10,62 @@ use Rattle.pb_base.proofs.Logic.{and_true as both_true}
 
 -- kinds that are found to be the same are one
 same_means_equal : (a b : Kind) → same_kind a b ≡ true → a ≡ b
-same_means_equal Unset Unset h = refl
-same_means_equal Number Number h = refl
-same_means_equal (Stack k) (Stack m) h = ap Stack ((Decides-int_eq k m).0 h)
-same_means_equal (Record k) (Record m) h = ap Record ((Decides-int_eq k m).0 h)
-same_means_equal Unset Number h = grind arith
-same_means_equal Unset (Stack m) h = grind arith
-same_means_equal Unset (Record m) h = grind arith
-same_means_equal Number Unset h = grind arith
-same_means_equal Number (Stack m) h = grind arith
-same_means_equal Number (Record m) h = grind arith
-same_means_equal (Stack k) Unset h = grind arith
-same_means_equal (Stack k) Number h = grind arith
-same_means_equal (Stack k) (Record m) h = grind arith
-same_means_equal (Record k) Unset h = grind arith
-same_means_equal (Record k) Number h = grind arith
-same_means_equal (Record k) (Stack m) h = grind arith
+same_means_equal Kind.Unset Kind.Unset h = refl
+same_means_equal Kind.Number Kind.Number h = refl
+same_means_equal (Kind.Stack k) (Kind.Stack m) h = ap Kind.Stack ((Decides-int_eq k m).0 h)
+same_means_equal (Kind.Record k) (Kind.Record m) h = ap Kind.Record ((Decides-int_eq k m).0 h)
+same_means_equal Kind.Unset Kind.Number h = grind arith
+same_means_equal Kind.Unset (Kind.Stack m) h = grind arith
+same_means_equal Kind.Unset (Kind.Record m) h = grind arith
+same_means_equal Kind.Number Kind.Unset h = grind arith
+same_means_equal Kind.Number (Kind.Stack m) h = grind arith
+same_means_equal Kind.Number (Kind.Record m) h = grind arith
+same_means_equal (Kind.Stack k) Kind.Unset h = grind arith
+same_means_equal (Kind.Stack k) Kind.Number h = grind arith
+same_means_equal (Kind.Stack k) (Kind.Record m) h = grind arith
+same_means_equal (Kind.Record k) Kind.Unset h = grind arith
+same_means_equal (Kind.Record k) Kind.Number h = grind arith
+same_means_equal (Kind.Record k) (Kind.Stack m) h = grind arith
 
 -- each kind is found to be the same as itself
 is_same : (a : Kind) → same_kind a a ≡ true
-is_same Unset = refl
-is_same Number = refl
-is_same (Stack k) = (Decides-int_eq k k).1 refl
-is_same (Record k) = (Decides-int_eq k k).1 refl
+is_same Kind.Unset = refl
+is_same Kind.Number = refl
+is_same (Kind.Stack k) = (Decides-int_eq k k).1 refl
+is_same (Kind.Record k) = (Decides-int_eq k k).1 refl
 
 -- a kind and itself say that kind
 meet_self : (a : Kind) → meet a a ≡ a
 meet_self a = rw (is_same a) refl
 
 -- with what says nothing, nothing is said
-meet_unset : (a : Kind) → meet a Unset ≡ Unset
-meet_unset Unset = refl
-meet_unset Number = refl
-meet_unset (Stack k) = refl
-meet_unset (Record k) = refl
+meet_unset : (a : Kind) → meet a Kind.Unset ≡ Kind.Unset
+meet_unset Kind.Unset = refl
+meet_unset Kind.Number = refl
+meet_unset (Kind.Stack k) = refl
+meet_unset (Kind.Record k) = refl
 
 -- where the meet says something, both kinds are it
-by_test : (t : Bool) (a b k : Kind) → (t ≡ true → a ≡ b) → (if t then a else Unset) ≡ k → k ≢ Unset → (a ≡ k) × (b ≡ k)
+by_test : (t : Bool) (a b k : Kind) → (t ≡ true → a ≡ b) → (if t then a else Kind.Unset) ≡ k → k ≢ Kind.Unset → (a ≡ k) × (b ≡ k)
 by_test true a b k same e set = (e, sym (same refl) ∙ e)
 by_test false a b k same e set = absurd (set (sym e))
 
 -- where a meet says something, both say it
-meet_known : (a b k : Kind) → meet a b ≡ k → k ≢ Unset → (a ≡ k) × (b ≡ k)
+meet_known : (a b k : Kind) → meet a b ≡ k → k ≢ Kind.Unset → (a ≡ k) × (b ≡ k)
 meet_known a b k = by_test (same_kind a b) a b k (same_means_equal a b)
 
 -- nor the other way round
-unset_meet : (a : Kind) → meet Unset a ≡ Unset
-unset_meet Unset = refl
-unset_meet Number = refl
-unset_meet (Stack k) = refl
-unset_meet (Record k) = refl
+unset_meet : (a : Kind) → meet Kind.Unset a ≡ Kind.Unset
+unset_meet Kind.Unset = refl
+unset_meet Kind.Number = refl
+unset_meet (Kind.Stack k) = refl
+unset_meet (Kind.Record k) = refl
 
 -- a register of the joined list is the meet of its two kinds, also behind the lists' ends
-kind_at : (ks ms : List Kind) (r : ℕ) → get_or (meet_kinds ks ms) r Unset ≡ meet (get_or ks r Unset) (get_or ms r Unset)
+kind_at : (ks ms : List Kind) (r : ℕ) → get_or (meet_kinds ks ms) r Kind.Unset ≡ meet (get_or ks r Kind.Unset) (get_or ms r Kind.Unset)
 kind_at [] [] r = refl
-kind_at [] (m ∷ ms) r = sym (unset_meet (get_or (m ∷ ms) r Unset))
-kind_at (k ∷ ks) [] r = sym (meet_unset (get_or (k ∷ ks) r Unset))
+kind_at [] (m ∷ ms) r = sym (unset_meet (get_or (m ∷ ms) r Kind.Unset))
+kind_at (k ∷ ks) [] r = sym (meet_unset (get_or (k ∷ ks) r Kind.Unset))
 kind_at (k ∷ ks) (m ∷ ms) zero = refl
 kind_at (k ∷ ks) (m ∷ ms) (suc r) = kind_at ks ms r
 
@@ -80,11 +78,11 @@ byte_at (x ∷ w) (y ∷ v) zero = refl
 byte_at (x ∷ w) (y ∷ v) (suc i) = byte_at w v i
 
 -- what the join knows of a register, both frames know
-known_both : (ks ms : List Kind) (r : ℕ) (k : Kind) → k ≢ Unset → get_or (meet_kinds ks ms) r Unset ≡ k → (get_or ks r Unset ≡ k) × (get_or ms r Unset ≡ k)
-known_both ks ms r k set e = meet_known (get_or ks r Unset) (get_or ms r Unset) k (sym (kind_at ks ms r) ∙ e) set
+known_both : (ks ms : List Kind) (r : ℕ) (k : Kind) → k ≢ Kind.Unset → get_or (meet_kinds ks ms) r Kind.Unset ≡ k → (get_or ks r Kind.Unset ≡ k) × (get_or ms r Kind.Unset ≡ k)
+known_both ks ms r k set e = meet_known (get_or ks r Kind.Unset) (get_or ms r Kind.Unset) k (sym (kind_at ks ms r) ∙ e) set
 
 -- and what both know, it knows
-known_joined : (ks ms : List Kind) (r : ℕ) (k : Kind) → get_or ks r Unset ≡ k → get_or ms r Unset ≡ k → get_or (meet_kinds ks ms) r Unset ≡ k
+known_joined : (ks ms : List Kind) (r : ℕ) (k : Kind) → get_or ks r Kind.Unset ≡ k → get_or ms r Kind.Unset ≡ k → get_or (meet_kinds ks ms) r Kind.Unset ≡ k
 known_joined ks ms r k e f = kind_at ks ms r ∙ rw (e, f) (meet_self k)
 
 -- the join of two frames is their meet, register by register and byte by byte

@@ -4,12 +4,11 @@ use Rattle.std.specs.Prelude.{ℕ, pos, Bool, true, false, ◌&&◌, if◌then�
 use Rattle.std.specs.Ordering.{int_eq}
 use Rattle.pb_isa.specs.declared.limits.TheConstants.{STACK_BYTES}
 use Rattle.pb_kinds.specs.declared.frame.Kind.{Kind}
-use Rattle.pb_kinds.specs.declared.frame.Kind.TheVariants.{Unset, Number, Stack, Record}
 use Rattle.pb_kinds.specs.declared.frame.Frame.{Frame}
 
 -- what is known of a register, by its number
 abbrev pub kind_of : Frame → ℕ → Kind
-kind_of f r = slice_index_or f.kinds r Unset
+kind_of f r = slice_index_or f.kinds r Kind.Unset
 
 -- whether a stack byte is written, counted from the lowest; beyond the end of the list none is, so that no proof has to
 -- know how many flags a frame has
@@ -19,21 +18,21 @@ has_byte f i = slice_index_or f.written i false
 -- at entry register 1 points to the record and register 10 to the end of the stack, and no byte is written
 unfoldable pub entry_frame : Frame
 entry_frame = record {
-  kinds = Unset ∷ Record (pos 0) ∷ Unset ∷ Unset ∷ Unset ∷ Unset ∷ Unset ∷ Unset ∷ Unset ∷ Unset ∷ Stack (pos 0) ∷ [];
+  kinds = Kind.Unset ∷ Kind.Record (pos 0) ∷ Kind.Unset ∷ Kind.Unset ∷ Kind.Unset ∷ Kind.Unset ∷ Kind.Unset ∷ Kind.Unset ∷ Kind.Unset ∷ Kind.Unset ∷ Kind.Stack (pos 0) ∷ [];
   written = replicate STACK_BYTES false;
 }
 
 -- pointers are of one kind only where they point to one place
 abbrev pub same_kind : Kind → Kind → Bool
-same_kind Unset Unset = true
-same_kind Number Number = true
-same_kind (Stack k) (Stack m) = int_eq k m
-same_kind (Record k) (Record m) = int_eq k m
+same_kind Kind.Unset Kind.Unset = true
+same_kind Kind.Number Kind.Number = true
+same_kind (Kind.Stack k) (Kind.Stack m) = int_eq k m
+same_kind (Kind.Record k) (Kind.Record m) = int_eq k m
 same_kind _ _ = false
 
 -- what two kinds both say: unequal ones say nothing together
 abbrev pub meet : Kind → Kind → Kind
-meet a b = if same_kind a b then a else Unset
+meet a b = if same_kind a b then a else Kind.Unset
 
 -- element by element
 abbrev pub pointwise : {A : Type 0} → (A → A → A) → List A → List A → List A
@@ -55,16 +54,16 @@ join a b = record { kinds = meet_kinds a.kinds b.kinds; written = meet_bytes a.w
 
 -- nothing is known, so that a read of the register breaks 21
 abbrev pub is_unset : Kind → Bool
-is_unset Unset = true
+is_unset Kind.Unset = true
 is_unset _ = false
 
 -- it holds a number
 abbrev pub is_number_kind : Kind → Bool
-is_number_kind Number = true
+is_number_kind Kind.Number = true
 is_number_kind _ = false
 
 -- it points to stack or record; most arithmetic with it, storing it and comparing it break rules of their own
 abbrev pub is_pointer : Kind → Bool
-is_pointer (Stack k) = true
-is_pointer (Record k) = true
+is_pointer (Kind.Stack k) = true
+is_pointer (Kind.Record k) = true
 is_pointer _ = false

@@ -2,14 +2,13 @@
 -- a definition that forgot too much or kept too much would be wrong in the same way as its body.
 use Rattle.std.specs.Prelude.{◌≡◌, ◌≢◌, ◌↔◌, ℕ, IsTrue}
 use Rattle.pb_kinds.specs.declared.frame.Kind.{Kind}
-use Rattle.pb_kinds.specs.declared.frame.Kind.TheVariants.{Unset}
 use Rattle.pb_kinds.specs.declared.frame.Frame.{Frame}
 use Rattle.pb_kinds.specs.Frames.{kind_of, has_byte, join}
 
 -- the register is known to be of this kind, which is one that says something
 pub record KnowsKind (f : Frame) (r : ℕ) (k : Kind) : Type 0 where
   pub kind : kind_of f r ≡ k
-  pub set : k ≢ Unset
+  pub set : k ≢ Kind.Unset
 
 -- f knows of each register and each byte what a and b both know
 pub record IsMeet (a b f : Frame) : Type 0 where

@@ -1,7 +1,5 @@
 -- What sorted lists answer is what they contain.
-use Rattle.std.proofs.Common.{◌≡◌, ◌==◌, ◌&&◌, ℕ, cond, true, false, [], ◌∷◌, Option, None, Some, IfSome, refl, sym, ap, ◌∙◌, subst, length, slice_get, zero, suc}
-use Rattle.std.specs.declared.cmp.Ordering.TheVariants.{Less, Equal, Greater}
-use Rattle.std.specs.Ordering.{is_eq, is_lt}
+use Rattle.std.proofs.Common.{◌≡◌, ◌==◌, ◌&&◌, ℕ, cond, true, false, [], ◌∷◌, Option, None, Some, IfSome, refl, sym, ap, ◌∙◌, subst, length, slice_get, zero, suc, Less, Equal, Greater, is_eq, is_lt}
 use Rattle.std.specs.FinMap as map
 use Rattle.pb_base.specs.Cell.{cell_cmp}
 use Rattle.pb_store.specs.declared.slot.Slot.{Slot}

@@ -1,8 +1,6 @@
 -- What the numbers of entries of blocks say, and how they follow a change.
-use Rattle.std.proofs.Common.{◌≡◌, ℕ, ◌<◌, ◌≤◌, ◌+◌, ◌-◌, ◌*◌, ◌/◌, Bool, true, false, cond, List, [], ◌∷◌, ◌++◌, refl, sym, ap, ◌∙◌, subst, arith, zero, suc, length, take, drop, get_or, set, slice_get, min, append_assoc}
+use Rattle.std.proofs.Common.{◌≡◌, ℕ, ◌<◌, ◌≤◌, ◌+◌, ◌-◌, ◌*◌, ◌/◌, Bool, true, false, cond, List, [], ◌∷◌, ◌++◌, refl, sym, ap, ◌∙◌, subst, arith, zero, suc, length, take, drop, get_or, set, slice_get, min, append_assoc, All, Vec}
 use mir.Val.{bool_byte}
-use Rattle.std.specs.List.{All}
-use Rattle.std.specs.declared.vec.Vec.{Vec}
 use Rattle.std.proofs.lemmas.List.{take-append-drop, take-set-le, drop-set-lt, drop-set-add, get_or-take, get_or-drop, set-get_or, length-take, length-drop, take_min, drop_min}
 use Rattle.std.proofs.Math.Seq.{take-set-lt, drop-cons}
 use Rattle.std.proofs.lemmas.List.Elements.{All-take, All-drop}

@@ -1,7 +1,5 @@
 -- What edits make of sorted lists.
-use Rattle.std.proofs.Common.{◌≡◌, Bool, true, false, cond, not, List, [], ◌∷◌, refl, sym, ap, ◌∙◌, subst, length, drop, get_or, ◌≤◌, arith}
-use Rattle.std.specs.declared.cmp.Ordering.{Ordering}
-use Rattle.std.specs.declared.cmp.Ordering.TheVariants.{Less, Equal, Greater}
+use Rattle.std.proofs.Common.{◌≡◌, Bool, true, false, cond, not, List, [], ◌∷◌, refl, sym, ap, ◌∙◌, subst, length, drop, get_or, ◌≤◌, arith, Ordering, Less, Equal, Greater}
 use Rattle.std.specs.Ordering.{eq_by_cmp}
 use Rattle.std.specs.FinMap as map
 use Rattle.std.specs.FinMap.{put}
@@ -12,7 +10,6 @@ use Rattle.pb_store.specs.declared.slot.Slot.{Slot}
 use Rattle.pb_store.specs.declared.slot.Item.{Item}
 use Rattle.pb_store.specs.Slot.{slot_cmp, slot_cmp_total, slot_cmp-IsAntisymmetric}
 use Rattle.pb_store.specs.declared.slot.Edit.{Edit}
-use Rattle.pb_store.specs.declared.slot.Edit.TheVariants.{Put, Erase, Mark, Unmark}
 use Rattle.pb_store.specs.Contents.{Contents, IsOfSort, nothing, after_edit, after_edits}
 use Rattle.pb_memtablet.specs.Listed.{EntryList, MarkList, contents_of, AllOfSort, AreLists}
 use Rattle.pb_memtablet.proofs.Spots.{holds, inserted, removed}
@@ -73,25 +70,25 @@ module _ (es : EntryList) (ms : MarkList) (l : AreLists es ms) where
   lists_unmarked p = record { entries = l.entries; marks = truth _ (is_sorted-where_key cell_cmp p ms (holds _ l.marks)); of_sort = l.of_sort }
 
   -- the lists that were es and ms, after one edit
-  pub put_done : (fs : EntryList) (k : Slot) (v : Item) → fs ≡ put slot_cmp k v es → IsOfSort k.sort v → IsDone fs ms (Put k v) es ms
+  pub put_done : (fs : EntryList) (k : Slot) (v : Item) → fs ≡ put slot_cmp k v es → IsOfSort k.sort v → IsDone fs ms (Edit.Put k v) es ms
   put_done fs k v e new = record {
     lists = subst (λ (xs : EntryList). AreLists xs ms) (sym e) (lists_put k v new);
     contents = both_same _ _ _ _ (ap (λ xs. map.from_sorted {R = slot_cmp} xs) e ∙ inserted slot_cmp_total slot_cmp-IsAntisymmetric es k v (holds _ l.entries)) refl;
   }
 
-  pub erase_done : (fs : EntryList) (k : Slot) → fs ≡ where_key slot_cmp (λ q. not (eq_by_cmp slot_cmp k q)) es → IsDone fs ms (Erase k) es ms
+  pub erase_done : (fs : EntryList) (k : Slot) → fs ≡ where_key slot_cmp (λ q. not (eq_by_cmp slot_cmp k q)) es → IsDone fs ms (Edit.Erase k) es ms
   erase_done fs k e = record {
     lists = subst (λ (xs : EntryList). AreLists xs ms) (sym e) (lists_erased _);
     contents = both_same _ _ _ _ (ap (λ xs. map.from_sorted {R = slot_cmp} xs) e ∙ removed slot_cmp_total slot_cmp-IsAntisymmetric es k (holds _ l.entries)) refl;
   }
 
-  pub mark_done : (ns : MarkList) (k : Cell) → ns ≡ put cell_cmp k tt ms → IsDone es ns (Mark k) es ms
+  pub mark_done : (ns : MarkList) (k : Cell) → ns ≡ put cell_cmp k tt ms → IsDone es ns (Edit.Mark k) es ms
   mark_done ns k e = record {
     lists = subst (AreLists es) (sym e) (lists_marked k);
     contents = both_same _ _ _ _ refl (ap (λ xs. map.from_sorted {R = cell_cmp} xs) e ∙ inserted cell_cmp_total cell_cmp-IsAntisymmetric ms k tt (holds _ l.marks));
   }
 
-  pub unmark_done : (ns : MarkList) (k : Cell) → ns ≡ where_key cell_cmp (λ q. not (eq_by_cmp cell_cmp k q)) ms → IsDone es ns (Unmark k) es ms
+  pub unmark_done : (ns : MarkList) (k : Cell) → ns ≡ where_key cell_cmp (λ q. not (eq_by_cmp cell_cmp k q)) ms → IsDone es ns (Edit.Unmark k) es ms
   unmark_done ns k e = record {
     lists = subst (AreLists es) (sym e) (lists_unmarked _);
     contents = both_same _ _ _ _ refl (ap (λ xs. map.from_sorted {R = cell_cmp} xs) e ∙ removed cell_cmp_total cell_cmp-IsAntisymmetric ms k (holds _ l.marks));

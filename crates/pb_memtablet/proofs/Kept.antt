@@ -1,7 +1,5 @@
 -- Entries whose items are kept in a slab: look-ups and changes.
-use Rattle.std.proofs.Common.{◌≡◌, ◌≢◌, ◌&&◌, ℕ, ◌+◌, Bool, true, false, cond, not, List, [], ◌∷◌, Option, None, Some, refl, sym, ap, ◌∙◌, subst, arith, suc, zero, is_some, IsSome, count_by, IfSome, length, slice_get, unwrap_or, IsTrue, T}
-use Rattle.std.specs.Option.{option_map}
-use Rattle.std.specs.declared.cmp.Ordering.TheVariants.{Less, Equal, Greater}
+use Rattle.std.proofs.Common.{◌≡◌, ◌≢◌, ◌&&◌, ℕ, ◌+◌, Bool, true, false, cond, not, List, [], ◌∷◌, Option, None, Some, refl, sym, ap, ◌∙◌, subst, arith, suc, zero, is_some, IsSome, count_by, IfSome, length, slice_get, unwrap_or, IsTrue, T, option_map, Less, Equal, Greater}
 use Rattle.std.specs.Ordering.{is_eq, is_lt, eq_by_cmp}
 use Rattle.std.specs.FinMap.{find, put, is_sorted}
 use Rattle.std.specs.FinMap.Entries.{by_order, where_key, below_all, length-put, length_without, same_entries, is_sorted-put, is_sorted-where_key, find-put, find-where_key}
@@ -11,7 +9,6 @@ use Rattle.pb_memtablet.specs.Chunks.{entries_up_to}
 use Rattle.pb_store.specs.Slot.{slot_cmp-IsAntisymmetric}
 use Rattle.pb_store.specs.declared.slot.Slot.{Slot as Name}
 use Rattle.pb_store.specs.declared.slot.Item.{Item}
-use Rattle.pb_store.specs.declared.slot.Item.TheVariants.{Write}
 use Rattle.pb_store.specs.Slot.{slot_cmp, slot_cmp_total}
 use Rattle.pb_store.specs.Contents.{entries_after}
 use Rattle.pb_memtablet.specs.Stored.{Items, KeyList, found_at, HasItem, item_at, seen, AllKeys, AreApart, AreStored}
@@ -128,7 +125,7 @@ module _ (s t : Items) (n : ℕ) where
   still_seen : (ks : KeyList) → Others s t n → AllKeys (λ m. m ≢ n) ks → seen t ks ≡ seen s ks
   still_seen [] o a = refl
   still_seen (k ∷ ks) o a =
-      ap (λ x. (k.0, unwrap_or x (Write (record { 0 = 0 }))) ∷ seen t ks) (o k.1 a.0) ∙ ap (λ es. (k.0, item_at s k.1) ∷ es) (still_seen ks o a.1)
+      ap (λ x. (k.0, unwrap_or x (Item.Write (record { 0 = 0 }))) ∷ seen t ks) (o k.1 a.0) ∙ ap (λ es. (k.0, item_at s k.1) ∷ es) (still_seen ks o a.1)
 
   seen-put : (slot : Name) (item : Item) (ks : KeyList) → item_at t n ≡ item → Others s t n → AllKeys (λ m. m ≢ n) ks → seen t (put slot_cmp slot n ks) ≡ put slot_cmp slot item (seen s ks)
   seen-put slot item [] e o a = ap (λ x. (slot, x) ∷ []) e
@@ -139,7 +136,7 @@ module _ (s t : Items) (n : ℕ) where
         | Less ↦ ap (λ x. (slot, x) ∷ seen t (k ∷ ks)) e ∙ ap (λ es. (slot, item) ∷ es) (still_seen (k ∷ ks) o a)
         | Equal ↦ ap (λ x. (k.0, x) ∷ seen t ks) e ∙ ap (λ es. (k.0, item) ∷ es) (still_seen ks o a.1)
         | Greater ↦
-            ap (λ x. (k.0, unwrap_or x (Write (record { 0 = 0 }))) ∷ seen t (put slot_cmp slot n ks)) (o k.1 a.0)
+            ap (λ x. (k.0, unwrap_or x (Item.Write (record { 0 = 0 }))) ∷ seen t (put slot_cmp slot n ks)) (o k.1 a.0)
             ∙ ap (λ es. (k.0, item_at s k.1) ∷ es) (seen-put slot item ks e o a.1)
       ]
 
@@ -157,7 +154,7 @@ module _ (s t : Items) (ks ls : KeyList) (slot : Name) (n : ℕ) (item : Item) (
   fresh = all_with (HasItem s) (λ m. m ≢ n) ks (λ m is same. let none : IsSome {T = Item} None = subst IsSome (ap (found_at s) same ∙ vacant) is in cc) kept.stored
 
   pub put_seen : seen t ls ≡ put slot_cmp slot item (seen s ks)
-  put_seen = ap (seen t) e ∙ seen-put s t n slot item ks (ap (λ x. unwrap_or x (Write (record { 0 = 0 }))) changed) others fresh
+  put_seen = ap (seen t) e ∙ seen-put s t n slot item ks (ap (λ x. unwrap_or x (Item.Write (record { 0 = 0 }))) changed) others fresh
 
   put_stored : AllKeys (HasItem t) (put slot_cmp slot n ks)
   put_stored = all-put (HasItem t) slot n ks (ap is_some changed) (still_stored s t n ks others fresh kept.stored)

@@ -1,9 +1,7 @@
 -- What stands nearest to a place in sorted lists is the newest entry, and the next mark.
-use Rattle.std.proofs.Common.{◌≡◌, ◌≢◌, ℕ, ◌<◌, ◌≤◌, inl, inr, [], ◌∷◌, Option, None, Some, IfSome, IfNone, refl, sym, ap, ◌∙◌, subst, arith, zero, suc, is_some, length, get_or, slice_get, T, false}
+use Rattle.std.proofs.Common.{◌≡◌, ◌≢◌, ℕ, ◌<◌, ◌≤◌, inl, inr, [], ◌∷◌, Option, None, Some, IfSome, IfNone, refl, sym, ap, ◌∙◌, subst, arith, zero, suc, is_some, length, get_or, slice_get, T, false, Ordering, Less, Equal, Greater, option_map}
 use Rattle.std.proofs.lemmas.Bool.{cases_order}
 use Rattle.std.proofs.lemmas.List.{get_or_default}
-use Rattle.std.specs.declared.cmp.Ordering.{Ordering}
-use Rattle.std.specs.declared.cmp.Ordering.TheVariants.{Less, Equal, Greater}
 use Rattle.std.specs.Ordering.{nat_cmp, ordering_then}
 use Rattle.std.specs.Cmp.{tied_itself, nat_cmp_is, nat_cmp_total}
 use Rattle.std.specs.FinMap as map
@@ -15,7 +13,6 @@ use Rattle.pb_store.specs.declared.slot.Sort.{Sort}
 use Rattle.pb_store.specs.declared.slot.Item.{Item}
 use Rattle.pb_store.specs.Slot.{slot_cmp, slot_cmp_total, slot_cmp-IsAntisymmetric, sort_rank}
 use Rattle.pb_store.specs.Contents.{slot_at, IsOfSort, IsNewest, IsNextMark, ComesAfter}
-use Rattle.std.specs.Option.{option_map}
 use Rattle.std.proofs.lemmas.Option.{slice_get_within, get_or_from_slice_get}
 use Rattle.pb_memtablet.specs.Places.{IsGap, IsCut}
 use Rattle.pb_memtablet.specs.Chunks.{entries_above}

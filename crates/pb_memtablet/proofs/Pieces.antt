@@ -1,7 +1,6 @@
 -- The chunks of a sorted list: what they are together after an edit, and which one a key belongs into.
-use Rattle.std.proofs.Common.{◌≡◌, ℕ, ◌<◌, ◌≤◌, ◌+◌, ◌-◌, Bool, true, false, cond, List, [], ◌∷◌, ◌++◌, None, Some, refl, sym, ap, ◌∙◌, subst, arith, zero, suc, length, take, drop, get_or, set, T, append_assoc, length-append, length-set, slice_get, inl, inr, vec_len, ◌==◌, ◌*◌}
+use Rattle.std.proofs.Common.{◌≡◌, ℕ, ◌<◌, ◌≤◌, ◌+◌, ◌-◌, Bool, true, false, cond, List, [], ◌∷◌, ◌++◌, None, Some, refl, sym, ap, ◌∙◌, subst, arith, zero, suc, length, take, drop, get_or, set, T, append_assoc, length-append, length-set, slice_get, inl, inr, vec_len, ◌==◌, ◌*◌, Ordering, Vec}
 use Rattle.std.proofs.lemmas.Bool.Decides.{nat_tests}
-use Rattle.std.specs.declared.cmp.Ordering.{Ordering}
 use Rattle.std.specs.Cmp.{IsTotalOrder}
 use Rattle.std.specs.List.{All, AllWithin, insert, remove, last_or}
 use Rattle.std.proofs.lemmas.Bool.{cases_order}
@@ -9,7 +8,6 @@ use Rattle.std.proofs.lemmas.List.{get_or_read}
 use Rattle.pb_memtablet.specs.Places.{IsCut}
 use Rattle.std.specs.List.Sorted.{IsPartitionedBy}
 use Rattle.std.proofs.lemmas.List.Elements.{All-cons, All-append, All-take, All-drop, All-head, All-tail}
-use Rattle.std.specs.declared.vec.Vec.{Vec}
 use Rattle.std.specs.FinMap.{find, put}
 use Rattle.std.specs.FinMap.Entries.{is_sorted}
 use Rattle.pb_memtablet.specs.declared.chunks.TheConstants.{CHUNK}

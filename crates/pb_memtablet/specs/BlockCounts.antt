@@ -1,6 +1,5 @@
 -- How many entries blocks of chunks have, a part of what a sorted list keeps. Only the last block may be short.
-use Rattle.std.specs.Prelude.{◌≡◌, ◌<◌, ◌≤◌, ◌+◌, ◌*◌, ℕ, List, [], ◌∷◌, length, take, drop}
-use Rattle.std.specs.declared.vec.Vec.{Vec}
+use Rattle.std.specs.Prelude.{◌≡◌, ◌<◌, ◌≤◌, ◌+◌, ◌*◌, ℕ, List, [], ◌∷◌, length, take, drop, Vec}
 use Rattle.pb_memtablet.specs.declared.counts.TheConstants.{BLOCK}
 use Rattle.pb_memtablet.specs.Chunks.{chunk_entries}
 

@@ -1,13 +1,7 @@
 -- Chunks of entries, and the one list that they are together. Callers of a sorted list see that list alone; how it is
 -- parted is said by its invariant and by the contracts below it, so that nobody else depends on the length of a chunk.
-use Rattle.std.specs.Prelude.{◌≡◌, ◌<◌, ◌≤◌, ℕ, Bool, false, not, IsTrue, List, [], ◌∷◌, length, take, drop, vec_len, vec_capacity}
-use Rattle.std.proofs.Common.{suc}
-use Rattle.std.specs.List.{flat_map, filter, All}
-use Rattle.std.specs.declared.cmp.Ordering.{Ordering}
-use Rattle.std.specs.declared.cmp.Ordering.TheVariants.{Less, Greater}
-use Rattle.std.specs.Ordering.{is_lt, is_le}
+use Rattle.std.proofs.Common.{suc, ◌≡◌, ◌<◌, ◌≤◌, ℕ, Bool, false, not, IsTrue, List, [], ◌∷◌, length, take, drop, vec_len, vec_capacity, flat_map, filter, All, Ordering, Less, Greater, is_lt, is_le, Vec}
 use Rattle.std.specs.FinMap as map
-use Rattle.std.specs.declared.vec.Vec.{Vec}
 use Rattle.pb_memtablet.specs.declared.chunks.TheConstants.{CHUNK}
 
 -- the chunks' entries, one chunk after the other

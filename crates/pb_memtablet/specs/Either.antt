@@ -2,14 +2,13 @@
 use Rattle.std.specs.Prelude.{Bool, true, false}
 use Rattle.pb_store.specs.Contents.{Contents}
 use Rattle.pb_memtablet.specs.declared.either.EitherTablet.{EitherTablet}
-use Rattle.pb_memtablet.specs.declared.either.EitherTablet.TheVariants.{List, Slab}
 
 -- what the tablet inside contains
 abbrev pub contents_of : EitherTablet → Contents
-contents_of (List t) = t
-contents_of (Slab t) = t
+contents_of (EitherTablet.List t) = t
+contents_of (EitherTablet.Slab t) = t
 
 -- whether it is a slab, else a list
 abbrev pub is_slab : EitherTablet → Bool
-is_slab (List t) = false
-is_slab (Slab t) = true
+is_slab (EitherTablet.List t) = false
+is_slab (EitherTablet.Slab t) = true

@@ -1,8 +1,6 @@
 -- What the parts of a sorted list in chunks keep, between calls: the invariant of `SortedList`.
-use Rattle.std.specs.Prelude.{◌≡◌, ◌≤◌, ◌+◌, ℕ, length, vec_len, vec_capacity}
-use Rattle.std.specs.List.{All}
+use Rattle.std.specs.Prelude.{◌≡◌, ◌≤◌, ◌+◌, ℕ, length, vec_len, vec_capacity, All, Vec}
 use Rattle.std.specs.declared.cmp.Ordering.{Ordering}
-use Rattle.std.specs.declared.vec.Vec.{Vec}
 use Rattle.pb_memtablet.specs.declared.sorted_list.TheConstants.{CHUNKS}
 use Rattle.pb_memtablet.specs.BlockCounts.{AreCounts}
 use Rattle.pb_memtablet.specs.Chunks.{chunk_entries, AreChunks, IsSpare}

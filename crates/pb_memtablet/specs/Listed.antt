@@ -7,7 +7,6 @@ use Rattle.pb_base.specs.Cell.{cell_cmp}
 use Rattle.pb_store.specs.declared.slot.Slot.{Slot}
 use Rattle.pb_store.specs.declared.slot.Item.{Item}
 use Rattle.pb_store.specs.declared.slot.Edit.{Edit}
-use Rattle.pb_store.specs.declared.slot.Edit.TheVariants.{Put, Mark}
 use Rattle.pb_store.specs.Slot.{slot_cmp}
 use Rattle.pb_store.specs.Contents.{Contents, IsOfSort}
 
@@ -36,10 +35,10 @@ pub record AreLists (es : EntryList) (ms : MarkList) : Type 0 where
 
 -- whether the edit needs room for an entry, also where it replaces one
 abbrev pub is_put : Edit → Bool
-is_put (Put slot item) = true
+is_put (Edit.Put slot item) = true
 is_put _ = false
 
 -- whether the edit needs room for a mark
 abbrev pub is_mark : Edit → Bool
-is_mark (Mark cell) = true
+is_mark (Edit.Mark cell) = true
 is_mark _ = false

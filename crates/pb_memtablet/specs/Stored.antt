@@ -3,7 +3,6 @@
 use Rattle.std.specs.Prelude.{◌≡◌, ◌≢◌, ℕ, List, [], ◌∷◌, Option, None, is_some, IsSome, count_by, slice_index_or, unwrap_or, length}
 use Rattle.pb_store.specs.declared.slot.Slot.{Slot as Name}
 use Rattle.pb_store.specs.declared.slot.Item.{Item}
-use Rattle.pb_store.specs.declared.slot.Item.TheVariants.{Write}
 use Rattle.pb_memtablet.specs.Listed.{EntryList, MarkList, AreLists}
 
 -- slots, each with the key of its item
@@ -20,7 +19,7 @@ found_at s key = slice_index_or s key None
 
 -- the item at a key, or any item where there is none, so that it needs no proof that there is one
 abbrev pub item_at : Items → ℕ → Item
-item_at s key = unwrap_or (found_at s key) (Write (record { 0 = 0 }))
+item_at s key = unwrap_or (found_at s key) (Item.Write (record { 0 = 0 }))
 
 -- the entries that slots and keys stand for
 abbrev pub seen : Items → KeyList → EntryList

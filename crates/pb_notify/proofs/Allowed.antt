@@ -1,21 +1,16 @@
 -- No step of a job comes at a wrong time, or declares what isn't its run.
-use Rattle.std.proofs.Common.{◌≡◌, ℕ, ◌<◌, ◌≤◌, ◌^◌, inl, inr, Bool, false, cond, List, [], ◌∷◌, ◌++◌, Option, Some, None, slice_get, refl, sym, ap, subst, ◌∙◌, true, arith}
-use Rattle.std.specs.List.{filter}
+use Rattle.std.proofs.Common.{◌≡◌, ℕ, ◌<◌, ◌≤◌, ◌^◌, inl, inr, Bool, false, cond, List, [], ◌∷◌, ◌++◌, Option, Some, None, slice_get, refl, sym, ap, subst, ◌∙◌, true, arith, filter}
 use Rattle.std.specs.FinMap as finite
 use Rattle.pb_base.specs.declared.refusal.Reason.{Reason}
-use Rattle.pb_base.specs.declared.refusal.Reason.TheVariants.{OutOfTimestamps}
 use Rattle.pb_base.specs.declared.cell.Cell.{Cell}
-use Rattle.pb_base.specs.declared.cell.Cell.TheVariants.{Data, Ack}
 use Rattle.pb_base.specs.declared.names.Row.{Row}
 use Rattle.pb_base.specs.declared.names.Ts.{Ts}
 use Rattle.pb_helpers.specs.OldRecord.{tells_old, record_by}
 use Rattle.pb_steps.specs.declared.seen.RecordedRead.{RecordedRead}
-use Rattle.pb_steps.specs.declared.step.Work.TheVariants as works
+use Rattle.pb_steps.specs.declared.step.Work.{Work}
 use Rattle.pb_steps.specs.declared.step.Declared.{Declared}
-use Rattle.pb_steps.specs.declared.step.Declared.TheVariants as declared
 use Rattle.pb_steps.specs.declared.step.Step.{Step}
-use Rattle.pb_steps.specs.declared.step.Step.TheVariants.{Begin, Read, Declare, Sweep}
-use Rattle.pb_steps.specs.declared.step.Answer.TheVariants.{At}
+use Rattle.pb_steps.specs.declared.step.Answer.{Answer}
 use Rattle.pb_steps.specs.Declarations.{old_at, WasOld, AreReplies, is_its}
 use Rattle.pb_steps.specs.Reads.{read_up_to}
 use Rattle.pb_steps.specs.declared.seen.Seen.{Seen}
@@ -30,7 +25,7 @@ use Rattle.pb_history.specs.History.{Has, IsEntry}
 use Rattle.pb_history.specs.AcknowledgedTold.{TellsAcknowledged}
 use Rattle.pb_history.specs.Laws.{TransactionsAreTold, JournalsAreSound, AcknowledgedIsEarlier}
 use Rattle.pb_history.specs.TransactionsTold.{names_start, entries_naming, transaction_by, TellsTransactions}
-use Rattle.pb_txn.specs.declared.place.PlanPlace.TheVariants as orders
+use Rattle.pb_txn.specs.declared.place.PlanPlace.{PlanPlace}
 use Rattle.pb_txn.specs.declared.place.PlanPlace as order
 use Rattle.pb_txn.specs.Places as steps
 use Rattle.pb_txn.specs.Plans.{PlanOf}
@@ -40,7 +35,6 @@ use Rattle.pb_txn.specs.Allowed.{IsInRange, IsTimely, PlansAreAllowed}
 use Rattle.pb_txn.specs.Forms.{PlansConverse, PlansEnd}
 use Rattle.pb_notify.specs.declared.look.Look.{Look}
 use Rattle.pb_notify.specs.declared.place.RunPlace.{RunPlace}
-use Rattle.pb_notify.specs.declared.place.RunPlace.TheVariants.{Beginning, Observing, Acknowledging, Recalling, Starting, Computing, Asking, Planning, Sweeping, Over}
 use Rattle.pb_notify.specs.Forms.{IsAcknowledged}
 use Rattle.pb_notify.specs.Looks.{look_step}
 use Rattle.pb_notify.specs.Places.{step_at}
@@ -95,7 +89,7 @@ module _ (observers : List ObserverOf) (seats clock : ℕ) (journal : List Entry
   column_is = ap column_or_zero there
 
   -- the table has the transaction that the conversation makes
-  got : (s : Ts) → Has said (told (Begin (works.Run o row)) (At s)) → finite.get state.transactions s.0 ≡ after state.observers seat s said None
+  got : (s : Ts) → Has said (told (Step.Begin (Work.Run o row)) (Answer.At s)) → finite.get state.transactions s.0 ≡ after state.observers seat s said None
   got s begun = tells.each s.0 ∙ ap (transaction_by state.observers) (has s begun) ∙ after_is state.observers seat s said None
 
   own_read : (s : Ts) (reads : List RecordedRead) → IsRecorded state.observers seat s watch said reads → IsOwn state seat s.0 (with_reads state.observers seat s watch reads)
@@ -105,7 +99,7 @@ module _ (observers : List ObserverOf) (seats clock : ℕ) (journal : List Entry
   second = tells_old observer.program
 
   -- what was said is in the journal
-  had : (s : Ts) (r : Received) → Has said (told (Begin (works.Run o row)) (At s)) → Has said r → names_start s.0 r.step r.answer ≡ true → IsEntry journal seat r.step r.answer
+  had : (s : Ts) (r : Received) → Has said (told (Step.Begin (Work.Run o row)) (Answer.At s)) → Has said r → names_start s.0 r.step r.answer ≡ true → IsEntry journal seat r.step r.answer
   had s r begun h names =
       has_unfiltered (λ (e : Entry). names_start s.0 e.step e.answer) journal _
       (subst (λ l. Has l (record { seat = seat; step = r.step; answer = r.answer })) (sym (has s begun)) (has_filtered s seat said r h names))
@@ -114,20 +108,20 @@ module _ (observers : List ObserverOf) (seats clock : ℕ) (journal : List Entry
   in_time : (s : Ts) (seen : Seen) (n : ℕ) (base rest : List Received) (reads : List RecordedRead) → IsRecorded state.observers seat s watch base reads → said ≡ base ++ rest
       → IsAcknowledged watch s seen n base → seen.acknowledged.0 ≤ s.0
   in_time s seen n base rest reads recorded is i =
-      let r = told (Read s (Ack o row observer.column)) i.look.answer in
-      let begun = subst (λ l. Has l (told (Begin (works.Run o row)) (At s))) (sym is) (has_append base rest _ recorded.begun) in
+      let r = told (Step.Read s (Cell.Ack o row observer.column)) i.look.answer in
+      let begun = subst (λ l. Has l (told (Step.Begin (Work.Run o row)) (Answer.At s))) (sym is) (has_append base rest _ recorded.begun) in
       let there = subst (λ l. Has l r) (sym is) (has_append base rest r (subst (λ l. Has l r) (sym i.look.said_is) (has_last i.look.before r))) in
       let low = earlier seat s o row observer.column i.look.answer (had s r begun there (itself s.0)) in
       subst (λ (t : Ts). t.0 ≤ s.0) (sym i.acknowledged) low
 
   module _ (step : Step) (why : Reason) (refused : step_reason state seat step ≡ Some why) where
-    at_look : (s : Ts) (x : Cell) (at : Option Ts) (look : Look) (reads : List RecordedRead) → IsRecorded state.observers seat s watch said reads → read_up_to s.0 at ≤ s.0 → Some (look_step s x at look) ≡ Some step → why ≡ OutOfTimestamps
+    at_look : (s : Ts) (x : Cell) (at : Option Ts) (look : Look) (reads : List RecordedRead) → IsRecorded state.observers seat s watch said reads → read_up_to s.0 at ≤ s.0 → Some (look_step s x at look) ≡ Some step → why ≡ Reason.OutOfTimestamps
     at_look s x at look reads i in_time next =
         absurd (looks_in_time state seat why seated s.0 (with_reads state.observers seat s watch reads) (own_read s reads i) s x at look step refl refl in_time next refused)
 
     module _ (n r : ℕ) (p : PlanOf) (i : conversation.IsPlanned watch n r p said) where
       abbrev what : Declared
-      what = declared.Run o i.run
+      what = Declared.Run o i.run
 
       read : HasRead state.observers seat i.s watch i.seen i.talk i.base
       read = has_read state.observers seat i.s watch i.seen i.talk n i.base i.asked
@@ -135,8 +129,8 @@ module _ (observers : List ObserverOf) (seats clock : ℕ) (journal : List Entry
       abbrev u : TransactionOf
       u = with_reads state.observers seat i.s watch read.reads
 
-      begun : Has said (told (Begin (works.Run o row)) (At i.s))
-      begun = subst (λ l. Has l (told (Begin (works.Run o row)) (At i.s))) (sym i.said_is) (has_append i.base i.plan _ read.recorded.begun)
+      begun : Has said (told (Step.Begin (Work.Run o row)) (Answer.At i.s))
+      begun = subst (λ l. Has l (told (Step.Begin (Work.Run o row)) (Answer.At i.s))) (sym i.said_is) (has_append i.base i.plan _ read.recorded.begun)
 
       got_is : finite.get state.transactions i.s.0 ≡ after state.observers seat i.s i.plan (Some u)
       got_is =
@@ -146,7 +140,7 @@ module _ (observers : List ObserverOf) (seats clock : ℕ) (journal : List Entry
           ∙ ap (after state.observers seat i.s i.plan) read.recorded.there
 
       -- it may declare what its plan declares
-      its : is_its state.observers (works.Run o row) i.s.0 read.reads what ≡ true
+      its : is_its state.observers (Work.Run o row) i.s.0 read.reads what ≡ true
       its =
           let w = read.was in
           its_run state.observers o row i.s.0 read.reads i.run (record {
@@ -159,26 +153,26 @@ module _ (observers : List ObserverOf) (seats clock : ℕ) (journal : List Entry
               acknowledged_by = w.acknowledged_by;
               rest = w.rest;
               reads_are = w.reads_are;
-              observed = record { cell = w.observed.cell ∙ ap (Data row) (sym column_is); at = w.observed.at };
+              observed = record { cell = w.observed.cell ∙ ap (Cell.Data row) (sym column_is); at = w.observed.at };
               found = w.found;
-              acknowledgment = record { cell = w.acknowledgment.cell ∙ ap (Ack o row) (sym column_is); at = w.acknowledgment.at };
+              acknowledgment = record { cell = w.acknowledgment.cell ∙ ap (Cell.Ack o row) (sym column_is); at = w.acknowledgment.at };
               acknowledged = w.acknowledged;
-              old = subst (λ c. WasOld (old_at second i.seen.acknowledged) (Data row c) w.rest i.seen.old read.asked) (sym column_is) w.old;
+              old = subst (λ c. WasOld (old_at second i.seen.acknowledged) (Cell.Data row c) w.rest i.seen.old read.asked) (sym column_is) w.old;
             };
             newer = is_newer watch i.s i.seen i.talk n i.base i.asked;
             program = i.run_on.program;
-            bytes = i.run_on.bytes ∙ ap (λ c. record_by second (Data row c) i.seen.version i.seen.acknowledged.0 i.seen.old) (sym column_is);
-            began = i.run_on.began;
+            bytes = i.run_on.bytes ∙ ap (λ c. record_by second (Cell.Data row c) i.seen.version i.seen.acknowledged.0 i.seen.old) (sym column_is);
+            start = i.run_on.start;
             replied = subst (AreReplies read.asked) (sym i.run_on.talk_is) read.replied;
           })
 
-      at_declaration : p.place ≡ orders.Declaring → Some (Declare i.s what) ≡ Some step → ⊥
+      at_declaration : p.place ≡ PlanPlace.Declaring → Some (Step.Declare i.s what) ≡ Some step → ⊥
       at_declaration is next =
           let nothing = declaring_said_nothing (plans.fresh i.s.0 what) p i.plan is i.converses_are in
           let own : IsOwn state seat i.s.0 u = record { there = got_is ∙ ap (λ l. after state.observers seat i.s l (Some u)) nothing; mine = refl } in
-          declares_in_time state seat why seated i.s.0 u own i.s what refl refl its (subst (λ z. step_reason state seat z ≡ Some why) (sym (same_step (Declare i.s what) step next)) refused)
+          declares_in_time state seat why seated i.s.0 u own i.s what refl refl its (subst (λ z. step_reason state seat z ≡ Some why) (sym (same_step (Step.Declare i.s what) step next)) refused)
 
-      in_range : (t : TransactionOf) → t.work ≡ works.Run o row → IsInRange observers t.work
+      in_range : (t : TransactionOf) → t.work ≡ Work.Run o row → IsInRange observers t.work
       in_range t is = subst (IsInRange observers) (sym is) (row_fits, subst (λ c. c < 2 ^ 64) (sym (ap column_or_zero first_there)) column_fits)
 
       timely : plans.next_of p ≡ Some step → IsTimely why
@@ -189,40 +183,40 @@ module _ (observers : List ObserverOf) (seats clock : ℕ) (journal : List Entry
           (λ t h. in_range t (ap (λ (z : TransactionOf). z.work) (same_transaction _ t kept.0 h (got_is ∙ kept.1)) ∙ kept.2.work)) i.converses_are
           (has_said journal seat i.s i.base i.plan read.recorded.bare said_by) next refused
 
-      later_on : (at : order.PlanPlace) → (at ≡ orders.Declaring → ⊥) → steps.step_at i.s.0 what at ≡ Some step → plans.next_of p ≡ Some step → why ≡ OutOfTimestamps
+      later_on : (at : order.PlanPlace) → (at ≡ PlanPlace.Declaring → ⊥) → steps.step_at i.s.0 what at ≡ Some step → plans.next_of p ≡ Some step → why ≡ Reason.OutOfTimestamps
       later_on at later here next =
           let kept = plan_keeps state.observers seat i.s (plans.fresh i.s.0 what) p i.plan u i.converses_are in
           goes_in_time state seat why seated i.s.0 kept.0 (record { there = got_is ∙ kept.1; mine = kept.2.seat }) at step later (plan_step i.s.0 what at step here) (timely next) refused
 
-      by_place : (at : order.PlanPlace) → p.place ≡ at → steps.step_at i.s.0 what at ≡ Some step → plans.next_of p ≡ Some step → why ≡ OutOfTimestamps
-      by_place orders.Declaring is here next = absurd (at_declaration is here)
+      by_place : (at : order.PlanPlace) → p.place ≡ at → steps.step_at i.s.0 what at ≡ Some step → plans.next_of p ≡ Some step → why ≡ Reason.OutOfTimestamps
+      by_place PlanPlace.Declaring is here next = absurd (at_declaration is here)
       by_place at is here next = later_on at (λ e. cc) here next
 
-      at_plan : plans.next_of p ≡ Some step → why ≡ OutOfTimestamps
+      at_plan : plans.next_of p ≡ Some step → why ≡ Reason.OutOfTimestamps
       at_plan next =
           let ks = keeps (plans.fresh i.s.0 what) p i.plan i.converses_are in
           by_place p.place refl ((λ j. steps.step_at (sym ks.0 j) (sym ks.1 j) p.place) ∙ next) next
 
-    at_place : (n : ℕ) (place : RunPlace) → conversation.SoFar watch n place said → step_at o row observer.column place ≡ Some step → why ≡ OutOfTimestamps
-    at_place n Beginning so next =
-        begins_in_time state seat why seated o row observer there (subst (λ z. step_reason state seat z ≡ Some why) (sym (same_step (Begin (works.Run o row)) step next)) refused)
-    at_place n (Observing s look) so next = at_look s _ None look [] (cell_begins state.observers seat s watch look n said so) (omega arith) next
-    at_place n (Acknowledging s found look) so next =
-        at_look s _ None look _ (in_look state.observers seat s watch (Ack o row observer.column) None so.0 so.1 look n said _ (observed state.observers seat s watch found so.0 so.1 so.2) so.3) (omega arith) next
-    at_place n (Recalling s seen look) so next =
+    at_place : (n : ℕ) (place : RunPlace) → conversation.SoFar watch n place said → step_at o row observer.column place ≡ Some step → why ≡ Reason.OutOfTimestamps
+    at_place n RunPlace.Beginning so next =
+        begins_in_time state seat why seated o row observer there (subst (λ z. step_reason state seat z ≡ Some why) (sym (same_step (Step.Begin (Work.Run o row)) step next)) refused)
+    at_place n (RunPlace.Observing s look) so next = at_look s _ None look [] (cell_begins state.observers seat s watch look n said so) (omega arith) next
+    at_place n (RunPlace.Acknowledging s found look) so next =
+        at_look s _ None look _ (in_look state.observers seat s watch (Cell.Ack o row observer.column) None so.0 so.1 look n said _ (observed state.observers seat s watch found so.0 so.1 so.2) so.3) (omega arith) next
+    at_place n (RunPlace.Recalling s seen look) so next =
         let recorded = acknowledged state.observers seat s watch seen so.0 so.1 so.2 in
-        let from = conversation.look_goes_on s (Data row observer.column) (Some seen.acknowledged) so.0 so.1 look n said so.5 in
-        at_look s _ (Some seen.acknowledged) look _ (in_look state.observers seat s watch (Data row observer.column) (Some seen.acknowledged) so.0 so.1 look n said _ recorded so.5)
+        let from = conversation.look_goes_on s (Cell.Data row observer.column) (Some seen.acknowledged) so.0 so.1 look n said so.5 in
+        at_look s _ (Some seen.acknowledged) look _ (in_look state.observers seat s watch (Cell.Data row observer.column) (Some seen.acknowledged) so.0 so.1 look n said _ recorded so.5)
         (in_time s seen so.0 so.1 from.0 _ recorded from.1 so.2) next
-    at_place n (Starting s seen) so next = absurd (none_some step next)
-    at_place n (Computing s v) so next = absurd (none_some step next)
-    at_place n (Asking s v q look) so next =
+    at_place n (RunPlace.Starting s seen) so next = absurd (none_some step next)
+    at_place n (RunPlace.Computing s v) so next = absurd (none_some step next)
+    at_place n (RunPlace.Asking s v q look) so next =
         let r = has_read state.observers seat s watch so.0 v.talk so.1 so.2 so.4 in
-        at_look s _ None look r.reads (in_look state.observers seat s watch (Data q.row q.column) None so.1 so.2 look n said r.reads r.recorded so.5) (omega arith) next
-    at_place n (Planning r p) so next = at_plan n r p so next
-    at_place n (Sweeping end) so next =
-        absurd (no_transaction state seat why seated (subst (λ z. step_reason state seat z ≡ Some why) (sym (same_step (Sweep (Data row observer.column)) step next)) refused))
-    at_place n (Over end) so next = absurd (none_some step next)
+        at_look s _ None look r.reads (in_look state.observers seat s watch (Cell.Data q.row q.column) None so.1 so.2 look n said r.reads r.recorded so.5) (omega arith) next
+    at_place n (RunPlace.Planning r p) so next = at_plan n r p so next
+    at_place n (RunPlace.Sweeping end) so next =
+        absurd (no_transaction state seat why seated (subst (λ z. step_reason state seat z ≡ Some why) (sym (same_step (Step.Sweep (Cell.Data row observer.column)) step next)) refused))
+    at_place n (RunPlace.Over end) so next = absurd (none_some step next)
 
 -- by where the job stands: looks, its declaration and the later steps of its plan each come at their time
 pub jobs_allowed : PlansConverse → PlansEnd → PlansAreAllowed → TransactionsAreTold → JournalsAreSound → AcknowledgedIsEarlier → JobsAreAllowed

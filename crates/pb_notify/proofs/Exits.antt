@@ -1,8 +1,8 @@
 -- Where a machine stood before its exit, by what it left.
 use Rattle.std.proofs.Common.{◌≡◌, ℕ, ◌+◌, ◌-◌, ◌≤◌, sym, ap, subst, ◌∙◌, arith}
 use Rattle.pb_isa.specs.Slots.{slots}
-use Rattle.pb_vm.specs.declared.moved.MachinePhase.TheVariants.{Going, Over}
-use Rattle.pb_vm.specs.declared.moved.Moved.TheVariants.{Ended}
+use Rattle.pb_vm.specs.declared.moved.MachinePhase.{MachinePhase}
+use Rattle.pb_vm.specs.declared.moved.Moved.{Moved}
 use Rattle.pb_vm.specs.MachineSlot.{IsAtSlot}
 use Rattle.pb_vm.specs.Position.{Position}
 use Rattle.pb_vm.specs.Moves.{EndsAt, Finishes}
@@ -10,15 +10,15 @@ use Rattle.pb_vm.specs.Finished.{Meant, IsMeant}
 use Rattle.pb_notify.specs.Machines.{exit_at, Leaves}
 use Rattle.pb_notify.specs.Steps.{MovesOn}
 
-over_by : (r q : ℕ) → Over r ≡ Over q → r ≡ q
+over_by : (r q : ℕ) → MachinePhase.Over r ≡ MachinePhase.Over q → r ≡ q
 over_by r q e = cc
 
-module _ (old new : Position) (r : ℕ) (f : Meant) (taken : ℕ) (did : MovesOn old (Ended r) new) (k : Finishes new f) (before : taken ≡ old.taken) where
+module _ (old new : Position) (r : ℕ) (f : Meant) (taken : ℕ) (did : MovesOn old (Moved.Ended r) new) (k : Finishes new f) (before : taken ≡ old.taken) where
   -- the machine stood where what it left says, with the instructions before its exit
   pub at_exit : exit_at f taken ≡ old
   at_exit =
       let e = did.moves in
-      rw (k.judged ∙ e.given.judged, k.bytes ∙ e.given.bytes, k.began ∙ e.given.began, k.talk ∙ e.talk, before) (ap (λ p. record old { phase = p }) (sym did.going))
+      rw (k.judged ∙ e.given.judged, k.bytes ∙ e.given.bytes, k.start ∙ e.given.start, k.talk ∙ e.talk, before) (ap (λ p. record old { phase = p }) (sym did.going))
 
   -- what was taken from it is what its exit leaves there
   pub left : IsMeant f → Leaves (exit_at f taken) f
@@ -27,7 +27,7 @@ module _ (old new : Position) (r : ℕ) (f : Meant) (taken : ℕ) (did : MovesOn
       let whole : Leaves old f = record {
         judged = k.judged ∙ e.given.judged;
         bytes = k.bytes ∙ e.given.bytes;
-        began = k.began ∙ e.given.began;
+        start = k.start ∙ e.given.start;
         talk = k.talk ∙ e.talk;
         ends = λ a p. subst (λ q. EndsAt old q a) (over_by r f.result (sym e.phase ∙ k.phase)) (e.at a p);
         meant = meant;
@@ -39,9 +39,9 @@ module _ (old new : Position) (r : ℕ) (f : Meant) (taken : ℕ) (did : MovesOn
   pub at_slot : (slot : ℕ) → IsAtSlot new slot → IsAtSlot (exit_at f taken) slot
   at_slot slot at =
       let e = did.moves in
-      let ended : Position = record old { taken = old.taken + 1; phase = Over r } in
-      let same : new ≡ ended = λ i. record { judged = e.given.judged i; bytes = e.given.bytes i; began = e.given.began i; talk = e.talk i; taken = e.taken i; phase = e.phase i } in
+      let ended : Position = record old { taken = old.taken + 1; phase = MachinePhase.Over r } in
+      let same : new ≡ ended = λ i. record { judged = e.given.judged i; bytes = e.given.bytes i; start = e.given.start i; talk = e.talk i; taken = e.taken i; phase = e.phase i } in
       let less : old.taken + 1 - 1 ≡ taken = omega (arith, before) in
-      let here : IsAtSlot (record old { taken = old.taken + 1 - 1; phase = Going }) slot = subst (λ (v : Position). IsAtSlot v slot) same at in
+      let here : IsAtSlot (record old { taken = old.taken + 1 - 1; phase = MachinePhase.Going }) slot = subst (λ (v : Position). IsAtSlot v slot) same at in
       subst (λ (v : Position). IsAtSlot v slot) (ap (λ p. record old { taken = taken; phase = p }) (sym did.going) ∙ ap (λ n. record old { taken = n }) before ∙ sym at_exit)
-      (subst (λ n. IsAtSlot (record old { taken = n; phase = Going }) slot) less here)
+      (subst (λ n. IsAtSlot (record old { taken = n; phase = MachinePhase.Going }) slot) less here)

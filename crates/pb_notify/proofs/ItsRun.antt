@@ -13,8 +13,8 @@ use Rattle.pb_isa.specs.Meaning.{Talk}
 use Rattle.pb_vm.specs.Finished.{Meant}
 use Rattle.pb_steps.specs.declared.seen.RecordedRead.{RecordedRead}
 use Rattle.pb_steps.specs.declared.seen.Seen.{Seen}
-use Rattle.pb_steps.specs.declared.step.Work.TheVariants as works
-use Rattle.pb_steps.specs.declared.step.Declared.TheVariants as declared
+use Rattle.pb_steps.specs.declared.step.Work.{Work}
+use Rattle.pb_steps.specs.declared.step.Declared.{Declared}
 use Rattle.pb_steps.specs.Reads.{version_in, acknowledged_in, value_in, value_code, asked_cell}
 use Rattle.pb_verify.specs.Observers.{ObserverOf, observed_cell, acknowledgment}
 use Rattle.pb_steps.specs.Declarations.{IsReadOf, old_at, WasOld, WasSeen, AreReplies, IsItsRun, is_at, is_read_of, with_old, seen_by, seen_in, asked_in, are_replies, is_run, is_run_by, is_its}
@@ -59,7 +59,7 @@ replies_are (r ∷ rs) [] h = absurd h
 
 -- such a run isn't refused as another's: the start, the record and the replies are compared with these reads
 pub its_run : (observers : List ObserverOf) (o : ℕ) (row : Row) (s : ℕ) (reads : List RecordedRead) (f : Meant) → IsItsRun observers o row s reads f
-    → is_its observers (works.Run o row) s reads (declared.Run o f) ≡ true
+    → is_its observers (Work.Run o row) s reads (Declared.Run o f) ≡ true
 its_run observers o row s reads f i =
     let x = observed_cell observers o row in
     let ack = acknowledgment observers o row in
@@ -68,5 +68,5 @@ its_run observers o row s reads f i =
     ap (asked_in (old_at second i.seen.acknowledged)) i.was.reads_are ∙ asked_is (old_at second i.seen.acknowledged) x i.was.found_by i.was.acknowledged_by i.seen.old i.was.rest i.asked i.was.old in
     (λ j. eq-eqb o o refl j && is_run_by (i.observer_is j) x ack s reads f)
     ∙ ap (is_run i.observer.program x s reads f) (seen_is x ack second reads i.asked i.seen i.was)
-    ∙ (λ j. (lt-ltb _ _ i.newer j && (is_same judged_code f.judged i.observer.program i.program j && is_same (coded_list coded_ℕ) f.bytes _ i.bytes j && eq-eqb f.began s i.began j)) && are_replies (asked j) f.talk)
+    ∙ (λ j. (lt-ltb _ _ i.newer j && (is_same judged_code f.judged i.observer.program i.program j && is_same (coded_list coded_ℕ) f.bytes _ i.bytes j && eq-eqb f.start s i.start j)) && are_replies (asked j) f.talk)
     ∙ replies_are i.asked f.talk i.replied

@@ -1,17 +1,14 @@
 -- Why a step of a transaction that the table has is refused.
-use Rattle.std.proofs.Common.{◌≡◌, ℕ, ◌<◌, ◌≤◌, Bool, true, false, cond, not, length, Option, Some, None, slice_get, refl, sym, ap, subst, ◌∙◌, arith}
-use Rattle.std.specs.Prelude.{nat_lt}
+use Rattle.std.proofs.Common.{◌≡◌, ℕ, ◌<◌, ◌≤◌, Bool, true, false, cond, not, length, Option, Some, None, slice_get, refl, sym, ap, subst, ◌∙◌, arith, nat_lt}
 use Rattle.std.proofs.lemmas.Bool.{eq-eqb, lt-ltb, ltb-true}
 use Rattle.std.proofs.lemmas.Option.{slice_get_within}
 use Rattle.pb_base.specs.declared.cell.Cell.{Cell}
 use Rattle.pb_base.specs.declared.names.Row.{Row}
 use Rattle.pb_base.specs.declared.names.Ts.{Ts}
 use Rattle.pb_base.specs.declared.refusal.Reason.{Reason}
-use Rattle.pb_base.specs.declared.refusal.Reason.TheVariants.{OutOfTimestamps, NotOfSeat, NoSuchObserver, WrongPhase, NotItsDeclaration, NotDeclared, AlreadyPrewritten, LaterThanStart}
-use Rattle.pb_steps.specs.declared.step.Work.TheVariants as works
+use Rattle.pb_steps.specs.declared.step.Work.{Work}
 use Rattle.pb_steps.specs.declared.step.Declared.{Declared}
 use Rattle.pb_steps.specs.declared.step.Step.{Step}
-use Rattle.pb_steps.specs.declared.step.Step.TheVariants.{Begin, Declare, Prewrite, Stamp, CommitPrimary, CommitSecondary, Settle, Clear}
 use Rattle.pb_steps.specs.Phases.{is_reading}
 use Rattle.pb_verify.specs.Observers.{ObserverOf}
 use Rattle.pb_steps.specs.State.{StateOf, TransactionOf}
@@ -26,10 +23,8 @@ use Rattle.pb_steps.specs.CommitSecondary.{secondary_reasons}
 use Rattle.pb_steps.specs.Reasons.{Reasons, IsOwn, is_out, no_seat, if_of_seat, first_reason, reasons_of, own_reasons}
 use Rattle.pb_steps.specs.Steps.{step_reason}
 use Rattle.pb_txn.specs.declared.place.PlanPlace.{PlanPlace}
-use Rattle.pb_txn.specs.declared.place.PlanPlace.TheVariants.{Declaring}
 use Rattle.pb_txn.specs.Allowed.{IsTimely}
 use Rattle.pb_notify.specs.declared.look.Look.{Look}
-use Rattle.pb_notify.specs.declared.look.Look.TheVariants.{Reading, Clearing, Settling, ClearingAgain}
 use Rattle.pb_notify.specs.Looks.{look_step}
 use Rattle.pb_notify.proofs.PlanSteps.{IsPlanStep}
 use Rattle.pb_base.proofs.Logic.{none_some as none_why}
@@ -56,15 +51,15 @@ module _ (state : StateOf) (seat : ℕ) (why : Reason) (seated : seat < state.se
   has_seat = ap not (lt-ltb seat state.seats seated)
 
   -- a step that names no transaction isn't refused
-  pub no_transaction : cond (no_seat state seat) (Some NotOfSeat) None ≡ Some why → ⊥
-  no_transaction e = none_why why (ap (λ b. cond b (Some NotOfSeat) None) (sym has_seat) ∙ e)
+  pub no_transaction : cond (no_seat state seat) (Some Reason.NotOfSeat) None ≡ Some why → ⊥
+  no_transaction e = none_why why (ap (λ b. cond b (Some Reason.NotOfSeat) None) (sym has_seat) ∙ e)
 
   -- of an observer that there is
-  pub begins_in_time : (o : ℕ) (row : Row) (observer : ObserverOf) → slice_get state.observers o ≡ Some observer → step_reason state seat (Begin (works.Run o row)) ≡ Some why → why ≡ OutOfTimestamps
+  pub begins_in_time : (o : ℕ) (row : Row) (observer : ObserverOf) → slice_get state.observers o ≡ Some observer → step_reason state seat (Step.Begin (Work.Run o row)) ≡ Some why → why ≡ Reason.OutOfTimestamps
   begins_in_time o row observer there e =
       let known : length state.observers ≡ length state.observers = refl in
-      it_or_none (is_out state) OutOfTimestamps why
-      ((λ i. cond (is_out state) (Some OutOfTimestamps) (cond (sym has_seat i) (Some NotOfSeat) (cond (not (sym (lt-ltb o (length state.observers) (slice_get_within state.observers o observer there)) i)) (Some NoSuchObserver) None))) ∙ e)
+      it_or_none (is_out state) Reason.OutOfTimestamps why
+      ((λ i. cond (is_out state) (Some Reason.OutOfTimestamps) (cond (sym has_seat i) (Some Reason.NotOfSeat) (cond (not (sym (lt-ltb o (length state.observers) (slice_get_within state.observers o observer there)) i)) (Some Reason.NoSuchObserver) None))) ∙ e)
 
   module _ (s : ℕ) (t : TransactionOf) (own : IsOwn state seat s t) where
     by_own : (reasons : TransactionOf → Reasons) → first_reason (own_reasons state seat s reasons) ≡ first_reason (reasons t)
@@ -87,25 +82,25 @@ module _ (state : StateOf) (seat : ℕ) (why : Reason) (seated : seat < state.se
       reads_in_time : (z : Option Ts) → read_up_to start.0 z ≤ start.0 → step_reason state seat (read_step start x z) ≡ Some why → ⊥
       reads_in_time (Some u) low h =
           none_why why
-          ((λ i. cond (not (sym reads i)) (Some WrongPhase) (cond (sym (not_later start.0 u.0 low) i) (Some LaterThanStart) None))
+          ((λ i. cond (not (sym reads i)) (Some Reason.WrongPhase) (cond (sym (not_later start.0 u.0 low) i) (Some Reason.LaterThanStart) None))
           ∙ sym (by_own (read_at_reasons start.0 u.0))
           ∙ ap (λ n. first_reason (own_reasons state seat n (read_at_reasons start.0 u.0))) (sym is)
           ∙ h)
       reads_in_time None low h =
-          none_why why (ap (λ b. cond (not b) (Some WrongPhase) None) (sym reads) ∙ sym (by_own read_reasons) ∙ ap (λ n. first_reason (own_reasons state seat n read_reasons)) (sym is) ∙ h)
+          none_why why (ap (λ b. cond (not b) (Some Reason.WrongPhase) None) (sym reads) ∙ sym (by_own read_reasons) ∙ ap (λ n. first_reason (own_reasons state seat n read_reasons)) (sym is) ∙ h)
 
       by : (l : Look) → step_reason state seat (look_step start x at l) ≡ Some why → ⊥
-      by Reading h = reads_in_time at in_time h
-      by (Clearing primary) h = no_transaction h
-      by (Settling primary) h = no_transaction h
-      by ClearingAgain h = no_transaction h
+      by Look.Reading h = reads_in_time at in_time h
+      by (Look.Clearing primary) h = no_transaction h
+      by (Look.Settling primary) h = no_transaction h
+      by Look.ClearingAgain h = no_transaction h
 
     -- the declaration of one that reads, where it is its own
     pub declares_in_time : (start : Ts) (what : Declared) → start.0 ≡ s → is_reading t.phase ≡ true → is_its state.observers t.work s t.reads what ≡ true
-        → step_reason state seat (Declare start what) ≡ Some why → ⊥
+        → step_reason state seat (Step.Declare start what) ≡ Some why → ⊥
     declares_in_time start what is reads its e =
         none_why why
-        ((λ i. cond (not (sym reads i)) (Some WrongPhase) (cond (not (sym its i)) (Some NotItsDeclaration) None))
+        ((λ i. cond (not (sym reads i)) (Some Reason.WrongPhase) (cond (not (sym its i)) (Some Reason.NotItsDeclaration) None))
         ∙ sym (by_own (declare_reasons state.observers s what))
         ∙ ap (λ n. first_reason (own_reasons state seat n (declare_reasons state.observers n what))) (sym is)
         ∙ e)
@@ -114,15 +109,15 @@ module _ (state : StateOf) (seat : ℕ) (why : Reason) (seated : seat < state.se
     own_step start reasons is e = sym (by_own reasons) ∙ ap (λ n. first_reason (own_reasons state seat n reasons)) (sym is) ∙ e
 
     -- a later step of a plan, at its time
-    pub goes_in_time : (p : PlanPlace) (step : Step) → (p ≡ Declaring → ⊥) → IsPlanStep s p step → IsTimely why → step_reason state seat step ≡ Some why → why ≡ OutOfTimestamps
-    goes_in_time p (Declare start what) later i timely e = absurd (later i)
-    goes_in_time p (Prewrite start x) later i timely e =
-        absurd (none_why why (first_or _ AlreadyPrewritten why None timely.once (first_or _ NotDeclared why _ timely.declared (first_or _ WrongPhase why _ timely.phase (own_step start (prewrite_reasons x) i e)))))
-    goes_in_time p (Stamp start) later i timely e =
-        it_or (is_out state) OutOfTimestamps why _ (λ f. none_why why (first_or _ WrongPhase why None timely.phase (own_step start unstamped_reasons i f))) e
-    goes_in_time p (CommitPrimary start) later i timely e = absurd (none_why why (first_or _ WrongPhase why None timely.phase (own_step start commit_reasons i e)))
-    goes_in_time p (CommitSecondary start x) later i timely e =
-        absurd (none_why why (first_or _ NotDeclared why None timely.declared (first_or _ WrongPhase why _ timely.phase (own_step start (secondary_reasons x) i e))))
-    goes_in_time p (Settle x) later i timely e = absurd (no_transaction e)
-    goes_in_time p (Clear x) later i timely e = absurd (no_transaction e)
+    pub goes_in_time : (p : PlanPlace) (step : Step) → (p ≡ PlanPlace.Declaring → ⊥) → IsPlanStep s p step → IsTimely why → step_reason state seat step ≡ Some why → why ≡ Reason.OutOfTimestamps
+    goes_in_time p (Step.Declare start what) later i timely e = absurd (later i)
+    goes_in_time p (Step.Prewrite start x) later i timely e =
+        absurd (none_why why (first_or _ Reason.AlreadyPrewritten why None timely.once (first_or _ Reason.NotDeclared why _ timely.declared (first_or _ Reason.WrongPhase why _ timely.phase (own_step start (prewrite_reasons x) i e)))))
+    goes_in_time p (Step.Stamp start) later i timely e =
+        it_or (is_out state) Reason.OutOfTimestamps why _ (λ f. none_why why (first_or _ Reason.WrongPhase why None timely.phase (own_step start unstamped_reasons i f))) e
+    goes_in_time p (Step.CommitPrimary start) later i timely e = absurd (none_why why (first_or _ Reason.WrongPhase why None timely.phase (own_step start commit_reasons i e)))
+    goes_in_time p (Step.CommitSecondary start x) later i timely e =
+        absurd (none_why why (first_or _ Reason.NotDeclared why None timely.declared (first_or _ Reason.WrongPhase why _ timely.phase (own_step start (secondary_reasons x) i e))))
+    goes_in_time p (Step.Settle x) later i timely e = absurd (no_transaction e)
+    goes_in_time p (Step.Clear x) later i timely e = absurd (no_transaction e)
     goes_in_time p _ later i timely e = absurd i

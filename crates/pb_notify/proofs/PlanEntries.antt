@@ -1,10 +1,8 @@
 -- The entries of a plan's conversation are those of its run's, its looks aside.
-use Rattle.std.proofs.Common.{◌≡◌, ℕ, Bool, true, false, cond, List, [], ◌∷◌, ◌++◌, refl, sym, ap, ◌∙◌}
+use Rattle.std.proofs.Common.{◌≡◌, ℕ, Bool, true, false, cond, List, [], ◌∷◌, ◌++◌, refl, sym, ap, ◌∙◌, filter}
 use Rattle.std.proofs.lemmas.List.Elements.{filter-append}
-use Rattle.std.specs.List.{filter}
 use Rattle.pb_base.specs.declared.names.Ts.{Ts}
 use Rattle.pb_steps.specs.declared.step.Step.{Step}
-use Rattle.pb_steps.specs.declared.step.Step.TheVariants.{Begin, Read, ReadAt, Declare, Prewrite, Stamp, CommitPrimary, CommitSecondary, Settle, Clear, NextMark, Sweep}
 use Rattle.pb_steps.specs.declared.step.Answer.{Answer}
 use Rattle.pb_history.specs.declared.entry.Entry.{Entry}
 use Rattle.pb_history.specs.declared.entry.Received.{Received}
@@ -15,18 +13,18 @@ use Rattle.pb_notify.proofs.RecordedReads.{bare_of}
 
 -- what names no start, or another, is left out either way
 named_no : (s : ℕ) (step : Step) (answer : Answer) → names_start s step answer ≡ false → names s step ≡ false
-named_no s (Begin work) answer n = refl
-named_no s (Read m x) answer n = refl
-named_no s (ReadAt m x t) answer n = refl
-named_no s (Declare m what) answer n = n
-named_no s (Prewrite m x) answer n = n
-named_no s (Stamp m) answer n = n
-named_no s (CommitPrimary m) answer n = n
-named_no s (CommitSecondary m x) answer n = n
-named_no s (Settle x) answer n = refl
-named_no s (Clear x) answer n = refl
-named_no s (NextMark after) answer n = refl
-named_no s (Sweep x) answer n = refl
+named_no s (Step.Begin work) answer n = refl
+named_no s (Step.Read m x) answer n = refl
+named_no s (Step.ReadAt m x t) answer n = refl
+named_no s (Step.Declare m what) answer n = n
+named_no s (Step.Prewrite m x) answer n = n
+named_no s (Step.Stamp m) answer n = n
+named_no s (Step.CommitPrimary m) answer n = n
+named_no s (Step.CommitSecondary m x) answer n = n
+named_no s (Step.Settle x) answer n = refl
+named_no s (Step.Clear x) answer n = refl
+named_no s (Step.NextMark after) answer n = refl
+named_no s (Step.Sweep x) answer n = refl
 
 -- the entries that name a start, reads aside
 abbrev named_in : ℕ → List Entry → List Entry

@@ -1,10 +1,7 @@
 -- What the table keeps of a run's transaction as its looks go on: one read more for each that told what its cell holds.
-use Rattle.std.proofs.Common.{◌≡◌, ℕ, ◌<◌, inl, inr, Bool, true, false, cond, List, [], ◌∷◌, ◌++◌, Option, Some, None, refl, sym, ap, subst, ◌∙◌}
+use Rattle.std.proofs.Common.{◌≡◌, ℕ, ◌<◌, inl, inr, Bool, true, false, cond, List, [], ◌∷◌, ◌++◌, Option, Some, None, refl, sym, ap, subst, ◌∙◌, ◌==◌, filter}
 use Rattle.std.proofs.lemmas.List.Elements.{filter-append}
-use Rattle.std.specs.Prelude.{◌==◌}
-use Rattle.std.specs.List.{filter}
 use Rattle.pb_base.specs.declared.cell.Cell.{Cell}
-use Rattle.pb_base.specs.declared.cell.Cell.TheVariants.{Data, Ack}
 use Rattle.pb_base.specs.declared.names.Ts.{Ts}
 use Rattle.pb_base.specs.declared.content.Revision.{Revision}
 use Rattle.pb_isa.specs.Machine as machine
@@ -12,10 +9,9 @@ use Rattle.pb_isa.specs.Meaning.{Talk}
 use Rattle.pb_helpers.specs.OldRecord.{tells_old}
 use Rattle.pb_steps.specs.declared.seen.RecordedRead.{RecordedRead}
 use Rattle.pb_steps.specs.declared.seen.Seen.{Seen}
-use Rattle.pb_steps.specs.declared.step.Work.TheVariants as works
-use Rattle.pb_steps.specs.declared.step.Step.TheVariants.{Begin, Settle, Clear}
+use Rattle.pb_steps.specs.declared.step.Work.{Work}
+use Rattle.pb_steps.specs.declared.step.Step.{Step}
 use Rattle.pb_steps.specs.declared.step.Answer.{Answer}
-use Rattle.pb_steps.specs.declared.step.Answer.TheVariants.{At, Locked, Found, Absent, Waits}
 use Rattle.pb_steps.specs.Declarations.{IsReadOf, old_at, WasOld, WasSeen, AreReplies}
 use Rattle.pb_verify.specs.Observers.{ObserverOf}
 use Rattle.pb_steps.specs.Read.{read_step, with_read}
@@ -28,7 +24,6 @@ use Rattle.pb_history.specs.TransactionsTold.{names_start, entries_naming, trans
 use Rattle.pb_txn.specs.Allowed.{names}
 use Rattle.pb_txn.specs.Conversations.{told}
 use Rattle.pb_notify.specs.declared.look.Look.{Look}
-use Rattle.pb_notify.specs.declared.look.Look.TheVariants.{Reading, Clearing, Settling, ClearingAgain}
 use Rattle.pb_notify.specs.Runs.{Watch}
 use Rattle.pb_notify.specs.Forms.{IsRound, cleared, settled, AreRounds, at_first, one_more, IsHeld, IsLooked, its_begin, IsObserved, IsAcknowledged, IsRecalled, AreAsked, dirty, asked as asked_more}
 use Rattle.pb_notify.specs.Allowed.{entries_by}
@@ -87,10 +82,10 @@ module _ (observers : List ObserverOf) (seat : ℕ) (s : Ts) where
   after_append (r ∷ rs) more t = after_append rs more (one r t)
 
   told_read : (x : Cell) (at : Option Ts) (a : Answer) (u : TransactionOf) → IsHeld a → after (told (read_step s x at) a ∷ []) (Some u) ≡ Some (with_read u x at a)
-  told_read x None (Found start commit content) u held = rw (itself s.0) refl
-  told_read x None Absent u held = rw (itself s.0) refl
-  told_read x (Some t) (Found start commit content) u held = rw (itself s.0) refl
-  told_read x (Some t) Absent u held = rw (itself s.0) refl
+  told_read x None (Answer.Found start commit content) u held = rw (itself s.0) refl
+  told_read x None Answer.Absent u held = rw (itself s.0) refl
+  told_read x (Some t) (Answer.Found start commit content) u held = rw (itself s.0) refl
+  told_read x (Some t) Answer.Absent u held = rw (itself s.0) refl
   told_read x _ _ u held = absurd held
 
   -- a read is no step of a plan
@@ -100,11 +95,11 @@ module _ (observers : List ObserverOf) (seat : ℕ) (s : Ts) where
 
   module _ (o : Watch) where
     abbrev pub with_reads : List RecordedRead → TransactionOf
-    with_reads rs = record (new_transaction seat (works.Run o.observer o.row)) { reads = rs }
+    with_reads rs = record (new_transaction seat (Work.Run o.observer o.row)) { reads = rs }
 
     -- what was said began the run, and led to these reads by looks alone
     pub record IsRecorded (said : List Received) (reads : List RecordedRead) : Type 0 where
-      pub begun : Has said (told (Begin (works.Run o.observer o.row)) (At s))
+      pub begun : Has said (told (Step.Begin (Work.Run o.observer o.row)) (Answer.At s))
       pub bare : bare_of s said ≡ []
       pub there : after said None ≡ Some (with_reads reads)
 
@@ -123,25 +118,25 @@ module _ (observers : List ObserverOf) (seat : ℕ) (s : Ts) where
       there = after_append said more None ∙ m.leaves (after said None) ∙ i.there;
     }
 
-    met_aside : (x : Cell) (at : Option Ts) (t : Ts) (primary : Cell) → IsAside (told (read_step s x at) (Locked t primary) ∷ [])
+    met_aside : (x : Cell) (at : Option Ts) (t : Ts) (primary : Cell) → IsAside (told (read_step s x at) (Answer.Locked t primary) ∷ [])
     met_aside x None t primary = record { bare = refl; leaves = λ u. same_either (s.0 == s.0) u }
     met_aside x (Some at) t primary = record { bare = refl; leaves = λ u. same_either (s.0 == s.0) u }
 
-    cleared_aside : (x : Cell) (at : Option Ts) (t : Ts) (primary : Cell) (a : Answer) → IsAside (told (read_step s x at) (Locked t primary) ∷ told (Clear x) a ∷ [])
+    cleared_aside : (x : Cell) (at : Option Ts) (t : Ts) (primary : Cell) (a : Answer) → IsAside (told (read_step s x at) (Answer.Locked t primary) ∷ told (Step.Clear x) a ∷ [])
     cleared_aside x None t primary a = record { bare = refl; leaves = λ u. same_either (s.0 == s.0) u }
     cleared_aside x (Some at) t primary a = record { bare = refl; leaves = λ u. same_either (s.0 == s.0) u }
 
-    settled_aside : (x : Cell) (at : Option Ts) (t : Ts) (primary : Cell) (a b : Answer) → IsAside (told (read_step s x at) (Locked t primary) ∷ told (Clear x) a ∷ told (Settle primary) b ∷ [])
+    settled_aside : (x : Cell) (at : Option Ts) (t : Ts) (primary : Cell) (a b : Answer) → IsAside (told (read_step s x at) (Answer.Locked t primary) ∷ told (Step.Clear x) a ∷ told (Step.Settle primary) b ∷ [])
     settled_aside x None t primary a b = record { bare = refl; leaves = λ u. same_either (s.0 == s.0) u }
     settled_aside x (Some at) t primary a b = record { bare = refl; leaves = λ u. same_either (s.0 == s.0) u }
 
-    again_aside : (x : Cell) (at : Option Ts) (t : Ts) (primary : Cell) (a b d : Answer) → IsAside (told (read_step s x at) (Locked t primary) ∷ told (Clear x) a ∷ told (Settle primary) b ∷ told (Clear x) d ∷ [])
+    again_aside : (x : Cell) (at : Option Ts) (t : Ts) (primary : Cell) (a b d : Answer) → IsAside (told (read_step s x at) (Answer.Locked t primary) ∷ told (Step.Clear x) a ∷ told (Step.Settle primary) b ∷ told (Step.Clear x) d ∷ [])
     again_aside x None t primary a b d = record { bare = refl; leaves = λ u. same_either (s.0 == s.0) u }
     again_aside x (Some at) t primary a b d = record { bare = refl; leaves = λ u. same_either (s.0 == s.0) u }
 
     round_aside : (x : Cell) (at : Option Ts) (said : List Received) → IsRound s x at said → IsAside said
     round_aside x at said (cleared t primary a can not) = cleared_aside x at t primary a
-    round_aside x at said (settled t primary a b can also) = again_aside x at t primary Waits a b
+    round_aside x at said (settled t primary a b can also) = again_aside x at t primary Answer.Waits a b
 
     rounds : (x : Cell) (at : Option Ts) (m : ℕ) (base : List Received) (n : ℕ) (said : List Received) (reads : List RecordedRead) → IsRecorded base reads → AreRounds s x at m base n said → IsRecorded said reads
     rounds x at m base n said reads i at_first = i
@@ -152,10 +147,10 @@ module _ (observers : List ObserverOf) (seat : ℕ) (s : Ts) where
     in_round x at m base n said part reads i is a = subst (λ l. IsRecorded l reads) (sym is.said_is) (aside is.before part reads (rounds x at m base is.met is.before reads i is.rounds) a)
 
     pub in_look : (x : Cell) (at : Option Ts) (m : ℕ) (base : List Received) (look : Look) (n : ℕ) (said : List Received) (reads : List RecordedRead) → IsRecorded base reads → InLook s x at m base look n said → IsRecorded said reads
-    in_look x at m base Reading n said reads i is = rounds x at m base n said reads i is
-    in_look x at m base (Clearing primary) n said reads i is = in_round x at m base n said _ reads i is.1 (met_aside x at is.0 primary)
-    in_look x at m base (Settling primary) n said reads i is = in_round x at m base n said _ reads i is.1 (cleared_aside x at is.0 primary Waits)
-    in_look x at m base ClearingAgain n said reads i is = in_round x at m base n said _ reads i is.4 (settled_aside x at is.0 is.1 Waits is.2)
+    in_look x at m base Look.Reading n said reads i is = rounds x at m base n said reads i is
+    in_look x at m base (Look.Clearing primary) n said reads i is = in_round x at m base n said _ reads i is.1 (met_aside x at is.0 primary)
+    in_look x at m base (Look.Settling primary) n said reads i is = in_round x at m base n said _ reads i is.1 (cleared_aside x at is.0 primary Answer.Waits)
+    in_look x at m base Look.ClearingAgain n said reads i is = in_round x at m base n said _ reads i is.4 (settled_aside x at is.0 is.1 Answer.Waits is.2)
 
     -- after a whole one
     abbrev read_of : Cell → Option Ts → Answer → RecordedRead
@@ -181,10 +176,10 @@ module _ (observers : List ObserverOf) (seat : ℕ) (s : Ts) where
     -- ---- the parts of a run
 
     abbrev cell : Cell
-    cell = Data o.row o.column
+    cell = Cell.Data o.row o.column
 
     abbrev ack : Cell
-    ack = Ack o.observer o.row o.column
+    ack = Cell.Ack o.observer o.row o.column
 
     abbrev second : Bool
     second = tells_old o.judged

@@ -1,8 +1,6 @@
 -- What a job has asked at each place, and that it is a beginning of a whole conversation.
-use Rattle.std.proofs.Common.{◌≡◌, ℕ, ◌+◌, ◌<◌, ◌≤◌, Bool, true, false, cond, List, [], ◌∷◌, ◌++◌, Option, Some, None, refl, sym, ap, subst, ◌∙◌, arith, append_assoc, append-nil}
-use Rattle.std.specs.Prelude.{nat_lt, not, ◌&&◌, ◌==◌}
+use Rattle.std.proofs.Common.{◌≡◌, ℕ, ◌+◌, ◌<◌, ◌≤◌, Bool, true, false, cond, List, [], ◌∷◌, ◌++◌, Option, Some, None, refl, sym, ap, subst, ◌∙◌, arith, append_assoc, append-nil, nat_lt, not, ◌&&◌, ◌==◌}
 use Rattle.pb_base.specs.declared.cell.Cell.{Cell}
-use Rattle.pb_base.specs.declared.cell.Cell.TheVariants.{Data, Ack}
 use Rattle.pb_base.specs.declared.names.Ts.{Ts}
 use Rattle.pb_base.specs.declared.content.Revision.{Revision}
 use Rattle.pb_isa.specs.Meaning.{Talk}
@@ -12,18 +10,15 @@ use Rattle.pb_helpers.specs.Replies.{ask_of}
 use Rattle.pb_vm.specs.Position.{Position}
 use Rattle.pb_vm.specs.Finished.{Meant, IsMeant}
 use Rattle.pb_steps.specs.declared.seen.Seen.{Seen}
-use Rattle.pb_steps.specs.declared.step.Work.TheVariants as works
-use Rattle.pb_steps.specs.declared.step.Declared.TheVariants as declared
+use Rattle.pb_steps.specs.declared.step.Work.{Work}
+use Rattle.pb_steps.specs.declared.step.Declared.{Declared}
 use Rattle.pb_steps.specs.declared.step.Step.{Step}
-use Rattle.pb_steps.specs.declared.step.Step.TheVariants.{Begin, Sweep}
 use Rattle.pb_steps.specs.declared.step.Answer.{Answer}
-use Rattle.pb_steps.specs.declared.step.Answer.TheVariants.{At, Locked, Absent, Done}
 use Rattle.pb_steps.specs.Answers.{CanAnswer}
 use Rattle.pb_steps.specs.Declarations.{old_at}
 use Rattle.pb_steps.specs.Reads.{version_in, acknowledged_in, value_in}
 use Rattle.pb_history.specs.declared.entry.Received.{Received}
 use Rattle.pb_txn.specs.declared.place.Outcome.{Outcome}
-use Rattle.pb_txn.specs.declared.place.Outcome.TheVariants as outcomes
 use Rattle.pb_txn.specs.Places.{declared_cells}
 use Rattle.pb_txn.specs.Plans.{PlanOf, outcome_of}
 use Rattle.pb_txn.specs.Plans as plans
@@ -32,14 +27,10 @@ use Rattle.pb_txn.specs.Conversations as conversations
 use Rattle.pb_txn.specs.Forms.{IsWhole, PlansConverse, PlansEnd}
 use Rattle.pb_notify.specs.declared.look.TheConstants.{MAX_LOCKED}
 use Rattle.pb_notify.specs.declared.look.Look.{Look}
-use Rattle.pb_notify.specs.declared.look.Look.TheVariants.{Reading, Clearing, Settling, ClearingAgain}
 use Rattle.pb_notify.specs.declared.look.Looked.{Looked}
-use Rattle.pb_notify.specs.declared.look.Looked.TheVariants.{On, Tells, Blocks}
 use Rattle.pb_notify.specs.declared.need.JobEnd.{JobEnd}
-use Rattle.pb_notify.specs.declared.need.JobEnd.TheVariants as ends
-use Rattle.pb_notify.specs.declared.need.Need.TheVariants as needs
+use Rattle.pb_notify.specs.declared.need.Need.{Need}
 use Rattle.pb_notify.specs.declared.place.RunPlace.{RunPlace}
-use Rattle.pb_notify.specs.declared.place.RunPlace.TheVariants.{Beginning, Observing, Acknowledging, Recalling, Starting, Computing, Asking, Planning, Sweeping, Over}
 use Rattle.pb_notify.specs.Looks.{look_after, locked_after}
 use Rattle.pb_notify.specs.Places.{place_after, locked_at, after_begin, if_found, after_cell, if_recalled, seen_so_far, after_acknowledgment, after_recall, after_ask, by_outcome, Comes, goes, waits, declares, ComesFrom, AtPlace, step_at}
 use Rattle.pb_notify.specs.Runs.{Watch, RunOf, fresh, answered, need_at}
@@ -58,17 +49,17 @@ plan_more p [] q r t next can = (ap plans.next_of (sym t) ∙ next, can, ap (λ 
 plan_more p (x ∷ xs) q r t next can = (t.0, t.1, plan_more (plans.answered p x.answer) xs q r t.2 next can)
 
 -- a read that met a lock tells nothing of the cell
-locked_tells_not : (b : Bool) (primary : Cell) (a : Answer) → cond b (On (Clearing primary)) Blocks ≡ Tells a → ⊥
+locked_tells_not : (b : Bool) (primary : Cell) (a : Answer) → cond b (Looked.On (Look.Clearing primary)) Looked.Blocks ≡ Looked.Tells a → ⊥
 locked_tells_not true primary a e = cc
 locked_tells_not false primary a e = cc
 
 -- where a look tells what the cell holds, the count is as before
-tells_few : (n : ℕ) (look : Look) (b a : Answer) → n < MAX_LOCKED → look_after n look b ≡ Tells a → locked_after n look b < MAX_LOCKED
-tells_few n Reading (Locked t primary) a few e = absurd (locked_tells_not (nat_lt (n + 1) MAX_LOCKED) primary a e)
-tells_few n Reading _ a few e = few
-tells_few n (Clearing primary) b a few e = few
-tells_few n (Settling primary) b a few e = few
-tells_few n ClearingAgain b a few e = few
+tells_few : (n : ℕ) (look : Look) (b a : Answer) → n < MAX_LOCKED → look_after n look b ≡ Looked.Tells a → locked_after n look b < MAX_LOCKED
+tells_few n Look.Reading (Answer.Locked t primary) a few e = absurd (locked_tells_not (nat_lt (n + 1) MAX_LOCKED) primary a e)
+tells_few n Look.Reading _ a few e = few
+tells_few n (Look.Clearing primary) b a few e = few
+tells_few n (Look.Settling primary) b a few e = few
+tells_few n Look.ClearingAgain b a few e = few
 
 rounds_go_on : (s : Ts) (x : Cell) (at : Option Ts) (m : ℕ) (base : List Received) (n : ℕ) (said : List Received) → AreRounds s x at m base n said → (rest : List Received) × (said ≡ base ++ rest)
 rounds_go_on s x at m base n said at_first = ([], sym (append-nil base))
@@ -83,17 +74,17 @@ in_goes_on s x at m base n said part i =
 
 -- a look goes on from what was said before it
 pub look_goes_on : (s : Ts) (x : Cell) (at : Option Ts) (m : ℕ) (base : List Received) (look : Look) (n : ℕ) (said : List Received) → InLook s x at m base look n said → (rest : List Received) × (said ≡ base ++ rest)
-look_goes_on s x at m base Reading n said i = rounds_go_on s x at m base n said i
-look_goes_on s x at m base (Clearing primary) n said i = in_goes_on s x at m base n said _ i.1
-look_goes_on s x at m base (Settling primary) n said i = in_goes_on s x at m base n said _ i.1
-look_goes_on s x at m base ClearingAgain n said i = in_goes_on s x at m base n said _ i.4
+look_goes_on s x at m base Look.Reading n said i = rounds_go_on s x at m base n said i
+look_goes_on s x at m base (Look.Clearing primary) n said i = in_goes_on s x at m base n said _ i.1
+look_goes_on s x at m base (Look.Settling primary) n said i = in_goes_on s x at m base n said _ i.1
+look_goes_on s x at m base Look.ClearingAgain n said i = in_goes_on s x at m base n said _ i.4
 
 module _ (o : Watch) where
   abbrev cell : Cell
-  cell = Data o.row o.column
+  cell = Cell.Data o.row o.column
 
   abbrev ack : Cell
-  ack = Ack o.observer o.row o.column
+  ack = Cell.Ack o.observer o.row o.column
 
   abbrev second : Bool
   second = tells_old o.judged
@@ -105,7 +96,7 @@ module _ (o : Watch) where
   pub record IsGiven (s : Ts) (seen : Seen) (v : Position) : Type 0 where
     pub program : v.judged ≡ o.judged
     pub bytes : v.bytes ≡ bytes_of seen
-    pub began : v.began ≡ s.0
+    pub start : v.start ≡ s.0
 
   -- the conversation up to the plan, and what the plan asked
   pub record IsPlanned (n r : ℕ) (p : PlanOf) (said : List Received) : Type 0 where
@@ -119,7 +110,7 @@ module _ (o : Watch) where
     pub meant : IsMeant run
     pub result : r ≡ run.result
     pub plan : List Received
-    pub converses_are : conversations.Converses (plans.fresh s.0 (declared.Run o.observer run)) plan p
+    pub converses_are : conversations.Converses (plans.fresh s.0 (Declared.Run o.observer run)) plan p
     pub said_is : said ≡ base ++ plan
     pub few : n < MAX_LOCKED
 
@@ -130,40 +121,40 @@ module _ (o : Watch) where
 
   -- what has been said at a place, with so many locks met
   abbrev pub SoFar : ℕ → RunPlace → List Received → Type 0
-  SoFar n Beginning said = (n ≡ 0) × (said ≡ [])
-  SoFar n (Observing s look) said = InLook s cell None 0 (its_begin o s) look n said
-  SoFar n (Acknowledging s found look) said = (m : ℕ) × (base : List Received) × IsObserved o s found m base × InLook s ack None m base look n said
-  SoFar n (Recalling s seen look) said =
+  SoFar n RunPlace.Beginning said = (n ≡ 0) × (said ≡ [])
+  SoFar n (RunPlace.Observing s look) said = InLook s cell None 0 (its_begin o s) look n said
+  SoFar n (RunPlace.Acknowledging s found look) said = (m : ℕ) × (base : List Received) × IsObserved o s found m base × InLook s ack None m base look n said
+  SoFar n (RunPlace.Recalling s seen look) said =
       (m : ℕ) × (base : List Received) × IsAcknowledged o s seen m base × (seen.acknowledged.0 < seen.version.commit.0) × (old_at second seen.acknowledged ≡ Some seen.acknowledged)
       × InLook s cell (Some seen.acknowledged) m base look n said
-  SoFar n (Starting s seen) said = AreAsked o s seen [] n said
-  SoFar n (Computing s v) said = (seen : Seen) × IsGiven s seen v × AreAsked o s seen v.talk n said
-  SoFar n (Asking s v q look) said =
-      (seen : Seen) × (m : ℕ) × (base : List Received) × IsGiven s seen v × AreAsked o s seen v.talk m base × InLook s (Data q.row q.column) None m base look n said
-  SoFar n (Planning r p) said = IsPlanned n r p said
-  SoFar n (Sweeping end) said = IsBeforeSweep o end said
-  SoFar n (Over end) said = IsEnded end said
+  SoFar n (RunPlace.Starting s seen) said = AreAsked o s seen [] n said
+  SoFar n (RunPlace.Computing s v) said = (seen : Seen) × IsGiven s seen v × AreAsked o s seen v.talk n said
+  SoFar n (RunPlace.Asking s v q look) said =
+      (seen : Seen) × (m : ℕ) × (base : List Received) × IsGiven s seen v × AreAsked o s seen v.talk m base × InLook s (Cell.Data q.row q.column) None m base look n said
+  SoFar n (RunPlace.Planning r p) said = IsPlanned n r p said
+  SoFar n (RunPlace.Sweeping end) said = IsBeforeSweep o end said
+  SoFar n (RunPlace.Over end) said = IsEnded end said
 
   -- ---- one more answer
 
-  at_begin : (a : Answer) → CanAnswer (Begin (works.Run o.observer o.row)) a → SoFar 0 (after_begin a) (told (Begin (works.Run o.observer o.row)) a ∷ [])
-  at_begin (At s) can = at_first
+  at_begin : (a : Answer) → CanAnswer (Step.Begin (Work.Run o.observer o.row)) a → SoFar 0 (after_begin a) (told (Step.Begin (Work.Run o.observer o.row)) a ∷ [])
+  at_begin (Answer.At s) can = at_first
   at_begin _ can = absurd can
 
-  blocks : (s : Ts) (x : Cell) (at : Option Ts) (m : ℕ) (base : List Received) (n : ℕ) (said : List Received) → LooksFrom o s x at m base → IsBlocked s x at m base n said → IsEnded ends.Blocked said
+  blocks : (s : Ts) (x : Cell) (at : Option Ts) (m : ℕ) (base : List Received) (n : ℕ) (said : List Received) → LooksFrom o s x at m base → IsBlocked s x at m base n said → IsEnded JobEnd.Blocked said
   blocks s x at m base n said from b =
-      record { run = None; meant = tt; whole = subst (λ l. IsRunConversation o l ends.Blocked None) (sym b.said_is) (blocked s x at m base b.met b.before b.t b.primary from b.rounds b.last) }
+      record { run = None; meant = tt; whole = subst (λ l. IsRunConversation o l JobEnd.Blocked None) (sym b.said_is) (blocked s x at m base b.met b.before b.t b.primary from b.rounds b.last) }
 
   found_more : (s : Ts) (n : ℕ) (said : List Received) (a : Answer) (found : Option Revision) → version_in a ≡ found → LooksAs s cell None 0 (its_begin o s) n said a → n < MAX_LOCKED
       → SoFar n (if_found s found) said
   found_more s n said a None is look few = record { run = None; meant = tt; ends = λ w can. absent s n said w look.0 (ap version_in look.1 ∙ is) few can }
   found_more s n said a (Some found) is look few = (n, said, record { look = look.0; found_is = ap version_in look.1 ∙ is }, at_first)
 
-  observed_more : (s : Ts) (n : ℕ) (said : List Received) (looked : Looked) → AfterLook s cell None 0 (its_begin o s) looked n said → ((a : Answer) → looked ≡ Tells a → n < MAX_LOCKED)
+  observed_more : (s : Ts) (n : ℕ) (said : List Received) (looked : Looked) → AfterLook s cell None 0 (its_begin o s) looked n said → ((a : Answer) → looked ≡ Looked.Tells a → n < MAX_LOCKED)
       → SoFar n (after_cell s looked) said
-  observed_more s n said (On look) i few = i
-  observed_more s n said (Tells a) i few = found_more s n said a (version_in a) refl i (few a refl)
-  observed_more s n said Blocks i few = blocks s cell None 0 (its_begin o s) n said at_cell i
+  observed_more s n said (Looked.On look) i few = i
+  observed_more s n said (Looked.Tells a) i few = found_more s n said a (version_in a) refl i (few a refl)
+  observed_more s n said Looked.Blocks i few = blocks s cell None 0 (its_begin o s) n said at_cell i
 
   -- a look at the cell as of the acknowledged timestamp begins, or the machine does
   if_some : (b : Bool) (a t : Ts) → cond b (Some a) None ≡ Some t → t ≡ a
@@ -178,7 +169,7 @@ module _ (o : Watch) where
       (n, said, i, newer, is ∙ ap Some same, at_first)
 
   dirty_more : (s : Ts) (found : Revision) (n : ℕ) (said : List Received) (t : Ts) (b : Bool) → nat_lt t.0 found.commit.0 ≡ b → IsAcknowledged o s (seen_so_far found t) n said → n < MAX_LOCKED
-      → SoFar n (cond b (if_recalled s (seen_so_far found t) (old_at second t)) (Sweeping ends.Clean)) said
+      → SoFar n (cond b (if_recalled s (seen_so_far found t) (old_at second t)) (RunPlace.Sweeping JobEnd.Clean)) said
   dirty_more s found n said t true e i few = recalled_more s (seen_so_far found t) n said (old_at second t) refl refl i (newer t.0 found.commit.0 e) where
     newer : (a b : ℕ) → nat_lt a b ≡ true → a < b
     newer a b h = grind (arith, h)
@@ -189,56 +180,56 @@ module _ (o : Watch) where
       older a b h = grind (arith, h)
 
   acknowledged_more : (s : Ts) (found : Revision) (m : ℕ) (base : List Received) (n : ℕ) (said : List Received) (looked : Looked) → IsObserved o s found m base
-      → AfterLook s ack None m base looked n said → ((a : Answer) → looked ≡ Tells a → n < MAX_LOCKED) → SoFar n (after_acknowledgment second s found looked) said
-  acknowledged_more s found m base n said (On look) was i few = (m, base, was, i)
-  acknowledged_more s found m base n said (Tells a) was i few =
+      → AfterLook s ack None m base looked n said → ((a : Answer) → looked ≡ Looked.Tells a → n < MAX_LOCKED) → SoFar n (after_acknowledgment second s found looked) said
+  acknowledged_more s found m base n said (Looked.On look) was i few = (m, base, was, i)
+  acknowledged_more s found m base n said (Looked.Tells a) was i few =
       dirty_more s found n said (acknowledged_in a) (nat_lt (acknowledged_in a).0 found.commit.0) refl
       (record { met = m; base = base; observed = was; look = i.0; acknowledged = ap acknowledged_in (sym i.1) }) (few a refl)
-  acknowledged_more s found m base n said Blocks was i few = blocks s ack None m base n said (at_acknowledgment found m base was) i
+  acknowledged_more s found m base n said Looked.Blocks was i few = blocks s ack None m base n said (at_acknowledgment found m base was) i
 
   recalled_one : (s : Ts) (seen : Seen) (m : ℕ) (base : List Received) (n : ℕ) (said : List Received) (looked : Looked) → IsAcknowledged o s seen m base
       → seen.acknowledged.0 < seen.version.commit.0 → old_at second seen.acknowledged ≡ Some seen.acknowledged → AfterLook s cell (Some seen.acknowledged) m base looked n said
       → SoFar n (after_recall s seen looked) said
-  recalled_one s seen m base n said (On look) i newer is l = (m, base, i, newer, is, l)
-  recalled_one s seen m base n said (Tells a) i newer is l =
+  recalled_one s seen m base n said (Looked.On look) i newer is l = (m, base, i, newer, is, l)
+  recalled_one s seen m base n said (Looked.Tells a) i newer is l =
       dirty n said
       (subst (λ z. IsRecalled o s (record seen { old = value_in a }) z n said) (sym is)
       (m, base, record { met = i.met; base = i.base; observed = i.observed; look = i.look; acknowledged = i.acknowledged }, l.0, ap value_in (sym l.1)))
       newer
-  recalled_one s seen m base n said Blocks i newer is l = blocks s cell (Some seen.acknowledged) m base n said (at_old seen seen.acknowledged m base i newer is) l
+  recalled_one s seen m base n said Looked.Blocks i newer is l = blocks s cell (Some seen.acknowledged) m base n said (at_old seen seen.acknowledged m base i newer is) l
 
   asked_so : (s : Ts) (q : Ask) (seen : Seen) (talk : Talk) (m : ℕ) (base : List Received) (a : Answer) (n : ℕ) (said : List Received) → AreAsked o s seen talk m base
-      → LooksAs s (Data q.row q.column) None m base n said a → AreAsked o s seen (talk ++ (ask_of q, value_in a) ∷ []) n said
+      → LooksAs s (Cell.Data q.row q.column) None m base n said a → AreAsked o s seen (talk ++ (ask_of q, value_in a) ∷ []) n said
   asked_so s q seen talk m base a n said was l = subst (λ b. AreAsked o s seen (talk ++ (ask_of q, value_in b) ∷ []) n said) l.1 (asked_more talk m base (ask_of q) n said was l.0)
 
   asked_one : (s : Ts) (v : Position) (q : Ask) (seen : Seen) (m : ℕ) (base : List Received) (n : ℕ) (said : List Received) (looked : Looked) → IsGiven s seen v
-      → AreAsked o s seen v.talk m base → AfterLook s (Data q.row q.column) None m base looked n said → SoFar n (after_ask s v q looked) said
-  asked_one s v q seen m base n said (On look) given was i = (seen, m, base, given, was, i)
-  asked_one s v q seen m base n said (Tells a) given was i =
-      (seen, record { program = given.program; bytes = given.bytes; began = given.began }, asked_so s q seen v.talk m base a n said was i)
-  asked_one s v q seen m base n said Blocks given was i = blocks s (Data q.row q.column) None m base n said (at_ask seen v.talk m base (ask_of q) was) i
+      → AreAsked o s seen v.talk m base → AfterLook s (Cell.Data q.row q.column) None m base looked n said → SoFar n (after_ask s v q looked) said
+  asked_one s v q seen m base n said (Looked.On look) given was i = (seen, m, base, given, was, i)
+  asked_one s v q seen m base n said (Looked.Tells a) given was i =
+      (seen, record { program = given.program; bytes = given.bytes; start = given.start }, asked_so s q seen v.talk m base a n said was i)
+  asked_one s v q seen m base n said Looked.Blocks given was i = blocks s (Cell.Data q.row q.column) None m base n said (at_ask seen v.talk m base (ask_of q) was) i
 
   module _ (plans_converse : PlansConverse) (plans_end : PlansEnd) where
     planned_more : (n r : ℕ) (p : PlanOf) (said : List Received) (out : Option Outcome) → outcome_of p ≡ out → IsPlanned n r p said → SoFar n (by_outcome r p out) said
     planned_more n r p said None is i = i
-    planned_more n r p said (Some (outcomes.Committed c)) is i = record {
+    planned_more n r p said (Some (Outcome.Committed c)) is i = record {
       run = Some i.run;
       meant = i.meant;
-      ends = λ w can. subst (λ z. IsRunConversation o (said ++ told (Sweep cell) w ∷ []) (ends.Ran z) (Some i.run)) (sym i.result)
-          (subst (λ l. IsRunConversation o (l ++ told (Sweep cell) w ∷ []) (ends.Ran i.run.result) (Some i.run)) (sym i.said_is)
-          (ran i.s i.seen i.talk n i.base i.plan i.run c w i.asked i.few i.run_on (plans_end i.s.0 (declared.Run o.observer i.run) _ _ i.plan p (outcomes.Committed c) refl i.converses_are is) can));
+      ends = λ w can. subst (λ z. IsRunConversation o (said ++ told (Step.Sweep cell) w ∷ []) (JobEnd.Ran z) (Some i.run)) (sym i.result)
+          (subst (λ l. IsRunConversation o (l ++ told (Step.Sweep cell) w ∷ []) (JobEnd.Ran i.run.result) (Some i.run)) (sym i.said_is)
+          (ran i.s i.seen i.talk n i.base i.plan i.run c w i.asked i.few i.run_on (plans_end i.s.0 (Declared.Run o.observer i.run) _ _ i.plan p (Outcome.Committed c) refl i.converses_are is) can));
     }
-    planned_more n r p said (Some outcomes.Conflicted) is i = record {
+    planned_more n r p said (Some Outcome.Conflicted) is i = record {
       run = Some i.run;
       meant = i.meant;
-      whole = subst (λ l. IsRunConversation o l ends.Conflicted (Some i.run)) (sym i.said_is)
-          (conflicted i.s i.seen i.talk n i.base i.plan i.run i.asked i.few i.run_on (plans_end i.s.0 (declared.Run o.observer i.run) _ _ i.plan p outcomes.Conflicted refl i.converses_are is));
+      whole = subst (λ l. IsRunConversation o l JobEnd.Conflicted (Some i.run)) (sym i.said_is)
+          (conflicted i.s i.seen i.talk n i.base i.plan i.run i.asked i.few i.run_on (plans_end i.s.0 (Declared.Run o.observer i.run) _ _ i.plan p Outcome.Conflicted refl i.converses_are is));
     }
-    planned_more n r p said (Some outcomes.Lost) is i = record {
+    planned_more n r p said (Some Outcome.Lost) is i = record {
       run = Some i.run;
       meant = i.meant;
-      whole = subst (λ l. IsRunConversation o l ends.Lost (Some i.run)) (sym i.said_is)
-          (lost i.s i.seen i.talk n i.base i.plan i.run i.asked i.few i.run_on (plans_end i.s.0 (declared.Run o.observer i.run) _ _ i.plan p outcomes.Lost refl i.converses_are is));
+      whole = subst (λ l. IsRunConversation o l JobEnd.Lost (Some i.run)) (sym i.said_is)
+          (lost i.s i.seen i.talk n i.base i.plan i.run i.asked i.few i.run_on (plans_end i.s.0 (Declared.Run o.observer i.run) _ _ i.plan p Outcome.Lost refl i.converses_are is));
     }
 
     plan_step : (n r : ℕ) (p : PlanOf) (said : List Received) (t : Step) (a : Answer) → IsPlanned n r p said → plans.next_of p ≡ Some t → CanAnswer t a
@@ -261,23 +252,23 @@ module _ (o : Watch) where
 
     said_more : (n : ℕ) (place : RunPlace) (said : List Received) (t : Step) (a : Answer) → AtPlace n place → SoFar n place said → step_at o.observer o.row o.column place ≡ Some t → CanAnswer t a
         → SoFar (locked_at n place a) (place_after second n place a) (said ++ told t a ∷ [])
-    said_more n Beginning said t a at i e can =
-        subst (λ u. CanAnswer u a → SoFar n (after_begin a) (said ++ told u a ∷ [])) (same_step (Begin (works.Run o.observer o.row)) t e)
-        (λ c. subst (λ l. SoFar n (after_begin a) (l ++ told (Begin (works.Run o.observer o.row)) a ∷ [])) (sym i.1) (subst (λ k. SoFar k (after_begin a) (told (Begin (works.Run o.observer o.row)) a ∷ [])) (sym i.0) (at_begin a c))) can
-    said_more n (Observing s look) said t a at i e can =
+    said_more n RunPlace.Beginning said t a at i e can =
+        subst (λ u. CanAnswer u a → SoFar n (after_begin a) (said ++ told u a ∷ [])) (same_step (Step.Begin (Work.Run o.observer o.row)) t e)
+        (λ c. subst (λ l. SoFar n (after_begin a) (l ++ told (Step.Begin (Work.Run o.observer o.row)) a ∷ [])) (sym i.1) (subst (λ k. SoFar k (after_begin a) (told (Step.Begin (Work.Run o.observer o.row)) a ∷ [])) (sym i.0) (at_begin a c))) can
+    said_more n (RunPlace.Observing s look) said t a at i e can =
         observed_more s _ _ (look_after n look a) (look_more s cell None 0 (its_begin o s) look n said t a i (same_step _ t e) can at) (λ b is. tells_few n look a b at is)
-    said_more n (Acknowledging s found look) said t a at i e can =
+    said_more n (RunPlace.Acknowledging s found look) said t a at i e can =
         acknowledged_more s found i.0 i.1 _ _ (look_after n look a) i.2 (look_more s ack None i.0 i.1 look n said t a i.3 (same_step _ t e) can at) (λ b is. tells_few n look a b at is)
-    said_more n (Recalling s seen look) said t a at i e can =
+    said_more n (RunPlace.Recalling s seen look) said t a at i e can =
         recalled_one s seen i.0 i.1 _ _ (look_after n look a) i.2 i.3 i.4 (look_more s cell (Some seen.acknowledged) i.0 i.1 look n said t a i.5 (same_step _ t e) can at)
-    said_more n (Starting s seen) said t a at i e can = absurd (none_some t e)
-    said_more n (Computing s v) said t a at i e can = absurd (none_some t e)
-    said_more n (Asking s v q look) said t a at i e can =
-        asked_one s v q i.0 i.1 i.2 _ _ (look_after n look a) i.3 i.4 (look_more s (Data q.row q.column) None i.1 i.2 look n said t a i.5 (same_step _ t e) can at.0)
-    said_more n (Planning r p) said t a at i e can = planned_more n r (plans.answered p a) _ (outcome_of (plans.answered p a)) refl (plan_step n r p said t a i e can)
-    said_more n (Sweeping end) said t a at i e can =
-        subst (λ u. CanAnswer u a → IsEnded end (said ++ told u a ∷ [])) (same_step (Sweep cell) t e) (λ c. record { run = i.run; meant = i.meant; whole = i.ends a c }) can
-    said_more n (Over end) said t a at i e can = absurd (none_some t e)
+    said_more n (RunPlace.Starting s seen) said t a at i e can = absurd (none_some t e)
+    said_more n (RunPlace.Computing s v) said t a at i e can = absurd (none_some t e)
+    said_more n (RunPlace.Asking s v q look) said t a at i e can =
+        asked_one s v q i.0 i.1 i.2 _ _ (look_after n look a) i.3 i.4 (look_more s (Cell.Data q.row q.column) None i.1 i.2 look n said t a i.5 (same_step _ t e) can at.0)
+    said_more n (RunPlace.Planning r p) said t a at i e can = planned_more n r (plans.answered p a) _ (outcome_of (plans.answered p a)) refl (plan_step n r p said t a i e can)
+    said_more n (RunPlace.Sweeping end) said t a at i e can =
+        subst (λ u. CanAnswer u a → IsEnded end (said ++ told u a ∷ [])) (same_step (Step.Sweep cell) t e) (λ c. record { run = i.run; meant = i.meant; whole = i.ends a c }) can
+    said_more n (RunPlace.Over end) said t a at i e can = absurd (none_some t e)
 
     -- ---- one instruction
 
@@ -286,14 +277,14 @@ module _ (o : Watch) where
     comes_more n s v seen place said few given was (goes w st) =
         let w-is = st.went in (
           seen,
-          record { program = w-is.given.judged ∙ given.program; bytes = w-is.given.bytes ∙ given.bytes; began = w-is.given.began ∙ given.began },
+          record { program = w-is.given.judged ∙ given.program; bytes = w-is.given.bytes ∙ given.bytes; start = w-is.given.start ∙ given.start },
           subst (λ talk. AreAsked o s seen talk n said) (sym w-is.talk) was,
         )
     comes_more n s v seen place said few given was (waits w q st) = (
       seen,
       n,
       said,
-      record { program = st.given.judged ∙ given.program; bytes = st.given.bytes ∙ given.bytes; began = st.given.began ∙ given.began },
+      record { program = st.given.judged ∙ given.program; bytes = st.given.bytes ∙ given.bytes; start = st.given.start ∙ given.start },
       subst (λ talk. AreAsked o s seen talk n said) (sym st.talk) was,
       at_first,
     )
@@ -306,7 +297,7 @@ module _ (o : Watch) where
           base = said;
           asked = was;
           run = st.left;
-          run_on = record { program = l.judged ∙ given.program; bytes = l.bytes ∙ given.bytes; began = l.began ∙ given.began; talk_is = l.talk };
+          run_on = record { program = l.judged ∙ given.program; bytes = l.bytes ∙ given.bytes; start = l.start ∙ given.start; talk_is = l.talk };
           meant = l.meant;
           result = st.result;
           plan = [];
@@ -316,8 +307,8 @@ module _ (o : Watch) where
         }
 
     computed_more : (n : ℕ) (place next : RunPlace) (said : List Received) → AtPlace n place → SoFar n place said → ComesFrom o.observer o.judged cell place next → SoFar n next said
-    computed_more n (Starting s seen) next said at i c = comes_more n s _ seen next said at (record { program = refl; bytes = refl; began = refl }) i c.comes
-    computed_more n (Computing s v) next said at i c = comes_more n s v i.0 next said at.0 i.1 i.2 c
+    computed_more n (RunPlace.Starting s seen) next said at i c = comes_more n s _ seen next said at (record { program = refl; bytes = refl; start = refl }) i c.comes
+    computed_more n (RunPlace.Computing s v) next said at i c = comes_more n s v i.0 next said at.0 i.1 i.2 c
     computed_more n _ next said at i c = absurd c
 
     -- ---- what has been said can be ended
@@ -332,48 +323,48 @@ module _ (o : Watch) where
     after said more c = record { rest = more ++ c.rest; end = c.end; run = c.run; whole = subst (λ l. IsRunConversation o l c.end c.run) (append_assoc said more c.rest) c.whole }
 
     by_plan : (n : ℕ) (s : Ts) (seen : Seen) (talk : Talk) (base plan rest : List Received) (f : Meant) (out : Outcome) → n < MAX_LOCKED → AreAsked o s seen talk n base
-        → IsRunOn o s seen talk f → IsWhole s (declared.Run o.observer f) (declared_cells (declared.Run o.observer f)) (plan ++ rest) out → CanEnd (base ++ plan)
-    by_plan n s seen talk base plan rest f (outcomes.Committed c) few was on w = record {
-      rest = rest ++ told (Sweep cell) Done ∷ [];
-      end = ends.Ran f.result;
+        → IsRunOn o s seen talk f → IsWhole s (Declared.Run o.observer f) (declared_cells (Declared.Run o.observer f)) (plan ++ rest) out → CanEnd (base ++ plan)
+    by_plan n s seen talk base plan rest f (Outcome.Committed c) few was on w = record {
+      rest = rest ++ told (Step.Sweep cell) Answer.Done ∷ [];
+      end = JobEnd.Ran f.result;
       run = Some f;
-      whole = subst (λ l. IsRunConversation o l (ends.Ran f.result) (Some f))
-          (ap (λ l. l ++ told (Sweep cell) Done ∷ []) (sym (append_assoc base plan rest)) ∙ append_assoc (base ++ plan) rest (told (Sweep cell) Done ∷ []))
-          (ran s seen talk n base (plan ++ rest) f c Done was few on w tt);
+      whole = subst (λ l. IsRunConversation o l (JobEnd.Ran f.result) (Some f))
+          (ap (λ l. l ++ told (Step.Sweep cell) Answer.Done ∷ []) (sym (append_assoc base plan rest)) ∙ append_assoc (base ++ plan) rest (told (Step.Sweep cell) Answer.Done ∷ []))
+          (ran s seen talk n base (plan ++ rest) f c Answer.Done was few on w tt);
     }
-    by_plan n s seen talk base plan rest f outcomes.Conflicted few was on w = record {
+    by_plan n s seen talk base plan rest f Outcome.Conflicted few was on w = record {
       rest = rest;
-      end = ends.Conflicted;
+      end = JobEnd.Conflicted;
       run = Some f;
-      whole = subst (λ l. IsRunConversation o l ends.Conflicted (Some f)) (sym (append_assoc base plan rest)) (conflicted s seen talk n base (plan ++ rest) f was few on w);
+      whole = subst (λ l. IsRunConversation o l JobEnd.Conflicted (Some f)) (sym (append_assoc base plan rest)) (conflicted s seen talk n base (plan ++ rest) f was few on w);
     }
-    by_plan n s seen talk base plan rest f outcomes.Lost few was on w = record {
+    by_plan n s seen talk base plan rest f Outcome.Lost few was on w = record {
       rest = rest;
-      end = ends.Lost;
+      end = JobEnd.Lost;
       run = Some f;
-      whole = subst (λ l. IsRunConversation o l ends.Lost (Some f)) (sym (append_assoc base plan rest)) (lost s seen talk n base (plan ++ rest) f was few on w);
+      whole = subst (λ l. IsRunConversation o l JobEnd.Lost (Some f)) (sym (append_assoc base plan rest)) (lost s seen talk n base (plan ++ rest) f was few on w);
     }
 
     from_plan : (n : ℕ) (s : Ts) (seen : Seen) (talk : Talk) (base plan : List Received) (f : Meant) (p : PlanOf) → n < MAX_LOCKED → AreAsked o s seen talk n base
-        → IsRunOn o s seen talk f → conversations.Converses (plans.fresh s.0 (declared.Run o.observer f)) plan p → CanEnd (base ++ plan)
+        → IsRunOn o s seen talk f → conversations.Converses (plans.fresh s.0 (Declared.Run o.observer f)) plan p → CanEnd (base ++ plan)
     from_plan n s seen talk base plan f p few was on t =
-        let w = plans_converse s.0 (declared.Run o.observer f) _ _ plan p refl t in
+        let w = plans_converse s.0 (Declared.Run o.observer f) _ _ plan p refl t in
         by_plan n s seen talk base plan w.0 f w.1 few was on w.2
 
     -- some run, whatever it means
     from_asked : (n : ℕ) (s : Ts) (seen : Seen) (talk : Talk) (said : List Received) → n < MAX_LOCKED → AreAsked o s seen talk n said → CanEnd said
     from_asked n s seen talk said few was =
-        let f : Meant = record { judged = o.judged; bytes = bytes_of seen; began = s.0; talk = talk; result = 0; writes = [] } in
-        after said [] (from_plan n s seen talk said [] f _ few was (record { program = refl; bytes = refl; began = refl; talk_is = refl }) refl)
+        let f : Meant = record { judged = o.judged; bytes = bytes_of seen; start = s.0; talk = talk; result = 0; writes = [] } in
+        after said [] (from_plan n s seen talk said [] f _ few was (record { program = refl; bytes = refl; start = refl; talk_is = refl }) refl)
 
-    from_recalling : (n : ℕ) (s : Ts) (seen : Seen) (look : Look) (said : List Received) → n < MAX_LOCKED → SoFar n (Recalling s seen look) said → CanEnd said
+    from_recalling : (n : ℕ) (s : Ts) (seen : Seen) (look : Look) (said : List Received) → n < MAX_LOCKED → SoFar n (RunPlace.Recalling s seen look) said → CanEnd said
     from_recalling n s seen look said few i =
         let l = looks.ends s cell (Some seen.acknowledged) i.0 i.1 look n said i.5 in
-        after said (l.next ∷ l.rest) (from_asked n s (record seen { old = None }) [] (said ++ l.next ∷ l.rest) few (recalled_one s seen i.0 i.1 n (said ++ l.next ∷ l.rest) (Tells Absent) i.2 i.3 i.4 l.look))
+        after said (l.next ∷ l.rest) (from_asked n s (record seen { old = None }) [] (said ++ l.next ∷ l.rest) few (recalled_one s seen i.0 i.1 n (said ++ l.next ∷ l.rest) (Looked.Tells Answer.Absent) i.2 i.3 i.4 l.look))
 
     from_dirty : (n : ℕ) (s : Ts) (seen : Seen) (at : Option Ts) (said : List Received) → n < MAX_LOCKED → SoFar n (if_recalled s seen at) said → CanEnd said
     from_dirty n s seen None said few i = from_asked n s seen [] said few i
-    from_dirty n s seen (Some t) said few i = from_recalling n s seen Reading said few i
+    from_dirty n s seen (Some t) said few i = from_recalling n s seen Look.Reading said few i
 
     from_acknowledged : (n : ℕ) (s : Ts) (seen : Seen) (said : List Received) (b : Bool) → nat_lt seen.acknowledged.0 seen.version.commit.0 ≡ b → n < MAX_LOCKED → seen.old ≡ None
         → IsAcknowledged o s seen n said → CanEnd said
@@ -383,35 +374,35 @@ module _ (o : Watch) where
         newer : (a b : ℕ) → nat_lt a b ≡ true → a < b
         newer a b h = grind (arith, h)
     from_acknowledged n s seen said false e few none was =
-        record { rest = told (Sweep cell) Done ∷ []; end = ends.Clean; run = None; whole = clean s seen n said Done was (older _ _ e) few tt }
+        record { rest = told (Step.Sweep cell) Answer.Done ∷ []; end = JobEnd.Clean; run = None; whole = clean s seen n said Answer.Done was (older _ _ e) few tt }
       where
         older : (a b : ℕ) → nat_lt a b ≡ false → b ≤ a
         older a b h = grind (arith, h)
 
-    from_cell : (n : ℕ) (s : Ts) (said : List Received) → n < MAX_LOCKED → LooksAs s cell None 0 (its_begin o s) n said Absent → CanEnd said
-    from_cell n s said few look = record { rest = told (Sweep cell) Done ∷ []; end = ends.Clean; run = None; whole = absent s n said Done look.0 (ap version_in look.1) few tt }
+    from_cell : (n : ℕ) (s : Ts) (said : List Received) → n < MAX_LOCKED → LooksAs s cell None 0 (its_begin o s) n said Answer.Absent → CanEnd said
+    from_cell n s said few look = record { rest = told (Step.Sweep cell) Answer.Done ∷ []; end = JobEnd.Clean; run = None; whole = absent s n said Answer.Done look.0 (ap version_in look.1) few tt }
 
     can_end : (n : ℕ) (place : RunPlace) (said : List Received) → AtPlace n place → SoFar n place said → CanEnd said
-    can_end n Beginning said at i =
+    can_end n RunPlace.Beginning said at i =
         let s : Ts = record { 0 = 0 } in
-        let l = looks.ends s cell None 0 (its_begin o s) Reading 0 (its_begin o s) at_first in
+        let l = looks.ends s cell None 0 (its_begin o s) Look.Reading 0 (its_begin o s) at_first in
         subst CanEnd (sym i.1) (after [] (its_begin o s ++ l.next ∷ l.rest) (from_cell 0 s (its_begin o s ++ l.next ∷ l.rest) (omega arith) l.look))
-    can_end n (Observing s look) said at i =
+    can_end n (RunPlace.Observing s look) said at i =
         let l = looks.ends s cell None 0 (its_begin o s) look n said i in
         after said (l.next ∷ l.rest) (from_cell n s (said ++ l.next ∷ l.rest) at l.look)
-    can_end n (Acknowledging s found look) said at i =
+    can_end n (RunPlace.Acknowledging s found look) said at i =
         let l = looks.ends s ack None i.0 i.1 look n said i.3 in
-        let seen : Seen = seen_so_far found (acknowledged_in Absent) in
+        let seen : Seen = seen_so_far found (acknowledged_in Answer.Absent) in
         after said (l.next ∷ l.rest) (from_acknowledged n s seen (said ++ l.next ∷ l.rest) (nat_lt seen.acknowledged.0 found.commit.0) refl at refl (record { met = i.0; base = i.1; observed = i.2; look = l.look.0; acknowledged = ap acknowledged_in (sym l.look.1) }))
-    can_end n (Recalling s seen look) said at i = from_recalling n s seen look said at i
-    can_end n (Starting s seen) said at i = from_asked n s seen [] said at i
-    can_end n (Computing s v) said at i = from_asked n s i.0 v.talk said at.0 i.2
-    can_end n (Asking s v q look) said at i =
-        let l = looks.ends s (Data q.row q.column) None i.1 i.2 look n said i.5 in
-        after said (l.next ∷ l.rest) (from_asked n s i.0 _ (said ++ l.next ∷ l.rest) at.0 (asked_so s q i.0 v.talk i.1 i.2 Absent n (said ++ l.next ∷ l.rest) i.4 l.look))
-    can_end n (Planning r p) said at i = subst CanEnd (sym i.said_is) (from_plan n i.s i.seen i.talk i.base i.plan i.run p i.few i.asked i.run_on i.converses_are)
-    can_end n (Sweeping end) said at i = record { rest = told (Sweep cell) Done ∷ []; end = end; run = i.run; whole = i.ends Done tt }
-    can_end n (Over end) said at i = record { rest = []; end = end; run = i.run; whole = subst (λ l. IsRunConversation o l end i.run) (sym (append-nil said)) i.whole }
+    can_end n (RunPlace.Recalling s seen look) said at i = from_recalling n s seen look said at i
+    can_end n (RunPlace.Starting s seen) said at i = from_asked n s seen [] said at i
+    can_end n (RunPlace.Computing s v) said at i = from_asked n s i.0 v.talk said at.0 i.2
+    can_end n (RunPlace.Asking s v q look) said at i =
+        let l = looks.ends s (Cell.Data q.row q.column) None i.1 i.2 look n said i.5 in
+        after said (l.next ∷ l.rest) (from_asked n s i.0 _ (said ++ l.next ∷ l.rest) at.0 (asked_so s q i.0 v.talk i.1 i.2 Answer.Absent n (said ++ l.next ∷ l.rest) i.4 l.look))
+    can_end n (RunPlace.Planning r p) said at i = subst CanEnd (sym i.said_is) (from_plan n i.s i.seen i.talk i.base i.plan i.run p i.few i.asked i.run_on i.converses_are)
+    can_end n (RunPlace.Sweeping end) said at i = record { rest = told (Step.Sweep cell) Answer.Done ∷ []; end = end; run = i.run; whole = i.ends Answer.Done tt }
+    can_end n (RunPlace.Over end) said at i = record { rest = []; end = end; run = i.run; whole = subst (λ l. IsRunConversation o l end i.run) (sym (append-nil said)) i.whole }
 
     -- ---- all of it
 
@@ -428,9 +419,9 @@ module _ (o : Watch) where
           (said_more k.locked k.place said r.step r.answer h.at h.so (ap (λ (j : Watch). step_at j.observer j.row j.column k.place) (sym h.watch) ∙ next) can);
     }
 
-    holds_computed : (said : List Received) (k : RunOf) (place : RunPlace) → Holds said k → ComesFrom k.watch.observer k.watch.judged (Data k.watch.row k.watch.column) k.place place → Holds said (record k { place = place })
+    holds_computed : (said : List Received) (k : RunOf) (place : RunPlace) → Holds said k → ComesFrom k.watch.observer k.watch.judged (Cell.Data k.watch.row k.watch.column) k.place place → Holds said (record k { place = place })
     holds_computed said k place h comes =
-        let c : ComesFrom o.observer o.judged cell k.place place = subst (λ (j : Watch). ComesFrom j.observer j.judged (Data j.row j.column) k.place place) h.watch comes in
+        let c : ComesFrom o.observer o.judged cell k.place place = subst (λ (j : Watch). ComesFrom j.observer j.judged (Cell.Data j.row j.column) k.place place) h.watch comes in
         record {
           watch = h.watch;
           at = at_computed k.locked o.observer o.judged cell k.place place c h.at;
@@ -442,12 +433,12 @@ module _ (o : Watch) where
     holds said k (took before from r to reaches next can is told) = subst (Holds (before ++ r ∷ [])) (sym is) (holds_answered before from r (holds before from reaches) next can)
     holds said k (computed before from to reaches need c) = subst (Holds before) (sym c.same) (holds_computed before from to.place (holds before from reaches) c.comes)
 
-    ended : (said : List Received) (place : RunPlace) (end : JobEnd) (n : ℕ) → SoFar n place said → need_at place ≡ needs.Over end → IsEnded end said
-    ended said (Over other) end n i e = subst (λ z. IsEnded z said) (same_end other end e) i where
-      same_end : (a b : JobEnd) → needs.Over a ≡ needs.Over b → a ≡ b
+    ended : (said : List Received) (place : RunPlace) (end : JobEnd) (n : ℕ) → SoFar n place said → need_at place ≡ Need.Over end → IsEnded end said
+    ended said (RunPlace.Over other) end n i e = subst (λ z. IsEnded z said) (same_end other end e) i where
+      same_end : (a b : JobEnd) → Need.Over a ≡ Need.Over b → a ≡ b
       same_end a b h = cc
-    ended said (Starting s seen) end n i e = absurd cc
-    ended said (Computing s v) end n i e = absurd cc
+    ended said (RunPlace.Starting s seen) end n i e = absurd cc
+    ended said (RunPlace.Computing s v) end n i e = absurd cc
     ended said _ end n i e = absurd cc
 
 -- what was said at any place can be ended: a look by a read without a lock, a plan as plans can

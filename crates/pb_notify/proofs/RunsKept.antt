@@ -1,12 +1,11 @@
 -- Where a seat's entries end with a conversation, these are all that name its start.
-use Rattle.std.proofs.Common.{◌≡◌, ℕ, inl, inr, Bool, true, false, cond, List, [], ◌∷◌, ◌++◌, refl, sym, ap, subst, ◌∙◌}
+use Rattle.std.proofs.Common.{◌≡◌, ℕ, inl, inr, Bool, true, false, cond, List, [], ◌∷◌, ◌++◌, refl, sym, ap, subst, ◌∙◌, ◌==◌}
 use Rattle.std.proofs.lemmas.Bool.{eq-eqb, eqb-true, or_left as one_of, or_right as or_other}
 use Rattle.std.proofs.lemmas.List.Elements.{filter-append}
-use Rattle.std.specs.Prelude.{◌==◌}
 use Rattle.std.specs.List.{list_any}
-use Rattle.pb_steps.specs.declared.step.Work.TheVariants as works
-use Rattle.pb_steps.specs.declared.step.Step.TheVariants.{Begin}
-use Rattle.pb_steps.specs.declared.step.Answer.TheVariants.{At}
+use Rattle.pb_steps.specs.declared.step.Work.{Work}
+use Rattle.pb_steps.specs.declared.step.Step.{Step}
+use Rattle.pb_steps.specs.declared.step.Answer.{Answer}
 use Rattle.pb_history.specs.declared.entry.Entry.{Entry}
 use Rattle.pb_history.specs.declared.entry.Received.{Received}
 use Rattle.pb_history.specs.Places.{entries_of}
@@ -98,7 +97,7 @@ in_said seat (x ∷ xs) r (inr on) = inr (in_said seat xs r on)
 pub runs_kept : TransactionsAreTold → RunsAreKept
 runs_kept told_by observers seats clock journal state legal seat o row before said is s begun =
     let tells = told_by observers seats clock journal state legal in
-    let r = told (Begin (works.Run o row)) (At s) in
+    let r = told (Step.Begin (Work.Run o row)) (Answer.At s) in
     let b = entry_of seat r in
     let named = eq-eqb s.0 s.0 refl in
     let here = in_naming s.0 journal b named (in_journal seat journal r (subst (λ l. Has l r) (sym is) (at_end before said r begun))) in

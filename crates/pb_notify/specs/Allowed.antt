@@ -3,13 +3,11 @@
 -- else names the run's start (`HasRun`).
 use Rattle.std.specs.Prelude.{◌≡◌, ℕ, ◌<◌, ◌^◌, List, ◌++◌, map, Some, slice_get}
 use Rattle.pb_base.specs.declared.refusal.Reason.{Reason}
-use Rattle.pb_base.specs.declared.refusal.Reason.TheVariants.{OutOfTimestamps}
 use Rattle.pb_base.specs.declared.names.Row.{Row}
 use Rattle.pb_base.specs.declared.names.Ts.{Ts}
-use Rattle.pb_steps.specs.declared.step.Work.TheVariants as works
+use Rattle.pb_steps.specs.declared.step.Work.{Work}
 use Rattle.pb_steps.specs.declared.step.Step.{Step}
-use Rattle.pb_steps.specs.declared.step.Step.TheVariants.{Begin}
-use Rattle.pb_steps.specs.declared.step.Answer.TheVariants.{At}
+use Rattle.pb_steps.specs.declared.step.Answer.{Answer}
 use Rattle.pb_verify.specs.Observers.{ObserverOf}
 use Rattle.pb_steps.specs.State.{StateOf}
 use Rattle.pb_steps.specs.Steps.{step_reason}
@@ -30,7 +28,7 @@ entries_by seat said = map (λ r. record { seat = seat; step = r.step; answer = 
 -- the entries that name the start which the run was given, its begin and its reads among them, are this seat's, and
 -- those of this conversation that do
 abbrev pub HasRun : List Entry → ℕ → ℕ → Row → List Received → Type 0
-HasRun journal seat o row said = (s : Ts) → Has said (told (Begin (works.Run o row)) (At s)) → entries_naming s.0 journal ≡ entries_naming s.0 (entries_by seat said)
+HasRun journal seat o row said = (s : Ts) → Has said (told (Step.Begin (Work.Run o row)) (Answer.At s)) → entries_naming s.0 journal ≡ entries_naming s.0 (entries_by seat said)
 
 -- the next step of a job of an observer of the table, with its program and its column, and with row and column that a
 -- record has room for, is refused only where no timestamp is left
@@ -39,7 +37,7 @@ JobsAreAllowed = (observers : List ObserverOf) (seats clock : ℕ) (journal : Li
     → (seat o : ℕ) (observer : ObserverOf) (row : Row) (said : List Received) (k : RunOf) (step : Step) (why : Reason)
     → seat < state.seats → slice_get observers o ≡ Some observer → row.0 < 2 ^ 64 → observer.column < 2 ^ 64
     → Reaches (fresh (watch_of o observer row)) said k → HasRun journal seat o row said → next_of k ≡ Some step
-    → step_reason state seat step ≡ Some why → why ≡ OutOfTimestamps
+    → step_reason state seat step ≡ Some why → why ≡ Reason.OutOfTimestamps
 
 -- it is so where the seat's entries end with the conversation
 abbrev pub RunsAreKept : Type 0

@@ -2,7 +2,7 @@
 use Rattle.std.specs.Prelude.{◌≡◌, List, [], ◌∷◌, ◌++◌, Some}
 use Rattle.pb_steps.specs.Answers.{CanAnswer}
 use Rattle.pb_history.specs.declared.entry.Received.{Received}
-use Rattle.pb_notify.specs.declared.need.Need.TheVariants.{Local}
+use Rattle.pb_notify.specs.declared.need.Need.{Need}
 use Rattle.pb_notify.specs.Runs.{RunOf, next_of, need_of, answered, HearsLook, Computes}
 
 -- from one place to another: each of its next steps was answered with one of its answers, and between them its machine
@@ -11,4 +11,4 @@ pub data Reaches (j : RunOf) : List Received → RunOf → Type 0 where
   made : Reaches j [] j
   took : (said : List Received) (k : RunOf) (r : Received) (l : RunOf) → Reaches j said k → next_of k ≡ Some r.step → CanAnswer r.step r.answer
       → l ≡ answered k r.answer → HearsLook k r.answer l → Reaches j (said ++ r ∷ []) l
-  computed : (said : List Received) (k l : RunOf) → Reaches j said k → need_of k ≡ Local → Computes k l → Reaches j said l
+  computed : (said : List Received) (k l : RunOf) → Reaches j said k → need_of k ≡ Need.Local → Computes k l → Reaches j said l

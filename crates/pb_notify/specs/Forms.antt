@@ -2,7 +2,6 @@
 -- counts the reads that met a lock.
 use Rattle.std.specs.Prelude.{◌≡◌, ◌≢◌, ℕ, suc, ◌<◌, ◌≤◌, List, [], ◌∷◌, ◌++◌, Option, Some, None}
 use Rattle.pb_base.specs.declared.cell.Cell.{Cell}
-use Rattle.pb_base.specs.declared.cell.Cell.TheVariants.{Data, Ack}
 use Rattle.pb_base.specs.declared.names.Ts.{Ts}
 use Rattle.pb_base.specs.declared.content.Revision.{Revision}
 use Rattle.pb_isa.specs.Machine as machine
@@ -10,34 +9,32 @@ use Rattle.pb_isa.specs.Meaning.{Talk}
 use Rattle.pb_helpers.specs.OldRecord.{tells_old, record_by}
 use Rattle.pb_vm.specs.Finished.{Meant, IsMeant}
 use Rattle.pb_steps.specs.declared.seen.Seen.{Seen}
-use Rattle.pb_steps.specs.declared.step.Work.TheVariants as works
-use Rattle.pb_steps.specs.declared.step.Declared.TheVariants as declared
-use Rattle.pb_steps.specs.declared.step.Step.TheVariants.{Begin, Settle, Clear, Sweep}
+use Rattle.pb_steps.specs.declared.step.Work.{Work}
+use Rattle.pb_steps.specs.declared.step.Declared.{Declared}
+use Rattle.pb_steps.specs.declared.step.Step.{Step}
 use Rattle.pb_steps.specs.declared.step.Answer.{Answer}
-use Rattle.pb_steps.specs.declared.step.Answer.TheVariants.{At, Locked, Found, Absent, Waits}
 use Rattle.pb_steps.specs.Answers.{CanAnswer}
 use Rattle.pb_steps.specs.Declarations.{old_at}
 use Rattle.pb_steps.specs.Reads.{version_in, acknowledged_in, asked_cell, value_in}
 use Rattle.pb_history.specs.declared.entry.Received.{Received}
-use Rattle.pb_txn.specs.declared.place.Outcome.TheVariants as outcomes
+use Rattle.pb_txn.specs.declared.place.Outcome.{Outcome}
 use Rattle.pb_txn.specs.Places.{declared_cells}
 use Rattle.pb_txn.specs.Conversations.{told}
 use Rattle.pb_txn.specs.Forms.{IsWhole}
 use Rattle.pb_notify.specs.declared.look.TheConstants.{MAX_LOCKED}
 use Rattle.pb_notify.specs.declared.need.JobEnd.{JobEnd}
-use Rattle.pb_notify.specs.declared.need.JobEnd.TheVariants as ends
 use Rattle.pb_steps.specs.Read.{read_step}
 use Rattle.pb_notify.specs.Runs.{Watch, RunOf, fresh, need_of}
-use Rattle.pb_notify.specs.declared.need.Need.TheVariants.{Over}
+use Rattle.pb_notify.specs.declared.need.Need.{Need}
 use Rattle.pb_notify.specs.Conversations.{Reaches}
 
 -- ---- looks
 
 -- a read that met a lock, and how the lock was cleared
 pub data IsRound (s : Ts) (x : Cell) (at : Option Ts) : List Received → Type 0 where
-  cleared : (t : Ts) (primary : Cell) (a : Answer) → CanAnswer (Clear x) a → a ≢ Waits → IsRound s x at (told (read_step s x at) (Locked t primary) ∷ told (Clear x) a ∷ [])
-  settled : (t : Ts) (primary : Cell) (a b : Answer) → CanAnswer (Settle primary) a → CanAnswer (Clear x) b
-      → IsRound s x at (told (read_step s x at) (Locked t primary) ∷ told (Clear x) Waits ∷ told (Settle primary) a ∷ told (Clear x) b ∷ [])
+  cleared : (t : Ts) (primary : Cell) (a : Answer) → CanAnswer (Step.Clear x) a → a ≢ Answer.Waits → IsRound s x at (told (read_step s x at) (Answer.Locked t primary) ∷ told (Step.Clear x) a ∷ [])
+  settled : (t : Ts) (primary : Cell) (a b : Answer) → CanAnswer (Step.Settle primary) a → CanAnswer (Step.Clear x) b
+      → IsRound s x at (told (read_step s x at) (Answer.Locked t primary) ∷ told (Step.Clear x) Answer.Waits ∷ told (Step.Settle primary) a ∷ told (Step.Clear x) b ∷ [])
 
 -- any number of them, after what was said with so many locks met
 pub data AreRounds (s : Ts) (x : Cell) (at : Option Ts) (m : ℕ) (base : List Received) : ℕ → List Received → Type 0 where
@@ -46,8 +43,8 @@ pub data AreRounds (s : Ts) (x : Cell) (at : Option Ts) (m : ℕ) (base : List R
 
 -- a read was answered, and no lock was in the way
 abbrev pub IsHeld : Answer → Type 0
-IsHeld (Found start commit content) = Unit {0}
-IsHeld Absent = Unit {0}
+IsHeld (Answer.Found start commit content) = Unit {0}
+IsHeld Answer.Absent = Unit {0}
 IsHeld _ = ⊥
 
 -- a look at a cell: rounds, and a read that was answered with what the cell holds
@@ -71,11 +68,11 @@ pub record IsLooking (s : Ts) (x : Cell) (at : Option Ts) (m : ℕ) (base said :
 
 -- the first step of the run, and its start
 abbrev pub its_begin : Watch → Ts → List Received
-its_begin o s = told (Begin (works.Run o.observer o.row)) (At s) ∷ []
+its_begin o s = told (Step.Begin (Work.Run o.observer o.row)) (Answer.At s) ∷ []
 
 -- the cell was looked at, and holds this version
 pub record IsObserved (o : Watch) (s : Ts) (found : Revision) (n : ℕ) (said : List Received) : Type 0 where
-  pub look : IsLooked s (Data o.row o.column) None 0 (its_begin o s) n said
+  pub look : IsLooked s (Cell.Data o.row o.column) None 0 (its_begin o s) n said
   pub found_is : version_in look.answer ≡ Some found
 
 -- then its acknowledgment
@@ -83,14 +80,14 @@ pub record IsAcknowledged (o : Watch) (s : Ts) (seen : Seen) (n : ℕ) (said : L
   pub met : ℕ
   pub base : List Received
   pub observed : IsObserved o s seen.version met base
-  pub look : IsLooked s (Ack o.observer o.row o.column) None met base n said
+  pub look : IsLooked s (Cell.Ack o.observer o.row o.column) None met base n said
   pub acknowledged : seen.acknowledged ≡ acknowledged_in look.answer
 
 -- then the cell as of a timestamp, if it is looked at so
 abbrev pub IsRecalled : Watch → Ts → Seen → Option Ts → ℕ → List Received → Type 0
 IsRecalled o s seen None n said = (seen.old ≡ None) × IsAcknowledged o s seen n said
 IsRecalled o s seen (Some t) n said =
-    (m : ℕ) × (base : List Received) × IsAcknowledged o s seen m base × (look : IsLooked s (Data o.row o.column) (Some t) m base n said) × (seen.old ≡ value_in look.answer)
+    (m : ℕ) × (base : List Received) × IsAcknowledged o s seen m base × (look : IsLooked s (Cell.Data o.row o.column) (Some t) m base n said) × (seen.old ≡ value_in look.answer)
 
 -- where the version is newer: the cell as of the acknowledged timestamp, if the program is told that, and a look at
 -- each cell that its machine asked for, with these asks and replies
@@ -102,16 +99,16 @@ pub data AreAsked (o : Watch) (s : Ts) (seen : Seen) : Talk → ℕ → List Rec
 -- a run of the program on the record of what was seen, with these asks and replies
 pub record IsRunOn (o : Watch) (s : Ts) (seen : Seen) (talk : Talk) (f : Meant) : Type 0 where
   pub program : f.judged ≡ o.judged
-  pub bytes : f.bytes ≡ record_by (tells_old o.judged) (Data o.row o.column) seen.version seen.acknowledged.0 seen.old
-  pub began : f.began ≡ s.0
+  pub bytes : f.bytes ≡ record_by (tells_old o.judged) (Cell.Data o.row o.column) seen.version seen.acknowledged.0 seen.old
+  pub start : f.start ≡ s.0
   pub talk_is : f.talk ≡ talk
 
 -- where a look at a cell begins
 pub data LooksFrom (o : Watch) (s : Ts) : Cell → Option Ts → ℕ → List Received → Type 0 where
-  at_cell : LooksFrom o s (Data o.row o.column) None 0 (its_begin o s)
-  at_acknowledgment : (found : Revision) (n : ℕ) (said : List Received) → IsObserved o s found n said → LooksFrom o s (Ack o.observer o.row o.column) None n said
+  at_cell : LooksFrom o s (Cell.Data o.row o.column) None 0 (its_begin o s)
+  at_acknowledgment : (found : Revision) (n : ℕ) (said : List Received) → IsObserved o s found n said → LooksFrom o s (Cell.Ack o.observer o.row o.column) None n said
   at_old : (seen : Seen) (t : Ts) (n : ℕ) (said : List Received) → IsAcknowledged o s seen n said → seen.acknowledged.0 < seen.version.commit.0 → old_at (tells_old o.judged) seen.acknowledged ≡ Some t
-      → LooksFrom o s (Data o.row o.column) (Some t) n said
+      → LooksFrom o s (Cell.Data o.row o.column) (Some t) n said
   at_ask : (seen : Seen) (talk : Talk) (n : ℕ) (said : List Received) (q : machine.Ask) → AreAsked o s seen talk n said → LooksFrom o s (asked_cell q) None n said
 
 -- ---- whole conversations, with their ends and the run that they declared
@@ -119,24 +116,24 @@ pub data LooksFrom (o : Watch) (s : Ts) : Cell → Option Ts → ℕ → List Re
 -- a whole conversation, by how it ended: each but the last has met fewer locks than it may
 pub data IsRunConversation (o : Watch) : List Received → JobEnd → Option Meant → Type 0 where
   -- the cell was absent
-  absent : (s : Ts) (n : ℕ) (said : List Received) (w : Answer) (look : IsLooked s (Data o.row o.column) None 0 (its_begin o s) n said) → version_in look.answer ≡ None → n < MAX_LOCKED
-      → CanAnswer (Sweep (Data o.row o.column)) w → IsRunConversation o (said ++ told (Sweep (Data o.row o.column)) w ∷ []) ends.Clean None
+  absent : (s : Ts) (n : ℕ) (said : List Received) (w : Answer) (look : IsLooked s (Cell.Data o.row o.column) None 0 (its_begin o s) n said) → version_in look.answer ≡ None → n < MAX_LOCKED
+      → CanAnswer (Step.Sweep (Cell.Data o.row o.column)) w → IsRunConversation o (said ++ told (Step.Sweep (Cell.Data o.row o.column)) w ∷ []) JobEnd.Clean None
   -- its version is acknowledged
   clean : (s : Ts) (seen : Seen) (n : ℕ) (said : List Received) (w : Answer) → IsAcknowledged o s seen n said → seen.version.commit.0 ≤ seen.acknowledged.0 → n < MAX_LOCKED
-      → CanAnswer (Sweep (Data o.row o.column)) w → IsRunConversation o (said ++ told (Sweep (Data o.row o.column)) w ∷ []) ends.Clean None
+      → CanAnswer (Step.Sweep (Cell.Data o.row o.column)) w → IsRunConversation o (said ++ told (Step.Sweep (Cell.Data o.row o.column)) w ∷ []) JobEnd.Clean None
   -- the run was declared, and committed
   ran : (s : Ts) (seen : Seen) (talk : Talk) (n : ℕ) (said plan : List Received) (f : Meant) (c : Ts) (w : Answer) → AreAsked o s seen talk n said → n < MAX_LOCKED
-      → IsRunOn o s seen talk f → IsWhole s (declared.Run o.observer f) (declared_cells (declared.Run o.observer f)) plan (outcomes.Committed c)
-      → CanAnswer (Sweep (Data o.row o.column)) w → IsRunConversation o ((said ++ plan) ++ told (Sweep (Data o.row o.column)) w ∷ []) (ends.Ran f.result) (Some f)
+      → IsRunOn o s seen talk f → IsWhole s (Declared.Run o.observer f) (declared_cells (Declared.Run o.observer f)) plan (Outcome.Committed c)
+      → CanAnswer (Step.Sweep (Cell.Data o.row o.column)) w → IsRunConversation o ((said ++ plan) ++ told (Step.Sweep (Cell.Data o.row o.column)) w ∷ []) (JobEnd.Ran f.result) (Some f)
   conflicted : (s : Ts) (seen : Seen) (talk : Talk) (n : ℕ) (said plan : List Received) (f : Meant) → AreAsked o s seen talk n said → n < MAX_LOCKED
-      → IsRunOn o s seen talk f → IsWhole s (declared.Run o.observer f) (declared_cells (declared.Run o.observer f)) plan outcomes.Conflicted
-      → IsRunConversation o (said ++ plan) ends.Conflicted (Some f)
+      → IsRunOn o s seen talk f → IsWhole s (Declared.Run o.observer f) (declared_cells (Declared.Run o.observer f)) plan Outcome.Conflicted
+      → IsRunConversation o (said ++ plan) JobEnd.Conflicted (Some f)
   lost : (s : Ts) (seen : Seen) (talk : Talk) (n : ℕ) (said plan : List Received) (f : Meant) → AreAsked o s seen talk n said → n < MAX_LOCKED
-      → IsRunOn o s seen talk f → IsWhole s (declared.Run o.observer f) (declared_cells (declared.Run o.observer f)) plan outcomes.Lost
-      → IsRunConversation o (said ++ plan) ends.Lost (Some f)
+      → IsRunOn o s seen talk f → IsWhole s (Declared.Run o.observer f) (declared_cells (Declared.Run o.observer f)) plan Outcome.Lost
+      → IsRunConversation o (said ++ plan) JobEnd.Lost (Some f)
   -- a look met the last lock that its reads may meet
   blocked : (s : Ts) (x : Cell) (at : Option Ts) (m : ℕ) (base : List Received) (n : ℕ) (said : List Received) (t : Ts) (primary : Cell) → LooksFrom o s x at m base
-      → AreRounds s x at m base n said → suc n ≡ MAX_LOCKED → IsRunConversation o (said ++ told (read_step s x at) (Locked t primary) ∷ []) ends.Blocked None
+      → AreRounds s x at m base n said → suc n ≡ MAX_LOCKED → IsRunConversation o (said ++ told (read_step s x at) (Answer.Locked t primary) ∷ []) JobEnd.Blocked None
 
 -- what a job has asked so far is a beginning of such a conversation
 abbrev pub JobsConverse : Type 0
@@ -150,5 +147,5 @@ WasMeant (Some f) = IsMeant f
 
 -- and where it is over, a whole one with its end
 abbrev pub JobsEnd : Type 0
-JobsEnd = (o : Watch) (said : List Received) (k : RunOf) (end : JobEnd) → Reaches (fresh o) said k → need_of k ≡ Over end
+JobsEnd = (o : Watch) (said : List Received) (k : RunOf) (end : JobEnd) → Reaches (fresh o) said k → need_of k ≡ Need.Over end
     → (run : Option Meant) × IsRunConversation o said end run × WasMeant run

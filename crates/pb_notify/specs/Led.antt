@@ -1,7 +1,7 @@
 -- Where the machine of a job stands: its program led it there from entry, on the record of what the job read and with
 -- the replies that it read.
 use Rattle.std.specs.Prelude.{◌≡◌, ℕ, List, [], ◌∷◌, ◌++◌, length, Option, None}
-use Rattle.pb_base.specs.declared.cell.Cell.TheVariants.{Data}
+use Rattle.pb_base.specs.declared.cell.Cell.{Cell}
 use Rattle.pb_base.specs.declared.names.Ts.{Ts}
 use Rattle.pb_isa.specs.Machine.{Placement, IsPlacement, State}
 use Rattle.pb_helpers.specs.OldRecord.{tells_old, record_by}
@@ -9,8 +9,8 @@ use Rattle.pb_vm.specs.Position.{Position}
 use Rattle.pb_vm.specs.Moves.{IsAtState, AsksAt}
 use Rattle.pb_vm.specs.Finished.{Meant, IsMeant}
 use Rattle.pb_isa.specs.Meaning.{Talk}
-use Rattle.pb_steps.specs.declared.step.Declared.TheVariants as declared
-use Rattle.pb_steps.specs.declared.step.Step.TheVariants.{Sweep}
+use Rattle.pb_steps.specs.declared.step.Declared.{Declared}
+use Rattle.pb_steps.specs.declared.step.Step.{Step}
 use Rattle.pb_steps.specs.declared.step.Answer.{Answer}
 use Rattle.pb_steps.specs.Answers.{CanAnswer}
 use Rattle.pb_txn.specs.Plans.{PlanOf}
@@ -20,15 +20,14 @@ use Rattle.pb_steps.specs.declared.seen.Seen.{Seen}
 use Rattle.pb_history.specs.declared.entry.Received.{Received}
 use Rattle.pb_notify.specs.declared.need.JobEnd.{JobEnd}
 use Rattle.pb_notify.specs.declared.place.RunPlace.{RunPlace}
-use Rattle.pb_notify.specs.declared.place.RunPlace.TheVariants.{Computing, Asking, Planning, Sweeping}
 use Rattle.pb_notify.specs.Runs.{Watch, RunOf, fresh}
 use Rattle.pb_notify.specs.Conversations.{Reaches}
 use Rattle.pb_notify.specs.Forms.{IsLooking, AreAsked, IsRunOn, IsRunConversation, WasMeant}
 
 -- the machine of a place stands at this position, begun at this start
 abbrev pub MachineStandsAt : RunPlace → Ts → Position → Type 0
-MachineStandsAt (Computing t w) s v = (t ≡ s) × (w ≡ v)
-MachineStandsAt (Asking t w q look) s v = (t ≡ s) × (w ≡ v)
+MachineStandsAt (RunPlace.Computing t w) s v = (t ≡ s) × (w ≡ v)
+MachineStandsAt (RunPlace.Asking t w q look) s v = (t ≡ s) × (w ≡ v)
 MachineStandsAt place s v = ⊥
 
 -- at every placement its instructions led from entry to a state, with exactly its asks and replies
@@ -38,17 +37,17 @@ IsLed v = (a : Placement) → IsPlacement (length v.bytes) a → (here : State) 
 -- what was said since the machine had its last reply: nothing while it computes, and of one look at the cell while it
 -- asks
 abbrev pub IsSaidSince : RunPlace → ℕ → List Received → List Received → Type 0
-IsSaidSince (Computing s v) met base said = said ≡ base
-IsSaidSince (Asking s v q look) met base said = IsLooking s (Data q.row q.column) None met base said
+IsSaidSince (RunPlace.Computing s v) met base said = said ≡ base
+IsSaidSince (RunPlace.Asking s v q look) met base said = IsLooking s (Cell.Data q.row q.column) None met base said
 IsSaidSince place met base said = Unit {0}
 
 -- the program on the record of what was seen, from the start, with the replies that were read
 pub record IsMachineOf (o : Watch) (place : RunPlace) (s : Ts) (v : Position) (said : List Received) : Type 0 where
   pub seen : Seen
   pub program : v.judged ≡ o.judged
-  pub bytes : v.bytes ≡ record_by (tells_old o.judged) (Data o.row o.column) seen.version seen.acknowledged.0 seen.old
+  pub bytes : v.bytes ≡ record_by (tells_old o.judged) (Cell.Data o.row o.column) seen.version seen.acknowledged.0 seen.old
   pub size : length v.bytes ≡ o.judged.record_size
-  pub began : v.began ≡ s.0
+  pub start : v.start ≡ s.0
   pub met : ℕ
   pub base : List Received
   pub asked : AreAsked o s seen v.talk met base
@@ -57,7 +56,7 @@ pub record IsMachineOf (o : Watch) (place : RunPlace) (s : Ts) (v : Position) (s
 
 -- while it looks at a cell for its machine, the next instruction asks for that cell, at every placement
 abbrev pub IsAskingAt : RunPlace → Type 0
-IsAskingAt (Asking s v q look) = (a : Placement) → IsPlacement (length v.bytes) a → AsksAt v q a
+IsAskingAt (RunPlace.Asking s v q look) = (a : Placement) → IsPlacement (length v.bytes) a → AsksAt v q a
 IsAskingAt place = Unit {0}
 
 -- the plan that is followed declares a run of the program on the record of what was seen, with the replies that were
@@ -75,7 +74,7 @@ pub record IsEndedRun (o : Watch) (r : ℕ) (p : PlanOf) (said : List Received) 
   pub run_on : IsRunOn o s seen talk run
   pub meant : IsMeant run
   pub result : r ≡ run.result
-  pub declares : p.what ≡ declared.Run o.observer run
+  pub declares : p.what ≡ Declared.Run o.observer run
   pub followed : Converses (plans.fresh s.0 p.what) since p
 
 -- before its sweep: with the sweep's answer what was said is a whole conversation, and if a run was declared in it,
@@ -83,12 +82,12 @@ pub record IsEndedRun (o : Watch) (r : ℕ) (p : PlanOf) (said : List Received) 
 pub record IsBeforeSweep (o : Watch) (end : JobEnd) (said : List Received) : Type 0 where
   pub run : Option Meant
   pub meant : WasMeant run
-  pub ends : (w : Answer) → CanAnswer (Sweep (Data o.row o.column)) w → IsRunConversation o (said ++ told (Sweep (Data o.row o.column)) w ∷ []) end run
+  pub ends : (w : Answer) → CanAnswer (Step.Sweep (Cell.Data o.row o.column)) w → IsRunConversation o (said ++ told (Step.Sweep (Cell.Data o.row o.column)) w ∷ []) end run
 
 -- what is known once the machine has ended: of the plan, or of what comes before the sweep
 abbrev pub HasEnded : Watch → RunPlace → List Received → Type 0
-HasEnded o (Planning r p) said = IsEndedRun o r p said
-HasEnded o (Sweeping end) said = IsBeforeSweep o end said
+HasEnded o (RunPlace.Planning r p) said = IsEndedRun o r p said
+HasEnded o (RunPlace.Sweeping end) said = IsBeforeSweep o end said
 HasEnded o place said = Unit {0}
 
 -- a job that looks at a cell for its machine looks at the one that the next instruction asks for

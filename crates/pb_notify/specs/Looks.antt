@@ -5,50 +5,46 @@ use Rattle.std.specs.Prelude.{ℕ, ◌+◌, nat_lt, if◌then◌else◌, Option}
 use Rattle.pb_base.specs.declared.cell.Cell.{Cell}
 use Rattle.pb_base.specs.declared.names.Ts.{Ts}
 use Rattle.pb_steps.specs.declared.step.Step.{Step}
-use Rattle.pb_steps.specs.declared.step.Step.TheVariants.{Settle, Clear}
 use Rattle.pb_steps.specs.Read.{read_step}
 use Rattle.pb_steps.specs.declared.step.Answer.{Answer}
-use Rattle.pb_steps.specs.declared.step.Answer.TheVariants.{Locked, Waits}
 use Rattle.pb_notify.specs.declared.look.TheConstants.{MAX_LOCKED}
 use Rattle.pb_notify.specs.declared.look.Look.{Look}
-use Rattle.pb_notify.specs.declared.look.Look.TheVariants.{Reading, Clearing, Settling, ClearingAgain}
 use Rattle.pb_notify.specs.declared.look.Looked.{Looked}
-use Rattle.pb_notify.specs.declared.look.Looked.TheVariants.{On, Tells, Blocks}
 
 -- the next step of a look at a cell
 abbrev pub look_step : Ts → Cell → Option Ts → Look → Step
-look_step s x at Reading = read_step s x at
-look_step s x at (Clearing primary) = Clear x
-look_step s x at (Settling primary) = Settle primary
-look_step s x at ClearingAgain = Clear x
+look_step s x at Look.Reading = read_step s x at
+look_step s x at (Look.Clearing primary) = Step.Clear x
+look_step s x at (Look.Settling primary) = Step.Settle primary
+look_step s x at Look.ClearingAgain = Step.Clear x
 
 -- ---- where an answer leads, after so many reads of the job that met a lock
 
 -- the last one that it may meet blocks it
 abbrev pub after_read : ℕ → Answer → Looked
-after_read locked (Locked start primary) = if nat_lt (locked + 1) MAX_LOCKED then On (Clearing primary) else Blocks
-after_read locked a = Tells a
+after_read locked (Answer.Locked start primary) = if nat_lt (locked + 1) MAX_LOCKED then Looked.On (Look.Clearing primary) else Looked.Blocks
+after_read locked a = Looked.Tells a
 
 -- a lock that waits for its primary's has that settled; else the cell is read again
 abbrev pub after_clear : Cell → Answer → Looked
-after_clear primary Waits = On (Settling primary)
-after_clear primary _ = On Reading
+after_clear primary Answer.Waits = Looked.On (Look.Settling primary)
+after_clear primary _ = Looked.On Look.Reading
 
 -- once a lock was settled and cleared its cell is read again, whatever the answers
 abbrev pub look_after : ℕ → Look → Answer → Looked
-look_after locked Reading a = after_read locked a
-look_after locked (Clearing primary) a = after_clear primary a
-look_after locked (Settling primary) a = On ClearingAgain
-look_after locked ClearingAgain a = On Reading
+look_after locked Look.Reading a = after_read locked a
+look_after locked (Look.Clearing primary) a = after_clear primary a
+look_after locked (Look.Settling primary) a = Looked.On Look.ClearingAgain
+look_after locked Look.ClearingAgain a = Looked.On Look.Reading
 
 -- ---- how many reads met a lock by then
 
 -- a read that meets a lock is one more, whosever lock it is
 abbrev pub locked_by_read : ℕ → Answer → ℕ
-locked_by_read locked (Locked start primary) = locked + 1
+locked_by_read locked (Answer.Locked start primary) = locked + 1
 locked_by_read locked _ = locked
 
 -- what clears a lock is no read, and isn't counted
 abbrev pub locked_after : ℕ → Look → Answer → ℕ
-locked_after locked Reading a = locked_by_read locked a
+locked_after locked Look.Reading a = locked_by_read locked a
 locked_after locked _ a = locked

@@ -8,7 +8,7 @@ use Rattle.pb_isa.specs.Machine as machine
 use Rattle.pb_helpers.specs.declared.ask.Ask.{Ask}
 use Rattle.pb_helpers.specs.declared.ask.Reply.{Reply}
 use Rattle.pb_helpers.specs.Replies.{ask_of, reply_of}
-use Rattle.pb_vm.specs.declared.moved.MachinePhase.TheVariants.{Going, Over}
+use Rattle.pb_vm.specs.declared.moved.MachinePhase.{MachinePhase}
 use Rattle.pb_vm.specs.Position.{Position}
 use Rattle.pb_vm.specs.Moves.{EndsAt, RepliedWith}
 use Rattle.pb_vm.specs.MachineSlot.{IsAtSlot}
@@ -16,15 +16,14 @@ use Rattle.pb_vm.specs.Finished.{Meant, IsMeant}
 use Rattle.pb_steps.specs.declared.step.Answer.{Answer}
 use Rattle.pb_steps.specs.Reads.{value_in}
 use Rattle.pb_notify.specs.declared.machine.Standing.{Standing}
-use Rattle.pb_notify.specs.declared.machine.Standing.TheVariants.{Running, Exited}
 
 -- before its first instruction
 abbrev pub first_position : JudgedOf → List ℕ → ℕ → Position
-first_position judged bytes began = record { judged = judged; bytes = bytes; began = began; talk = []; taken = 0; phase = Going }
+first_position judged bytes start = record { judged = judged; bytes = bytes; start = start; talk = []; taken = 0; phase = MachinePhase.Going }
 
 -- after its ask was replied to
 abbrev pub after_reply : Position → Ask → machine.Reply → Position
-after_reply v q r = record v { talk = v.talk ++ (ask_of q, r) ∷ []; taken = v.taken + 1; phase = Going }
+after_reply v q r = record v { talk = v.talk ++ (ask_of q, r) ∷ []; taken = v.taken + 1; phase = MachinePhase.Going }
 
 -- the instruction that asked is done, with what the read of its cell was answered
 pub record HearsReply (v : Position) (q : Ask) (a : Answer) (w : Position) : Type 0 where
@@ -37,7 +36,7 @@ pub record HearsReply (v : Position) (q : Ask) (a : Answer) (w : Position) : Typ
 pub record Leaves (v : Position) (f : Meant) : Type 0 where
   pub judged : f.judged ≡ v.judged
   pub bytes : f.bytes ≡ v.bytes
-  pub began : f.began ≡ v.began
+  pub start : f.start ≡ v.start
   pub talk : f.talk ≡ v.talk
   pub ends : (a : Placement) → IsPlacement (length v.bytes) a → EndsAt v f.result a
   pub meant : IsMeant f
@@ -47,19 +46,19 @@ pub record Leaves (v : Position) (f : Meant) : Type 0 where
 
 -- before the exit that left this
 abbrev pub exit_at : Meant → ℕ → Position
-exit_at f taken = record { judged = f.judged; bytes = f.bytes; began = f.began; talk = f.talk; taken = taken; phase = Going }
+exit_at f taken = record { judged = f.judged; bytes = f.bytes; start = f.start; talk = f.talk; taken = taken; phase = MachinePhase.Going }
 
 -- and behind it
 abbrev pub ended_at : Meant → ℕ → Position
-ended_at f taken = record { judged = f.judged; bytes = f.bytes; began = f.began; talk = f.talk; taken = taken + 1; phase = Over f.result }
+ended_at f taken = record { judged = f.judged; bytes = f.bytes; start = f.start; talk = f.talk; taken = taken + 1; phase = MachinePhase.Over f.result }
 
 -- where a machine is seen: one that has exited, before its exit, until it does that again
 abbrev pub position_in : Standing → Position
-position_in (Running v) = v
-position_in (Exited f taken slot false) = exit_at f taken
-position_in (Exited f taken slot true) = ended_at f taken
+position_in (Standing.Running v) = v
+position_in (Standing.Exited f taken slot false) = exit_at f taken
+position_in (Standing.Exited f taken slot true) = ended_at f taken
 
 -- what is kept of an exit is what that exit leaves, with its slot
 abbrev pub IsKept : Standing → Type 0
-IsKept (Running v) = Unit {0}
-IsKept (Exited f taken slot again) = Leaves (exit_at f taken) f × IsAtSlot (exit_at f taken) slot
+IsKept (Standing.Running v) = Unit {0}
+IsKept (Standing.Exited f taken slot again) = Leaves (exit_at f taken) f × IsAtSlot (exit_at f taken) slot

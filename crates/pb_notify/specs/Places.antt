@@ -2,37 +2,31 @@
 -- place, so that the order of a run is read off these functions, and its conversation is a law (Forms).
 use Rattle.std.specs.Prelude.{◌≡◌, ℕ, ◌<◌, Bool, nat_lt, if◌then◌else◌, length, Option, Some, None, MatchOption}
 use Rattle.pb_base.specs.declared.cell.Cell.{Cell}
-use Rattle.pb_base.specs.declared.cell.Cell.TheVariants.{Data, Ack}
 use Rattle.pb_base.specs.declared.names.Row.{Row}
 use Rattle.pb_base.specs.declared.names.Ts.{Ts}
 use Rattle.pb_base.specs.declared.content.Revision.{Revision}
 use Rattle.pb_isa.specs.Programs.{JudgedOf}
 use Rattle.pb_helpers.specs.declared.ask.Ask.{Ask}
 use Rattle.pb_helpers.specs.OldRecord.{tells_old, record_by}
-use Rattle.pb_vm.specs.declared.moved.MachinePhase.TheVariants as phases
+use Rattle.pb_vm.specs.declared.moved.MachinePhase.{MachinePhase}
 use Rattle.pb_vm.specs.MachineSlot.{IsAtSlot}
 use Rattle.pb_vm.specs.Position.{Position}
 use Rattle.pb_steps.specs.declared.seen.Seen.{Seen}
-use Rattle.pb_steps.specs.declared.step.Work.TheVariants as works
+use Rattle.pb_steps.specs.declared.step.Work.{Work}
 use Rattle.pb_steps.specs.declared.step.Declared.{Declared}
 use Rattle.pb_steps.specs.declared.step.Step.{Step}
-use Rattle.pb_steps.specs.declared.step.Step.TheVariants as steps
 use Rattle.pb_steps.specs.declared.step.Answer.{Answer}
-use Rattle.pb_steps.specs.declared.step.Answer.TheVariants as answers
 use Rattle.pb_steps.specs.Declarations.{old_at}
 use Rattle.pb_steps.specs.Reads.{version_in, acknowledged_in, value_in}
 use Rattle.pb_txn.specs.declared.place.Outcome.{Outcome}
-use Rattle.pb_txn.specs.declared.place.Outcome.TheVariants as outcomes
 use Rattle.pb_txn.specs.Places as orders
 use Rattle.pb_txn.specs.Plans.{PlanOf, fresh, outcome_of, CanTake}
 use Rattle.pb_txn.specs.Plans as plans
 use Rattle.pb_notify.specs.declared.look.TheConstants.{MAX_LOCKED}
-use Rattle.pb_notify.specs.declared.look.Look.TheVariants.{Reading}
+use Rattle.pb_notify.specs.declared.look.Look.{Look}
 use Rattle.pb_notify.specs.declared.look.Looked.{Looked}
-use Rattle.pb_notify.specs.declared.look.Looked.TheVariants.{On, Tells, Blocks}
-use Rattle.pb_notify.specs.declared.need.JobEnd.TheVariants as ends
+use Rattle.pb_notify.specs.declared.need.JobEnd.{JobEnd}
 use Rattle.pb_notify.specs.declared.place.RunPlace.{RunPlace}
-use Rattle.pb_notify.specs.declared.place.RunPlace.TheVariants.{Beginning, Observing, Acknowledging, Recalling, Starting, Computing, Asking, Planning, Sweeping, Over}
 use Rattle.pb_notify.specs.Looks.{look_step, look_after, locked_after}
 use Rattle.pb_notify.specs.Machines.{first_position, after_reply, HearsReply}
 use Rattle.pb_notify.specs.Steps.{WentOn, Ends, MovesOn, IsAtExit}
@@ -43,41 +37,41 @@ use Rattle.pb_vm.specs.Moves.{AskedFor}
 
 -- the step at a place: a plan keeps its own, and there is none in the machine's turn or at the end
 abbrev pub stored_step : ℕ → Row → ℕ → RunPlace → Option Step
-stored_step o row column Beginning = Some (steps.Begin (works.Run o row))
-stored_step o row column (Observing s look) = Some (look_step s (Data row column) None look)
-stored_step o row column (Acknowledging s found look) = Some (look_step s (Ack o row column) None look)
-stored_step o row column (Recalling s seen look) = Some (look_step s (Data row column) (Some seen.acknowledged) look)
-stored_step o row column (Asking s v q look) = Some (look_step s (Data q.row q.column) None look)
-stored_step o row column (Sweeping end) = Some (steps.Sweep (Data row column))
+stored_step o row column RunPlace.Beginning = Some (Step.Begin (Work.Run o row))
+stored_step o row column (RunPlace.Observing s look) = Some (look_step s (Cell.Data row column) None look)
+stored_step o row column (RunPlace.Acknowledging s found look) = Some (look_step s (Cell.Ack o row column) None look)
+stored_step o row column (RunPlace.Recalling s seen look) = Some (look_step s (Cell.Data row column) (Some seen.acknowledged) look)
+stored_step o row column (RunPlace.Asking s v q look) = Some (look_step s (Cell.Data q.row q.column) None look)
+stored_step o row column (RunPlace.Sweeping end) = Some (Step.Sweep (Cell.Data row column))
 stored_step o row column _ = None
 
 -- the step at a place, for a run of this observer on this cell
 abbrev pub step_at : ℕ → Row → ℕ → RunPlace → Option Step
-step_at o row column (Planning r p) = plans.next_of p
+step_at o row column (RunPlace.Planning r p) = plans.next_of p
 step_at o row column place = stored_step o row column place
 
 -- ---- where an answer leads
 
 -- the begin is answered with the start, and the look at the cell is next
 abbrev pub after_begin : Answer → RunPlace
-after_begin (answers.At s) = Observing s Reading
-after_begin _ = Beginning
+after_begin (Answer.At s) = RunPlace.Observing s Look.Reading
+after_begin _ = RunPlace.Beginning
 
 -- a cell without a version is clean, whatever is acknowledged
 abbrev pub if_found : Ts → Option Revision → RunPlace
-if_found s None = Sweeping ends.Clean
-if_found s (Some found) = Acknowledging s found Reading
+if_found s None = RunPlace.Sweeping JobEnd.Clean
+if_found s (Some found) = RunPlace.Acknowledging s found Look.Reading
 
 -- after a look at the observed cell
 abbrev pub after_cell : Ts → Looked → RunPlace
-after_cell s (On look) = Observing s look
-after_cell s (Tells a) = if_found s (version_in a)
-after_cell s Blocks = Over ends.Blocked
+after_cell s (Looked.On look) = RunPlace.Observing s look
+after_cell s (Looked.Tells a) = if_found s (version_in a)
+after_cell s Looked.Blocks = RunPlace.Over JobEnd.Blocked
 
 -- the machine's turn, after a look at the cell as of a timestamp if there is one
 abbrev pub if_recalled : Ts → Seen → Option Ts → RunPlace
-if_recalled s seen None = Starting s seen
-if_recalled s seen (Some t) = Recalling s seen Reading
+if_recalled s seen None = RunPlace.Starting s seen
+if_recalled s seen (Some t) = RunPlace.Recalling s seen Look.Reading
 
 -- what was seen of the cell so far
 abbrev pub seen_so_far : Revision → Ts → Seen
@@ -85,32 +79,32 @@ seen_so_far found acknowledged = record { version = found; acknowledged = acknow
 
 -- a cell is dirty where its commit is greater than the acknowledged timestamp
 abbrev pub if_dirty : Bool → Ts → Revision → Ts → RunPlace
-if_dirty second s found acknowledged = if nat_lt acknowledged.0 found.commit.0 then if_recalled s (seen_so_far found acknowledged) (old_at second acknowledged) else Sweeping ends.Clean
+if_dirty second s found acknowledged = if nat_lt acknowledged.0 found.commit.0 then if_recalled s (seen_so_far found acknowledged) (old_at second acknowledged) else RunPlace.Sweeping JobEnd.Clean
 
 -- after a look at the acknowledgment: where it is absent the acknowledged timestamp is 0
 abbrev pub after_acknowledgment : Bool → Ts → Revision → Looked → RunPlace
-after_acknowledgment second s found (On look) = Acknowledging s found look
-after_acknowledgment second s found (Tells a) = if_dirty second s found (acknowledged_in a)
-after_acknowledgment second s found Blocks = Over ends.Blocked
+after_acknowledgment second s found (Looked.On look) = RunPlace.Acknowledging s found look
+after_acknowledgment second s found (Looked.Tells a) = if_dirty second s found (acknowledged_in a)
+after_acknowledgment second s found Looked.Blocks = RunPlace.Over JobEnd.Blocked
 
 -- after a look as of the acknowledged timestamp: deleted and absent are both no value of before
 abbrev pub after_recall : Ts → Seen → Looked → RunPlace
-after_recall s seen (On look) = Recalling s seen look
-after_recall s seen (Tells a) = Starting s (record seen { old = value_in a })
-after_recall s seen Blocks = Over ends.Blocked
+after_recall s seen (Looked.On look) = RunPlace.Recalling s seen look
+after_recall s seen (Looked.Tells a) = RunPlace.Starting s (record seen { old = value_in a })
+after_recall s seen Looked.Blocks = RunPlace.Over JobEnd.Blocked
 
 -- after a look for the machine, which takes a value as its reply, or that there is none
 abbrev pub after_ask : Ts → Position → Ask → Looked → RunPlace
-after_ask s v q (On look) = Asking s v q look
-after_ask s v q (Tells a) = Computing s (after_reply v q (value_in a))
-after_ask s v q Blocks = Over ends.Blocked
+after_ask s v q (Looked.On look) = RunPlace.Asking s v q look
+after_ask s v q (Looked.Tells a) = RunPlace.Computing s (after_reply v q (value_in a))
+after_ask s v q Looked.Blocks = RunPlace.Over JobEnd.Blocked
 
 -- it sweeps the cell where it committed
 abbrev pub by_outcome : ℕ → PlanOf → Option Outcome → RunPlace
-by_outcome r p None = Planning r p
-by_outcome r p (Some (outcomes.Committed c)) = Sweeping (ends.Ran r)
-by_outcome r p (Some outcomes.Conflicted) = Over ends.Conflicted
-by_outcome r p (Some outcomes.Lost) = Over ends.Lost
+by_outcome r p None = RunPlace.Planning r p
+by_outcome r p (Some (Outcome.Committed c)) = RunPlace.Sweeping (JobEnd.Ran r)
+by_outcome r p (Some Outcome.Conflicted) = RunPlace.Over JobEnd.Conflicted
+by_outcome r p (Some Outcome.Lost) = RunPlace.Over JobEnd.Lost
 
 -- after an answer to its plan, which goes on or has an outcome
 abbrev pub after_plan : ℕ → PlanOf → RunPlace
@@ -119,33 +113,33 @@ after_plan r p = by_outcome r p (outcome_of p)
 -- after so many reads that met a lock, of a program that is told what its cell held at the acknowledged timestamp, or
 -- isn't
 abbrev pub place_after : Bool → ℕ → RunPlace → Answer → RunPlace
-place_after second locked Beginning a = after_begin a
-place_after second locked (Observing s look) a = after_cell s (look_after locked look a)
-place_after second locked (Acknowledging s found look) a = after_acknowledgment second s found (look_after locked look a)
-place_after second locked (Recalling s seen look) a = after_recall s seen (look_after locked look a)
-place_after second locked (Starting s seen) a = Starting s seen
-place_after second locked (Computing s v) a = Computing s v
-place_after second locked (Asking s v q look) a = after_ask s v q (look_after locked look a)
-place_after second locked (Planning r p) a = after_plan r (plans.answered p a)
-place_after second locked (Sweeping end) a = Over end
-place_after second locked (Over end) a = Over end
+place_after second locked RunPlace.Beginning a = after_begin a
+place_after second locked (RunPlace.Observing s look) a = after_cell s (look_after locked look a)
+place_after second locked (RunPlace.Acknowledging s found look) a = after_acknowledgment second s found (look_after locked look a)
+place_after second locked (RunPlace.Recalling s seen look) a = after_recall s seen (look_after locked look a)
+place_after second locked (RunPlace.Starting s seen) a = RunPlace.Starting s seen
+place_after second locked (RunPlace.Computing s v) a = RunPlace.Computing s v
+place_after second locked (RunPlace.Asking s v q look) a = after_ask s v q (look_after locked look a)
+place_after second locked (RunPlace.Planning r p) a = after_plan r (plans.answered p a)
+place_after second locked (RunPlace.Sweeping end) a = RunPlace.Over end
+place_after second locked (RunPlace.Over end) a = RunPlace.Over end
 
 -- where a look for the machine comes to its end, the machine is told
 abbrev pub IsToldBy : Position → Ask → Looked → RunPlace → Type 0
-IsToldBy v q (Tells a) (Computing s w) = HearsReply v q a w
+IsToldBy v q (Looked.Tells a) (RunPlace.Computing s w) = HearsReply v q a w
 IsToldBy v q looked place = Unit {0}
 
 -- only a look for the machine tells it anything
 abbrev pub IsToldAt : ℕ → RunPlace → Answer → RunPlace → Type 0
-IsToldAt locked (Asking s v q look) a place = IsToldBy v q (look_after locked look a) place
+IsToldAt locked (RunPlace.Asking s v q look) a place = IsToldBy v q (look_after locked look a) place
 IsToldAt locked before a place = Unit {0}
 
 -- how many reads met a lock by then
 abbrev pub locked_at : ℕ → RunPlace → Answer → ℕ
-locked_at locked (Observing s look) a = locked_after locked look a
-locked_at locked (Acknowledging s found look) a = locked_after locked look a
-locked_at locked (Recalling s seen look) a = locked_after locked look a
-locked_at locked (Asking s v q look) a = locked_after locked look a
+locked_at locked (RunPlace.Observing s look) a = locked_after locked look a
+locked_at locked (RunPlace.Acknowledging s found look) a = locked_after locked look a
+locked_at locked (RunPlace.Recalling s seen look) a = locked_after locked look a
+locked_at locked (RunPlace.Asking s v q look) a = locked_after locked look a
 locked_at locked _ a = locked
 
 -- ---- where an instruction leads
@@ -153,9 +147,9 @@ locked_at locked _ a = locked
 -- one instruction of a run of this observer, begun at this start, leads from the position to the place: the machine goes
 -- on, a cell is read for it, or its run is declared by a plan from the same start
 pub data Comes (o : ℕ) (s : Ts) (v : Position) : RunPlace → Type 0 where
-  goes : (w : Position) → WentOn v w → Comes o s v (Computing s w)
-  waits : (w : Position) (q : Ask) → AskedFor v q w → Comes o s v (Asking s w q Reading)
-  declares : (r : ℕ) (what : Declared) → Ends o v r what → Comes o s v (Planning r (fresh s.0 what))
+  goes : (w : Position) → WentOn v w → Comes o s v (RunPlace.Computing s w)
+  waits : (w : Position) (q : Ask) → AskedFor v q w → Comes o s v (RunPlace.Asking s w q Look.Reading)
+  declares : (r : ℕ) (what : Declared) → Ends o v r what → Comes o s v (RunPlace.Planning r (fresh s.0 what))
 
 -- the machine begins on the record of what was seen of the cell
 pub record Starts (o : ℕ) (judged : JudgedOf) (x : Cell) (s : Ts) (seen : Seen) (place : RunPlace) : Type 0 where
@@ -164,18 +158,18 @@ pub record Starts (o : ℕ) (judged : JudgedOf) (x : Cell) (s : Ts) (seen : Seen
 
 -- from a place: the machine begins, or goes on where it stands
 abbrev pub ComesFrom : ℕ → JudgedOf → Cell → RunPlace → RunPlace → Type 0
-ComesFrom o judged x (Starting s seen) place = Starts o judged x s seen place
-ComesFrom o judged x (Computing s v) place = Comes o s v place
+ComesFrom o judged x (RunPlace.Starting s seen) place = Starts o judged x s seen place
+ComesFrom o judged x (RunPlace.Computing s v) place = Comes o s v place
 ComesFrom o judged x _ place = ⊥
 
 -- one instruction was done where the machine stands, of a run that was begun at this start
 abbrev pub MovesAt : Ts → Position → Moved → RunPlace → Type 0
-MovesAt s v m place = (w : Position) × (place ≡ Computing s w) × MovesOn v m w
+MovesAt s v m place = (w : Position) × (place ≡ RunPlace.Computing s w) × MovesOn v m w
 
 -- the next instruction takes memory: the first, for its machine, or the exit, for what it declares
 abbrev pub GrowsAt : RunPlace → Type 0
-GrowsAt (Starting s seen) = Unit {0}
-GrowsAt (Computing s v) = IsAtExit v
+GrowsAt (RunPlace.Starting s seen) = Unit {0}
+GrowsAt (RunPlace.Computing s v) = IsAtExit v
 GrowsAt place = ⊥
 
 -- ---- what a place says of its parts
@@ -183,34 +177,34 @@ GrowsAt place = ⊥
 -- wherever it may read, one lock more may be met; its machine goes or asks as the place says; a plan that it follows
 -- isn't over
 abbrev pub AtPlace : ℕ → RunPlace → Type 0
-AtPlace locked Beginning = locked < MAX_LOCKED
-AtPlace locked (Observing s look) = locked < MAX_LOCKED
-AtPlace locked (Acknowledging s found look) = locked < MAX_LOCKED
-AtPlace locked (Recalling s seen look) = locked < MAX_LOCKED
-AtPlace locked (Starting s seen) = locked < MAX_LOCKED
-AtPlace locked (Computing s v) = (locked < MAX_LOCKED) × (v.phase ≡ phases.Going)
-AtPlace locked (Asking s v q look) = (locked < MAX_LOCKED) × (v.phase ≡ phases.Asking q)
-AtPlace locked (Planning r p) = (outcome_of p ≡ None) × orders.LiesWithin (length (orders.declared_cells p.what)) p.place
-AtPlace locked (Sweeping end) = Unit {0}
-AtPlace locked (Over end) = Unit {0}
+AtPlace locked RunPlace.Beginning = locked < MAX_LOCKED
+AtPlace locked (RunPlace.Observing s look) = locked < MAX_LOCKED
+AtPlace locked (RunPlace.Acknowledging s found look) = locked < MAX_LOCKED
+AtPlace locked (RunPlace.Recalling s seen look) = locked < MAX_LOCKED
+AtPlace locked (RunPlace.Starting s seen) = locked < MAX_LOCKED
+AtPlace locked (RunPlace.Computing s v) = (locked < MAX_LOCKED) × (v.phase ≡ MachinePhase.Going)
+AtPlace locked (RunPlace.Asking s v q look) = (locked < MAX_LOCKED) × (v.phase ≡ MachinePhase.Asking q)
+AtPlace locked (RunPlace.Planning r p) = (outcome_of p ≡ None) × orders.LiesWithin (length (orders.declared_cells p.what)) p.place
+AtPlace locked (RunPlace.Sweeping end) = Unit {0}
+AtPlace locked (RunPlace.Over end) = Unit {0}
 
 -- its machine isn't started
 abbrev pub IsStarting : RunPlace → Type 0
-IsStarting (Starting s seen) = Unit {0}
+IsStarting (RunPlace.Starting s seen) = Unit {0}
 IsStarting place = ⊥
 
 -- the slot of that instruction: of the first, before the machine is started
 abbrev pub IsSlotAt : RunPlace → Option ℕ → Type 0
-IsSlotAt (Starting s seen) slot = slot ≡ Some 0
-IsSlotAt (Computing s v) slot = MatchOption slot ⊥ (IsAtSlot v)
+IsSlotAt (RunPlace.Starting s seen) slot = slot ≡ Some 0
+IsSlotAt (RunPlace.Computing s v) slot = MatchOption slot ⊥ (IsAtSlot v)
 IsSlotAt place slot = slot ≡ None
 
 -- its plan is next
 abbrev pub IsPlanning : RunPlace → Type 0
-IsPlanning (Planning r p) = Unit {0}
+IsPlanning (RunPlace.Planning r p) = Unit {0}
 IsPlanning place = ⊥
 
 -- where its plan is next, the answer is one that the plan's step can have
 abbrev pub CanTakeAt : RunPlace → Answer → Type 0
-CanTakeAt (Planning r p) a = CanTake (plans.next_of p) a
+CanTakeAt (RunPlace.Planning r p) a = CanTake (plans.next_of p) a
 CanTakeAt place a = Unit {0}

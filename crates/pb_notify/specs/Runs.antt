@@ -1,7 +1,7 @@
 -- Jobs of observers, as their owners see them. The contracts of `ObserverJob` cite them, and `pb_world` and
 -- `pb_worker` say by them how a run goes on.
 use Rattle.std.specs.Prelude.{◌≡◌, ℕ, Option, Some}
-use Rattle.pb_base.specs.declared.cell.Cell.TheVariants.{Data}
+use Rattle.pb_base.specs.declared.cell.Cell.{Cell}
 use Rattle.pb_base.specs.declared.names.Row.{Row}
 use Rattle.pb_isa.specs.Programs.{JudgedOf}
 use Rattle.pb_helpers.specs.OldRecord.{tells_old}
@@ -10,9 +10,7 @@ use Rattle.pb_steps.specs.declared.step.Step.{Step}
 use Rattle.pb_steps.specs.declared.step.Answer.{Answer}
 use Rattle.pb_txn.specs.Plans as plans
 use Rattle.pb_notify.specs.declared.need.Need.{Need}
-use Rattle.pb_notify.specs.declared.need.Need.TheVariants as needs
 use Rattle.pb_notify.specs.declared.place.RunPlace.{RunPlace}
-use Rattle.pb_notify.specs.declared.place.RunPlace.TheVariants.{Beginning, Starting, Computing, Over}
 use Rattle.pb_notify.specs.Places.{stored_step, step_at, place_after, locked_at, AtPlace, IsSlotAt, IsToldAt, ComesFrom, GrowsAt}
 
 -- an observer with its program, and the row and column of a cell that it watches
@@ -34,7 +32,7 @@ pub record RunOf : Type 0 where
 
 -- before its first step
 abbrev pub fresh : Watch → RunOf
-fresh o = record { watch = o; locked = 0; place = Beginning }
+fresh o = record { watch = o; locked = 0; place = RunPlace.Beginning }
 
 -- the step that it asks next, while it needs an answer
 abbrev pub next_of : RunOf → Option Step
@@ -46,10 +44,10 @@ HasNext j = (s : Step) × (next_of j ≡ Some s)
 
 -- in the machine's turn one instruction, at the end nothing, and else an answer of the table
 abbrev pub need_at : RunPlace → Need
-need_at (Starting s seen) = needs.Local
-need_at (Computing s v) = needs.Local
-need_at (Over end) = needs.Over end
-need_at _ = needs.Call
+need_at (RunPlace.Starting s seen) = Need.Local
+need_at (RunPlace.Computing s v) = Need.Local
+need_at (RunPlace.Over end) = Need.Over end
+need_at _ = Need.Call
 
 -- what a job needs next
 abbrev pub need_of : RunOf → Need
@@ -75,7 +73,7 @@ CanTake j a = plans.CanTake (next_of j) a
 
 -- the machine does one, and all but the place is as before
 pub record Computes (j k : RunOf) : Type 0 where
-  pub comes : ComesFrom j.watch.observer j.watch.judged (Data j.watch.row j.watch.column) j.place k.place
+  pub comes : ComesFrom j.watch.observer j.watch.judged (Cell.Data j.watch.row j.watch.column) j.place k.place
   pub same : k ≡ record j { place = k.place }
 
 -- ---- all instructions up to the next ask or the exit
@@ -83,7 +81,7 @@ pub record Computes (j k : RunOf) : Type 0 where
 -- any number of instructions, one after the other, each where one is next
 pub data ComputesOn (j : RunOf) : RunOf → Type 0 where
   at_first : ComputesOn j j
-  one_more : (k l : RunOf) → ComputesOn j k → need_of k ≡ needs.Local → Computes k l → ComputesOn j l
+  one_more : (k l : RunOf) → ComputesOn j k → need_of k ≡ Need.Local → Computes k l → ComputesOn j l
 
 -- its next instruction takes memory: the first, or the exit
 abbrev pub GrowsNext : RunOf → Type 0

@@ -5,11 +5,10 @@ use Rattle.pb_isa.specs.Slots.{slots}
 use Rattle.pb_isa.specs.Machine.{Placement, IsPlacement}
 use Rattle.pb_vm.specs.Position.{Position}
 use Rattle.pb_vm.specs.declared.moved.Moved.{Moved}
-use Rattle.pb_vm.specs.declared.moved.MachinePhase.TheVariants.{Going}
+use Rattle.pb_vm.specs.declared.moved.MachinePhase.{MachinePhase}
 use Rattle.pb_vm.specs.Moves.{Went, EndsAt, Moves, IsStop}
 use Rattle.pb_vm.specs.Finished.{Meant}
 use Rattle.pb_steps.specs.declared.step.Declared.{Declared}
-use Rattle.pb_steps.specs.declared.step.Declared.TheVariants as declared
 use Rattle.pb_notify.specs.Machines.{Leaves}
 
 -- no run does more instructions than its program has slots
@@ -22,11 +21,11 @@ pub record Ends (o : ℕ) (v : Position) (r : ℕ) (what : Declared) : Type 0 wh
   pub left : Meant
   pub leaves : Leaves v left
   pub result : r ≡ left.result
-  pub declares : what ≡ declared.Run o left
+  pub declares : what ≡ Declared.Run o left
 
 -- what one instruction does where the machine stands, also at the exit
 pub record MovesOn (v : Position) (m : Moved) (w : Position) : Type 0 where
-  pub going : v.phase ≡ Going
+  pub going : v.phase ≡ MachinePhase.Going
   pub moves : Moves v m w
   pub most : w.taken ≤ slots w.judged.program.insns
 

@@ -54,12 +54,12 @@ impl Machine {
         alloc: Global,
         accepted: &Arc<Accepted>,
         change: Record,
-        run: Ts,
+        start: Ts,
     ) -> Result<Machine, NoMemory>
         requires { length change ≡ accepted.now.value.record_size }
-        ensures { IfOk result (λ m. m ≡ first_position accepted.now.value change run.0) }
+        ensures { IfOk result (λ m. m ≡ first_position accepted.now.value change start.0) }
     {
-        let vm = Vm::start(alloc, accepted, change, run)?;
+        let vm = Vm::start(alloc, accepted, change, start)?;
         Ok(Machine {
             standing: Standing::Running(vm),
         })

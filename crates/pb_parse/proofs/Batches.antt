@@ -1,20 +1,15 @@
 -- What the operations of a line make is a batch, however many they are.
-use Rattle.std.proofs.Common.{◌≡◌, ℕ, ◌+◌, ◌<◌, ◌≤◌, ◌^◌, ◌-◌, Bool, true, false, cond, List, [], ◌∷◌, ◌++◌, length, Option, Some, None, Result, Ok, Err, refl, sym, ap, subst, ◌∙◌, arith, inl, inr, append_assoc, length-append}
-use Rattle.std.specs.Prelude.{◌==◌, ◌&&◌, nat_le, is_some, is_none, codes}
+use Rattle.std.proofs.Common.{◌≡◌, ℕ, ◌+◌, ◌<◌, ◌≤◌, ◌^◌, ◌-◌, Bool, true, false, cond, List, [], ◌∷◌, ◌++◌, length, Option, Some, None, Result, Ok, Err, refl, sym, ap, subst, ◌∙◌, arith, inl, inr, append_assoc, length-append, ◌==◌, ◌&&◌, nat_le, is_some, is_none, codes, bytes_eq}
 use Rattle.std.specs.Cmp.{eq_by_cmp_equiv}
 use Rattle.std.specs.List.{list_all, onto_first, slice_split}
 use Rattle.std.specs.Ordering.{eq_by_cmp}
-use Rattle.std.specs.Str.{bytes_eq}
 use Rattle.std.proofs.lemmas.Bool.{and_parts, leb-false, le-leb, lt-ltb}
 use Rattle.std.proofs.lemmas.List.{append-nil, length-map, map-append}
 use Rattle.pb_base.specs.Cell.{cell_cmp, cell_cmp_total, is_data}
 use Rattle.pb_base.specs.declared.cell.Cell.{Cell}
-use Rattle.pb_base.specs.declared.cell.Cell.TheVariants.{Data}
 use Rattle.pb_base.specs.declared.content.Content.{Content}
-use Rattle.pb_base.specs.declared.content.Content.TheVariants.{Value, Deleted}
 use Rattle.pb_base.specs.Batch.{Writes, content_in, is_unstamped, is_data_write, are_distinct, is_batch}
 use Rattle.pb_parse.specs.declared.script.code.ScriptCode.{ScriptCode}
-use Rattle.pb_parse.specs.declared.script.code.ScriptCode.TheVariants.{Form, Twice, Seventeenth}
 use Rattle.pb_reading.specs.Reading.{◌>>=◌, in_turn, next_word, no_word}
 use Rattle.pb_base.specs.declared.limits.TheConstants.{MAX_CELLS}
 use Rattle.pb_parse.specs.ScriptWords.{put_of, del_of, write_of, operation, cell_at, number_upto, content_of}
@@ -27,11 +22,11 @@ use Rattle.pb_base.proofs.Logic.{none_is as not_some, chosen}
 cell_is_data : (words : List (List ℕ)) (c : Cell × List (List ℕ)) → cell_at words ≡ Ok c → is_data c.0 ≡ true
 unfolding cell_at
 cell_is_data words c h =
-    let a = then_ok (next_word Form words) _ c h in
+    let a = then_ok (next_word ScriptCode.Form words) _ c h in
     let b = then_ok (number_upto (2 ^ 64 - 1) a.0.0) _ c a.2 in
-    let d = then_ok (next_word Form a.0.1) _ c b.2 in
+    let d = then_ok (next_word ScriptCode.Form a.0.1) _ c b.2 in
     let e = then_ok (number_upto 15 d.0.0) _ c d.2 in
-    sym (ap (λ (p : Cell × List (List ℕ)). is_data p.0) (ok_is {E = ScriptCode} (Data (record { 0 = b.0 }) e.0, d.0.1) c e.2))
+    sym (ap (λ (p : Cell × List (List ℕ)). is_data p.0) (ok_is {E = ScriptCode} (Cell.Data (record { 0 = b.0 }) e.0, d.0.1) c e.2))
 
 -- a value or a deletion of a data cell is what a batch may have
 is_written : (x : Cell) (k : Content) (w : Cell × Content) → is_data x ≡ true → is_unstamped k ≡ true → ◌≡◌ {A = Result (Cell × Content) ScriptCode} (Ok (x, k)) (Ok w) → is_data_write w ≡ true
@@ -42,22 +37,22 @@ plain_put : (words : List (List ℕ)) (w : Cell × Content) → put_of words ≡
 unfolding put_of
 plain_put words w h =
     let a = then_ok (cell_at words) _ w h in
-    let b = then_ok (next_word Form a.0.1) _ w a.2 in
+    let b = then_ok (next_word ScriptCode.Form a.0.1) _ w a.2 in
     let c = then_ok (content_of b.0.0) _ w b.2 in
-    let d = then_ok (no_word Form b.0.1) _ w c.2 in
-    is_written a.0.0 (Value c.0) w (cell_is_data words a.0 a.1) refl d.2
+    let d = then_ok (no_word ScriptCode.Form b.0.1) _ w c.2 in
+    is_written a.0.0 (Content.Value c.0) w (cell_is_data words a.0 a.1) refl d.2
 
 plain_del : (words : List (List ℕ)) (w : Cell × Content) → del_of words ≡ Ok w → is_data_write w ≡ true
 unfolding del_of
 plain_del words w h =
     let a = then_ok (cell_at words) _ w h in
-    let d = then_ok (no_word Form a.0.1) _ w a.2 in
-    is_written a.0.0 Deleted w (cell_is_data words a.0 a.1) refl d.2
+    let d = then_ok (no_word ScriptCode.Form a.0.1) _ w a.2 in
+    is_written a.0.0 Content.Deleted w (cell_is_data words a.0 a.1) refl d.2
 
 plain_write : (words : List (List ℕ)) (w : Cell × Content) → write_of words ≡ Ok w → is_data_write w ≡ true
 unfolding write_of
 plain_write words w h =
-    let a = then_ok (next_word Form words) _ w h in
+    let a = then_ok (next_word ScriptCode.Form words) _ w h in
     elim (chosen (bytes_eq a.0.0 (codes "put")) (put_of a.0.1) _ (Ok w) a.2) [
       | inl p ↦ plain_put a.0.1 w p.1
       | inr q ↦ elim (chosen (bytes_eq a.0.0 (codes "del")) (del_of a.0.1) _ (Ok w) q.1) [
@@ -116,9 +111,9 @@ added : (before after : Writes) (text : List ℕ) → with_operation before text
 unfolding with_operation
 added before after text h =
     let a = then_ok (operation text) _ after h in
-    elim (chosen (is_some (content_in before a.0.0)) (Err Twice) _ (Ok after) a.2) [
+    elim (chosen (is_some (content_in before a.0.0)) (Err ScriptCode.Twice) _ (Ok after) a.2) [
       | inl twice ↦ let no = twice.1 in absurd cc
-      | inr new ↦ elim (chosen (nat_le MAX_CELLS (length before)) (Err Seventeenth) (Ok (before ++ a.0 ∷ [])) (Ok after) new.1) [
+      | inr new ↦ elim (chosen (nat_le MAX_CELLS (length before)) (Err ScriptCode.Seventeenth) (Ok (before ++ a.0 ∷ [])) (Ok after) new.1) [
         | inl full ↦ let no = full.1 in absurd cc
         | inr room ↦ record {
           write = a.0;

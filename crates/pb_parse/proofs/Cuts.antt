@@ -1,6 +1,5 @@
 -- Where a line is cut: at each `; ` from the left, as the code finds it.
-use Rattle.std.proofs.Common.{◌≡◌, ℕ, zero, suc, ◌<◌, ◌≤◌, false, List, [], ◌∷◌, length, take, drop, refl, ap, inl, inr, arith}
-use Rattle.std.specs.Prelude.{◌==◌, ◌&&◌}
+use Rattle.std.proofs.Common.{◌≡◌, ℕ, zero, suc, ◌<◌, ◌≤◌, false, List, [], ◌∷◌, length, take, drop, refl, ap, inl, inr, arith, ◌==◌, ◌&&◌}
 use Rattle.std.specs.Str.Pattern.{LacksTextAt, FindsText}
 use Rattle.std.specs.Str.Pattern.{SplitsAroundMatch}
 use Rattle.std.proofs.lemmas.Bool.{eqb-true, and_parts, cases_Bool}

@@ -1,8 +1,5 @@
 -- A line's fault, unless it is its form, is that of a field; and a field's fault is the line's.
-use Rattle.std.proofs.Common.{◌≡◌, ℕ, ◌-◌, ◌^◌, ◌<◌, ◌≤◌, true, cond, List, [], ◌∷◌, length, Result, Ok, Err, refl, sym, ap, subst, ◌∙◌, arith, inl, inr}
-use Rattle.std.specs.Prelude.{◌⊎◌, nat_le, nat_lt, codes}
-use Rattle.std.specs.Fmt.{decimal}
-use Rattle.std.specs.Str.{bytes_eq}
+use Rattle.std.proofs.Common.{◌≡◌, ℕ, ◌-◌, ◌^◌, ◌<◌, ◌≤◌, true, cond, List, [], ◌∷◌, length, Result, Ok, Err, refl, sym, ap, subst, ◌∙◌, arith, inl, inr, ◌⊎◌, nat_le, nat_lt, codes, decimal, bytes_eq}
 use Rattle.std.specs.Str.Parse.{digits_value}
 use Rattle.std.proofs.lemmas.Bool.{leb-false, ltb-false, ltb-true}
 use Rattle.pb_base.specs.declared.limits.TheConstants.{COLUMNS, MAX_CHANGES, MAX_EVENTS, MAX_SEATS}
@@ -11,12 +8,9 @@ use Rattle.pb_base.specs.declared.names.Row.{Row}
 use Rattle.pb_reading.specs.Reading.{◌>>=◌, is_numeral, next_word, no_word, numeral_upto, words_of}
 use Rattle.pb_verify.specs.Observers.{ObserverOf, acknowledgment}
 use Rattle.pb_parse.specs.declared.event.Job.{Job}
-use Rattle.pb_parse.specs.declared.event.Job.TheVariants.{Run}
 use Rattle.pb_parse.specs.declared.event.Event.{Event}
-use Rattle.pb_parse.specs.declared.event.Event.TheVariants.{Launch, Crash, Settle, Clear, Sweep}
 use Rattle.pb_parse.specs.declared.schedule.words.Order.{Order}
 use Rattle.pb_parse.specs.declared.schedule.code.ScheduleCode.{ScheduleCode}
-use Rattle.pb_parse.specs.declared.schedule.code.ScheduleCode.TheVariants.{Form, Range, NoObserver}
 use Rattle.pb_parse.specs.ScheduleWords.{number_between, next_number, next_actor, next_row, first_named, observer_named, next_observer, next_change, next_run, next_job, once, launch_of, times_of, step_of, crash_of, next_data_cell, next_acknowledgment, next_cell, once_on, order_by, order_of_words, order_of}
 use Rattle.pb_parse.specs.EventLines.{name_of, IsActor, IsRow, IsNamed}
 use Rattle.pb_parse.specs.ScheduleFaults.{LaunchActor, ChangeNumber, RunName, RunRow, StepActor, StepTimes, CrashActor, SettleRow, SettleColumn, SettleName, SettleAckRow, ClearRow, ClearColumn, ClearName, ClearAckRow, SweepRow, SweepColumn, IsOutside, IsNoRow, IsNoColumn, IsNobody, StopsAtField}
@@ -29,22 +23,22 @@ use Rattle.pb_base.proofs.Logic.{chosen}
 -- ---- numbers
 
 -- a number is refused for its form, or as digits out of its range
-number_fault : (least greatest : ℕ) (word : List ℕ) (cause : ScheduleCode) → number_between least greatest word ≡ Err cause → (cause ≡ Form) ⊎ IsOutside least greatest word cause
+number_fault : (least greatest : ℕ) (word : List ℕ) (cause : ScheduleCode) → number_between least greatest word ≡ Err cause → (cause ≡ ScheduleCode.Form) ⊎ IsOutside least greatest word cause
 number_fault least greatest word cause h =
-    elim (then_err (numeral_upto Form Range greatest word) _ cause h) [
-      | inl own ↦ elim (chosen (is_numeral word) _ (Err Form) (Err cause) own) [
-        | inl digits ↦ elim (chosen (nat_le (digits_value 10 word) greatest) (Ok (digits_value 10 word)) (Err Range) (Err cause) digits.1) [
+    elim (then_err (numeral_upto ScheduleCode.Form ScheduleCode.Range greatest word) _ cause h) [
+      | inl own ↦ elim (chosen (is_numeral word) _ (Err ScheduleCode.Form) (Err cause) own) [
+        | inl digits ↦ elim (chosen (nat_le (digits_value 10 word) greatest) (Ok (digits_value 10 word)) (Err ScheduleCode.Range) (Err cause) digits.1) [
           | inl small ↦ let e = small.1 in absurd cc
-          | inr big ↦ inr (record { numeral = digits.0; outside = inr (leb-false _ _ big.0); told = sym (err_is {A = ℕ} Range cause big.1) })
+          | inr big ↦ inr (record { numeral = digits.0; outside = inr (leb-false _ _ big.0); told = sym (err_is {A = ℕ} ScheduleCode.Range cause big.1) })
         ]
-        | inr form ↦ inl (sym (err_is {A = ℕ} Form cause form.1))
+        | inr form ↦ inl (sym (err_is {A = ℕ} ScheduleCode.Form cause form.1))
       ]
-      | inr low ↦ elim (chosen (is_numeral word) _ (Err Form) (Ok low.0) low.1) [
-        | inl digits ↦ elim (chosen (nat_le (digits_value 10 word) greatest) (Ok (digits_value 10 word)) (Err Range) (Ok low.0) digits.1) [
-          | inl small ↦ elim (chosen (nat_lt low.0 least) (Err Range) (Ok low.0) (Err cause) low.2) [
+      | inr low ↦ elim (chosen (is_numeral word) _ (Err ScheduleCode.Form) (Ok low.0) low.1) [
+        | inl digits ↦ elim (chosen (nat_le (digits_value 10 word) greatest) (Ok (digits_value 10 word)) (Err ScheduleCode.Range) (Ok low.0) digits.1) [
+          | inl small ↦ elim (chosen (nat_lt low.0 least) (Err ScheduleCode.Range) (Ok low.0) (Err cause) low.2) [
             | inl less ↦ let value : digits_value 10 word ≡ low.0 = ok_is {E = ScheduleCode} (digits_value 10 word) low.0 small.1 in
                 let lt : low.0 < least = ltb-true _ _ less.0 in
-                inr (record { numeral = digits.0; outside = inl (omega (arith, value, lt)); told = sym (err_is {A = ℕ} Range cause less.1) })
+                inr (record { numeral = digits.0; outside = inl (omega (arith, value, lt)); told = sym (err_is {A = ℕ} ScheduleCode.Range cause less.1) })
             | inr more ↦ let e = more.1 in absurd cc
           ]
           | inr big ↦ let e = big.1 in absurd cc
@@ -60,21 +54,21 @@ record BadNumber (least greatest : ℕ) (words : List (List ℕ)) (cause : Sched
   cut : words ≡ word ∷ rest
   outside : IsOutside least greatest word cause
 
-next_number_fault : (least greatest : ℕ) (words : List (List ℕ)) (cause : ScheduleCode) → next_number least greatest words ≡ Err cause → (cause ≡ Form) ⊎ BadNumber least greatest words cause
+next_number_fault : (least greatest : ℕ) (words : List (List ℕ)) (cause : ScheduleCode) → next_number least greatest words ≡ Err cause → (cause ≡ ScheduleCode.Form) ⊎ BadNumber least greatest words cause
 unfolding next_number
 next_number_fault least greatest words cause h =
-    elim (then_err (next_word Form words) _ cause h) [
-      | inl none ↦ inl (next_fault Form words cause none)
+    elim (then_err (next_word ScheduleCode.Form words) _ cause h) [
+      | inl none ↦ inl (next_fault ScheduleCode.Form words cause none)
       | inr a ↦ elim (then_err (number_between least greatest a.0.0) _ cause a.2) [
         | inl own ↦ elim (number_fault least greatest a.0.0 cause own) [
           | inl form ↦ inl form
-          | inr out ↦ inr (record { word = a.0.0; rest = a.0.1; cut = next_is Form words a.0 a.1; outside = out })
+          | inr out ↦ inr (record { word = a.0.0; rest = a.0.1; cut = next_is ScheduleCode.Form words a.0 a.1; outside = out })
         ]
         | inr b ↦ let e = b.2 in absurd cc
       ]
     ]
 
-next_row_fault : (words : List (List ℕ)) (cause : ScheduleCode) → next_row words ≡ Err cause → (cause ≡ Form) ⊎ BadNumber 0 (2 ^ 64 - 1) words cause
+next_row_fault : (words : List (List ℕ)) (cause : ScheduleCode) → next_row words ≡ Err cause → (cause ≡ ScheduleCode.Form) ⊎ BadNumber 0 (2 ^ 64 - 1) words cause
 unfolding next_row
 next_row_fault words cause h =
     elim (then_err (next_number 0 (2 ^ 64 - 1) words) _ cause h) [
@@ -94,21 +88,21 @@ record BadName (observers : List ObserverOf) (words : List (List ℕ)) (cause : 
 -- a name is refused only where no observer has it
 named_fault : (observers : List ObserverOf) (name : List ℕ) (cause : ScheduleCode) → observer_named observers name ≡ Err cause → IsNobody observers name cause
 named_fault observers name cause h =
-    elim (chosen (nat_lt (first_named observers name) (length observers)) (Ok (first_named observers name)) (Err NoObserver) (Err cause) h) [
+    elim (chosen (nat_lt (first_named observers name) (length observers)) (Ok (first_named observers name)) (Err ScheduleCode.NoObserver) (Err cause) h) [
       | inl some ↦ let e = some.1 in absurd cc
       | inr none ↦ record {
         nobody = λ o lt is. let most : length observers ≤ first_named observers name = ltb-false _ _ none.0 in let least = some_named observers name o lt is in absurd (omega (arith, most, least));
-        told = sym (err_is {A = ℕ} NoObserver cause none.1);
+        told = sym (err_is {A = ℕ} ScheduleCode.NoObserver cause none.1);
       }
     ]
 
-next_observer_fault : (observers : List ObserverOf) (words : List (List ℕ)) (cause : ScheduleCode) → next_observer observers words ≡ Err cause → (cause ≡ Form) ⊎ BadName observers words cause
+next_observer_fault : (observers : List ObserverOf) (words : List (List ℕ)) (cause : ScheduleCode) → next_observer observers words ≡ Err cause → (cause ≡ ScheduleCode.Form) ⊎ BadName observers words cause
 unfolding next_observer
 next_observer_fault observers words cause h =
-    elim (then_err (next_word Form words) _ cause h) [
-      | inl none ↦ inl (next_fault Form words cause none)
+    elim (then_err (next_word ScheduleCode.Form words) _ cause h) [
+      | inl none ↦ inl (next_fault ScheduleCode.Form words cause none)
       | inr a ↦ elim (then_err (observer_named observers a.0.0) _ cause a.2) [
-        | inl own ↦ inr (record { word = a.0.0; rest = a.0.1; cut = next_is Form words a.0 a.1; nobody = named_fault observers a.0.0 cause own })
+        | inl own ↦ inr (record { word = a.0.0; rest = a.0.1; cut = next_is ScheduleCode.Form words a.0 a.1; nobody = named_fault observers a.0.0 cause own })
         | inr b ↦ let e = b.2 in absurd cc
       ]
     ]
@@ -123,7 +117,7 @@ record BadRowBehind (observers : List ObserverOf) (words : List (List ℕ)) (cau
 
 -- a name and a row, one of them at fault
 abbrev NameAndRow : List ObserverOf → List (List ℕ) → ScheduleCode → Type 0
-NameAndRow observers words cause = (cause ≡ Form) ⊎ (BadName observers words cause ⊎ BadRowBehind observers words cause)
+NameAndRow observers words cause = (cause ≡ ScheduleCode.Form) ⊎ (BadName observers words cause ⊎ BadRowBehind observers words cause)
 
 abbrev named_row : {A : Type 0} → (ℕ → Row → A) → List ObserverOf → List (List ℕ) → Result (A × List (List ℕ)) ScheduleCode
 named_row make observers words = do
@@ -164,9 +158,9 @@ record BadRun (observers : List ObserverOf) (words : List (List ℕ)) (cause : S
 
 -- why a job isn't read: its form, or one of its fields
 abbrev BadJob : List ObserverOf → List (List ℕ) → ScheduleCode → Type 0
-BadJob observers words cause = (cause ≡ Form) ⊎ (BadChange words cause ⊎ BadRun observers words cause)
+BadJob observers words cause = (cause ≡ ScheduleCode.Form) ⊎ (BadChange words cause ⊎ BadRun observers words cause)
 
-change_fault : (words : List (List ℕ)) (cause : ScheduleCode) → next_change words ≡ Err cause → (cause ≡ Form) ⊎ BadNumber 1 MAX_CHANGES words cause
+change_fault : (words : List (List ℕ)) (cause : ScheduleCode) → next_change words ≡ Err cause → (cause ≡ ScheduleCode.Form) ⊎ BadNumber 1 MAX_CHANGES words cause
 unfolding next_change
 change_fault words cause h =
     elim (then_err (next_number 1 MAX_CHANGES words) _ cause h) [
@@ -176,7 +170,7 @@ change_fault words cause h =
 
 run_fault : (observers : List ObserverOf) (words : List (List ℕ)) (cause : ScheduleCode) → AreParts 32 words → next_run observers words ≡ Err cause → NameAndRow observers words cause
 unfolding next_run
-run_fault observers words cause some h = name_and_row observers words cause Run some h
+run_fault observers words cause some h = name_and_row observers words cause Job.Run some h
 
 in_front : (words : List (List ℕ)) (x : List ℕ × List (List ℕ)) (word : List ℕ) → words ≡ x.0 ∷ x.1 → bytes_eq x.0 word ≡ true → words ≡ word ∷ x.1
 in_front words x word cut is = cut ∙ ap (λ (w : List ℕ). w ∷ x.1) (same_text x.0 word is)
@@ -185,9 +179,9 @@ in_front words x word cut is = cut ∙ ap (λ (w : List ℕ). w ∷ x.1) (same_t
 job_fault : (observers : List ObserverOf) (words : List (List ℕ)) (cause : ScheduleCode) → AreParts 32 words → next_job observers words ≡ Err cause → BadJob observers words cause
 unfolding next_job
 job_fault observers words cause some h =
-    elim (then_err (next_word Form words) _ cause h) [
-      | inl none ↦ inl (next_fault Form words cause none)
-      | inr a ↦ let cut = next_is Form words a.0 a.1 in
+    elim (then_err (next_word ScheduleCode.Form words) _ cause h) [
+      | inl none ↦ inl (next_fault ScheduleCode.Form words cause none)
+      | inr a ↦ let cut = next_is ScheduleCode.Form words a.0 a.1 in
           let parts = subst (AreParts 32) cut some in
           elim (chosen (bytes_eq a.0.0 (codes "change")) (next_change a.0.1) _ (Err cause) a.2) [
             | inl p ↦ elim (change_fault a.0.1 cause p.1) [
@@ -199,7 +193,7 @@ job_fault observers words cause some h =
                 | inl form ↦ inl form
                 | inr field ↦ inr (inr (record { behind = a.0.1; written = in_front words a.0 (codes "run") cut p.0; field = field }))
               ]
-              | inr r ↦ inl (sym (err_is {A = Job × List (List ℕ)} Form cause r.1))
+              | inr r ↦ inl (sym (err_is {A = Job × List (List ℕ)} ScheduleCode.Form cause r.1))
             ]
           ]
     ]
@@ -215,7 +209,7 @@ record BadColumn (words : List (List ℕ)) (cause : ScheduleCode) : Type 0 where
   column : BadNumber 0 (COLUMNS - 1) behind cause
 
 abbrev BadDataCell : List (List ℕ) → ScheduleCode → Type 0
-BadDataCell words cause = (cause ≡ Form) ⊎ (BadNumber 0 (2 ^ 64 - 1) words cause ⊎ BadColumn words cause)
+BadDataCell words cause = (cause ≡ ScheduleCode.Form) ⊎ (BadNumber 0 (2 ^ 64 - 1) words cause ⊎ BadColumn words cause)
 
 data_fault : (words : List (List ℕ)) (cause : ScheduleCode) → next_data_cell words ≡ Err cause → BadDataCell words cause
 unfolding next_data_cell
@@ -249,7 +243,7 @@ BadCell observers words cause = BadDataCell words cause ⊎ BadAcknowledgment ob
 
 -- a cell that isn't read is at fault for its form, or for one of its fields
 cell_fault : (observers : List ObserverOf) (words : List (List ℕ)) (cause : ScheduleCode) → AreParts 32 words → next_cell observers words ≡ Err cause → BadCell observers words cause
-cell_fault observers [] cause some h = inl (inl (sym (err_is {A = Cell × List (List ℕ)} Form cause h)))
+cell_fault observers [] cause some h = inl (inl (sym (err_is {A = Cell × List (List ℕ)} ScheduleCode.Form cause h)))
 cell_fault observers (word ∷ words) cause some h = elim (chosen (bytes_eq word (codes "ack")) (next_acknowledgment observers words) _ (Err cause) h) [
   | inl p ↦ elim (acknowledgment_fault observers words cause some.1 p.1) [
     | inl form ↦ inl (inl form)
@@ -262,14 +256,14 @@ cell_fault observers (word ∷ words) cause some h = elim (chosen (bytes_eq word
 
 -- a line's fault: its form, or the field at which its words stop
 abbrev Blames : List ObserverOf → List (List ℕ) → ScheduleCode → Type 0
-Blames observers words cause = (cause ≡ Form) ⊎ StopsAtField observers words cause
+Blames observers words cause = (cause ≡ ScheduleCode.Form) ⊎ StopsAtField observers words cause
 
 -- what stands behind a whole order is a fault of the form
-once_fault : (event : Event) (words : List (List ℕ)) (cause : ScheduleCode) → once event words ≡ Err cause → cause ≡ Form
+once_fault : (event : Event) (words : List (List ℕ)) (cause : ScheduleCode) → once event words ≡ Err cause → cause ≡ ScheduleCode.Form
 unfolding once
 once_fault event words cause h =
-    elim (then_err (no_word Form words) _ cause h) [
-      | inl own ↦ end_fault Form words cause own
+    elim (then_err (no_word ScheduleCode.Form words) _ cause h) [
+      | inl own ↦ end_fault ScheduleCode.Form words cause own
       | inr a ↦ let e = a.2 in absurd cc
     ]
 
@@ -299,11 +293,11 @@ launch_fault observers words cause some h =
           let parts = subst (AreParts 32) n.written some in
           elim (then_err (next_job observers a.0.1) _ cause a.2) [
             | inl own ↦ launch_job observers a.0.0 words a.0.1 cause n.fits n.written (job_fault observers a.0.1 cause parts.1 own)
-            | inr b ↦ inl (once_fault (Launch a.0.0 b.0.0) b.0.1 cause b.2)
+            | inr b ↦ inl (once_fault (Event.Launch a.0.0 b.0.0) b.0.1 cause b.2)
           ]
     ]
 
-times_fault : (words : List (List ℕ)) (cause : ScheduleCode) → times_of words ≡ Err cause → (cause ≡ Form) ⊎ BadNumber 1 MAX_EVENTS words cause
+times_fault : (words : List (List ℕ)) (cause : ScheduleCode) → times_of words ≡ Err cause → (cause ≡ ScheduleCode.Form) ⊎ BadNumber 1 MAX_EVENTS words cause
 unfolding times_of
 times_fault [] cause h = absurd cc
 times_fault (word ∷ words) cause h =
@@ -312,8 +306,8 @@ times_fault (word ∷ words) cause h =
         | inl form ↦ inl form
         | inr out ↦ inr (record { word = word; rest = words; cut = refl; outside = out })
       ]
-      | inr a ↦ elim (then_err (no_word Form words) _ cause a.2) [
-        | inl own ↦ inl (end_fault Form words cause own)
+      | inr a ↦ elim (then_err (no_word ScheduleCode.Form words) _ cause a.2) [
+        | inl own ↦ inl (end_fault ScheduleCode.Form words cause own)
         | inr b ↦ let e = b.2 in absurd cc
       ]
     ]
@@ -344,10 +338,10 @@ crash_fault observers words cause h =
         | inl form ↦ inl form
         | inr n ↦ inr (record { field = CrashActor; word = n.word; rest = n.rest; cut = ap (λ (ws : List (List ℕ)). codes "crash" ∷ ws) n.cut; fits = tt; refused = n.outside })
       ]
-      | inr a ↦ inl (once_fault (Crash a.0.0) a.0.1 cause a.2)
+      | inr a ↦ inl (once_fault (Event.Crash a.0.0) a.0.1 cause a.2)
     ]
 
-on_fault : (make : Cell → Event) (r : Result (Cell × List (List ℕ)) ScheduleCode) (cause : ScheduleCode) → once_on make r ≡ Err cause → (cause ≡ Form) ⊎ (r ≡ Err cause)
+on_fault : (make : Cell → Event) (r : Result (Cell × List (List ℕ)) ScheduleCode) (cause : ScheduleCode) → once_on make r ≡ Err cause → (cause ≡ ScheduleCode.Form) ⊎ (r ≡ Err cause)
 unfolding once_on
 on_fault make r cause h =
     elim (then_err r _ cause h) [
@@ -406,9 +400,9 @@ bad_data observers words cause (inr (inr c)) =
     let n = c.column in
     inr (record { field = SweepColumn c.row; word = n.word; rest = n.rest; cut = ap (λ (ws : List (List ℕ)). codes "sweep" ∷ ws) (c.written ∙ ap (λ (ws : List (List ℕ)). decimal c.row.0 ∷ ws) n.cut); fits = c.fits; refused = n.outside })
 
-sweep_fault : (observers : List ObserverOf) (words : List (List ℕ)) (cause : ScheduleCode) → once_on Sweep (next_data_cell words) ≡ Err cause → Blames observers (codes "sweep" ∷ words) cause
+sweep_fault : (observers : List ObserverOf) (words : List (List ℕ)) (cause : ScheduleCode) → once_on Event.Sweep (next_data_cell words) ≡ Err cause → Blames observers (codes "sweep" ∷ words) cause
 sweep_fault observers words cause h =
-    elim (on_fault Sweep (next_data_cell words) cause h) [
+    elim (on_fault Event.Sweep (next_data_cell words) cause h) [
       | inl form ↦ inl form
       | inr own ↦ bad_data observers words cause (data_fault words cause own)
     ]
@@ -426,16 +420,16 @@ by_verb observers verb words cause some h =
     verb_fault verb (codes "launch") _ _ cause P h (launch_fault observers words cause some)
     (λ h. verb_fault verb (codes "step") _ _ cause P h (step_fault observers words cause)
     (λ h. verb_fault verb (codes "crash") _ _ cause P h (crash_fault observers words cause)
-    (λ h. verb_fault verb (codes "settle") _ _ cause P h (any_cell_fault observers (codes "settle") Settle words cause some (settle_fields observers))
-    (λ h. verb_fault verb (codes "clear") _ _ cause P h (any_cell_fault observers (codes "clear") Clear words cause some (clear_fields observers))
-    (λ h. verb_fault verb (codes "sweep") _ _ cause P h (sweep_fault observers words cause) (λ h. inl (sym (err_is {A = Order} Form cause h))))))))
+    (λ h. verb_fault verb (codes "settle") _ _ cause P h (any_cell_fault observers (codes "settle") Event.Settle words cause some (settle_fields observers))
+    (λ h. verb_fault verb (codes "clear") _ _ cause P h (any_cell_fault observers (codes "clear") Event.Clear words cause some (clear_fields observers))
+    (λ h. verb_fault verb (codes "sweep") _ _ cause P h (sweep_fault observers words cause) (λ h. inl (sym (err_is {A = Order} ScheduleCode.Form cause h))))))))
 
 -- whatever a line's words begin with, its fault is its form or a field's
 words_blamed : (observers : List ObserverOf) (words : List (List ℕ)) (cause : ScheduleCode) → AreParts 32 words → order_of_words observers words ≡ Err cause → Blames observers words cause
 unfolding order_of_words
-words_blamed observers [] cause some h = inl (sym (err_is {A = Order} Form cause h))
+words_blamed observers [] cause some h = inl (sym (err_is {A = Order} ScheduleCode.Form cause h))
 words_blamed observers (verb ∷ words) cause some h = by_verb observers verb words cause some.1 h
 
 -- so a line that isn't of a wrong form stops at a field
-pub blamed : (observers : List ObserverOf) (line : List ℕ) (cause : ScheduleCode) → order_of observers line ≡ Err cause → (cause ≡ Form) ⊎ StopsAtField observers (words_of line) cause
+pub blamed : (observers : List ObserverOf) (line : List ℕ) (cause : ScheduleCode) → order_of observers line ≡ Err cause → (cause ≡ ScheduleCode.Form) ⊎ StopsAtField observers (words_of line) cause
 blamed observers line cause h = words_blamed observers (words_of line) cause (parts_are 32 line) h

@@ -1,8 +1,5 @@
 -- Where the words of a line stop at a field, the line has the field's fault, whatever stands behind.
-use Rattle.std.proofs.Common.{◌≡◌, ℕ, ◌-◌, ◌^◌, ◌<◌, Bool, true, false, List, ◌∷◌, ◌++◌, length, Result, Err, refl, sym, ap, subst, ◌∙◌, arith, inl, inr}
-use Rattle.std.specs.Prelude.{nat_lt, codes}
-use Rattle.std.specs.Fmt.{decimal}
-use Rattle.std.specs.Str.{bytes_eq}
+use Rattle.std.proofs.Common.{◌≡◌, ℕ, ◌-◌, ◌^◌, ◌<◌, Bool, true, false, List, ◌∷◌, ◌++◌, length, Result, Err, refl, sym, ap, subst, ◌∙◌, arith, inl, inr, nat_lt, codes, decimal, bytes_eq}
 use Rattle.std.specs.Str.Parse.{digits_value}
 use Rattle.std.proofs.lemmas.Bool.{cases_lt, le-leb, lt-leb, lt-ltb, ltb-true}
 use Rattle.pb_base.specs.declared.limits.TheConstants.{COLUMNS, MAX_CHANGES, MAX_EVENTS, MAX_SEATS}
@@ -11,9 +8,7 @@ use Rattle.pb_base.specs.declared.names.Row.{Row}
 use Rattle.pb_reading.specs.Reading.{is_numeral, words_of}
 use Rattle.pb_verify.specs.Observers.{ObserverOf}
 use Rattle.pb_parse.specs.declared.event.Event.{Event}
-use Rattle.pb_parse.specs.declared.event.Event.TheVariants.{Settle, Clear, Sweep}
 use Rattle.pb_parse.specs.declared.schedule.code.ScheduleCode.{ScheduleCode}
-use Rattle.pb_parse.specs.declared.schedule.code.ScheduleCode.TheVariants.{Range, NoObserver}
 use Rattle.pb_parse.specs.ScheduleWords.{number_between, next_number, next_row, first_named, next_observer, next_change, next_run, next_job, launch_of, times_of, step_of, crash_of, next_data_cell, next_acknowledgment, next_cell, once_on, order_of_words, order_of}
 use Rattle.pb_parse.specs.EventLines.{name_of, IsActor, IsRow, IsNamed}
 use Rattle.pb_parse.specs.ScheduleFaults.{Field, LaunchActor, ChangeNumber, RunName, RunRow, StepActor, StepTimes, CrashActor, SettleRow, SettleColumn, SettleName, SettleAckRow, ClearRow, ClearColumn, ClearName, ClearAckRow, SweepRow, SweepColumn, words_in_front, FitsInFront, IsOutside, IsNoRow, IsNoColumn, IsNobody, IsRefusedAt, StopsAtField}
@@ -29,9 +24,9 @@ refused {A} e cause is = ap (λ (c : ScheduleCode). Err c) (sym is)
 outside_is : (least greatest : ℕ) (word : List ℕ) (cause : ScheduleCode) → IsOutside least greatest word cause → number_between least greatest word ≡ Err cause
 outside_is least greatest word cause out =
     elim (cases_lt greatest (digits_value 10 word)) [
-      | inl big ↦ rw (out.numeral, lt-leb (digits_value 10 word) greatest big) (refused {A = ℕ} Range cause out.told)
+      | inl big ↦ rw (out.numeral, lt-leb (digits_value 10 word) greatest big) (refused {A = ℕ} ScheduleCode.Range cause out.told)
       | inr small ↦ elim out.outside [
-        | inl low ↦ rw (out.numeral, le-leb (digits_value 10 word) greatest small, lt-ltb (digits_value 10 word) least low) (refused {A = ℕ} Range cause out.told)
+        | inl low ↦ rw (out.numeral, le-leb (digits_value 10 word) greatest small, lt-ltb (digits_value 10 word) least low) (refused {A = ℕ} ScheduleCode.Range cause out.told)
         | inr big ↦ absurd (omega (arith, big, small))
       ]
     ]
@@ -57,7 +52,7 @@ nobody_there observers word cause true is none =
 -- so it is refused, and told as no observer's
 name_refused : (observers : List ObserverOf) (word : List ℕ) (rest : List (List ℕ)) (cause : ScheduleCode) → IsNobody observers word cause → next_observer observers (word ∷ rest) ≡ Err cause
 unfolding next_observer
-name_refused observers word rest cause none = rw (nobody_there observers word cause _ refl none) (refused {A = ℕ × List (List ℕ)} NoObserver cause none.told)
+name_refused observers word rest cause none = rw (nobody_there observers word cause _ refl none) (refused {A = ℕ × List (List ℕ)} ScheduleCode.NoObserver cause none.told)
 
 -- ---- jobs
 
@@ -139,16 +134,16 @@ field_refused observers (RunRow actor o) word rest cause fits out = launch_job_r
 field_refused observers StepActor word rest cause fits out = step_actor_refused word rest cause out
 field_refused observers (StepTimes actor) word rest cause fits out = step_times_refused actor word rest cause fits out
 field_refused observers CrashActor word rest cause fits out = crash_refused word rest cause out
-field_refused observers SettleRow word rest cause fits out = on_refused Settle _ cause (cell_row_refused observers word rest cause out)
-field_refused observers (SettleColumn row) word rest cause fits out = on_refused Settle _ cause (cell_column_refused observers row word rest cause fits out)
-field_refused observers SettleName word rest cause fits out = on_refused Settle _ cause (ack_name_refused observers word rest cause out)
-field_refused observers (SettleAckRow o) word rest cause fits out = on_refused Settle _ cause (ack_row_refused observers o word rest cause fits out)
-field_refused observers ClearRow word rest cause fits out = on_refused Clear _ cause (cell_row_refused observers word rest cause out)
-field_refused observers (ClearColumn row) word rest cause fits out = on_refused Clear _ cause (cell_column_refused observers row word rest cause fits out)
-field_refused observers ClearName word rest cause fits out = on_refused Clear _ cause (ack_name_refused observers word rest cause out)
-field_refused observers (ClearAckRow o) word rest cause fits out = on_refused Clear _ cause (ack_row_refused observers o word rest cause fits out)
-field_refused observers SweepRow word rest cause fits out = on_refused Sweep _ cause (data_row_refused word rest cause out)
-field_refused observers (SweepColumn row) word rest cause fits out = on_refused Sweep _ cause (column_refused row word rest cause fits out)
+field_refused observers SettleRow word rest cause fits out = on_refused Event.Settle _ cause (cell_row_refused observers word rest cause out)
+field_refused observers (SettleColumn row) word rest cause fits out = on_refused Event.Settle _ cause (cell_column_refused observers row word rest cause fits out)
+field_refused observers SettleName word rest cause fits out = on_refused Event.Settle _ cause (ack_name_refused observers word rest cause out)
+field_refused observers (SettleAckRow o) word rest cause fits out = on_refused Event.Settle _ cause (ack_row_refused observers o word rest cause fits out)
+field_refused observers ClearRow word rest cause fits out = on_refused Event.Clear _ cause (cell_row_refused observers word rest cause out)
+field_refused observers (ClearColumn row) word rest cause fits out = on_refused Event.Clear _ cause (cell_column_refused observers row word rest cause fits out)
+field_refused observers ClearName word rest cause fits out = on_refused Event.Clear _ cause (ack_name_refused observers word rest cause out)
+field_refused observers (ClearAckRow o) word rest cause fits out = on_refused Event.Clear _ cause (ack_row_refused observers o word rest cause fits out)
+field_refused observers SweepRow word rest cause fits out = on_refused Event.Sweep _ cause (data_row_refused word rest cause out)
+field_refused observers (SweepColumn row) word rest cause fits out = on_refused Event.Sweep _ cause (column_refused row word rest cause fits out)
 
 -- a line that stops at a field has the field's fault
 pub told : (observers : List ObserverOf) (line : List ℕ) (cause : ScheduleCode) → StopsAtField observers (words_of line) cause → order_of observers line ≡ Err cause

@@ -1,6 +1,5 @@
 -- A value's digits, decoded into the front of 32 zeros.
-use Rattle.std.proofs.Common.{◌≡◌, ℕ, ◌/◌, false, List, length, drop, replicate, ◌++◌, Result, Ok, Err, refl, sym, ap, ◌∙◌}
-use Rattle.std.specs.Prelude.{◌==◌, nat_lt, MatchResult}
+use Rattle.std.proofs.Common.{◌≡◌, ℕ, ◌/◌, false, List, length, drop, replicate, ◌++◌, Result, Ok, Err, refl, sym, ap, ◌∙◌, ◌==◌, nat_lt, MatchResult}
 use Rattle.std.specs.Char.{is_ascii_uppercase}
 use Rattle.std.specs.List.{list_any}
 use Rattle.std.proofs.lemmas.Bool.{eq-eqb}

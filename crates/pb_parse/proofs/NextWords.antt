@@ -1,9 +1,6 @@
 -- What the steps of reading a line say of their words.
-use Rattle.std.proofs.Common.{◌≡◌, ◌≢◌, ℕ, zero, suc, ◌+◌, ◌-◌, ◌^◌, ◌<◌, ◌≤◌, Bool, true, false, cond, List, [], ◌∷◌, length, Ok, refl, sym, ap, subst, ◌∙◌, arith}
-use Rattle.std.specs.Prelude.{◌==◌, not, nat_lt}
-use Rattle.std.specs.Fmt.{decimal}
+use Rattle.std.proofs.Common.{◌≡◌, ◌≢◌, ℕ, zero, suc, ◌+◌, ◌-◌, ◌^◌, ◌<◌, ◌≤◌, Bool, true, false, cond, List, [], ◌∷◌, length, Ok, refl, sym, ap, subst, ◌∙◌, arith, ◌==◌, not, nat_lt, decimal, bytes_eq}
 use Rattle.std.specs.List.{list_all}
-use Rattle.std.specs.Str.{bytes_eq}
 use Rattle.std.proofs.lemmas.Bool.{ltb-false, ltb-true, le-ltb, lt-ltb}
 use Rattle.std.proofs.lemmas.Slice.Eq.{bytes_eq-Decides}
 use Rattle.pb_base.specs.declared.names.Row.{Row}
@@ -12,7 +9,6 @@ use Rattle.pb_verify.specs.Observers.{ObserverOf}
 use Rattle.pb_parse.specs.declared.event.Event.{Event}
 use Rattle.pb_parse.specs.declared.schedule.words.Order.{Order}
 use Rattle.pb_parse.specs.declared.schedule.code.ScheduleCode.{ScheduleCode}
-use Rattle.pb_parse.specs.declared.schedule.code.ScheduleCode.TheVariants.{Form, Range, NoObserver}
 use Rattle.pb_parse.specs.ScheduleWords.{number_between, next_number, next_row, first_named, observer_named, next_observer, once}
 use Rattle.pb_parse.specs.EventLines.{name_of, IsRow, IsNamed}
 use Rattle.pb_reading.proofs.Parts.{Lacks, AreParts, if_lacks}
@@ -27,8 +23,8 @@ same_text a b h = (bytes_eq-Decides a b).0 h
 pub once_is : (event : Event) (words : List (List ℕ)) (order : Order) → once event words ≡ Ok order → (words ≡ []) × (record { event = event; times = 1 } ≡ order)
 unfolding once
 once_is event words order h =
-    let a = then_ok (no_word Form words) _ order h in
-    (none_left Form words a.0 a.1, ok_is (record { event = event; times = 1 }) order a.2)
+    let a = then_ok (no_word ScheduleCode.Form words) _ order h in
+    (none_left ScheduleCode.Form words a.0 a.1, ok_is (record { event = event; times = 1 }) order a.2)
 
 -- ---- numbers
 
@@ -41,9 +37,9 @@ pub record IsBetween (least greatest n : ℕ) (word : List ℕ) : Type 0 where
 -- a word that is read as a number is its spelling: no other digits, signs or zeros are read
 pub number_is : (least greatest n : ℕ) (word : List ℕ) → greatest < 2 ^ 64 → number_between least greatest word ≡ Ok n → IsBetween least greatest n word
 number_is least greatest n word lt h =
-    let a = then_ok (numeral_upto Form Range greatest word) _ n h in
-    let b = else_ok (nat_lt a.0 least) (Ok a.0) Range n a.2 in
-    let p = numeral_is Form Range greatest a.0 word lt a.1 in
+    let a = then_ok (numeral_upto ScheduleCode.Form ScheduleCode.Range greatest word) _ n h in
+    let b = else_ok (nat_lt a.0 least) (Ok a.0) ScheduleCode.Range n a.2 in
+    let p = numeral_is ScheduleCode.Form ScheduleCode.Range greatest a.0 word lt a.1 in
     let same : a.0 ≡ n = ok_is {E = ScheduleCode} a.0 n b.1 in
     let low : least ≤ a.0 = ltb-false _ _ b.0 in
     let high = p.1 in
@@ -53,7 +49,7 @@ number_is least greatest n word lt h =
 pub number_back : (least greatest n : ℕ) → greatest < 2 ^ 64 → least ≤ n → n ≤ greatest → number_between least greatest (decimal n) ≡ Ok n
 number_back least greatest n lt low high =
     let f : nat_lt n least ≡ false = le-ltb _ _ low in
-    rw (numeral_back Form Range greatest n (omega (arith, lt, high)) high, f) refl
+    rw (numeral_back ScheduleCode.Form ScheduleCode.Range greatest n (omega (arith, lt, high)) high, f) refl
 
 -- a word of a number in front of other words
 pub record TakesNumber (least greatest n : ℕ) (words rest : List (List ℕ)) : Type 0 where
@@ -65,11 +61,11 @@ pub record TakesNumber (least greatest n : ℕ) (words rest : List (List ℕ)) :
 pub next_number_is : (least greatest : ℕ) (words : List (List ℕ)) (x : ℕ × List (List ℕ)) → greatest < 2 ^ 64 → next_number least greatest words ≡ Ok x → TakesNumber least greatest x.0 words x.1
 unfolding next_number
 next_number_is least greatest words x lt h =
-    let a = then_ok (next_word Form words) _ x h in
+    let a = then_ok (next_word ScheduleCode.Form words) _ x h in
     let b = then_ok (number_between least greatest a.0.0) _ x a.2 in
     let n = number_is least greatest b.0 a.0.0 lt b.1 in
     subst (λ (y : ℕ × List (List ℕ)). TakesNumber least greatest y.0 words y.1) (ok_is (b.0, a.0.1) x b.2)
-    (record { written = next_is Form words a.0 a.1 ∙ ap (λ (w : List ℕ). w ∷ a.0.1) n.written; low = n.low; high = n.high })
+    (record { written = next_is ScheduleCode.Form words a.0 a.1 ∙ ap (λ (w : List ℕ). w ∷ a.0.1) n.written; low = n.low; high = n.high })
 
 pub next_number_back : (least greatest n : ℕ) (rest : List (List ℕ)) → greatest < 2 ^ 64 → least ≤ n → n ≤ greatest → next_number least greatest (decimal n ∷ rest) ≡ Ok (n, rest)
 unfolding next_number
@@ -147,7 +143,7 @@ some_named (x ∷ xs) name o lt is = place_there xs x name o (bytes_eq x.name na
 -- a name that is read is the observer's own, and a name without blanks names it in a line
 pub named_is : (observers : List ObserverOf) (name : List ℕ) (o : ℕ) → observer_named observers name ≡ Ok o → (name_of observers o ≡ name) × (Lacks 32 name → IsNamed observers o)
 named_is observers name o h =
-    let p = if_ok (nat_lt (first_named observers name) (length observers)) (Ok (first_named observers name)) NoObserver o h in
+    let p = if_ok (nat_lt (first_named observers name) (length observers)) (Ok (first_named observers name)) ScheduleCode.NoObserver o h in
     let lt : first_named observers name < length observers = ltb-true _ _ p.0 in
     let f = first_is observers name lt in
     subst (λ (k : ℕ). (name_of observers k ≡ name) × (Lacks 32 name → IsNamed observers k)) (ok_is (first_named observers name) o p.1)
@@ -169,10 +165,10 @@ pub record TakesName (observers : List ObserverOf) (o : ℕ) (words rest : List 
 pub next_observer_is : (observers : List ObserverOf) (words : List (List ℕ)) (x : ℕ × List (List ℕ)) → AreParts 32 words → next_observer observers words ≡ Ok x → TakesName observers x.0 words x.1
 unfolding next_observer
 next_observer_is observers words x some h =
-    let a = then_ok (next_word Form words) _ x h in
+    let a = then_ok (next_word ScheduleCode.Form words) _ x h in
     let b = then_ok (observer_named observers a.0.0) _ x a.2 in
     let n = named_is observers a.0.0 b.0 b.1 in
-    let cut = next_is Form words a.0 a.1 in
+    let cut = next_is ScheduleCode.Form words a.0 a.1 in
     let parts = subst (AreParts 32) cut some in
     subst (λ (y : ℕ × List (List ℕ)). TakesName observers y.0 words y.1) (ok_is (b.0, a.0.1) x b.2)
     (record { written = cut ∙ ap (λ (w : List ℕ). w ∷ a.0.1) (sym n.0); named = n.1 parts.0 })

@@ -1,19 +1,13 @@
 -- An order's line is read as the order.
-use Rattle.std.proofs.Common.{◌≡◌, ℕ, ◌-◌, ◌^◌, ◌<◌, ◌≤◌, Bool, true, false, List, [], ◌∷◌, ◌++◌, Result, Ok, refl, sym, ap, subst, ◌∙◌, arith, inl, inr}
-use Rattle.std.specs.Prelude.{codes}
-use Rattle.std.specs.Fmt.{decimal}
-use Rattle.std.specs.Str.{bytes_eq}
+use Rattle.std.proofs.Common.{◌≡◌, ℕ, ◌-◌, ◌^◌, ◌<◌, ◌≤◌, Bool, true, false, List, [], ◌∷◌, ◌++◌, Result, Ok, refl, sym, ap, subst, ◌∙◌, arith, inl, inr, codes, decimal, bytes_eq}
 use Rattle.std.specs.List.{join_with_byte}
 use Rattle.pb_base.specs.declared.limits.TheConstants.{COLUMNS, MAX_CHANGES, MAX_EVENTS, MAX_SEATS}
 use Rattle.pb_base.specs.declared.cell.Cell.{Cell}
-use Rattle.pb_base.specs.declared.cell.Cell.TheVariants.{Data, Ack}
 use Rattle.pb_base.specs.declared.names.Row.{Row}
 use Rattle.pb_reading.specs.Reading.{is_numeral, words_of}
 use Rattle.pb_verify.specs.Observers.{ObserverOf, acknowledgment}
 use Rattle.pb_parse.specs.declared.event.Job.{Job}
-use Rattle.pb_parse.specs.declared.event.Job.TheVariants.{Change, Run}
 use Rattle.pb_parse.specs.declared.event.Event.{Event}
-use Rattle.pb_parse.specs.declared.event.Event.TheVariants.{Launch, Step, Crash, Settle, Clear, Sweep}
 use Rattle.pb_parse.specs.declared.schedule.words.Order.{Order}
 use Rattle.pb_parse.specs.declared.schedule.code.ScheduleCode.{ScheduleCode}
 use Rattle.pb_parse.specs.ScheduleWords.{next_actor, next_change, next_run, next_job, once, launch_of, times_of, step_of, crash_of, next_data_cell, next_acknowledgment, next_cell, once_on, order_of_words, order_of}
@@ -26,22 +20,22 @@ use Rattle.pb_reading.proofs.NumeralValues.{numeral_of}
 pub actor_back : (actor : ℕ) (rest : List (List ℕ)) → IsActor actor → next_actor (decimal actor ∷ rest) ≡ Ok (actor, rest)
 actor_back actor rest fits = let low = fits.0 in let high = fits.1 in next_number_back 1 (MAX_SEATS - 1) actor rest (omega arith) low (omega (arith, high))
 
-change_back : (number : ℕ) (rest : List (List ℕ)) → 1 ≤ number → number ≤ MAX_CHANGES → next_change (decimal number ∷ rest) ≡ Ok (Change number, rest)
+change_back : (number : ℕ) (rest : List (List ℕ)) → 1 ≤ number → number ≤ MAX_CHANGES → next_change (decimal number ∷ rest) ≡ Ok (Job.Change number, rest)
 unfolding next_change
 change_back number rest low high = rw (next_number_back 1 MAX_CHANGES number rest (omega arith) low high) refl
 
-run_back : (observers : List ObserverOf) (o : ℕ) (row : Row) (rest : List (List ℕ)) → IsNamed observers o → IsRow row → next_run observers (name_of observers o ∷ decimal row.0 ∷ rest) ≡ Ok (Run o row, rest)
+run_back : (observers : List ObserverOf) (o : ℕ) (row : Row) (rest : List (List ℕ)) → IsNamed observers o → IsRow row → next_run observers (name_of observers o ∷ decimal row.0 ∷ rest) ≡ Ok (Job.Run o row, rest)
 unfolding next_run
 run_back observers o row rest named fits = rw (next_observer_back observers o (decimal row.0 ∷ rest) named, next_row_back row rest fits) refl
 
 -- each job is read from its words
 job_back : (observers : List ObserverOf) (job : Job) → FitsJob observers job → next_job observers (job_words observers job) ≡ Ok (job, [])
 unfolding next_job
-job_back observers (Change number) fits = change_back number [] fits.0 fits.1
-job_back observers (Run o row) fits = run_back observers o row [] fits.0 fits.1
+job_back observers (Job.Change number) fits = change_back number [] fits.0 fits.1
+job_back observers (Job.Run o row) fits = run_back observers o row [] fits.0 fits.1
 
 -- each data cell is read from its words
-data_back : (row : Row) (column : ℕ) (rest : List (List ℕ)) → IsRow row → column < COLUMNS → next_data_cell (decimal row.0 ∷ decimal column ∷ rest) ≡ Ok (Data row column, rest)
+data_back : (row : Row) (column : ℕ) (rest : List (List ℕ)) → IsRow row → column < COLUMNS → next_data_cell (decimal row.0 ∷ decimal column ∷ rest) ≡ Ok (Cell.Data row column, rest)
 unfolding next_data_cell
 data_back row column rest fits lt = rw (next_row_back row (decimal column ∷ rest) fits, next_number_back 0 (COLUMNS - 1) column rest (omega arith) (omega arith) (omega (arith, lt))) refl
 
@@ -56,8 +50,8 @@ not_ack n true lt is = let e : is_numeral (codes "ack") ≡ true = subst (λ (w 
 
 -- each cell is read from its words: a row is no `ack`, so the forms aren't mixed up
 cell_back : (observers : List ObserverOf) (x : Cell) → FitsCell observers x → next_cell observers (cell_words observers x) ≡ Ok (x, [])
-cell_back observers (Data row column) fits = rw (not_ack row.0 (bytes_eq (decimal row.0) (codes "ack")) fits.0 refl) (data_back row column [] fits.0 fits.1)
-cell_back observers (Ack o row column) fits = acknowledgment_back observers o row [] fits.0 fits.1 ∙ ap (λ (k : ℕ). Ok (Ack o row k, [])) (sym fits.2)
+cell_back observers (Cell.Data row column) fits = rw (not_ack row.0 (bytes_eq (decimal row.0) (codes "ack")) fits.0 refl) (data_back row column [] fits.0 fits.1)
+cell_back observers (Cell.Ack o row column) fits = acknowledgment_back observers o row [] fits.0 fits.1 ∙ ap (λ (k : ℕ). Ok (Cell.Ack o row k, [])) (sym fits.2)
 
 -- ---- orders
 
@@ -69,34 +63,34 @@ once_on_back : (make : Cell → Event) (r : Result (Cell × List (List ℕ)) Sch
 unfolding once_on
 once_on_back make r x is = rw is (once_back (make x))
 
-launch_back : (observers : List ObserverOf) (actor : ℕ) (job : Job) → IsActor actor → FitsJob observers job → launch_of observers (decimal actor ∷ job_words observers job) ≡ Ok (record { event = Launch actor job; times = 1 })
+launch_back : (observers : List ObserverOf) (actor : ℕ) (job : Job) → IsActor actor → FitsJob observers job → launch_of observers (decimal actor ∷ job_words observers job) ≡ Ok (record { event = Event.Launch actor job; times = 1 })
 unfolding launch_of
-launch_back observers actor job fits may = rw (actor_back actor (job_words observers job) fits, job_back observers job may) (once_back (Launch actor job))
+launch_back observers actor job fits may = rw (actor_back actor (job_words observers job) fits, job_back observers job may) (once_back (Event.Launch actor job))
 
-step_back : (actor : ℕ) → IsActor actor → step_of (decimal actor ∷ []) ≡ Ok (record { event = Step actor; times = 1 })
+step_back : (actor : ℕ) → IsActor actor → step_of (decimal actor ∷ []) ≡ Ok (record { event = Event.Step actor; times = 1 })
 unfolding step_of times_of
 step_back actor fits = rw (actor_back actor [] fits) refl
 
-crash_back : (actor : ℕ) → IsActor actor → crash_of (decimal actor ∷ []) ≡ Ok (record { event = Crash actor; times = 1 })
+crash_back : (actor : ℕ) → IsActor actor → crash_of (decimal actor ∷ []) ≡ Ok (record { event = Event.Crash actor; times = 1 })
 unfolding crash_of
-crash_back actor fits = rw (actor_back actor [] fits) (once_back (Crash actor))
+crash_back actor fits = rw (actor_back actor [] fits) (once_back (Event.Crash actor))
 
-sweep_back : (observers : List ObserverOf) (x : Cell) → IsRowCell x → FitsCell observers x → once_on Sweep (next_data_cell (cell_words observers x)) ≡ Ok (record { event = Sweep x; times = 1 })
-sweep_back observers (Data row column) data_cell fits = once_on_back Sweep _ (Data row column) (data_back row column [] fits.0 fits.1)
-sweep_back observers (Ack o row column) data_cell fits = absurd data_cell
+sweep_back : (observers : List ObserverOf) (x : Cell) → IsRowCell x → FitsCell observers x → once_on Event.Sweep (next_data_cell (cell_words observers x)) ≡ Ok (record { event = Event.Sweep x; times = 1 })
+sweep_back observers (Cell.Data row column) data_cell fits = once_on_back Event.Sweep _ (Cell.Data row column) (data_back row column [] fits.0 fits.1)
+sweep_back observers (Cell.Ack o row column) data_cell fits = absurd data_cell
 
 -- each event that may stand in a line is read from its words, once
 event_back : (observers : List ObserverOf) (e : Event) → FitsEvent observers e → order_of_words observers (event_words observers e) ≡ Ok (record { event = e; times = 1 })
 unfolding order_of_words
-event_back observers (Launch actor job) fits = launch_back observers actor job fits.0 fits.1
-event_back observers (Step actor) fits = step_back actor fits
-event_back observers (Crash actor) fits = crash_back actor fits
-event_back observers (Settle x) fits = once_on_back Settle _ x (cell_back observers x fits)
-event_back observers (Clear x) fits = once_on_back Clear _ x (cell_back observers x fits)
-event_back observers (Sweep x) fits = sweep_back observers x fits.0 fits.1
+event_back observers (Event.Launch actor job) fits = launch_back observers actor job fits.0 fits.1
+event_back observers (Event.Step actor) fits = step_back actor fits
+event_back observers (Event.Crash actor) fits = crash_back actor fits
+event_back observers (Event.Settle x) fits = once_on_back Event.Settle _ x (cell_back observers x fits)
+event_back observers (Event.Clear x) fits = once_on_back Event.Clear _ x (cell_back observers x fits)
+event_back observers (Event.Sweep x) fits = sweep_back observers x fits.0 fits.1
 
 -- and a step as often as the last word says
-steps_back : (observers : List ObserverOf) (actor n : ℕ) → IsActor actor → 1 ≤ n → n ≤ MAX_EVENTS → order_of_words observers (codes "step" ∷ decimal actor ∷ decimal n ∷ []) ≡ Ok (record { event = Step actor; times = n })
+steps_back : (observers : List ObserverOf) (actor n : ℕ) → IsActor actor → 1 ≤ n → n ≤ MAX_EVENTS → order_of_words observers (codes "step" ∷ decimal actor ∷ decimal n ∷ []) ≡ Ok (record { event = Event.Step actor; times = n })
 unfolding order_of_words step_of times_of
 steps_back observers actor n fits low high = rw (actor_back actor (decimal n ∷ []) fits, number_back 1 MAX_EVENTS n (omega arith) low high) refl
 
@@ -109,37 +103,37 @@ actor_word : (actor : ℕ) → IsActor actor → Lacks 32 (decimal actor)
 actor_word actor fits = let high = fits.1 in decimal_lacks 32 actor blank_no_digit (omega (arith, high))
 
 job_are : (observers : List ObserverOf) (job : Job) → FitsJob observers job → AreParts 32 (job_words observers job)
-job_are observers (Change number) fits = let high = fits.1 in (lacks_if 32 (codes "change") refl, (decimal_lacks 32 number blank_no_digit (omega (arith, high)), tt))
-job_are observers (Run o row) fits = (lacks_if 32 (codes "run") refl, (lacks_if 32 (name_of observers o) fits.0.word, (row_word row fits.1, tt)))
+job_are observers (Job.Change number) fits = let high = fits.1 in (lacks_if 32 (codes "change") refl, (decimal_lacks 32 number blank_no_digit (omega (arith, high)), tt))
+job_are observers (Job.Run o row) fits = (lacks_if 32 (codes "run") refl, (lacks_if 32 (name_of observers o) fits.0.word, (row_word row fits.1, tt)))
 
 -- the words of a cell have no blanks, so they are cut apart as they were joined
 cell_are : (observers : List ObserverOf) (x : Cell) → FitsCell observers x → AreParts 32 (cell_words observers x)
-cell_are observers (Data row column) fits = let lt = fits.1 in (row_word row fits.0, (decimal_lacks 32 column blank_no_digit (omega (arith, lt)), tt))
-cell_are observers (Ack o row column) fits = (lacks_if 32 (codes "ack") refl, (lacks_if 32 (name_of observers o) fits.0.word, (row_word row fits.1, tt)))
+cell_are observers (Cell.Data row column) fits = let lt = fits.1 in (row_word row fits.0, (decimal_lacks 32 column blank_no_digit (omega (arith, lt)), tt))
+cell_are observers (Cell.Ack o row column) fits = (lacks_if 32 (codes "ack") refl, (lacks_if 32 (name_of observers o) fits.0.word, (row_word row fits.1, tt)))
 
 -- an event's line is cut into its words
 event_cut : (observers : List ObserverOf) (e : Event) → FitsEvent observers e → words_of (join_with_byte 32 (event_words observers e)) ≡ event_words observers e
-event_cut observers (Launch actor job) fits = joined_parts 32 (codes "launch") (decimal actor ∷ job_words observers job) (lacks_if 32 (codes "launch") refl) (actor_word actor fits.0, job_are observers job fits.1)
-event_cut observers (Step actor) fits = joined_parts 32 (codes "step") (decimal actor ∷ []) (lacks_if 32 (codes "step") refl) (actor_word actor fits, tt)
-event_cut observers (Crash actor) fits = joined_parts 32 (codes "crash") (decimal actor ∷ []) (lacks_if 32 (codes "crash") refl) (actor_word actor fits, tt)
-event_cut observers (Settle x) fits = joined_parts 32 (codes "settle") (cell_words observers x) (lacks_if 32 (codes "settle") refl) (cell_are observers x fits)
-event_cut observers (Clear x) fits = joined_parts 32 (codes "clear") (cell_words observers x) (lacks_if 32 (codes "clear") refl) (cell_are observers x fits)
-event_cut observers (Sweep x) fits = joined_parts 32 (codes "sweep") (cell_words observers x) (lacks_if 32 (codes "sweep") refl) (cell_are observers x fits.1)
+event_cut observers (Event.Launch actor job) fits = joined_parts 32 (codes "launch") (decimal actor ∷ job_words observers job) (lacks_if 32 (codes "launch") refl) (actor_word actor fits.0, job_are observers job fits.1)
+event_cut observers (Event.Step actor) fits = joined_parts 32 (codes "step") (decimal actor ∷ []) (lacks_if 32 (codes "step") refl) (actor_word actor fits, tt)
+event_cut observers (Event.Crash actor) fits = joined_parts 32 (codes "crash") (decimal actor ∷ []) (lacks_if 32 (codes "crash") refl) (actor_word actor fits, tt)
+event_cut observers (Event.Settle x) fits = joined_parts 32 (codes "settle") (cell_words observers x) (lacks_if 32 (codes "settle") refl) (cell_are observers x fits)
+event_cut observers (Event.Clear x) fits = joined_parts 32 (codes "clear") (cell_words observers x) (lacks_if 32 (codes "clear") refl) (cell_are observers x fits)
+event_cut observers (Event.Sweep x) fits = joined_parts 32 (codes "sweep") (cell_words observers x) (lacks_if 32 (codes "sweep") refl) (cell_are observers x fits.1)
 
 once_line : (observers : List ObserverOf) (e : Event) (n : ℕ) (line : List ℕ) (words : List (List ℕ)) → FitsEvent observers e → n ≡ 1 → words ≡ event_words observers e → line ≡ join_with_byte 32 words → order_of observers line ≡ Ok (record { event = e; times = n })
 once_line observers e n line words fits one are is =
     ap (order_of observers) (is ∙ ap (join_with_byte 32) are) ∙ ap (order_of_words observers) (event_cut observers e fits) ∙ event_back observers e fits ∙ ap (λ (k : ℕ). Ok (record { event = e; times = k })) (sym one)
 
 steps_line : (observers : List ObserverOf) (e : Event) (n : ℕ) (line : List ℕ) (words : List (List ℕ)) → FitsEvent observers e → IsStep e → 1 ≤ n → n ≤ MAX_EVENTS → words ≡ event_words observers e ++ decimal n ∷ [] → line ≡ join_with_byte 32 words → order_of observers line ≡ Ok (record { event = e; times = n })
-steps_line observers (Step actor) n line words fits step low high are is =
+steps_line observers (Event.Step actor) n line words fits step low high are is =
     ap (order_of observers) (is ∙ ap (join_with_byte 32) are)
     ∙ ap (order_of_words observers) (joined_parts 32 (codes "step") (decimal actor ∷ decimal n ∷ []) (lacks_if 32 (codes "step") refl) (actor_word actor fits, (decimal_lacks 32 n blank_no_digit (omega (arith, high)), tt)))
     ∙ steps_back observers actor n fits low high
-steps_line observers (Launch actor job) n line words fits step low high are is = absurd step
-steps_line observers (Crash actor) n line words fits step low high are is = absurd step
-steps_line observers (Settle x) n line words fits step low high are is = absurd step
-steps_line observers (Clear x) n line words fits step low high are is = absurd step
-steps_line observers (Sweep x) n line words fits step low high are is = absurd step
+steps_line observers (Event.Launch actor job) n line words fits step low high are is = absurd step
+steps_line observers (Event.Crash actor) n line words fits step low high are is = absurd step
+steps_line observers (Event.Settle x) n line words fits step low high are is = absurd step
+steps_line observers (Event.Clear x) n line words fits step low high are is = absurd step
+steps_line observers (Event.Sweep x) n line words fits step low high are is = absurd step
 
 -- each line of the format is read, as the order that it is of
 pub line_read : (observers : List ObserverOf) (line : List ℕ) (order : Order) → IsLineOf observers order line → order_of observers line ≡ Ok order

@@ -1,22 +1,15 @@
 -- What is read as an order is written as the order's line.
-use Rattle.std.proofs.Common.{◌≡◌, ℕ, ◌-◌, ◌≤◌, true, cond, List, [], ◌∷◌, ◌++◌, Result, Ok, refl, sym, ap, subst, ◌∙◌, arith, inl, inr}
-use Rattle.std.specs.Prelude.{◌⊎◌, codes}
-use Rattle.std.specs.Fmt.{decimal}
-use Rattle.std.specs.Str.{bytes_eq}
+use Rattle.std.proofs.Common.{◌≡◌, ℕ, ◌-◌, ◌≤◌, true, cond, List, [], ◌∷◌, ◌++◌, Result, Ok, refl, sym, ap, subst, ◌∙◌, arith, inl, inr, ◌⊎◌, codes, decimal, bytes_eq}
 use Rattle.std.proofs.lemmas.List.{append-nil}
 use Rattle.std.proofs.lemmas.List.Splits.{join_with_byte-slice_split}
 use Rattle.pb_base.specs.declared.limits.TheConstants.{COLUMNS, MAX_CHANGES, MAX_EVENTS, MAX_SEATS}
 use Rattle.pb_base.specs.declared.cell.Cell.{Cell}
-use Rattle.pb_base.specs.declared.cell.Cell.TheVariants.{Data}
 use Rattle.pb_reading.specs.Reading.{next_word, no_word, words_of}
 use Rattle.pb_verify.specs.Observers.{ObserverOf, acknowledgment}
 use Rattle.pb_parse.specs.declared.event.Job.{Job}
-use Rattle.pb_parse.specs.declared.event.Job.TheVariants.{Change, Run}
 use Rattle.pb_parse.specs.declared.event.Event.{Event}
-use Rattle.pb_parse.specs.declared.event.Event.TheVariants.{Launch, Step, Crash, Settle, Clear, Sweep}
 use Rattle.pb_parse.specs.declared.schedule.words.Order.{Order}
 use Rattle.pb_parse.specs.declared.schedule.code.ScheduleCode.{ScheduleCode}
-use Rattle.pb_parse.specs.declared.schedule.code.ScheduleCode.TheVariants.{Form}
 use Rattle.pb_parse.specs.ScheduleWords.{number_between, next_number, next_actor, next_row, next_observer, next_change, next_run, next_job, once, launch_of, times_of, step_of, crash_of, next_data_cell, next_acknowledgment, next_cell, once_on, order_by, order_of_words, order_of}
 use Rattle.pb_parse.specs.EventLines.{name_of, cell_words, job_words, event_words, IsActor, FitsJob, FitsCell, IsRowCell, FitsEvent, AreWordsOf, IsLineOf}
 use Rattle.pb_reading.proofs.Parts.{AreParts, parts_are}
@@ -49,7 +42,7 @@ unfolding next_change
 change_is observers words x h =
     let a = then_ok (next_number 1 MAX_CHANGES words) _ x h in
     let n = next_number_is 1 MAX_CHANGES words a.0 (omega arith) a.1 in
-    subst (λ (y : Job × List (List ℕ)). TakesJob observers y.0 (codes "change" ∷ words) y.1) (ok_is (Change a.0.0, a.0.1) x a.2)
+    subst (λ (y : Job × List (List ℕ)). TakesJob observers y.0 (codes "change" ∷ words) y.1) (ok_is (Job.Change a.0.0, a.0.1) x a.2)
     (record { written = ap (λ (ws : List (List ℕ)). codes "change" ∷ ws) n.written; fits = (n.low, n.high) })
 
 -- a run is read from its words alone
@@ -60,7 +53,7 @@ run_is observers words x some h =
     let n = next_observer_is observers words a.0 some a.1 in
     let b = then_ok (next_row a.0.1) _ x a.2 in
     let r = next_row_is a.0.1 b.0 b.1 in
-    subst (λ (y : Job × List (List ℕ)). TakesJob observers y.0 (codes "run" ∷ words) y.1) (ok_is (Run a.0.0 b.0.0, b.0.1) x b.2)
+    subst (λ (y : Job × List (List ℕ)). TakesJob observers y.0 (codes "run" ∷ words) y.1) (ok_is (Job.Run a.0.0 b.0.0, b.0.1) x b.2)
     (record { written = ap (λ (ws : List (List ℕ)). codes "run" ∷ ws) (n.written ∙ ap (λ (ws : List (List ℕ)). name_of observers a.0.0 ∷ ws) r.0); fits = (n.named, r.1) })
 
 -- the word in front is this one
@@ -70,8 +63,8 @@ in_front P words x word cut is h = subst P (sym (cut ∙ ap (λ (w : List ℕ). 
 job_is : (observers : List ObserverOf) (words : List (List ℕ)) (x : Job × List (List ℕ)) → AreParts 32 words → next_job observers words ≡ Ok x → TakesJob observers x.0 words x.1
 unfolding next_job
 job_is observers words x some h =
-    let a = then_ok (next_word Form words) _ x h in
-    let cut = next_is Form words a.0 a.1 in
+    let a = then_ok (next_word ScheduleCode.Form words) _ x h in
+    let cut = next_is ScheduleCode.Form words a.0 a.1 in
     let parts = subst (AreParts 32) cut some in
     elim (chosen (bytes_eq a.0.0 (codes "change")) (next_change a.0.1) _ (Ok x) a.2) [
       | inl p ↦ in_front (λ ws. TakesJob observers x.0 ws x.1) words a.0 (codes "change") cut p.0 (change_is observers a.0.1 x p.1)
@@ -101,7 +94,7 @@ data_is observers words x h =
     let b = then_ok (next_number 0 (COLUMNS - 1) a.0.1) _ x a.2 in
     let n = next_number_is 0 (COLUMNS - 1) a.0.1 b.0 (omega arith) b.1 in
     let high = n.high in
-    subst (λ (y : Cell × List (List ℕ)). TakesDataCell observers y.0 words y.1) (ok_is (Data a.0.0 b.0.0, b.0.1) x b.2)
+    subst (λ (y : Cell × List (List ℕ)). TakesDataCell observers y.0 words y.1) (ok_is (Cell.Data a.0.0 b.0.0, b.0.1) x b.2)
     (record { cell = record { written = r.0 ∙ ap (λ (ws : List (List ℕ)). decimal a.0.0.0 ∷ ws) n.written; fits = (r.1, omega (arith, high)) }; data_cell = tt })
 
 acknowledgment_is : (observers : List ObserverOf) (words : List (List ℕ)) (x : Cell × List (List ℕ)) → AreParts 32 words → next_acknowledgment observers words ≡ Ok x → TakesCell observers x.0 (codes "ack" ∷ words) x.1
@@ -144,7 +137,7 @@ launch_is observers words order some h =
     let b = then_ok (next_job observers a.0.1) _ order a.2 in
     let parts = subst (AreParts 32) n.written some in
     let j = job_is observers a.0.1 b.0 parts.1 b.1 in
-    once_written observers (Launch a.0.0 b.0.0) (codes "launch" ∷ words) b.0.1 order b.2
+    once_written observers (Event.Launch a.0.0 b.0.0) (codes "launch" ∷ words) b.0.1 order b.2
     (ap (λ (ws : List (List ℕ)). codes "launch" ∷ ws) (n.written ∙ ap (λ (ws : List (List ℕ)). decimal a.0.0 ∷ ws) j.written)) (n.fits, j.fits)
 
 -- how often is said by no word, or by the spelling of a number
@@ -153,11 +146,11 @@ unfolding times_of
 times_is [] n h = inl (sym (ok_is 1 n h), refl)
 times_is (word ∷ words) n h =
     let a = then_ok (number_between 1 MAX_EVENTS word) _ n h in
-    let b = then_ok (no_word Form words) _ n a.2 in
+    let b = then_ok (no_word ScheduleCode.Form words) _ n a.2 in
     let same : a.0 ≡ n = ok_is a.0 n b.2 in
     let k = number_is 1 MAX_EVENTS a.0 word (omega arith) a.1 in
     let low = k.low in let high = k.high in
-    inr (omega (arith, low, same), omega (arith, high, same), ap (λ (ws : List (List ℕ)). word ∷ ws) (none_left Form words b.0 b.1) ∙ ap (λ (w : List ℕ). w ∷ []) (k.written ∙ ap decimal same))
+    inr (omega (arith, low, same), omega (arith, high, same), ap (λ (ws : List (List ℕ)). word ∷ ws) (none_left ScheduleCode.Form words b.0 b.1) ∙ ap (λ (w : List ℕ). w ∷ []) (k.written ∙ ap decimal same))
 
 step_is : (observers : List ObserverOf) (words : List (List ℕ)) (order : Order) → step_of words ≡ Ok order → IsWritten observers order (codes "step" ∷ words)
 unfolding step_of
@@ -167,7 +160,7 @@ step_is observers words order h =
     let b = then_ok (times_of a.0.1) _ order a.2 in
     let front = λ (ws : List (List ℕ)). codes "step" ∷ decimal a.0.0 ∷ ws in
     let start : codes "step" ∷ words ≡ codes "step" ∷ decimal a.0.0 ∷ a.0.1 = ap (λ (ws : List (List ℕ)). codes "step" ∷ ws) n.written in
-    subst (λ (other : Order). IsWritten observers other (codes "step" ∷ words)) (ok_is (record { event = Step a.0.0; times = b.0 }) order b.2)
+    subst (λ (other : Order). IsWritten observers other (codes "step" ∷ words)) (ok_is (record { event = Event.Step a.0.0; times = b.0 }) order b.2)
     (elim (times_is a.0.1 b.0 b.1) [
       | inl one ↦ record { written = inl (one.0, start ∙ ap front one.1); fits = n.fits }
       | inr some ↦ record { written = inr (tt, some.0, some.1, start ∙ ap front some.2); fits = n.fits }
@@ -178,28 +171,28 @@ unfolding crash_of
 crash_is observers words order h =
     let a = then_ok (next_actor words) _ order h in
     let n = actor_is words a.0 a.1 in
-    once_written observers (Crash a.0.0) (codes "crash" ∷ words) a.0.1 order a.2 (ap (λ (ws : List (List ℕ)). codes "crash" ∷ ws) n.written) n.fits
+    once_written observers (Event.Crash a.0.0) (codes "crash" ∷ words) a.0.1 order a.2 (ap (λ (ws : List (List ℕ)). codes "crash" ∷ ws) n.written) n.fits
 
-settle_is : (observers : List ObserverOf) (words : List (List ℕ)) (order : Order) → AreParts 32 words → once_on Settle (next_cell observers words) ≡ Ok order → IsWritten observers order (codes "settle" ∷ words)
+settle_is : (observers : List ObserverOf) (words : List (List ℕ)) (order : Order) → AreParts 32 words → once_on Event.Settle (next_cell observers words) ≡ Ok order → IsWritten observers order (codes "settle" ∷ words)
 unfolding once_on
 settle_is observers words order some h =
     let a = then_ok (next_cell observers words) _ order h in
     let x = cell_is observers words a.0 some a.1 in
-    once_written observers (Settle a.0.0) (codes "settle" ∷ words) a.0.1 order a.2 (ap (λ (ws : List (List ℕ)). codes "settle" ∷ ws) x.written) x.fits
+    once_written observers (Event.Settle a.0.0) (codes "settle" ∷ words) a.0.1 order a.2 (ap (λ (ws : List (List ℕ)). codes "settle" ∷ ws) x.written) x.fits
 
-clear_is : (observers : List ObserverOf) (words : List (List ℕ)) (order : Order) → AreParts 32 words → once_on Clear (next_cell observers words) ≡ Ok order → IsWritten observers order (codes "clear" ∷ words)
+clear_is : (observers : List ObserverOf) (words : List (List ℕ)) (order : Order) → AreParts 32 words → once_on Event.Clear (next_cell observers words) ≡ Ok order → IsWritten observers order (codes "clear" ∷ words)
 unfolding once_on
 clear_is observers words order some h =
     let a = then_ok (next_cell observers words) _ order h in
     let x = cell_is observers words a.0 some a.1 in
-    once_written observers (Clear a.0.0) (codes "clear" ∷ words) a.0.1 order a.2 (ap (λ (ws : List (List ℕ)). codes "clear" ∷ ws) x.written) x.fits
+    once_written observers (Event.Clear a.0.0) (codes "clear" ∷ words) a.0.1 order a.2 (ap (λ (ws : List (List ℕ)). codes "clear" ∷ ws) x.written) x.fits
 
-sweep_is : (observers : List ObserverOf) (words : List (List ℕ)) (order : Order) → once_on Sweep (next_data_cell words) ≡ Ok order → IsWritten observers order (codes "sweep" ∷ words)
+sweep_is : (observers : List ObserverOf) (words : List (List ℕ)) (order : Order) → once_on Event.Sweep (next_data_cell words) ≡ Ok order → IsWritten observers order (codes "sweep" ∷ words)
 unfolding once_on
 sweep_is observers words order h =
     let a = then_ok (next_data_cell words) _ order h in
     let x = data_is observers words a.0 a.1 in
-    once_written observers (Sweep a.0.0) (codes "sweep" ∷ words) a.0.1 order a.2 (ap (λ (ws : List (List ℕ)). codes "sweep" ∷ ws) x.cell.written) (x.data_cell, x.cell.fits)
+    once_written observers (Event.Sweep a.0.0) (codes "sweep" ∷ words) a.0.1 order a.2 (ap (λ (ws : List (List ℕ)). codes "sweep" ∷ ws) x.cell.written) (x.data_cell, x.cell.fits)
 
 -- one verb: where the word is it, what stands behind says the order, and else the other verbs do
 verb_is : (verb : List ℕ) (this : List ℕ) (r others : Result Order ScheduleCode) (order : Order) (P : List ℕ → Type 0) → cond (bytes_eq verb this) r others ≡ Ok order → (r ≡ Ok order → P this) → (others ≡ Ok order → P verb) → P verb

@@ -1,24 +1,21 @@
 -- An operation's own faults are its form, its row or column out of range, and its HEX.
-use Rattle.std.proofs.Common.{◌≡◌, ℕ, List, Result, Ok, Err, subst}
-use Rattle.std.specs.Prelude.{◌==◌, ◌||◌, codes, nat_lt, length}
-use Rattle.std.specs.Str.{bytes_eq}
+use Rattle.std.proofs.Common.{◌≡◌, ℕ, List, Result, Ok, Err, subst, ◌==◌, ◌||◌, codes, nat_lt, length, bytes_eq}
 use Rattle.std.specs.Char.{is_ascii_uppercase}
 use Rattle.std.specs.List.{list_any}
 use Rattle.hex.specs.Hex.{decode_of}
 use Rattle.pb_parse.specs.declared.script.code.ScriptCode.{ScriptCode}
-use Rattle.pb_parse.specs.declared.script.code.ScriptCode.TheVariants.{Form, Range, Hex, Twice, Seventeenth, TooMany}
 use Rattle.pb_reading.specs.Reading.{next_word, no_word, words_of}
 use Rattle.pb_reading.proofs.Readings.{FailsBy, then_fails, if_fails, next_fails, end_fails, numeral_fails}
 use Rattle.pb_parse.specs.ScriptWords.{number_upto, padded, content_of, cell_at, put_of, del_of, write_of, operation}
 
 -- a fault that an operation can have by itself: 70, 71 or 72
 abbrev pub IsOwn : ScriptCode → Type 0
-IsOwn Form = Unit {0}
-IsOwn Range = Unit {0}
-IsOwn Hex = Unit {0}
-IsOwn Twice = ⊥
-IsOwn Seventeenth = ⊥
-IsOwn TooMany = ⊥
+IsOwn ScriptCode.Form = Unit {0}
+IsOwn ScriptCode.Range = Unit {0}
+IsOwn ScriptCode.Hex = Unit {0}
+IsOwn ScriptCode.Twice = ⊥
+IsOwn ScriptCode.Seventeenth = ⊥
+IsOwn ScriptCode.TooMany = ⊥
 
 -- what reads a part of an operation fails with none but these
 abbrev FaultIsOwn : {A : Type 0} → Result A ScriptCode → Type 0
@@ -26,7 +23,7 @@ FaultIsOwn r = FailsBy IsOwn r
 
 -- a number is out of form or out of range
 number : (greatest : ℕ) (word : List ℕ) → FaultIsOwn (number_upto greatest word)
-number greatest word = numeral_fails IsOwn Form Range greatest word tt tt
+number greatest word = numeral_fails IsOwn ScriptCode.Form ScriptCode.Range greatest word tt tt
 
 pads : {E : Type 0} (r : Result (List ℕ) E) → FaultIsOwn (padded r)
 pads (Ok bytes) = tt
@@ -34,25 +31,25 @@ pads (Err e) = tt
 
 -- a value is refused by 72 alone
 content : (word : List ℕ) → FaultIsOwn (content_of word)
-content word = if_fails IsOwn ((length word == 0) || (nat_lt 64 (length word) || list_any is_ascii_uppercase word)) (Err Hex) (padded (decode_of word)) tt (pads (decode_of word))
+content word = if_fails IsOwn ((length word == 0) || (nat_lt 64 (length word) || list_any is_ascii_uppercase word)) (Err ScriptCode.Hex) (padded (decode_of word)) tt (pads (decode_of word))
 
 cell : (words : List (List ℕ)) → FaultIsOwn (cell_at words)
 unfolding cell_at
-cell words = then_fails IsOwn (next_word Form words) _ (next_fails IsOwn Form words tt) (λ a. then_fails IsOwn (number_upto _ a.0) _ (number _ a.0) (λ row. then_fails IsOwn (next_word Form a.1) _ (next_fails IsOwn Form a.1 tt) (λ b. then_fails IsOwn (number_upto _ b.0) _ (number _ b.0) (λ column. tt))))
+cell words = then_fails IsOwn (next_word ScriptCode.Form words) _ (next_fails IsOwn ScriptCode.Form words tt) (λ a. then_fails IsOwn (number_upto _ a.0) _ (number _ a.0) (λ row. then_fails IsOwn (next_word ScriptCode.Form a.1) _ (next_fails IsOwn ScriptCode.Form a.1 tt) (λ b. then_fails IsOwn (number_upto _ b.0) _ (number _ b.0) (λ column. tt))))
 
 put : (words : List (List ℕ)) → FaultIsOwn (put_of words)
 unfolding put_of
-put words = then_fails IsOwn (cell_at words) _ (cell words) (λ a. then_fails IsOwn (next_word Form a.1) _ (next_fails IsOwn Form a.1 tt) (λ b. then_fails IsOwn (content_of b.0) _ (content b.0) (λ v. then_fails IsOwn (no_word Form b.1) _ (end_fails IsOwn Form b.1 tt) (λ e. tt))))
+put words = then_fails IsOwn (cell_at words) _ (cell words) (λ a. then_fails IsOwn (next_word ScriptCode.Form a.1) _ (next_fails IsOwn ScriptCode.Form a.1 tt) (λ b. then_fails IsOwn (content_of b.0) _ (content b.0) (λ v. then_fails IsOwn (no_word ScriptCode.Form b.1) _ (end_fails IsOwn ScriptCode.Form b.1 tt) (λ e. tt))))
 
 del : (words : List (List ℕ)) → FaultIsOwn (del_of words)
 unfolding del_of
-del words = then_fails IsOwn (cell_at words) _ (cell words) (λ a. then_fails IsOwn (no_word Form a.1) _ (end_fails IsOwn Form a.1 tt) (λ e. tt))
+del words = then_fails IsOwn (cell_at words) _ (cell words) (λ a. then_fails IsOwn (no_word ScriptCode.Form a.1) _ (end_fails IsOwn ScriptCode.Form a.1 tt) (λ e. tt))
 
 write : (words : List (List ℕ)) → FaultIsOwn (write_of words)
 unfolding write_of
 write words =
-    then_fails IsOwn (next_word Form words) _ (next_fails IsOwn Form words tt) (λ a.
-    if_fails IsOwn (bytes_eq a.0 (codes "put")) (put_of a.1) _ (put a.1) (if_fails IsOwn (bytes_eq a.0 (codes "del")) (del_of a.1) (Err Form) (del a.1) tt))
+    then_fails IsOwn (next_word ScriptCode.Form words) _ (next_fails IsOwn ScriptCode.Form words tt) (λ a.
+    if_fails IsOwn (bytes_eq a.0 (codes "put")) (put_of a.1) _ (put a.1) (if_fails IsOwn (bytes_eq a.0 (codes "del")) (del_of a.1) (Err ScriptCode.Form) (del a.1) tt))
 
 -- so an operation has no fault that depends on those before it
 pub own_fault : (text : List ℕ) (cause : ScriptCode) → operation text ≡ Err cause → IsOwn cause

@@ -5,7 +5,6 @@ use Rattle.pb_base.specs.Batch.{Writes}
 use Rattle.pb_reading.specs.Reading.{◌>>=◌, in_turn}
 use Rattle.pb_reading.specs.Faults.{Ends}
 use Rattle.pb_reading.specs.declared.fault.LineFault.{LineFault}
-use Rattle.pb_reading.specs.declared.fault.LineFault.TheVariants.{NoMemory, Code}
 use Rattle.pb_parse.specs.declared.script.code.ScriptCode.{ScriptCode}
 use Rattle.pb_parse.specs.ScriptLines.{cut, with_operation}
 use Rattle.pb_parse.proofs.Cuts.{joint, cut_none, cut_some}
@@ -36,8 +35,8 @@ goes_on w v rest first after total split one before = sym (first_part w rest fir
 
 -- a part is at fault
 pub stops : (w : Writes) (rest first after : List ℕ) (total : Result Writes ScriptCode) (fault : LineFault ScriptCode) → SplitsAroundMatch (FindsText joint) rest first after → Ends fault (with_operation w first) → from_here w rest ≡ total → Ends fault total
-stops w rest first after total NoMemory split ends before = tt
-stops w rest first after total (Code code) split ends before = sym before ∙ first_part w rest first after (Err code) split ends
+stops w rest first after total LineFault.NoMemory split ends before = tt
+stops w rest first after total (LineFault.Code code) split ends before = sym before ∙ first_part w rest first after (Err code) split ends
 
 -- ---- the last part
 

@@ -1,6 +1,5 @@
 -- A text is read as events exactly where its lines ask for them.
-use Rattle.std.proofs.Common.{◌≡◌, ℕ, ◌+◌, ◌≤◌, ◌↔◌, true, false, List, [], ◌++◌, length, Result, Ok, refl, sym, ap, subst, ◌∙◌, arith, length-append}
-use Rattle.std.specs.Prelude.{nat_lt, replicate}
+use Rattle.std.proofs.Common.{◌≡◌, ℕ, ◌+◌, ◌≤◌, ◌↔◌, true, false, List, [], ◌++◌, length, Result, Ok, refl, sym, ap, subst, ◌∙◌, arith, length-append, nat_lt, replicate}
 use Rattle.std.proofs.lemmas.Bool.{ltb-false, le-ltb}
 use Rattle.std.proofs.Math.ListN.{length-replicate}
 use Rattle.pb_base.specs.declared.limits.TheConstants.{MAX_EVENTS}
@@ -11,7 +10,6 @@ use Rattle.pb_verify.specs.Observers.{ObserverOf}
 use Rattle.pb_parse.specs.declared.event.Event.{Event}
 use Rattle.pb_parse.specs.declared.schedule.words.Order.{Order}
 use Rattle.pb_parse.specs.declared.schedule.code.ScheduleCode.{ScheduleCode}
-use Rattle.pb_parse.specs.declared.schedule.code.ScheduleCode.TheVariants.{TooMany}
 use Rattle.pb_parse.specs.ScheduleCodes.{schedule_code}
 use Rattle.pb_parse.specs.ScheduleWords.{order_of}
 use Rattle.pb_parse.specs.Schedules.{with_order, with_event_line, schedule_of}
@@ -44,7 +42,7 @@ length_asked order = length-replicate order.times order.event
 take_line : (observers : List ObserverOf) (before after : List Event) (l : List ℕ) → is_skipped l ≡ false → with_event_line observers before l ≡ Ok after → Adds (order_of observers) asked Room before after l
 take_line observers before after l is h =
     let a = then_ok (order_of observers l) (with_order before) after (sym (shown_line observers before l is) ∙ h) in
-    let p = else_ok (nat_lt MAX_EVENTS (length before + a.0.times)) (Ok (before ++ asked a.0)) TooMany after a.2 in
+    let p = else_ok (nat_lt MAX_EVENTS (length before + a.0.times)) (Ok (before ++ asked a.0)) ScheduleCode.TooMany after a.2 in
     let whole = ok_is {E = ScheduleCode} (before ++ asked a.0) after p.1 in
     let few : Room (before ++ asked a.0) = let m = ltb-false _ _ p.0 in let s = length_asked a.0 in simp length-append (omega (arith, m, s)) in
     record { thing = a.0; says = a.1; whole = whole; room = subst Room whole few }

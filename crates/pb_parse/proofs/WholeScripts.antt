@@ -1,7 +1,6 @@
 -- A text is read as transactions exactly where its lines are, each as one of them, and they are no more than a script may
 -- have.
-use Rattle.std.proofs.Common.{◌≡◌, ℕ, ◌<◌, ◌≤◌, true, false, cond, List, [], ◌∷◌, ◌++◌, length, map, Result, Ok, Err, refl, sym, ap, subst, ◌∙◌, arith, length-append}
-use Rattle.std.specs.Prelude.{nat_le}
+use Rattle.std.proofs.Common.{◌≡◌, ℕ, ◌<◌, ◌≤◌, true, false, cond, List, [], ◌∷◌, ◌++◌, length, map, Result, Ok, Err, refl, sym, ap, subst, ◌∙◌, arith, length-append, nat_le}
 use Rattle.std.proofs.lemmas.Bool.{leb-false, lt-leb}
 use Rattle.pb_base.specs.declared.limits.TheConstants.{MAX_CHANGES}
 use Rattle.pb_base.specs.Batch.{Writes}
@@ -11,7 +10,6 @@ use Rattle.pb_reading.proofs.SkippedLines.{kept}
 use Rattle.pb_reading.proofs.Readings.{then_ok, ok_is, else_ok}
 use Rattle.pb_parse.specs.Codes.{script_code}
 use Rattle.pb_parse.specs.declared.script.code.ScriptCode.{ScriptCode}
-use Rattle.pb_parse.specs.declared.script.code.ScriptCode.TheVariants.{TooMany}
 use Rattle.pb_parse.specs.ScriptLines.{Batches, batch_of, with_line, script_of}
 
 abbrev one : Writes → Batches
@@ -26,7 +24,7 @@ unfolding with_line
 skip_line before l is = rw is refl
 
 abbrev added : Batches → Writes → Result Batches ScriptCode
-added before batch = cond (nat_le MAX_CHANGES (length before)) (Err TooMany) (Ok (before ++ batch ∷ []))
+added before batch = cond (nat_le MAX_CHANGES (length before)) (Err ScriptCode.TooMany) (Ok (before ++ batch ∷ []))
 
 shown_line : (before : Batches) (l : List ℕ) → is_skipped l ≡ false → with_line before l ≡ (batch_of l >>= added before)
 unfolding with_line
@@ -36,7 +34,7 @@ shown_line before l is = rw is refl
 take_line : (before after : Batches) (l : List ℕ) → is_skipped l ≡ false → with_line before l ≡ Ok after → Adds batch_of one Room before after l
 take_line before after l is h =
     let a = then_ok (batch_of l) (added before) after (sym (shown_line before l is) ∙ h) in
-    let p = else_ok (nat_le MAX_CHANGES (length before)) (Ok (before ++ a.0 ∷ [])) TooMany after a.2 in
+    let p = else_ok (nat_le MAX_CHANGES (length before)) (Ok (before ++ a.0 ∷ [])) ScriptCode.TooMany after a.2 in
     let whole = ok_is {E = ScriptCode} (before ++ a.0 ∷ []) after p.1 in
     let room : length before < MAX_CHANGES = leb-false _ _ p.0 in
     let few : Room (before ++ a.0 ∷ []) = simp length-append (omega (arith, room)) in

@@ -1,18 +1,14 @@
 -- The lines of a schedule, as they are written: the words of each event, and what may stand there. Nothing is read
 -- here, so that a reader and a definition that are loose in one way are refused by `event_lines_are_read_as_written`.
-use Rattle.std.specs.Prelude.{◌≡◌, ◌≢◌, ◌⊎◌, ℕ, ◌^◌, ◌<◌, ◌≤◌, ◌==◌, not, true, List, [], ◌∷◌, ◌++◌, length, map, codes, Option, Some, None, slice_get, Ok, replicate}
-use Rattle.std.specs.Fmt.{decimal}
+use Rattle.std.specs.Prelude.{◌≡◌, ◌≢◌, ◌⊎◌, ℕ, ◌^◌, ◌<◌, ◌≤◌, ◌==◌, not, true, List, [], ◌∷◌, ◌++◌, length, map, codes, Option, Some, None, slice_get, Ok, replicate, decimal}
 use Rattle.std.specs.List.{flat_map, join_with_byte, list_all}
 use Rattle.pb_base.specs.declared.limits.TheConstants.{COLUMNS, MAX_CHANGES, MAX_EVENTS, MAX_SEATS}
 use Rattle.pb_base.specs.declared.names.Row.{Row}
 use Rattle.pb_base.specs.declared.cell.Cell.{Cell}
-use Rattle.pb_base.specs.declared.cell.Cell.TheVariants.{Data, Ack}
 use Rattle.pb_reading.specs.Reading.{shown_lines}
 use Rattle.pb_verify.specs.Observers.{ObserverOf, observed_column}
 use Rattle.pb_parse.specs.declared.event.Job.{Job}
-use Rattle.pb_parse.specs.declared.event.Job.TheVariants.{Change, Run}
 use Rattle.pb_parse.specs.declared.event.Event.{Event}
-use Rattle.pb_parse.specs.declared.event.Event.TheVariants.{Launch, Step, Crash, Settle, Clear, Sweep}
 use Rattle.pb_parse.specs.declared.schedule.words.Order.{Order}
 use Rattle.pb_parse.specs.ScheduleWords.{order_of}
 
@@ -29,22 +25,22 @@ name_of observers o = name_or_none (slice_get observers o)
 
 -- a data cell by row and column; an acknowledgment by the observer's name, which tells its column too
 abbrev pub cell_words : List ObserverOf → Cell → List (List ℕ)
-cell_words observers (Data row column) = decimal row.0 ∷ decimal column ∷ []
-cell_words observers (Ack o row column) = codes "ack" ∷ name_of observers o ∷ decimal row.0 ∷ []
+cell_words observers (Cell.Data row column) = decimal row.0 ∷ decimal column ∷ []
+cell_words observers (Cell.Ack o row column) = codes "ack" ∷ name_of observers o ∷ decimal row.0 ∷ []
 
 -- the words of a launch behind its actor
 abbrev pub job_words : List ObserverOf → Job → List (List ℕ)
-job_words observers (Change number) = codes "change" ∷ decimal number ∷ []
-job_words observers (Run o row) = codes "run" ∷ name_of observers o ∷ decimal row.0 ∷ []
+job_words observers (Job.Change number) = codes "change" ∷ decimal number ∷ []
+job_words observers (Job.Run o row) = codes "run" ∷ name_of observers o ∷ decimal row.0 ∷ []
 
 -- the words of a line that asks for the event once
 abbrev pub event_words : List ObserverOf → Event → List (List ℕ)
-event_words observers (Launch actor job) = codes "launch" ∷ decimal actor ∷ job_words observers job
-event_words observers (Step actor) = codes "step" ∷ decimal actor ∷ []
-event_words observers (Crash actor) = codes "crash" ∷ decimal actor ∷ []
-event_words observers (Settle x) = codes "settle" ∷ cell_words observers x
-event_words observers (Clear x) = codes "clear" ∷ cell_words observers x
-event_words observers (Sweep x) = codes "sweep" ∷ cell_words observers x
+event_words observers (Event.Launch actor job) = codes "launch" ∷ decimal actor ∷ job_words observers job
+event_words observers (Event.Step actor) = codes "step" ∷ decimal actor ∷ []
+event_words observers (Event.Crash actor) = codes "crash" ∷ decimal actor ∷ []
+event_words observers (Event.Settle x) = codes "settle" ∷ cell_words observers x
+event_words observers (Event.Clear x) = codes "clear" ∷ cell_words observers x
+event_words observers (Event.Sweep x) = codes "sweep" ∷ cell_words observers x
 
 -- ---- what may stand there
 
@@ -64,38 +60,38 @@ pub record IsNamed (observers : List ObserverOf) (o : ℕ) : Type 0 where
 
 -- a change has a number that some script may have, and a run's observer can be named
 abbrev pub FitsJob : List ObserverOf → Job → Type 0
-FitsJob observers (Change number) = (1 ≤ number) × (number ≤ MAX_CHANGES)
-FitsJob observers (Run o row) = IsNamed observers o × IsRow row
+FitsJob observers (Job.Change number) = (1 ≤ number) × (number ≤ MAX_CHANGES)
+FitsJob observers (Job.Run o row) = IsNamed observers o × IsRow row
 
 -- the cell is in the table, and an acknowledgment is of the column that its observer observes
 abbrev pub FitsCell : List ObserverOf → Cell → Type 0
-FitsCell observers (Data row column) = IsRow row × (column < COLUMNS)
-FitsCell observers (Ack o row column) = IsNamed observers o × IsRow row × (column ≡ observed_column observers o)
+FitsCell observers (Cell.Data row column) = IsRow row × (column < COLUMNS)
+FitsCell observers (Cell.Ack o row column) = IsNamed observers o × IsRow row × (column ≡ observed_column observers o)
 
 -- a data cell, the one sort of cell that has marks to sweep
 abbrev pub IsRowCell : Cell → Type 0
-IsRowCell (Data row column) = Unit {0}
-IsRowCell (Ack o row column) = ⊥
+IsRowCell (Cell.Data row column) = Unit {0}
+IsRowCell (Cell.Ack o row column) = ⊥
 
 -- what an event names may stand in a line
 abbrev pub FitsEvent : List ObserverOf → Event → Type 0
-FitsEvent observers (Launch actor job) = IsActor actor × FitsJob observers job
-FitsEvent observers (Step actor) = IsActor actor
-FitsEvent observers (Crash actor) = IsActor actor
-FitsEvent observers (Settle x) = FitsCell observers x
-FitsEvent observers (Clear x) = FitsCell observers x
-FitsEvent observers (Sweep x) = IsRowCell x × FitsCell observers x
+FitsEvent observers (Event.Launch actor job) = IsActor actor × FitsJob observers job
+FitsEvent observers (Event.Step actor) = IsActor actor
+FitsEvent observers (Event.Crash actor) = IsActor actor
+FitsEvent observers (Event.Settle x) = FitsCell observers x
+FitsEvent observers (Event.Clear x) = FitsCell observers x
+FitsEvent observers (Event.Sweep x) = IsRowCell x × FitsCell observers x
 
 -- ---- lines
 
 -- a step, the only event that a line may ask for several times
 abbrev pub IsStep : Event → Type 0
-IsStep (Step actor) = Unit {0}
-IsStep (Launch actor job) = ⊥
-IsStep (Crash actor) = ⊥
-IsStep (Settle x) = ⊥
-IsStep (Clear x) = ⊥
-IsStep (Sweep x) = ⊥
+IsStep (Event.Step actor) = Unit {0}
+IsStep (Event.Launch actor job) = ⊥
+IsStep (Event.Crash actor) = ⊥
+IsStep (Event.Settle x) = ⊥
+IsStep (Event.Clear x) = ⊥
+IsStep (Event.Sweep x) = ⊥
 
 -- The words ask for an event so many times: for once they are the event's, and for a step there may stand behind them how often.
 abbrev pub AreWordsOf : List ObserverOf → Order → List (List ℕ) → Type 0

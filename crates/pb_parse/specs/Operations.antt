@@ -6,7 +6,6 @@ use Rattle.pb_base.specs.declared.cell.Cell.{Cell}
 use Rattle.pb_base.specs.declared.content.Content.{Content}
 use Rattle.pb_base.specs.Batch.{Writes, content_in, are_distinct}
 use Rattle.pb_parse.specs.declared.script.code.ScriptCode.{ScriptCode}
-use Rattle.pb_parse.specs.declared.script.code.ScriptCode.TheVariants.{Form, Range, Hex, Twice, Seventeenth, TooMany}
 use Rattle.pb_parse.specs.ScriptWords.{operation}
 use Rattle.pb_parse.specs.ScriptLines.{cut}
 
@@ -16,12 +15,12 @@ Say texts writes = map operation texts ≡ map (λ w. Ok w) writes
 
 -- Why the operation of this text is at fault after those that say these writes: by itself; or it names one of their cells; or it names another, and they are as many as a transaction may have.
 abbrev pub IsFaultAfter : Writes → List ℕ → ScriptCode → Type 0
-IsFaultAfter before text Form = operation text ≡ Err Form
-IsFaultAfter before text Range = operation text ≡ Err Range
-IsFaultAfter before text Hex = operation text ≡ Err Hex
-IsFaultAfter before text Twice = (w : Cell × Content) × (operation text ≡ Ok w) × (is_some (content_in before w.0) ≡ true)
-IsFaultAfter before text Seventeenth = (w : Cell × Content) × (operation text ≡ Ok w) × (is_some (content_in before w.0) ≡ false) × (length before ≡ MAX_CELLS)
-IsFaultAfter before text TooMany = ⊥
+IsFaultAfter before text ScriptCode.Form = operation text ≡ Err ScriptCode.Form
+IsFaultAfter before text ScriptCode.Range = operation text ≡ Err ScriptCode.Range
+IsFaultAfter before text ScriptCode.Hex = operation text ≡ Err ScriptCode.Hex
+IsFaultAfter before text ScriptCode.Twice = (w : Cell × Content) × (operation text ≡ Ok w) × (is_some (content_in before w.0) ≡ true)
+IsFaultAfter before text ScriptCode.Seventeenth = (w : Cell × Content) × (operation text ≡ Ok w) × (is_some (content_in before w.0) ≡ false) × (length before ≡ MAX_CELLS)
+IsFaultAfter before text ScriptCode.TooMany = ⊥
 
 -- the operations in front are read, of distinct cells and no more than a transaction may have, and the next is at fault after them
 pub record StopsWith (line : List ℕ) (cause : ScriptCode) : Type 0 where

@@ -1,7 +1,6 @@
 -- Where a schedule is at fault, said by the words of a line up to one that can't stand there, and not by what a reader
 -- meets first. The laws of schedules cite it.
-use Rattle.std.specs.Prelude.{◌≡◌, ◌≢◌, ◌⊎◌, ℕ, ◌-◌, ◌^◌, ◌<◌, ◌+◌, true, false, List, [], ◌∷◌, ◌++◌, length, codes, Ok}
-use Rattle.std.specs.Fmt.{decimal}
+use Rattle.std.specs.Prelude.{◌≡◌, ◌≢◌, ◌⊎◌, ℕ, ◌-◌, ◌^◌, ◌<◌, ◌+◌, true, false, List, [], ◌∷◌, ◌++◌, length, codes, Ok, decimal}
 use Rattle.std.specs.Str.Parse.{digits_value}
 use Rattle.pb_base.specs.declared.limits.TheConstants.{COLUMNS, MAX_CHANGES, MAX_EVENTS, MAX_SEATS}
 use Rattle.pb_base.specs.declared.names.Row.{Row}
@@ -10,7 +9,6 @@ use Rattle.pb_verify.specs.Observers.{ObserverOf}
 use Rattle.pb_parse.specs.declared.event.Event.{Event}
 use Rattle.pb_parse.specs.declared.schedule.words.Order.{Order}
 use Rattle.pb_parse.specs.declared.schedule.code.ScheduleCode.{ScheduleCode}
-use Rattle.pb_parse.specs.declared.schedule.code.ScheduleCode.TheVariants.{Range, NoObserver}
 use Rattle.pb_parse.specs.ScheduleWords.{order_of}
 use Rattle.pb_parse.specs.EventLines.{name_of, IsActor, IsRow, IsNamed}
 
@@ -80,7 +78,7 @@ FitsInFront observers (SweepColumn row) = IsRow row
 pub record IsOutside (least greatest : ℕ) (word : List ℕ) (cause : ScheduleCode) : Type 0 where
   pub numeral : is_numeral word ≡ true
   pub outside : (digits_value 10 word < least) ⊎ (greatest < digits_value 10 word)
-  pub told : cause ≡ Range
+  pub told : cause ≡ ScheduleCode.Range
 
 -- digits that are no actor's number; a word that is no number at all has no form, and is no field's fault
 abbrev pub IsNoActor : List ℕ → ScheduleCode → Type 0
@@ -97,7 +95,7 @@ IsNoColumn word cause = IsOutside 0 (COLUMNS - 1) word cause
 -- the name of no observer
 pub record IsNobody (observers : List ObserverOf) (word : List ℕ) (cause : ScheduleCode) : Type 0 where
   pub nobody : (o : ℕ) → o < length observers → name_of observers o ≢ word
-  pub told : cause ≡ NoObserver
+  pub told : cause ≡ ScheduleCode.NoObserver
 
 -- the word can't stand in this field, for this cause
 abbrev pub IsRefusedAt : List ObserverOf → Field → List ℕ → ScheduleCode → Type 0

@@ -8,13 +8,12 @@ use Rattle.pb_verify.specs.Observers.{ObserverOf}
 use Rattle.pb_parse.specs.declared.event.Event.{Event}
 use Rattle.pb_parse.specs.declared.schedule.words.Order.{Order}
 use Rattle.pb_parse.specs.declared.schedule.code.ScheduleCode.{ScheduleCode}
-use Rattle.pb_parse.specs.declared.schedule.code.ScheduleCode.TheVariants.{TooMany}
 use Rattle.pb_parse.specs.ScheduleCodes.{schedule_code}
 use Rattle.pb_parse.specs.ScheduleWords.{order_of}
 
 -- the events so far, with those that an order asks for, if they are no more than a schedule may have
 abbrev pub with_order : List Event → Order → Result (List Event) ScheduleCode
-with_order before order = if nat_lt MAX_EVENTS (length before + order.times) then Err TooMany else Ok (before ++ replicate order.times order.event)
+with_order before order = if nat_lt MAX_EVENTS (length before + order.times) then Err ScheduleCode.TooMany else Ok (before ++ replicate order.times order.event)
 
 -- The events so far, with those of one more line. That they are too many is told last of its line's faults.
 unfoldable pub with_event_line : List ObserverOf → List Event → List ℕ → Result (List Event) ScheduleCode

@@ -5,7 +5,6 @@ use Rattle.std.specs.List.{onto_first}
 use Rattle.pb_base.specs.declared.limits.TheConstants.{MAX_CELLS, MAX_CHANGES}
 use Rattle.pb_base.specs.Batch.{Writes, content_in}
 use Rattle.pb_parse.specs.declared.script.code.ScriptCode.{ScriptCode}
-use Rattle.pb_parse.specs.declared.script.code.ScriptCode.TheVariants.{Twice, Seventeenth, TooMany}
 use Rattle.pb_parse.specs.Codes.{script_code}
 use Rattle.pb_reading.specs.Reading.{◌>>=◌, in_turn, is_skipped, lines_of}
 use Rattle.pb_reading.specs.Faults.{in_lines}
@@ -21,7 +20,7 @@ cut (b ∷ c ∷ bs) = if (b == 59) && (c == 32) then [] ∷ cut bs else onto_fi
 unfoldable pub with_operation : Writes → List ℕ → Result Writes ScriptCode
 with_operation before text = do
   w ← operation text
-  if is_some (content_in before w.0) then Err Twice else if nat_le MAX_CELLS (length before) then Err Seventeenth else Ok (before ++ w ∷ [])
+  if is_some (content_in before w.0) then Err ScriptCode.Twice else if nat_le MAX_CELLS (length before) then Err ScriptCode.Seventeenth else Ok (before ++ w ∷ [])
 
 -- the transaction that a line is: what its operations write, in their order
 abbrev pub batch_of : List ℕ → Result Writes ScriptCode
@@ -35,7 +34,7 @@ Batches = List Writes
 unfoldable pub with_line : Batches → List ℕ → Result Batches ScriptCode
 with_line before line = if is_skipped line then Ok before else do
   batch ← batch_of line
-  if nat_le MAX_CHANGES (length before) then Err TooMany else Ok (before ++ batch ∷ [])
+  if nat_le MAX_CHANGES (length before) then Err ScriptCode.TooMany else Ok (before ++ batch ∷ [])
 
 -- the transactions of a text, or the line and the code of its fault; skipped lines are counted too, since a fault is told
 -- by the line's number

@@ -1,6 +1,5 @@
 -- What a whole script is read as.
-use Rattle.std.specs.Prelude.{◌≡◌, ◌≤◌, true, length}
-use Rattle.std.specs.List.{All}
+use Rattle.std.specs.Prelude.{◌≡◌, ◌≤◌, true, length, All}
 use Rattle.pb_base.specs.declared.limits.TheConstants.{MAX_CHANGES}
 use Rattle.pb_base.specs.Batch.{is_batch}
 use Rattle.pb_parse.specs.ScriptLines.{Batches}

@@ -1,7 +1,6 @@
 -- A text of which each line that isn't skipped says a thing, and adds what that makes: it is read exactly where these
 -- lines say such things, in order, and all that they make has room.
-use Rattle.std.proofs.Common.{◌≡◌, ℕ, ◌+◌, Bool, true, false, List, [], ◌∷◌, ◌++◌, map, Result, Ok, Err, refl, sym, ap, subst, ◌∙◌, append_assoc, append-nil}
-use Rattle.std.specs.List.{flat_map}
+use Rattle.std.proofs.Common.{◌≡◌, ℕ, ◌+◌, Bool, true, false, List, [], ◌∷◌, ◌++◌, map, Result, Ok, Err, refl, sym, ap, subst, ◌∙◌, append_assoc, append-nil, flat_map}
 use Rattle.pb_reading.specs.Reading.{◌>>=◌, is_skipped, numbered}
 use Rattle.pb_reading.specs.Faults.{in_lines}
 use Rattle.pb_reading.proofs.Readings.{ok_is}

@@ -1,7 +1,5 @@
 -- Numerals, as assembler texts, scripts and schedules have them: what one is, and what its digits say.
-use Rattle.std.proofs.Common.{◌≡◌, ℕ, zero, suc, ◌^◌, ◌<◌, ◌≤◌, false, List, length, Ok, Err, refl, sym, ap, ◌∙◌, arith, inl, inr, Bool, true, cond, ◌&&◌, rules}
-use Rattle.std.specs.Prelude.{◌==◌, nat_le, nat_lt, slice_index}
-use Rattle.std.specs.Fmt.{decimal}
+use Rattle.std.proofs.Common.{◌≡◌, ℕ, zero, suc, ◌^◌, ◌<◌, ◌≤◌, false, List, length, Ok, Err, refl, sym, ap, ◌∙◌, arith, inl, inr, Bool, true, cond, ◌&&◌, rules, ◌==◌, nat_le, nat_lt, slice_index, decimal}
 use Rattle.std.proofs.lemmas.Fmt.{first_decimal, decimal_digit, digits_decimal, decimal_nonempty, digits_value-decimal, decimal-digits_value}
 use Rattle.std.proofs.lemmas.Bool.{cases_lt, leb-true, le-leb, lt-leb}
 use Rattle.std.specs.Char.{is_ascii_digit}

@@ -1,8 +1,6 @@
 -- Parts without a byte, joined by that byte and cut there.
-use Rattle.std.proofs.Common.{◌≡◌, ℕ, ◌+◌, ◌%◌, ◌^◌, ◌<◌, ◌≤◌, Bool, true, false, cond, List, [], ◌∷◌, ◌++◌, not, refl, ap, ◌∙◌, arith}
-use Rattle.std.specs.Prelude.{◌==◌}
+use Rattle.std.proofs.Common.{◌≡◌, ℕ, ◌+◌, ◌%◌, ◌^◌, ◌<◌, ◌≤◌, Bool, true, false, cond, List, [], ◌∷◌, ◌++◌, not, refl, ap, ◌∙◌, arith, ◌==◌, decimal}
 use Rattle.std.specs.List.{AllByRecursion, join_with_byte, list_all, onto_first, slice_split}
-use Rattle.std.specs.Fmt.{decimal}
 use Rattle.std.proofs.lemmas.Bool.{and_parts, eq-eqb}
 use Rattle.pb_base.proofs.Logic.{false_if_not}
 use Rattle.std.proofs.lemmas.Fmt.{decimal_by_steps}

@@ -1,6 +1,5 @@
 -- What readings one after the other say of each, where they end well and where they end in a fault.
-use Rattle.std.proofs.Common.{◌≡◌, ◌⊎◌, ℕ, Bool, true, false, cond, List, [], ◌∷◌, Option, Some, None, Result, Ok, Err, refl, sym, ap, inl, inr}
-use Rattle.std.specs.Prelude.{nat_le, ok_or}
+use Rattle.std.proofs.Common.{◌≡◌, ◌⊎◌, ℕ, Bool, true, false, cond, List, [], ◌∷◌, Option, Some, None, Result, Ok, Err, refl, sym, ap, inl, inr, nat_le, ok_or}
 use Rattle.std.specs.Str.Parse.{digits_value}
 use Rattle.pb_reading.specs.Reading.{◌>>=◌, is_numeral, next_word, no_word, numeral_upto}
 

@@ -1,6 +1,5 @@
 -- Lines of a text that say something, and those that are skipped: the empty ones and the remarks.
-use Rattle.std.proofs.Common.{◌≡◌, ℕ, Bool, true, false, not, cond, List, ◌∷◌, ap}
-use Rattle.std.specs.List.{filter}
+use Rattle.std.proofs.Common.{◌≡◌, ℕ, Bool, true, false, not, cond, List, ◌∷◌, ap, filter}
 use Rattle.pb_reading.specs.Reading.{is_skipped}
 
 -- the lines that aren't skipped

@@ -2,15 +2,14 @@
 -- programs' texts, scripts and schedules promise it by these words, and so do their laws.
 use Rattle.std.specs.Prelude.{◌≡◌, ◌⊎◌, ℕ, ◌+◌, List, ◌∷◌, ◌++◌, length, Result, Ok, Err}
 use Rattle.pb_reading.specs.declared.fault.LineFault.{LineFault}
-use Rattle.pb_reading.specs.declared.fault.LineFault.TheVariants.{NoMemory, Code}
 use Rattle.pb_reading.specs.declared.fault.TextFault.{TextFault}
 use Rattle.pb_reading.specs.Reading.{lines_of, in_turn, numbered}
 
 -- what reading gives where a line wasn't taken for this: that fault. Of want of memory nothing follows, since no contract
 -- can say when there is any
 abbrev pub Ends : {Y C : Type 0} → LineFault C → Result Y C → Type 0
-Ends NoMemory read = Unit {0}
-Ends (Code c) read = read ≡ Err c
+Ends LineFault.NoMemory read = Unit {0}
+Ends (LineFault.Code c) read = read ≡ Err c
 
 -- what was returned of a line, seen by view, is what reading gives, unless memory ran out
 abbrev pub ReadsLine : {X Y C : Type 0} → (X → Y) → Result X (LineFault C) → Result Y C → Type 0

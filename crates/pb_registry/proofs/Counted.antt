@@ -1,6 +1,5 @@
 -- The members of an object, and the elements of an array.
-use Rattle.std.proofs.Common.{◌≡◌, suc, Option, Some, None, List, [], ◌∷◌, map, length, String, Global, Vec, Bor, refl, sym, ap}
-use Rattle.std.specs.Prelude.{option_map}
+use Rattle.std.proofs.Common.{◌≡◌, suc, Option, Some, None, List, [], ◌∷◌, map, length, String, Global, Vec, Bor, refl, sym, ap, option_map}
 use Rattle.serde_json.specs.View.{view, items_view, members_view}
 use Rattle.serde_json.specs.declared.value.Value.{Value}
 use Rattle.pb_registry.specs.Manifests.{members_count, elements}

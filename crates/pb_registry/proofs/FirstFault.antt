@@ -1,8 +1,6 @@
 -- The observers of a manifest up to one of them.
-use Rattle.std.proofs.Common.{◌≡◌, ◌≢◌, ◌⊎◌, inl, inr, ◌<◌, ℕ, ◌+◌, Bool, true, false, Some, None, Ok, List, [], ◌∷◌, ◌++◌, map, take, length, get_or, refl, sym, ap, subst, ◌∙◌, true≢false}
-use Rattle.std.specs.Prelude.{if◌then◌else◌}
+use Rattle.std.proofs.Common.{◌≡◌, ◌≢◌, ◌⊎◌, inl, inr, ◌<◌, ℕ, ◌+◌, Bool, true, false, Some, None, Ok, List, [], ◌∷◌, ◌++◌, map, take, length, get_or, refl, sym, ap, subst, ◌∙◌, true≢false, if◌then◌else◌, bytes_eq}
 use Rattle.std.specs.List.{AllZip, IsDistinct}
-use Rattle.std.specs.Str.{bytes_eq}
 use Rattle.std.proofs.lemmas.List.{take_more, map-append, take-map, length-map}
 use Rattle.indexmap.proofs.SetLemmas.{AllZip-push}
 use Rattle.std.proofs.lemmas.List as lists
@@ -12,7 +10,6 @@ use Rattle.serde_json.specs.declared.value.Value.{Value}
 use Rattle.pb_isa.specs.declared.profile.Profile.{Profile}
 use Rattle.pb_verify.specs.Observers.{ObserverOf}
 use Rattle.pb_registry.specs.declared.code.ManifestCode.{ManifestCode}
-use Rattle.pb_registry.specs.declared.code.ManifestCode.TheVariants.{Memory}
 use Rattle.pb_registry.specs.declared.fault.RegistryFault.{RegistryFault}
 use Rattle.pb_registry.specs.Codes.{is_memory}
 use Rattle.pb_registry.specs.Judging.{IsObserver, AreObservers, HasOneMore, IsLowestAfter, IsFirstElementFault, TellsFault, names_of, fault_with, fault_at}
@@ -41,9 +38,9 @@ module _ (p : Profile) (vs : List Value) (i : ℕ) (v : Value) (lt : i < length 
     fault = fault;
   }
 
-  pub told_fault : (code : ManifestCode) (f : RegistryFault) → f ≡ fault_at i code → (code ≢ Memory → IsLowestAfter (names_of old) p (view v) code) → (f ≡ fault_with None Memory) ⊎ TellsFault (Ok (record { profile = p; elements = map view vs })) f
+  pub told_fault : (code : ManifestCode) (f : RegistryFault) → f ≡ fault_at i code → (code ≢ ManifestCode.Memory → IsLowestAfter (names_of old) p (view v) code) → (f ≡ fault_with None ManifestCode.Memory) ⊎ TellsFault (Ok (record { profile = p; elements = map view vs })) f
   told_fault code f is fault = by (is_memory code) refl
     where
-      by : (b : Bool) → is_memory code ≡ b → (f ≡ fault_with None Memory) ⊎ TellsFault (Ok (record { profile = p; elements = map view vs })) f
-      by true m = inl (is ∙ ap (λ b. if b then fault_with None Memory else fault_with (Some i) code) m)
-      by false m = inr (i, code, first_fault code (fault (λ e. true≢false (sym (ap is_memory e) ∙ m))), is ∙ ap (λ b. if b then fault_with None Memory else fault_with (Some i) code) m)
+      by : (b : Bool) → is_memory code ≡ b → (f ≡ fault_with None ManifestCode.Memory) ⊎ TellsFault (Ok (record { profile = p; elements = map view vs })) f
+      by true m = inl (is ∙ ap (λ b. if b then fault_with None ManifestCode.Memory else fault_with (Some i) code) m)
+      by false m = inr (i, code, first_fault code (fault (λ e. true≢false (sym (ap is_memory e) ∙ m))), is ∙ ap (λ b. if b then fault_with None ManifestCode.Memory else fault_with (Some i) code) m)

@@ -1,17 +1,14 @@
 -- The names of the observers in a map are its keys.
-use Rattle.std.proofs.Common.{◌≡◌, ℕ, Bool, true, false, cond, Option, Some, None, Result, Ok, Err, is_ok, List, [], ◌∷◌, is_some, String, Global, refl, sym, ap, ◌∙◌, true≢false}
+use Rattle.std.proofs.Common.{◌≡◌, ℕ, Bool, true, false, cond, Option, Some, None, Result, Ok, Err, is_ok, List, [], ◌∷◌, is_some, String, Global, refl, sym, ap, ◌∙◌, true≢false, ◌||◌, if◌then◌else◌, string_bytes, codes, bytes_eq}
 use Rattle.pb_reading.specs.Reading.{◌>>=◌}
-use Rattle.std.specs.Prelude.{◌||◌, if◌then◌else◌, string_bytes, codes}
 use Rattle.std.specs.List.{IsDistinct, AllByRecursion, list_any}
 use Rattle.std.specs.Map.{lookup, keys_of}
-use Rattle.std.specs.Str.{bytes_eq}
 use Rattle.serde_json.specs.Data.{Data}
 use Rattle.pb_isa.specs.Helpers.{HelperSet}
 use Rattle.pb_isa.specs.declared.profile.Profile.{Profile}
 use Rattle.pb_helpers.specs.declared.change.Version.{Version}
 use Rattle.pb_verify.specs.Observers.{ObserverOf}
 use Rattle.pb_registry.specs.declared.code.ManifestCode.{ManifestCode}
-use Rattle.pb_registry.specs.declared.code.ManifestCode.TheVariants.{Name}
 use Rattle.pb_registry.specs.declared.observer.RegisteredObserver.{RegisteredObserver}
 use Rattle.pb_registry.specs.Manifests.{WrittenOf, is_name, name_in, text_at, column_in, number_at, helpers_in, elements_at, version_in, bytes_in, members_of}
 use Rattle.pb_registry.specs.Observers.{observers_of}
@@ -42,7 +39,7 @@ written n a h v b = do
   Ok (record { name = name; column = column; helpers = helpers; version = version; bytes = bytes })
 
 -- what is written has the name that is read
-name_kept : (s : List ℕ) (n : Bool) (a : Result ℕ ManifestCode) (h : Result HelperSet ManifestCode) (v : Result Version ManifestCode) (b : Result (List ℕ) ManifestCode) (w : WrittenOf) → written (if n then Ok s else Err Name) a h v b ≡ Ok w → Some s ≡ Some w.name
+name_kept : (s : List ℕ) (n : Bool) (a : Result ℕ ManifestCode) (h : Result HelperSet ManifestCode) (v : Result Version ManifestCode) (b : Result (List ℕ) ManifestCode) (w : WrittenOf) → written (if n then Ok s else Err ManifestCode.Name) a h v b ≡ Ok w → Some s ≡ Some w.name
 name_kept s false a h v b w e = absurd (true≢false (sym (ap is_ok e)))
 name_kept s true (Err c) h v b w e = absurd (true≢false (sym (ap is_ok e)))
 name_kept s true (Ok column) (Err c) v b w e = absurd (true≢false (sym (ap is_ok e)))

@@ -13,7 +13,6 @@ use Rattle.pb_decode.specs.Faults.{AreRefusedAs}
 use Rattle.pb_verify.specs.Arriving.{Accepts, Refuses}
 use Rattle.pb_verify.specs.Versions.{judged_by}
 use Rattle.pb_verify.specs.declared.verifier.VerifyFault.{VerifyFault}
-use Rattle.pb_verify.specs.declared.verifier.VerifyFault.TheVariants.{NoMemory, Refused}
 
 -- the bytes encode this program of the profile, and the rules accept it with these helpers, for records of this version
 pub record IsAcceptedCode (profile : Profile) (version : Version) (bytes : List ℕ) (helpers : HelperSet) (judged : JudgedOf) : Type 0 where
@@ -29,5 +28,5 @@ IsRefusedCode profile version bytes helpers slot code =
 
 -- memory was refused, or that is the fault
 abbrev pub IsAcceptFault : Profile → Version → List ℕ → HelperSet → VerifyFault → Type 0
-IsAcceptFault profile version bytes helpers NoMemory = Unit {0}
-IsAcceptFault profile version bytes helpers (Refused r) = IsRefusedCode profile version bytes helpers r.slot r.code
+IsAcceptFault profile version bytes helpers VerifyFault.NoMemory = Unit {0}
+IsAcceptFault profile version bytes helpers (VerifyFault.Refused r) = IsRefusedCode profile version bytes helpers r.slot r.code

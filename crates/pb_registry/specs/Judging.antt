@@ -1,15 +1,13 @@
 -- What reading a manifest answers: a relation of elements and observers, place by place. A function that reads from
 -- left to right would hide which fault is the first, and which code is the lowest. `Registry::from_json` promises it.
-use Rattle.std.specs.Prelude.{◌≡◌, ◌⊎◌, ℕ, Bool, true, false, if◌then◌else◌, List, [], ◌∷◌, ◌++◌, map, take, slice_get, codes, Option, Some, None, Result, Ok, Err}
+use Rattle.std.specs.Prelude.{◌≡◌, ◌⊎◌, ℕ, Bool, true, false, if◌then◌else◌, List, [], ◌∷◌, ◌++◌, map, take, slice_get, codes, Option, Some, None, Result, Ok, Err, bytes_eq}
 use Rattle.std.specs.List.{AllZip, IsDistinct, list_any}
-use Rattle.std.specs.Str.{bytes_eq}
 use Rattle.serde_json.specs.Data.{Data}
 use Rattle.pb_isa.specs.declared.profile.Profile.{Profile}
 use Rattle.pb_isa.specs.Helpers.{HelperSet}
 use Rattle.pb_helpers.specs.declared.change.Version.{Version}
 use Rattle.pb_verify.specs.Observers.{ObserverOf}
 use Rattle.pb_registry.specs.declared.code.ManifestCode.{ManifestCode}
-use Rattle.pb_registry.specs.declared.code.ManifestCode.TheVariants.{Memory, Name, Program}
 use Rattle.pb_registry.specs.declared.fault.RegistryFault.{RegistryFault}
 use Rattle.pb_registry.specs.Accepting.{IsAcceptedCode, IsRefusedCode}
 use Rattle.pb_registry.specs.Codes.{number_of, refusal_of, is_memory}
@@ -27,7 +25,7 @@ IsObserver p d o = (w : WrittenOf) × (members_of d ≡ Ok w) × IsUpload p w o
 
 -- the program that this code is isn't accepted with these helpers, for records of this version
 abbrev pub IsProgramFault : Profile → Version → List ℕ → HelperSet → ManifestCode → Type 0
-IsProgramFault p version bytes helpers (Program r) = IsRefusedCode p version bytes helpers r.slot r.code
+IsProgramFault p version bytes helpers (ManifestCode.Program r) = IsRefusedCode p version bytes helpers r.slot r.code
 IsProgramFault p version bytes helpers c = ⊥
 
 -- the lowest code of an element by itself, that of its program last
@@ -49,7 +47,7 @@ is_used names d = is_among names (text_at (codes "name") d)
 
 -- a used name is 53 whatever else is wrong, as no own fault of an element has a lower number
 abbrev pub FaultAfter : Bool → Profile → Data → ManifestCode → Type 0
-FaultAfter true p d c = c ≡ Name
+FaultAfter true p d c = c ≡ ManifestCode.Name
 FaultAfter false p d c = IsOwnFault p d c
 
 -- the lowest code of an element after others with these names
@@ -79,7 +77,7 @@ fault_with place c = record { observer = place; code = number_of c; program = re
 
 -- how a code is told of the observer at a place; want of memory has no place, since it is no observer's fault
 abbrev pub fault_at : ℕ → ManifestCode → RegistryFault
-fault_at place c = if is_memory c then fault_with None Memory else fault_with (Some place) c
+fault_at place c = if is_memory c then fault_with None ManifestCode.Memory else fault_with (Some place) c
 
 -- observers are taken only where the whole has no fault
 abbrev pub AreTaken : Result ManifestOf ManifestCode → List ObserverOf → Type 0
@@ -99,4 +97,4 @@ ReadsManifest text (Err f) = TellsFault (manifest_of_text text) f
 -- a manifest is taken with the observers that it says, and refused with its fault, unless memory ran out
 abbrev pub IsJudged : Result (List ObserverOf) RegistryFault → List ℕ → Type 0
 IsJudged (Ok os) text = ReadsManifest text (Ok os)
-IsJudged (Err f) text = (f ≡ fault_with None Memory) ⊎ ReadsManifest text (Err f)
+IsJudged (Err f) text = (f ≡ fault_with None ManifestCode.Memory) ⊎ ReadsManifest text (Err f)

@@ -10,12 +10,9 @@ use Rattle.serde_json.specs.Read.{read}
 use Rattle.pb_base.specs.declared.limits.TheConstants.{COLUMNS, MAX_OBSERVERS}
 use Rattle.pb_reading.specs.Reading.{◌>>=◌}
 use Rattle.pb_isa.specs.declared.profile.Profile.{Profile}
-use Rattle.pb_isa.specs.declared.profile.Profile.TheVariants.{One, Two}
 use Rattle.pb_isa.specs.Helpers.{HelperSet}
 use Rattle.pb_helpers.specs.declared.change.Version.{Version}
-use Rattle.pb_helpers.specs.declared.change.Version.TheVariants.{First, Second}
 use Rattle.pb_registry.specs.declared.code.ManifestCode.{ManifestCode}
-use Rattle.pb_registry.specs.declared.code.ManifestCode.TheVariants.{Text, Form, TooMany, Name, Column, Helpers, Record, Digits}
 use Rattle.pb_registry.specs.Helpers.{helpers_of}
 
 -- how many members there are, by going over them
@@ -76,8 +73,8 @@ has_members d = has_text (codes "name") d && (is_some (number_at (codes "column"
 
 -- in profile 2 a member `record` may stand beside them, a number
 abbrev pub has_record : Profile → Data → Bool
-has_record One d = false
-has_record Two d = is_some (number_at (codes "record") d)
+has_record Profile.One d = false
+has_record Profile.Two d = is_some (number_at (codes "record") d)
 
 -- exactly these members
 abbrev pub is_observer : Profile → Data → Bool
@@ -85,7 +82,7 @@ is_observer p d = (member_count d == (if has_record p d then 5 else 4)) && has_m
 
 -- the profile of a number, 1 or 2
 abbrev pub profile_of : ℕ → Option Profile
-profile_of n = if n == 1 then Some One else if n == 2 then Some Two else None
+profile_of n = if n == 1 then Some Profile.One else if n == 2 then Some Profile.Two else None
 
 -- the profile in which a manifest's programs are read, and what stands in its `observers`
 pub record ManifestOf : Type 0 where
@@ -104,8 +101,8 @@ manifest_in d = if member_count d == 2 then manifest_of (option_and_then profile
 
 -- the form comes first, then the number of observers
 abbrev pub whole_in : Option ManifestOf → Result ManifestOf ManifestCode
-whole_in None = Err Form
-whole_in (Some m) = if not (list_all (is_observer m.profile) m.elements) then Err Form else if nat_lt MAX_OBSERVERS (length m.elements) then Err TooMany else Ok m
+whole_in None = Err ManifestCode.Form
+whole_in (Some m) = if not (list_all (is_observer m.profile) m.elements) then Err ManifestCode.Form else if nat_lt MAX_OBSERVERS (length m.elements) then Err ManifestCode.TooMany else Ok m
 
 -- ---- one observer
 
@@ -119,13 +116,13 @@ is_name s = nat_lt 0 (length s) && (nat_le (length s) 32 && list_all is_name_let
 
 -- an observer's name, of its letters and length
 abbrev pub name_in : Option (List ℕ) → Result (List ℕ) ManifestCode
-name_in None = Err Form
-name_in (Some s) = if is_name s then Ok s else Err Name
+name_in None = Err ManifestCode.Form
+name_in (Some s) = if is_name s then Ok s else Err ManifestCode.Name
 
 -- 0 to 15
 abbrev pub column_in : Option ℕ → Result ℕ ManifestCode
-column_in None = Err Form
-column_in (Some n) = if nat_lt n COLUMNS then Ok n else Err Column
+column_in None = Err ManifestCode.Form
+column_in (Some n) = if nat_lt n COLUMNS then Ok n else Err ManifestCode.Column
 
 -- the numbers of these values, 0 of one that is none
 abbrev pub numbers_of : List Data → List ℕ
@@ -133,28 +130,28 @@ numbers_of ds = map (λ d. unwrap_or (number_in d) 0) ds
 
 -- the set that the numbers name, or that they name none
 abbrev pub helpers_or_fault : Option HelperSet → Result HelperSet ManifestCode
-helpers_or_fault None = Err Helpers
+helpers_or_fault None = Err ManifestCode.Helpers
 helpers_or_fault (Some h) = Ok h
 
 -- a set out of the helpers 1 to 4
 abbrev pub helpers_in : Option (List Data) → Result HelperSet ManifestCode
-helpers_in None = Err Form
+helpers_in None = Err ManifestCode.Form
 helpers_in (Some ds) = helpers_or_fault (helpers_of (numbers_of ds))
 
 -- bytes, or digits that aren't pairs of hexadecimal ones
 abbrev pub decoded : {E : Type 0} → Result (List ℕ) E → Result (List ℕ) ManifestCode
 decoded (Ok bytes) = Ok bytes
-decoded (Err e) = Err Digits
+decoded (Err e) = Err ManifestCode.Digits
 
 -- digits 0 to 9 and a to f, two for a byte
 abbrev pub bytes_in : Option (List ℕ) → Result (List ℕ) ManifestCode
-bytes_in None = Err Form
-bytes_in (Some s) = if list_any is_ascii_uppercase s then Err Digits else decoded (decode_of s)
+bytes_in None = Err ManifestCode.Form
+bytes_in (Some s) = if list_any is_ascii_uppercase s then Err ManifestCode.Digits else decoded (decode_of s)
 
 -- the version of the change record: 1 where none is named
 abbrev pub version_in : Option ℕ → Result Version ManifestCode
-version_in None = Ok First
-version_in (Some n) = if n == 1 then Ok First else if n == 2 then Ok Second else Err Record
+version_in None = Ok Version.First
+version_in (Some n) = if n == 1 then Ok Version.First else if n == 2 then Ok Version.Second else Err ManifestCode.Record
 
 -- an observer as it is written: its name's bytes, its column, its helpers, the version of its record, and its code's bytes
 pub record WrittenOf : Type 0 where
@@ -176,7 +173,7 @@ members_of d = do
 
 -- a text that isn't JSON is 50, before anything of its form is asked
 abbrev pub manifest_read : Option Data → Result ManifestOf ManifestCode
-manifest_read None = Err Text
+manifest_read None = Err ManifestCode.Text
 manifest_read (Some d) = whole_in (manifest_in d)
 
 -- the manifest that a text is, or the fault of its whole

@@ -1,7 +1,5 @@
 -- Committed writes, gathered along the journal.
-use Rattle.std.proofs.Common.{◌≡◌, ℕ, ◌+◌, ◌<◌, ◌⊎◌, inl, inr, Bool, true, false, cond, zero, suc, List, [], ◌∷◌, ◌++◌, length, get_or, take, map, Option, Some, None, slice_get, refl, sym, ap, subst, ◌∙◌, append_assoc, arith, add-one}
-use Rattle.std.specs.Prelude.{Contains, is_none, option_map}
-use Rattle.std.specs.List.{flat_map}
+use Rattle.std.proofs.Common.{◌≡◌, ℕ, ◌+◌, ◌<◌, ◌⊎◌, inl, inr, Bool, true, false, cond, zero, suc, List, [], ◌∷◌, ◌++◌, length, get_or, take, map, Option, Some, None, slice_get, refl, sym, ap, subst, ◌∙◌, append_assoc, arith, add-one, Contains, is_none, option_map, flat_map}
 use Rattle.std.specs.Ordering.{eq_by_cmp, is_eq}
 use Rattle.std.specs.Cmp.{tied_itself}
 use Rattle.std.specs.FinMap as finmap
@@ -13,18 +11,12 @@ use Rattle.pb_base.specs.Cell.{cell_cmp, cell_cmp_total}
 use Rattle.pb_base.specs.Batch.{Writes, content_in, are_distinct}
 use Rattle.pb_steps.specs.declared.step.Declared.{Declared}
 use Rattle.pb_steps.specs.declared.step.Step.{Step}
-use Rattle.pb_steps.specs.declared.step.Step.TheVariants as steps
 use Rattle.pb_steps.specs.declared.step.Answer.{Answer}
-use Rattle.pb_steps.specs.declared.step.Answer.TheVariants as answers
 use Rattle.pb_steps.specs.declared.phase.Phase.{Phase}
-use Rattle.pb_steps.specs.declared.phase.Phase.TheVariants as phases
 use Rattle.pb_steps.specs.State.{StateOf, TransactionOf, phase_in, cells_of}
 use Rattle.pb_verify.specs.Observers.{ObserverOf, acknowledgment}
 use Rattle.pb_base.specs.declared.names.Row.{Row}
-use Rattle.pb_base.specs.declared.cell.Cell.TheVariants.{Data, Ack}
 use Rattle.pb_steps.specs.declared.step.Work.{Work}
-use Rattle.pb_steps.specs.declared.step.Work.TheVariants as works
-use Rattle.pb_steps.specs.declared.step.Declared.TheVariants as declared
 use Rattle.pb_history.specs.declared.entry.Entry.{Entry}
 use Rattle.pb_history.specs.History.{Has, Member, TellsHistory}
 use Rattle.pb_script.specs.declared.reports.newest.Put.{Put}
@@ -136,29 +128,29 @@ distinct_content (v ∷ ws) d w (inr h) =
 -- ---- committed writes
 
 -- a transaction that is told as committed is
-phase_there : (state : StateOf) (start : ℕ) (t : TransactionOf) (c : Ts) → finmap.get state.transactions start ≡ Some t → phase_in state start ≡ Some (phases.Committed c) → t.phase ≡ phases.Committed c
-phase_there state start t c there p = let q : Some t.phase ≡ Some (phases.Committed c) = ap (option_map (λ (u : TransactionOf). u.phase)) (sym there) ∙ p in cc
+phase_there : (state : StateOf) (start : ℕ) (t : TransactionOf) (c : Ts) → finmap.get state.transactions start ≡ Some t → phase_in state start ≡ Some (Phase.Committed c) → t.phase ≡ Phase.Committed c
+phase_there state start t c there p = let q : Some t.phase ≡ Some (Phase.Committed c) = ap (option_map (λ (u : TransactionOf). u.phase)) (sym there) ∙ p in cc
 
 -- a write to a data cell is no acknowledgment
-in_written : (observers : List ObserverOf) (work : Work) (s : ℕ) (what : Declared) (row : Row) (column : ℕ) (k : Content) → Has (cells_of observers work s what) (Data row column, k) → Has (written_in what) (Data row column, k)
-in_written observers work s (declared.Script batch) row column k h = h
-in_written observers works.Script s (declared.Run o f) row column k h = h
-in_written observers (works.Run p r) s (declared.Run o f) row column k (inl e) =
-    let cells : acknowledgment observers p r ≡ Data row column = ap (λ (w : Cell × Content). w.0) e in
+in_written : (observers : List ObserverOf) (work : Work) (s : ℕ) (what : Declared) (row : Row) (column : ℕ) (k : Content) → Has (cells_of observers work s what) (Cell.Data row column, k) → Has (written_in what) (Cell.Data row column, k)
+in_written observers work s (Declared.Script batch) row column k h = h
+in_written observers Work.Script s (Declared.Run o f) row column k h = h
+in_written observers (Work.Run p r) s (Declared.Run o f) row column k (inl e) =
+    let cells : acknowledgment observers p r ≡ Cell.Data row column = ap (λ (w : Cell × Content). w.0) e in
     absurd (apart p r _ row column cells)
   where
-    apart : (p : ℕ) (r : Row) (n : ℕ) (row : Row) (column : ℕ) → Ack p r n ≡ Data row column → ⊥
+    apart : (p : ℕ) (r : Row) (n : ℕ) (row : Row) (column : ℕ) → Cell.Ack p r n ≡ Cell.Data row column → ⊥
     apart p r n row column e = cc
-in_written observers (works.Run p r) s (declared.Run o f) row column k (inr h) = h
+in_written observers (Work.Run p r) s (Declared.Run o f) row column k (inr h) = h
 
 -- and each is what its cell gets
 in_cells : (observers : List ObserverOf) (work : Work) (s : ℕ) (what : Declared) → are_distinct (cells_of observers work s what) ≡ true → (w : Cell × Content) → Has (written_in what) w → content_in (cells_of observers work s what) w.0 ≡ Some w.1
-in_cells observers work s (declared.Script batch) d w h = distinct_content batch d w h
-in_cells observers works.Script s (declared.Run o f) d w h = distinct_content f.writes d w h
-in_cells observers (works.Run p r) s (declared.Run o f) d w h = distinct_content (cells_of observers (works.Run p r) s (declared.Run o f)) d w (inr h)
+in_cells observers work s (Declared.Script batch) d w h = distinct_content batch d w h
+in_cells observers Work.Script s (Declared.Run o f) d w h = distinct_content f.writes d w h
+in_cells observers (Work.Run p r) s (Declared.Run o f) d w h = distinct_content (cells_of observers (Work.Run p r) s (Declared.Run o f)) d w (inr h)
 
 module _ (journal : List Entry) (state : StateOf) (tells : TellsHistory journal state) where
-  write_of : (seat : ℕ) (start : Ts) (what : Declared) (c : Ts) (w : Cell × Content) → Has journal (record { seat = seat; step = steps.Declare start what; answer = answers.Done }) → phase_in state start.0 ≡ Some (phases.Committed c)
+  write_of : (seat : ℕ) (start : Ts) (what : Declared) (c : Ts) (w : Cell × Content) → Has journal (record { seat = seat; step = Step.Declare start what; answer = Answer.Done }) → phase_in state start.0 ≡ Some (Phase.Committed c)
       → Has (written_in what) w → IsWrite state.observers journal w.0 c.0 w.1
   write_of seat start what c w entry phase has =
       let d = tells.declared seat start.0 what entry in
@@ -171,19 +163,19 @@ module _ (journal : List Entry) (state : StateOf) (tells : TellsHistory journal 
         writes = ap (λ ws. content_in ws w.0) d.declared ∙ in_cells state.observers d.t.work start.0 what apart w has;
       }
 
-  committed_write : (seat : ℕ) (start : Ts) (what : Declared) (p : Put) (h : Option Phase) → phase_in state start.0 ≡ h → Has journal (record { seat = seat; step = steps.Declare start what; answer = answers.Done })
+  committed_write : (seat : ℕ) (start : Ts) (what : Declared) (p : Put) (h : Option Phase) → phase_in state start.0 ≡ h → Has journal (record { seat = seat; step = Step.Declare start what; answer = Answer.Done })
       → Has (if_committed h (written_in what)) p → IsWrite state.observers journal p.cell p.commit.0 p.content
   committed_write seat start what p None is entry has = absurd has
-  committed_write seat start what p (Some phases.Reading) is entry has = absurd has
-  committed_write seat start what p (Some phases.Declared) is entry has = absurd has
-  committed_write seat start what p (Some (phases.Stamped c)) is entry has = absurd has
-  committed_write seat start what p (Some (phases.Committed c)) is entry has =
+  committed_write seat start what p (Some Phase.Reading) is entry has = absurd has
+  committed_write seat start what p (Some Phase.Declared) is entry has = absurd has
+  committed_write seat start what p (Some (Phase.Stamped c)) is entry has = absurd has
+  committed_write seat start what p (Some (Phase.Committed c)) is entry has =
       let q = map_has (put_by c) (written_in what) p has in
       subst (λ (r : Put). IsWrite state.observers journal r.cell r.commit.0 r.content) q.2 (write_of seat start what c q.0 entry is q.1)
-  committed_write seat start what p (Some phases.Failed) is entry has = absurd has
+  committed_write seat start what p (Some Phase.Failed) is entry has = absurd has
 
   by_step : (seat : ℕ) (step : Step) (answer : Answer) (p : Put) → Has journal (record { seat = seat; step = step; answer = answer }) → Has (writes_by state step answer) p → IsWrite state.observers journal p.cell p.commit.0 p.content
-  by_step seat (steps.Declare start what) answers.Done p entry has = committed_write seat start what p (phase_in state start.0) refl entry has
+  by_step seat (Step.Declare start what) Answer.Done p entry has = committed_write seat start what p (phase_in state start.0) refl entry has
   by_step seat _ _ p entry has = absurd has
 
   sound_from : (es : List Entry) (p : Put) → ((e : Entry) → Has es e → Has journal e) → Has (all_puts state es) p → IsWrite state.observers journal p.cell p.commit.0 p.content
@@ -193,15 +185,15 @@ module _ (journal : List Entry) (state : StateOf) (tells : TellsHistory journal 
     | inr later ↦ sound_from es p (λ d h. within d (inr h)) later
   ]
 
-  whole_for : (row : Row) (column commit : ℕ) (content : Content) → IsWrite state.observers journal (Data row column) commit content → Has (all_puts state journal) (record { cell = Data row column; commit = record { 0 = commit }; content = content })
+  whole_for : (row : Row) (column commit : ℕ) (content : Content) → IsWrite state.observers journal (Cell.Data row column) commit content → Has (all_puts state journal) (record { cell = Cell.Data row column; commit = record { 0 = commit }; content = content })
   whole_for row column commit content h =
-      let x = Data row column in
+      let x = Cell.Data row column in
       let c = tells.committed h.m h.in_history in
       let i = h.in_history in
-      let phase : phase_in state h.m.start ≡ Some (phases.Committed (record { 0 = commit })) = ap (option_map (λ (u : TransactionOf). u.phase)) c.there ∙ ap Some c.phase ∙ ap (λ n. Some (phases.Committed (record { 0 = n }))) h.commit_is in
+      let phase : phase_in state h.m.start ≡ Some (Phase.Committed (record { 0 = commit })) = ap (option_map (λ (u : TransactionOf). u.phase)) c.there ∙ ap Some c.phase ∙ ap (λ n. Some (Phase.Committed (record { 0 = n }))) h.commit_is in
       let all : Has (cells_of state.observers h.m.work h.m.start i.what) (x, content) = subst (λ ws. Has ws (x, content)) i.writes_are (content_has h.m.writes x content h.writes) in
       let has : Has (written_in i.what) (x, content) = in_written state.observers h.m.work h.m.start i.what row column content all in
-      in_block (puts_by state) journal (record { seat = h.m.seat; step = steps.Declare (record { 0 = h.m.start }) i.what; answer = answers.Done }) _ i.declared
+      in_block (puts_by state) journal (record { seat = h.m.seat; step = Step.Declare (record { 0 = h.m.start }) i.what; answer = Answer.Done }) _ i.declared
       (subst (λ o. Has (if_committed o (written_in i.what)) (record { cell = x; commit = record { 0 = commit }; content = content })) (sym phase) (has_map (put_by (record { 0 = commit })) (written_in i.what) (x, content) has))
 
   pub gathers : Gathers state.observers journal (all_puts state journal)

@@ -1,14 +1,10 @@
 -- What is newest at each cell, as writes come one by one.
 use Rattle.std.specs.BTreeMap as tree
-use Rattle.std.proofs.Common.{◌≡◌, ◌≢◌, ℕ, ◌≤◌, ◌<◌, inl, inr, true, false, cond, List, [], ◌∷◌, ◌++◌, Option, Some, None, refl, sym, ap, subst, ◌∙◌, arith}
-use Rattle.std.specs.Prelude.{◌&&◌}
+use Rattle.std.proofs.Common.{◌≡◌, ◌≢◌, ℕ, ◌≤◌, ◌<◌, inl, inr, true, false, cond, List, [], ◌∷◌, ◌++◌, Option, Some, None, refl, sym, ap, subst, ◌∙◌, arith, ◌&&◌, Ordering, Less, Equal, Greater}
 use Rattle.std.specs.Cmp.{eq_by_cmp_equiv}
-use Rattle.std.specs.declared.cmp.Ordering.{Ordering}
-use Rattle.std.specs.declared.cmp.Ordering.TheVariants.{Less, Equal, Greater}
 use Rattle.std.proofs.lemmas.Bool.{cases_Bool, ltb-true, ltb-false, and_cases as one_false}
 use Rattle.std.proofs.lemmas.List.Elements.{Contains-append_left, Contains-push, Contains-push_cases}
 use Rattle.pb_base.specs.declared.cell.Cell.{Cell}
-use Rattle.pb_base.specs.declared.cell.Cell.TheVariants.{Data, Ack}
 use Rattle.pb_base.specs.Cell.{cell_cmp, cell_cmp_total, cell_cmp-IsAntisymmetric, is_data}
 use Rattle.pb_script.specs.declared.reports.lines.Newest.{Newest}
 use Rattle.pb_script.specs.declared.reports.newest.Put.{Put}
@@ -50,18 +46,18 @@ lower puts p (Some n) later h =
 
 -- what is told goes by what is newest, and of an acknowledgment nothing is told
 pub told_by : (M N : Cell → Option Newest → Type 0) (x : Cell) (r : Option Newest) → (M x r → N x r) → IsTold M x r → IsTold N x r
-told_by M N (Data row column) r f h = f h
-told_by M N (Ack observer row column) r f h = h
+told_by M N (Cell.Data row column) r f h = f h
+told_by M N (Cell.Ack observer row column) r f h = h
 
 -- of a data cell what is newest is told
 told_data : (M N : Cell → Option Newest → Type 0) (x : Cell) (r s : Option Newest) → is_data x ≡ true → (M x r → N x s) → IsTold M x r → IsTold N x s
-told_data M N (Data row column) r s d f h = f h
-told_data M N (Ack observer row column) r s d f h = absurd cc
+told_data M N (Cell.Data row column) r s d f h = f h
+told_data M N (Cell.Ack observer row column) r s d f h = absurd cc
 
 -- and of an acknowledgment nothing, whatever is newest there
 told_none : (M N : Cell → Option Newest → Type 0) (x : Cell) (r : Option Newest) → is_data x ≡ false → IsTold M x r → IsTold N x r
-told_none M N (Data row column) r d h = absurd cc
-told_none M N (Ack observer row column) r d h = h
+told_none M N (Cell.Data row column) r d h = absurd cc
+told_none M N (Cell.Ack observer row column) r d h = h
 
 -- of each cell is told what is newest of these writes
 abbrev AreTold : List Put → (Cell → Option Newest) → Type 0

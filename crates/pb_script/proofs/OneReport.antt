@@ -1,13 +1,11 @@
 -- One report: where one thing is newest at each cell, the text is settled.
 use Rattle.std.specs.BTreeMap as tree
-use Rattle.std.proofs.Common.{◌≡◌, ℕ, ◌≤◌, cond, T, List, [], ◌∷◌, ◌++◌, map, Option, Some, None, refl, sym, ap, ◌∙◌, arith}
+use Rattle.std.proofs.Common.{◌≡◌, ℕ, ◌≤◌, cond, T, List, [], ◌∷◌, ◌++◌, map, Option, Some, None, refl, sym, ap, ◌∙◌, arith, Less}
 use Rattle.std.specs.List.{AllByRecursion}
 use Rattle.std.specs.List.Sorted.{IsStrictlySortedBy}
 use Rattle.std.specs.Map.{lookup}
-use Rattle.std.specs.declared.cmp.Ordering.TheVariants.{Less}
 use Rattle.std.specs.FinMap.Entries.{find, is_sorted, below_all, same_entries}
 use Rattle.pb_base.specs.declared.cell.Cell.{Cell}
-use Rattle.pb_base.specs.declared.cell.Cell.TheVariants.{Data, Ack}
 use Rattle.pb_base.specs.Cell.{cell_cmp, cell_cmp_total, cell_cmp-IsAntisymmetric}
 use Rattle.pb_script.specs.declared.reports.lines.Newest.{Newest}
 use Rattle.pb_script.specs.declared.reports.newest.Put.{Put}
@@ -43,8 +41,8 @@ IsOne newest = (x : Cell) (r s : Option Newest) → newest x r → newest x s �
 
 -- and then of no cell two are told
 told_one : (newest : Cell → Option Newest → Type 0) → IsOne newest → IsOne (IsTold newest)
-told_one newest one (Data row column) r s g h = one (Data row column) r s g h
-told_one newest one (Ack observer row column) r s g h = g ∙ sym h
+told_one newest one (Cell.Data row column) r s g h = one (Cell.Data row column) r s g h
+told_one newest one (Cell.Ack observer row column) r s g h = g ∙ sym h
 
 -- where one thing is newest at each cell, there is one report
 pub same_report : (newest : Cell → Option Newest → Type 0) (runs : Tallies) (marks locks : ℕ) (s t : List ℕ) → IsOne newest → IsReportOf newest runs marks locks s → IsReportOf newest runs marks locks t → s ≡ t

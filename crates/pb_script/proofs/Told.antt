@@ -1,7 +1,6 @@
 -- The report of the gathered writes is the report of the table.
 use Rattle.std.proofs.Common.{ℕ, ◌+◌, ◌≤◌, List, [], ◌∷◌, ◌++◌, length, Option, None, Some, refl, subst, arith}
 use Rattle.pb_base.specs.declared.cell.Cell.{Cell}
-use Rattle.pb_base.specs.declared.cell.Cell.TheVariants.{Data, Ack}
 use Rattle.pb_history.specs.declared.entry.Entry.{Entry}
 use Rattle.pb_script.specs.declared.reports.lines.Newest.{Newest}
 use Rattle.pb_script.specs.declared.reports.newest.Put.{Put}
@@ -13,7 +12,7 @@ use Rattle.pb_script.specs.Committed.{AreSeen, Gathers, IsSeenAt}
 use Rattle.pb_script.specs.Tallies.{AreTallies, IsTally}
 
 module _ (observers : List ObserverOf) (journal : List Entry) (clock : ℕ) (puts : List Put) (g : Gathers observers journal puts) (low : AreSeen observers journal clock) where
-  seen_in : (row : Row) (column : ℕ) (r : Option Newest) → IsNewestPut puts (Data row column) r → IsSeenAt observers journal clock (Data row column) r
+  seen_in : (row : Row) (column : ℕ) (r : Option Newest) → IsNewestPut puts (Cell.Data row column) r → IsSeenAt observers journal clock (Cell.Data row column) r
   seen_in row column None h = λ m content i w. absurd (h _ (g.whole row column m.commit content (record { m = m; in_history = i; commit_is = refl; writes = w })) refl)
   seen_in row column (Some n) h =
       let it = g.sound _ h.0 in (
@@ -30,8 +29,8 @@ module _ (observers : List ObserverOf) (journal : List Entry) (clock : ℕ) (put
       )
 
   told_in : (x : Cell) (r : Option Newest) → IsTold (IsNewestPut puts) x r → IsTold (IsSeenAt observers journal clock) x r
-  told_in (Data row column) r h = seen_in row column r h
-  told_in (Ack observer row column) r h = h
+  told_in (Cell.Data row column) r h = seen_in row column r h
+  told_in (Cell.Ack observer row column) r h = h
 
   pub report_in : (runs : Tallies) (marks locks : ℕ) (text : List ℕ) → IsReport puts runs marks locks text → IsReportOf (IsSeenAt observers journal clock) runs marks locks text
   report_in runs marks locks text h = record { entries = h.entries; rising = h.rising; told = λ x. told_in x _ (h.told x); lines = h.lines }

@@ -4,7 +4,6 @@ use Rattle.std.specs.Prelude.{◌≡◌, ℕ, ◌≤◌, List, Contains, Option,
 use Rattle.std.specs.BTreeMap.{BTreeMap}
 use Rattle.pb_base.specs.declared.names.Row.{Row}
 use Rattle.pb_base.specs.declared.cell.Cell.{Cell}
-use Rattle.pb_base.specs.declared.cell.Cell.TheVariants.{Data}
 use Rattle.pb_base.specs.declared.content.Content.{Content}
 use Rattle.pb_verify.specs.Observers.{ObserverOf}
 use Rattle.pb_history.specs.declared.entry.Entry.{Entry}
@@ -28,7 +27,7 @@ IsSeenAt observers journal s x (Some n) = (start : ℕ) × IsSnapshot observers 
 -- these are the committed writes of the journal to data cells
 pub record Gathers (observers : List ObserverOf) (journal : List Entry) (puts : List Put) : Type 0 where
   pub sound : (p : Put) → Contains puts p → IsWrite observers journal p.cell p.commit.0 p.content
-  pub whole : (row : Row) (column commit : ℕ) (content : Content) → IsWrite observers journal (Data row column) commit content → Contains puts (record { cell = Data row column; commit = record { 0 = commit }; content = content })
+  pub whole : (row : Row) (column commit : ℕ) (content : Content) → IsWrite observers journal (Cell.Data row column) commit content → Contains puts (record { cell = Cell.Data row column; commit = record { 0 = commit }; content = content })
 
 -- the table has, of the committed writes of the journal, the newest at each data cell
 pub record HasNewest (observers : List ObserverOf) (journal : List Entry) (table : BTreeMap Cell Newest) : Type 0 where

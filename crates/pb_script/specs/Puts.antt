@@ -6,13 +6,9 @@ use Rattle.pb_base.specs.declared.names.Ts.{Ts}
 use Rattle.pb_base.specs.declared.cell.Cell.{Cell}
 use Rattle.pb_base.specs.declared.content.Content.{Content}
 use Rattle.pb_steps.specs.declared.step.Declared.{Declared}
-use Rattle.pb_steps.specs.declared.step.Declared.TheVariants as declared
 use Rattle.pb_steps.specs.declared.step.Step.{Step}
-use Rattle.pb_steps.specs.declared.step.Step.TheVariants as steps
 use Rattle.pb_steps.specs.declared.step.Answer.{Answer}
-use Rattle.pb_steps.specs.declared.step.Answer.TheVariants as answers
 use Rattle.pb_steps.specs.declared.phase.Phase.{Phase}
-use Rattle.pb_steps.specs.declared.phase.Phase.TheVariants as phases
 use Rattle.pb_steps.specs.State.{StateOf, phase_in}
 use Rattle.pb_history.specs.declared.entry.Entry.{Entry}
 use Rattle.pb_script.specs.declared.reports.newest.Put.{Put}
@@ -23,17 +19,17 @@ put_by commit w = record { cell = w.0; commit = commit; content = w.1 }
 
 -- the writes of a transaction, if it is committed
 abbrev pub if_committed : Option Phase → List (Cell × Content) → List Put
-if_committed (Some (phases.Committed c)) ws = map (put_by c) ws
+if_committed (Some (Phase.Committed c)) ws = map (put_by c) ws
 if_committed _ ws = []
 
 -- what a declaration writes to data cells
 abbrev pub written_in : Declared → Writes
-written_in (declared.Script batch) = batch
-written_in (declared.Run o f) = f.writes
+written_in (Declared.Script batch) = batch
+written_in (Declared.Run o f) = f.writes
 
 -- the writes that an entry declared, if they are committed
 abbrev pub writes_by : StateOf → Step → Answer → List Put
-writes_by state (steps.Declare start what) answers.Done = if_committed (phase_in state start.0) (written_in what)
+writes_by state (Step.Declare start what) Answer.Done = if_committed (phase_in state start.0) (written_in what)
 writes_by state _ _ = []
 
 -- what an entry adds to the gathered writes; none but a declaration that was answered adds any

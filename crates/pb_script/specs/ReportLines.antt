@@ -1,11 +1,9 @@
 -- The lines of a report, byte by byte. The functions of src/reports cite these, each the one of its name.
-use Rattle.std.specs.Prelude.{ℕ, ◌&&◌, ◌==◌, if◌then◌else◌, List, [], ◌∷◌, ◌++◌, codes}
+use Rattle.std.specs.Prelude.{ℕ, ◌&&◌, ◌==◌, if◌then◌else◌, List, [], ◌∷◌, ◌++◌, codes, decimal}
 use Rattle.std.specs.List.{list_all, flat_map}
-use Rattle.std.specs.Fmt.{decimal}
 use Rattle.hex.specs.Hex.{encode_lower}
 use Rattle.pb_base.specs.declared.cell.Cell.{Cell}
 use Rattle.pb_base.specs.declared.content.Content.{Content}
-use Rattle.pb_base.specs.declared.content.Content.TheVariants.{Value, Deleted, Stamp}
 use Rattle.pb_base.specs.Cell.{row_of, column_of}
 use Rattle.pb_script.specs.declared.reports.lines.Newest.{Newest}
 
@@ -16,9 +14,9 @@ trimmed (b ∷ bs) = if list_all (λ c. c == 0) bs then b ∷ [] else b ∷ trim
 
 -- how the line of a cell ends; no data cell has a stamp, which says no more than a deletion
 abbrev pub ending : Content → List ℕ
-ending (Value bytes) = codes " value " ++ (encode_lower (trimmed bytes) ++ codes "\n")
-ending Deleted = codes " deleted\n"
-ending (Stamp t) = codes " deleted\n"
+ending (Content.Value bytes) = codes " value " ++ (encode_lower (trimmed bytes) ++ codes "\n")
+ending Content.Deleted = codes " deleted\n"
+ending (Content.Stamp t) = codes " deleted\n"
 
 -- the line of a data cell: where it is, the commit of its newest write, and what that left there
 abbrev pub cell_line : Cell → Newest → List ℕ

@@ -7,7 +7,6 @@ use Rattle.std.specs.List.Sorted.{IsStrictlySortedBy}
 use Rattle.std.specs.Map.{lookup}
 use Rattle.pb_base.specs.declared.names.Ts.{Ts}
 use Rattle.pb_base.specs.declared.cell.Cell.{Cell}
-use Rattle.pb_base.specs.declared.cell.Cell.TheVariants.{Data, Ack}
 use Rattle.pb_base.specs.Cell.{cell_cmp}
 use Rattle.pb_script.specs.declared.reports.lines.Newest.{Newest}
 use Rattle.pb_script.specs.declared.reports.newest.Put.{Put}
@@ -20,8 +19,8 @@ IsNewestPut puts x (Some n) = Contains puts (record { cell = x; commit = n.commi
 
 -- what is told of a cell: what is newest at a data cell, and of an acknowledgment nothing
 abbrev pub IsTold : (Cell → Option Newest → Type 0) → Cell → Option Newest → Type 0
-IsTold newest (Data row column) r = newest (Data row column) r
-IsTold newest (Ack observer row column) r = r ≡ None
+IsTold newest (Cell.Data row column) r = newest (Cell.Data row column) r
+IsTold newest (Cell.Ack observer row column) r = r ≡ None
 
 -- The text for what is newest at each cell: a line for each data cell that has a write, by row and column, a line for
 -- each observer, and the last line.

@@ -5,7 +5,6 @@ use Rattle.pb_steps.specs.Readings.{lock_count}
 use Rattle.pb_core.specs.Calls.{SharedOf}
 use Rattle.pb_base.specs.Taking.{Taking, TookAll, TookPart, TookNothing}
 use Rattle.pb_script.specs.declared.fault.ReportFault.{ReportFault}
-use Rattle.pb_script.specs.declared.fault.ReportFault.TheVariants as ends
 use Rattle.pb_script.specs.ReportLines.{Tallies}
 use Rattle.pb_script.specs.Reports.{IsReportOf}
 use Rattle.pb_script.specs.Committed.{IsSeenAt}
@@ -33,5 +32,5 @@ pub record Began (shared : SharedOf) (out : Taking) : Type 0 where
 -- what the sink took where a report ended so
 abbrev pub Reports : SharedOf → Taking → Result (Unit {0}) ReportFault → Type 0
 Reports shared out (Ok _) = Wrote shared out
-Reports shared out (Err ends.Output) = Began shared out
-Reports shared out (Err ends.NoMemory) = TookNothing out
+Reports shared out (Err ReportFault.Output) = Began shared out
+Reports shared out (Err ReportFault.NoMemory) = TookNothing out

@@ -4,7 +4,6 @@ use Rattle.std.proofs.lemmas.Bool.{cases_lt, or_parts as or_not}
 use Rattle.std.specs.Int.{from_le_bytes, to_le_bytes}
 use Rattle.pb_isa.specs.declared.limits.TheConstants.{STACK_BYTES}
 use Rattle.pb_isa.specs.declared.insn.Insn.{Insn}
-use Rattle.pb_isa.specs.declared.insn.Insn.TheVariants.{Load, StoreImm, Store, Jump, JumpIf, Exit}
 use Rattle.pb_isa.specs.declared.insn.Width.{Width}
 use Rattle.pb_isa.specs.declared.insn.Cmp.{Cmp}
 use Rattle.pb_isa.specs.declared.insn.Size.{Size}
@@ -17,12 +16,11 @@ use Rattle.pb_isa.specs.Slots.{insn_at}
 use Rattle.pb_isa.specs.Machine as m
 use Rattle.pb_isa.specs.Machine.{Map, Placement, State, address, width, extended, fetch, entries, with_list}
 use Rattle.pb_kinds.specs.declared.frame.Kind.{Kind}
-use Rattle.pb_kinds.specs.declared.frame.Kind.TheVariants.{Unset, Number, Stack, Record}
 use Rattle.pb_kinds.specs.declared.frame.Frame.{Frame}
 use Rattle.pb_kinds.specs.Frames.{kind_of, is_unset, is_pointer}
 use Rattle.pb_kinds.specs.Ranges.{in_stack, in_record, from_low, are_written, set_flags, with_written}
 use Rattle.pb_helpers.specs.Codes.{when}
-use Rattle.pb_helpers.specs.declared.code.RuleCode.TheVariants.{PointerStored, PointerCompared, ExitsWithPointer}
+use Rattle.pb_helpers.specs.declared.code.RuleCode.{RuleCode}
 use Rattle.pb_helpers.specs.Arguments.{unset, stack_reads}
 use Rattle.pb_verify.specs.Rules as rules
 use Rattle.pb_verify.specs.Rules.{at, reads, reads_operand, sets, on_pointer, points, loads, bytes_of, falls, jump_rules}
@@ -67,16 +65,16 @@ stack_same x a b f s t z n some h two =
 
 -- a load whose rules hold takes the same bytes at both placements
 pub fetched_same : (x : Setting) (a b : Placement) (f : Frame) (s t : State) (k : Kind) (o : ℤ) (v w n : ℕ) → 0 < n → is_unset k ≡ false → loads x.judged.record_size f k o n ≡ [] → Holds (run x a) k (Some v) → Holds (run x b) k (Some w) → Two x a b f s t → fetch (run x a) s (address v o) n ≡ fetch (run x b) t (address w o) n
-fetched_same x a b f s t Unset o v w n some u h ha hb two = cc
-fetched_same x a b f s t Number o v w n some u h ha hb two = cc
-fetched_same x a b f s t (Stack k) o v w n some u h ha hb two =
+fetched_same x a b f s t Kind.Unset o v w n some u h ha hb two = cc
+fetched_same x a b f s t Kind.Number o v w n some u h ha hb two = cc
+fetched_same x a b f s t (Kind.Stack k) o v w n some u h ha hb two =
     let z = k +ℤ o in
     let at_a : v ≡ address (a.stack + STACK_BYTES) k = cc in
     let at_b : w ≡ address (b.stack + STACK_BYTES) k = cc in
     let pa = stack_part (run x a) s z n (stretch (run x a) f s z n some two.place_a two.fits_a h) in
     let pb = stack_part (run x b) t z n (stretch (run x b) f t z n some two.place_b two.fits_b h) in
     rw (at_a, at_b, moved_word (a.stack + STACK_BYTES) k o, moved_word (b.stack + STACK_BYTES) k o) (pa ∙ stack_same x a b f s t z n some h two ∙ sym pb)
-fetched_same x a b f s t (Record k) o v w n some u h ha hb two =
+fetched_same x a b f s t (Kind.Record k) o v w n some u h ha hb two =
     let z = k +ℤ o in
     let ok : in_record x.judged.record_size z n ≡ true = not_false _ (when_not _ _ h) in
     let at_a : v ≡ address a.record_at k = cc in
@@ -88,7 +86,7 @@ fetched_same x a b f s t (Record k) o v w n some u h ha hb two =
     rw (at_a, at_b, moved_word a.record_at k o, moved_word b.record_at k o) (pa.are ∙ same ∙ sym pb.are)
 
 -- a load whose rules hold sets the same number at both
-pub load_agrees : (x : Setting) (z : Size) (y : Extension) (d r : registers.Reg) (o : ℤ) → Agrees x (Load z y d r o)
+pub load_agrees : (x : Setting) (z : Size) (y : Extension) (d r : registers.Reg) (o : ℤ) → Agrees x (Insn.Load z y d r o)
 load_agrees x z y d r o a b f s t here h two =
     let parts = empty_parts (rules.load_rules x.judged.record_size f z d r o) (falls x.judged.program.insns (t.slot + 1)) h in
     let more = empty_parts (reads f r ++ sets d) (loads x.judged.record_size f (at f r) o (bytes_of z)) parts.0 in
@@ -100,7 +98,7 @@ load_agrees x z y d r o a b f s t here h two =
     let same = fetched_same x a b f s t (at f r) o va.value vb.value (bytes_of z) (some_bytes z) set_is more.1 va.holds vb.holds two in
     let v = extended y z (from_le_bytes (width z) got.bytes) in
     let are_b = sym same ∙ got.are in
-    rw (va.is, vb.is, got.are, are_b) (agree_set x a b f s t (Load z y d r o) d Number v v refl here parts.1 first.1 two.alike refl)
+    rw (va.is, vb.is, got.are, are_b) (agree_set x a b f s t (Insn.Load z y d r o) d Kind.Number v v refl here parts.1 first.1 two.alike refl)
 
 -- ---- stores
 
@@ -140,7 +138,7 @@ pub agree_stores : (x : Setting) (a b : Placement) (f : Frame) (s t : State) (i 
 agree_stores x a b f s t i k o v w n vs lv ea on l ra rb =
     rw (ra.there, rb.there, lv, ra.inside, rb.inside, l.slot, on, ea, ra.frame) (alike_put a b f s t _ _ (spot k o) n vs lv l refl l.writes refl refl refl refl)
 
-pub store_imm_agrees : (x : Setting) (z : Size) (d : registers.Reg) (o k : ℤ) → Agrees x (StoreImm z d o k)
+pub store_imm_agrees : (x : Setting) (z : Size) (d : registers.Reg) (o k : ℤ) → Agrees x (Insn.StoreImm z d o k)
 store_imm_agrees x z d o k a b f s t here h two =
     let parts = empty_parts (rules.store_imm_rules f z d o) (falls x.judged.program.insns (t.slot + 1)) h in
     let first = empty_parts (reads f d) (rules.stores (at f d) o (bytes_of z)) parts.0 in
@@ -150,14 +148,14 @@ store_imm_agrees x z d o k a b f s t here h two =
     let ra = store_room (run x a) f (at f d) va.value o (bytes_of z) (some_bytes z) two.place_a set_is first.1 va.holds in
     let rb = store_room (run x b) f (at f d) vb.value o (bytes_of z) (some_bytes z) two.place_b set_is first.1 vb.holds in
     let vs = to_le_bytes (width z) (word k) in
-    let on = follows x.judged.program.insns (StoreImm z d o k) t.slot here parts.1 in
-    rw (va.is, vb.is) (agree_stores x a b f s t (StoreImm z d o k) (at f d) o va.value vb.value (bytes_of z) vs (length-bytes z (word k)) refl on two.alike ra rb)
+    let on = follows x.judged.program.insns (Insn.StoreImm z d o k) t.slot here parts.1 in
+    rw (va.is, vb.is) (agree_stores x a b f s t (Insn.StoreImm z d o k) (at f d) o va.value vb.value (bytes_of z) vs (length-bytes z (word k)) refl on two.alike ra rb)
 
-pub store_agrees : (x : Setting) (z : Size) (d : registers.Reg) (o : ℤ) (r : registers.Reg) → Agrees x (Store z d r o)
+pub store_agrees : (x : Setting) (z : Size) (d : registers.Reg) (o : ℤ) (r : registers.Reg) → Agrees x (Insn.Store z d r o)
 store_agrees x z d o r a b f s t here h two =
     let parts = empty_parts (rules.store_rules f z d r o) (falls x.judged.program.insns (t.slot + 1)) h in
-    let p3 = empty_parts (reads f d ++ reads f r ++ when (is_pointer (at f r)) PointerStored) (rules.stores (at f d) o (bytes_of z)) parts.0 in
-    let p2 = empty_parts (reads f d ++ reads f r) (when (is_pointer (at f r)) PointerStored) p3.0 in
+    let p3 = empty_parts (reads f d ++ reads f r ++ when (is_pointer (at f r)) RuleCode.PointerStored) (rules.stores (at f d) o (bytes_of z)) parts.0 in
+    let p2 = empty_parts (reads f d ++ reads f r) (when (is_pointer (at f r)) RuleCode.PointerStored) p3.0 in
     let p1 = empty_parts (reads f d) (reads f r) p2.0 in
     let va = read_value (run x a) f s d p1.0 two.fits_a in
     let vb = read_value (run x b) f t d p1.0 two.fits_b in
@@ -168,8 +166,8 @@ store_agrees x z d o r a b f s t here h two =
     let ra = store_room (run x a) f (at f d) va.value o (bytes_of z) (some_bytes z) two.place_a set_is p3.1 va.holds in
     let rb = store_room (run x b) f (at f d) vb.value o (bytes_of z) (some_bytes z) two.place_b set_is p3.1 vb.holds in
     let vs = to_le_bytes (width z) fa.value in
-    let on = follows x.judged.program.insns (Store z d r o) t.slot here parts.1 in
-    rw (va.is, vb.is, fa.is, fb) (agree_stores x a b f s t (Store z d r o) (at f d) o va.value vb.value (bytes_of z) vs (length-bytes z fa.value) refl on two.alike ra rb)
+    let on = follows x.judged.program.insns (Insn.Store z d r o) t.slot here parts.1 in
+    rw (va.is, vb.is, fa.is, fb) (agree_stores x a b f s t (Insn.Store z d r o) (at f d) o va.value vb.value (bytes_of z) vs (length-bytes z fa.value) refl on two.alike ra rb)
 
 -- ---- jumps, and the exit
 
@@ -177,16 +175,16 @@ store_agrees x z d o r a b f s t here h two =
 pub agree_goes : (x : Setting) (a b : Placement) (f : Frame) (s t : State) (i : Insn) (n : ℕ) → after f i ≡ f → is_some (insn_at x.judged.program.insns n) ≡ true → Alike a b f s t → Agree a b f i (m.goes (run x a) s n s.regs s.stack) (m.goes (run x b) t n t.regs t.stack)
 agree_goes x a b f s t i n ea h l = rw (h, ea) (record { slot = refl; writes = l.writes; reg = l.reg; byte = l.byte })
 
-pub jump_agrees : (x : Setting) (o : ℤ) → Agrees x (Jump o)
+pub jump_agrees : (x : Setting) (o : ℤ) → Agrees x (Insn.Jump o)
 jump_agrees x o a b f s t here h two =
     let l = lands x.judged.program.insns t.slot o h in
-    rw (two.alike.slot, l.is) (agree_goes x a b f s t (Jump o) l.to refl l.first two.alike)
+    rw (two.alike.slot, l.is) (agree_goes x a b f s t (Insn.Jump o) l.to refl l.first two.alike)
 
 -- a comparison comes out the same, since neither side may be a pointer
-pub jump_if_agrees : (x : Setting) (c : Cmp) (w : Width) (d : registers.Reg) (y : Operand) (o : ℤ) → Agrees x (JumpIf c w d y o)
+pub jump_if_agrees : (x : Setting) (c : Cmp) (w : Width) (d : registers.Reg) (y : Operand) (o : ℤ) → Agrees x (Insn.JumpIf c w d y o)
 jump_if_agrees x c w d y o a b f s t here h two =
     let n = t.slot in
-    let p4 = empty_parts (reads f d ++ reads_operand f y ++ jump_rules x.judged.program.insns n o ++ falls x.judged.program.insns (n + 1)) (when (on_pointer f d y) PointerCompared) h in
+    let p4 = empty_parts (reads f d ++ reads_operand f y ++ jump_rules x.judged.program.insns n o ++ falls x.judged.program.insns (n + 1)) (when (on_pointer f d y) RuleCode.PointerCompared) h in
     let p3 = empty_parts (reads f d ++ reads_operand f y ++ jump_rules x.judged.program.insns n o) (falls x.judged.program.insns (n + 1)) p4.0 in
     let p2 = empty_parts (reads f d ++ reads_operand f y) (jump_rules x.judged.program.insns n o) p3.0 in
     let p1 = empty_parts (reads f d) (reads_operand f y) p2.0 in
@@ -196,7 +194,7 @@ jump_if_agrees x c w d y o a b f s t here h two =
     let left_b = sym (number_same (at f d) _ _ (when_not _ _ p1.0) plain.0 (two.alike.reg (number d))) ∙ left.is in
     let right_b = sym (operand_same a b f s t y p1.1 plain.1 two.alike) ∙ right.1 in
     let l = lands x.judged.program.insns n o p2.1 in
-    let i = JumpIf c w d y o in
+    let i = Insn.JumpIf c w d y o in
     let on = follows x.judged.program.insns i n here p3.1 in
     let either : (taken : Bool) → Agree a b f i (m.with_value (cond taken (m.target s.slot o) (Some (s.slot + 1))) (λ k. m.goes (run x a) s k s.regs s.stack)) (m.with_value (cond taken (m.target n o) (Some (n + 1))) (λ k. m.goes (run x b) t k t.regs t.stack)) = λ taken. elim taken as (λ q. Agree a b f i (m.with_value (cond q (m.target s.slot o) (Some (s.slot + 1))) (λ k. m.goes (run x a) s k s.regs s.stack)) (m.with_value (cond q (m.target n o) (Some (n + 1))) (λ k. m.goes (run x b) t k t.regs t.stack))) [
       | true ↦ rw (two.alike.slot, l.is) (agree_goes x a b f s t i l.to refl l.first two.alike)
@@ -205,9 +203,9 @@ jump_if_agrees x c w d y o a b f s t here h two =
     rw (left.is, right.1, left_b, right_b) (either (holds c w left.value right.0))
 
 -- both end with the same result, since register 0 may not be a pointer
-pub exit_agrees : (x : Setting) → Agrees x Exit
+pub exit_agrees : (x : Setting) → Agrees x Insn.Exit
 exit_agrees x a b f s t here h two =
-    let p = empty_parts (unset f 0) (when (is_pointer (kind_of f 0)) ExitsWithPointer) h in
+    let p = empty_parts (unset f 0) (when (is_pointer (kind_of f 0)) RuleCode.ExitsWithPointer) h in
     let v = value_of (run x a) (kind_of f 0) (s.regs 0) (when_not _ _ p.0) (two.fits_a.reg 0) in
     let same = sym (number_same (kind_of f 0) _ _ (when_not _ _ p.0) (when_not _ _ p.1) (two.alike.reg 0)) ∙ v.is in
     rw (v.is, same) (refl, two.alike.writes)

@@ -2,21 +2,18 @@
 use Rattle.std.proofs.Common.{◌≡◌, ℕ, zero, suc, ◌+◌, ℤ, pos, ◌+ℤ◌, Bool, true, false, not, ◌&&◌, cond, nat_lt, List, [], ◌++◌, length, replicate, Option, Some, None, is_some, refl, sym, ap, ◌∙◌, arith}
 use Rattle.pb_base.specs.Batch.{Writes}
 use Rattle.pb_base.specs.declared.content.Content.{Content}
-use Rattle.pb_base.specs.declared.content.Content.TheVariants.{Value as Bytes32, Deleted}
 use Rattle.pb_isa.specs.declared.limits.TheConstants.{STACK_BYTES}
 use Rattle.pb_isa.specs.declared.insn.Insn.{Insn}
-use Rattle.pb_isa.specs.declared.insn.Insn.TheVariants.{Alu, MovSx, Neg, LoadImm, Load, StoreImm, Store, Jump, JumpIf, Call, Exit}
 use Rattle.pb_isa.specs.Helpers.{Helper, Read, Write, Delete, Start, helper_of, declared_helper}
 use Rattle.pb_isa.specs.Slots.{insn_at}
 use Rattle.pb_isa.specs.Machine as m
 use Rattle.pb_isa.specs.Machine.{Map, Placement, State, Outcome, Goes, Asks, act, address, entries, with_list, called_regs}
 use Rattle.pb_kinds.specs.declared.frame.Kind.{Kind}
-use Rattle.pb_kinds.specs.declared.frame.Kind.TheVariants.{Unset, Number, Stack, Record}
 use Rattle.pb_kinds.specs.declared.frame.Frame.{Frame}
 use Rattle.pb_kinds.specs.Frames.{kind_of, is_number_kind}
 use Rattle.pb_kinds.specs.Ranges.{from_low, with_written}
 use Rattle.pb_helpers.specs.Codes.{when}
-use Rattle.pb_helpers.specs.declared.code.RuleCode.TheVariants.{WrongArgument}
+use Rattle.pb_helpers.specs.declared.code.RuleCode.{RuleCode}
 use Rattle.pb_helpers.specs.Arguments.{unset, filled_bytes, taken_bytes, is_cell, is_place, read_rules, call_rules, stack_writes}
 use Rattle.pb_verify.specs.Rules.{falls, insn_rules}
 use Rattle.pb_verify.specs.Following.{after, after_call, clobber}
@@ -73,10 +70,10 @@ here_is base k y h = ap (λ z. address base z) (sym (plus_zero k)) ∙ sym (move
 
 -- the 32 bytes that a read fills are at one distance in both stacks
 filled_two : (x : Setting) (a b : Placement) (f : Frame) (s t : State) (k : Kind) → is_place k ≡ true → filled_bytes k ≡ [] → Holds (run x a) k (s.regs 3) → Holds (run x b) k (t.regs 3) → kind_of f 3 ≡ k → Two x a b f s t → FilledTwo x a b f s t
-filled_two x a b f s t Unset p h ha hb q two = cc
-filled_two x a b f s t Number p h ha hb q two = cc
-filled_two x a b f s t (Record k) p h ha hb q two = cc
-filled_two x a b f s t (Stack k) p h ha hb q two =
+filled_two x a b f s t Kind.Unset p h ha hb q two = cc
+filled_two x a b f s t Kind.Number p h ha hb q two = cc
+filled_two x a b f s t (Kind.Record k) p h ha hb q two = cc
+filled_two x a b f s t (Kind.Stack k) p h ha hb q two =
     let same = plus_zero k in
     let here_on : stack_writes (k +ℤ pos 0) 32 ≡ [] = rw same h in
     let ra = stack_room (run x a) f k (pos 0) 32 (omega arith) two.place_a here_on in
@@ -112,10 +109,10 @@ pub record TakenTwo (x : Setting) (a b : Placement) (s t : State) : Type 0 where
 
 -- the 32 bytes that a write takes are the same, since each is written
 taken_two : (x : Setting) (a b : Placement) (f : Frame) (s t : State) (k : Kind) → is_place k ≡ true → taken_bytes f k ≡ [] → Holds (run x a) k (s.regs 3) → Holds (run x b) k (t.regs 3) → Two x a b f s t → TakenTwo x a b s t
-taken_two x a b f s t Unset p h ha hb two = cc
-taken_two x a b f s t Number p h ha hb two = cc
-taken_two x a b f s t (Record k) p h ha hb two = cc
-taken_two x a b f s t (Stack k) p h ha hb two =
+taken_two x a b f s t Kind.Unset p h ha hb two = cc
+taken_two x a b f s t Kind.Number p h ha hb two = cc
+taken_two x a b f s t (Kind.Record k) p h ha hb two = cc
+taken_two x a b f s t (Kind.Stack k) p h ha hb two =
     let sa = stretch (run x a) f s k 32 (omega arith) two.place_a two.fits_a h in
     let sb = stretch (run x b) f t k 32 (omega arith) two.place_b two.fits_b h in
     record {
@@ -154,74 +151,74 @@ cell_two x a b f s t h two =
     }
 
 -- the frame after a call of the helper y
-to_call : (a b : Placement) (f : Frame) (k : ℤ) (y : Helper) (u w : State) → helper_of k ≡ Some y → Alike a b (after_call f (Some y)) u w → Alike a b (after f (Call k)) u w
+to_call : (a b : Placement) (f : Frame) (k : ℤ) (y : Helper) (u w : State) → helper_of k ≡ Some y → Alike a b (after_call f (Some y)) u w → Alike a b (after f (Insn.Call k)) u w
 to_call a b f k y u w hx l = rw hx l
 
-write_agrees : (x : Setting) (a b : Placement) (f : Frame) (s t : State) (k : ℤ) (y : Helper) (row column : ℕ) (c : Content) → after_call f (Some y) ≡ clobber f → helper_of k ≡ Some y → Alike a b f s t → Agree a b f (Call k) (m.writes_cell s row column c) (m.writes_cell t row column c)
+write_agrees : (x : Setting) (a b : Placement) (f : Frame) (s t : State) (k : ℤ) (y : Helper) (row column : ℕ) (c : Content) → after_call f (Some y) ≡ clobber f → helper_of k ≡ Some y → Alike a b f s t → Agree a b f (Insn.Call k) (m.writes_cell s row column c) (m.writes_cell t row column c)
 write_agrees x a b f s t k y row column c same hx l =
     let ws = m.add_write (m.cell_of row column) c t.writes in
     let v = m.write_result (m.cell_of row column) t.writes in
-    let on : (us : Writes) (v : ℕ) → Alike a b (after f (Call k)) (m.state_after_call s us v) (m.state_after_call t us v) = λ us v. to_call a b f k y _ _ hx (rw same (alike_returned a b f s t (m.state_after_call s us v) (m.state_after_call t us v) v l (ap (λ n. n + 1) l.slot) refl refl refl refl refl)) in
-    let go : (low : Bool) → Agree a b f (Call k) (cond low (Goes (m.state_after_call s ws v)) (Goes (m.state_after_call s t.writes 2))) (cond low (Goes (m.state_after_call t ws v)) (Goes (m.state_after_call t t.writes 2))) = λ low. elim low as (λ low. Agree a b f (Call k) (cond low (Goes (m.state_after_call s ws v)) (Goes (m.state_after_call s t.writes 2))) (cond low (Goes (m.state_after_call t ws v)) (Goes (m.state_after_call t t.writes 2)))) [ true ↦ on ws v | false ↦ on t.writes 2 ] in
+    let on : (us : Writes) (v : ℕ) → Alike a b (after f (Insn.Call k)) (m.state_after_call s us v) (m.state_after_call t us v) = λ us v. to_call a b f k y _ _ hx (rw same (alike_returned a b f s t (m.state_after_call s us v) (m.state_after_call t us v) v l (ap (λ n. n + 1) l.slot) refl refl refl refl refl)) in
+    let go : (low : Bool) → Agree a b f (Insn.Call k) (cond low (Goes (m.state_after_call s ws v)) (Goes (m.state_after_call s t.writes 2))) (cond low (Goes (m.state_after_call t ws v)) (Goes (m.state_after_call t t.writes 2))) = λ low. elim low as (λ low. Agree a b f (Insn.Call k) (cond low (Goes (m.state_after_call s ws v)) (Goes (m.state_after_call s t.writes 2))) (cond low (Goes (m.state_after_call t ws v)) (Goes (m.state_after_call t t.writes 2)))) [ true ↦ on ws v | false ↦ on t.writes 2 ] in
     rw l.writes (go (nat_lt column 16))
 
 -- both ask for the same cell, and each reply leaves both alike
-read_agrees : (x : Setting) (a b : Placement) (f : Frame) (s t : State) (k : ℤ) → helper_of k ≡ Some Read → read_rules f ≡ [] → Two x a b f s t → Agree a b f (Call k) (m.helps (run x a) s Read) (m.helps (run x b) t Read)
+read_agrees : (x : Setting) (a b : Placement) (f : Frame) (s t : State) (k : ℤ) → helper_of k ≡ Some Read → read_rules f ≡ [] → Two x a b f s t → Agree a b f (Insn.Call k) (m.helps (run x a) s Read) (m.helps (run x b) t Read)
 read_agrees x a b f s t k hx h two =
-    let p4 = empty_parts (unset f 1 ++ unset f 2 ++ unset f 3 ++ filled_bytes (kind_of f 3)) (when (not (is_cell f && is_place (kind_of f 3))) WrongArgument) h in
+    let p4 = empty_parts (unset f 1 ++ unset f 2 ++ unset f 3 ++ filled_bytes (kind_of f 3)) (when (not (is_cell f && is_place (kind_of f 3))) RuleCode.WrongArgument) h in
     let p3 = empty_parts (unset f 1 ++ unset f 2 ++ unset f 3) (filled_bytes (kind_of f 3)) p4.0 in
     let ok = and_true (is_cell f) (is_place (kind_of f 3)) (not_false _ (when_not _ _ p4.1)) in
     let c = cell_two x a b f s t ok.0 two in
     let y = filled_two x a b f s t (kind_of f 3) ok.1 p3.1 (two.fits_a.reg 3) (two.fits_b.reg 3) refl two in
-    let on : (bs : List ℕ) (v : ℕ) → length bs ≡ 32 → Alike a b (after f (Call k)) (m.state_after_read s y.at_a bs v) (m.state_after_read t y.at_b bs v) = λ bs v n. to_call a b f k Read _ _ hx (y.alike bs v n) in
+    let on : (bs : List ℕ) (v : ℕ) → length bs ≡ 32 → Alike a b (after f (Insn.Call k)) (m.state_after_read s y.at_a bs v) (m.state_after_read t y.at_b bs v) = λ bs v n. to_call a b f k Read _ _ hx (y.alike bs v n) in
     let out : State → ℕ → Bool → Outcome = λ u at low. cond low (Asks (record { row = c.row; column = c.column }) (λ r. m.state_after_read u at (m.reply_bytes r) (m.reply_result r))) (Goes (m.state_after_read u at (replicate 32 0) 2)) in
-    let go : (low : Bool) → Agree a b f (Call k) (out s y.at_a low) (out t y.at_b low) = λ low. elim low as (λ low. Agree a b f (Call k) (out s y.at_a low) (out t y.at_b low)) [
+    let go : (low : Bool) → Agree a b f (Insn.Call k) (out s y.at_a low) (out t y.at_b low) = λ low. elim low as (λ low. Agree a b f (Insn.Call k) (out s y.at_a low) (out t y.at_b low)) [
       | true ↦ (refl, λ r n. on (m.reply_bytes r) (m.reply_result r) (reply_long r n))
       | false ↦ on (replicate 32 0) 2 refl
     ] in
     rw (c.row_a, c.row_b, c.column_a, c.column_b, y.is_a, y.is_b, y.inside_a, y.inside_b) (go (nat_lt c.column 16))
 
-helps_agree : (x : Setting) (a b : Placement) (f : Frame) (s t : State) (k : ℤ) (y : Helper) → helper_of k ≡ Some y → call_rules f (Some y) ≡ [] → Two x a b f s t → Agree a b f (Call k) (m.helps (run x a) s y) (m.helps (run x b) t y)
+helps_agree : (x : Setting) (a b : Placement) (f : Frame) (s t : State) (k : ℤ) (y : Helper) → helper_of k ≡ Some y → call_rules f (Some y) ≡ [] → Two x a b f s t → Agree a b f (Insn.Call k) (m.helps (run x a) s y) (m.helps (run x b) t y)
 helps_agree x a b f s t k Read hx h two = read_agrees x a b f s t k hx h two
 helps_agree x a b f s t k Write hx h two =
-    let p4 = empty_parts (unset f 1 ++ unset f 2 ++ unset f 3 ++ taken_bytes f (kind_of f 3)) (when (not (is_cell f && is_place (kind_of f 3))) WrongArgument) h in
+    let p4 = empty_parts (unset f 1 ++ unset f 2 ++ unset f 3 ++ taken_bytes f (kind_of f 3)) (when (not (is_cell f && is_place (kind_of f 3))) RuleCode.WrongArgument) h in
     let p3 = empty_parts (unset f 1 ++ unset f 2 ++ unset f 3) (taken_bytes f (kind_of f 3)) p4.0 in
     let ok = and_true (is_cell f) (is_place (kind_of f 3)) (not_false _ (when_not _ _ p4.1)) in
     let c = cell_two x a b f s t ok.0 two in
     let y = taken_two x a b f s t (kind_of f 3) ok.1 p3.1 (two.fits_a.reg 3) (two.fits_b.reg 3) two in
-    rw (c.row_a, c.row_b, c.column_a, c.column_b, y.is_a, y.is_b, y.inside_a, y.inside_b, y.are_a, y.are_b) (write_agrees x a b f s t k Write c.row c.column (Bytes32 y.bytes) refl hx two.alike)
+    rw (c.row_a, c.row_b, c.column_a, c.column_b, y.is_a, y.is_b, y.inside_a, y.inside_b, y.are_a, y.are_b) (write_agrees x a b f s t k Write c.row c.column (Content.Value y.bytes) refl hx two.alike)
 helps_agree x a b f s t k Delete hx h two =
-    let p = empty_parts (unset f 1 ++ unset f 2) (when (not (is_cell f)) WrongArgument) h in
+    let p = empty_parts (unset f 1 ++ unset f 2) (when (not (is_cell f)) RuleCode.WrongArgument) h in
     let c = cell_two x a b f s t (not_false _ (when_not _ _ p.1)) two in
-    rw (c.row_a, c.row_b, c.column_a, c.column_b) (write_agrees x a b f s t k Delete c.row c.column Deleted refl hx two.alike)
+    rw (c.row_a, c.row_b, c.column_a, c.column_b) (write_agrees x a b f s t k Delete c.row c.column Content.Deleted refl hx two.alike)
 helps_agree x a b f s t k Start hx h two =
-    to_call a b f k Start _ _ hx (alike_returned a b f s t (m.state_after_call s s.writes x.began) (m.state_after_call t t.writes x.began) x.began two.alike (ap (λ n. n + 1) two.alike.slot) two.alike.writes refl refl refl refl)
+    to_call a b f k Start _ _ hx (alike_returned a b f s t (m.state_after_call s s.writes x.start) (m.state_after_call t t.writes x.start) x.start two.alike (ap (λ n. n + 1) two.alike.slot) two.alike.writes refl refl refl refl)
 
-calls_agree : (x : Setting) (a b : Placement) (f : Frame) (s t : State) (k : ℤ) (y : Option Helper) → declared_helper x.judged.helpers k ≡ y → is_some (insn_at x.judged.program.insns (t.slot + 1)) ≡ true → call_rules f y ≡ [] → Two x a b f s t → Agree a b f (Call k) (m.calls (run x a) s y) (m.calls (run x b) t y)
+calls_agree : (x : Setting) (a b : Placement) (f : Frame) (s t : State) (k : ℤ) (y : Option Helper) → declared_helper x.judged.helpers k ≡ y → is_some (insn_at x.judged.program.insns (t.slot + 1)) ≡ true → call_rules f y ≡ [] → Two x a b f s t → Agree a b f (Insn.Call k) (m.calls (run x a) s y) (m.calls (run x b) t y)
 calls_agree x a b f s t k None hx on h two = cc
 calls_agree x a b f s t k (Some y) hx on h two =
     let on_a : is_some (insn_at x.judged.program.insns (s.slot + 1)) ≡ true = rw two.alike.slot on in
     rw (on, on_a) (helps_agree x a b f s t k y (called_is x.judged.helpers k y hx) h two)
 
 -- every call, of a declared helper
-call_agrees : (x : Setting) (k : ℤ) → Agrees x (Call k)
+call_agrees : (x : Setting) (k : ℤ) → Agrees x (Insn.Call k)
 call_agrees x k a b f s t here h two =
     let parts = empty_parts (call_rules f (declared_helper x.judged.helpers k)) (falls x.judged.program.insns (t.slot + 1)) h in
-    calls_agree x a b f s t k (declared_helper x.judged.helpers k) refl (follows x.judged.program.insns (Call k) t.slot here parts.1) parts.0 two
+    calls_agree x a b f s t k (declared_helper x.judged.helpers k) refl (follows x.judged.program.insns (Insn.Call k) t.slot here parts.1) parts.0 two
 
 -- every instruction, by its kind
 does_agree : (x : Setting) (i : Insn) → Agrees x i
-does_agree x (Alu op w d y) = alu_agrees x op w d y
-does_agree x (MovSx w z d r) = mov_sx_agrees x w z d r
-does_agree x (Neg w d) = neg_agrees x w d
-does_agree x (LoadImm d v) = load_imm_agrees x d v
-does_agree x (Load z y d r o) = load_agrees x z y d r o
-does_agree x (StoreImm z d o k) = store_imm_agrees x z d o k
-does_agree x (Store z d r o) = store_agrees x z d o r
-does_agree x (Jump o) = jump_agrees x o
-does_agree x (JumpIf c w d y o) = jump_if_agrees x c w d y o
-does_agree x (Call k) = call_agrees x k
-does_agree x Exit = exit_agrees x
+does_agree x (Insn.Alu op w d y) = alu_agrees x op w d y
+does_agree x (Insn.MovSx w z d r) = mov_sx_agrees x w z d r
+does_agree x (Insn.Neg w d) = neg_agrees x w d
+does_agree x (Insn.LoadImm d v) = load_imm_agrees x d v
+does_agree x (Insn.Load z y d r o) = load_agrees x z y d r o
+does_agree x (Insn.StoreImm z d o k) = store_imm_agrees x z d o k
+does_agree x (Insn.Store z d r o) = store_agrees x z d o r
+does_agree x (Insn.Jump o) = jump_agrees x o
+does_agree x (Insn.JumpIf c w d y o) = jump_if_agrees x c w d y o
+does_agree x (Insn.Call k) = call_agrees x k
+does_agree x Insn.Exit = exit_agrees x
 
 -- and so it is at a slot where that instruction stands
 pub acts_agree : (x : Setting) (i : Insn) (a b : Placement) (f : Frame) (s t : State) → IsFollowed x.judged.program.insns t.slot i → insn_rules x.judged t.slot f i ≡ [] → Two x a b f s t → Agree a b f i (act (run x a) s) (act (run x b) t)

@@ -3,17 +3,16 @@ use Rattle.std.specs.Prelude.{◌≡◌, ℕ, ◌+◌, Option, IsTrue}
 use Rattle.pb_isa.specs.declared.insn.Insn.{Insn}
 use Rattle.pb_isa.specs.Machine.{Placement, State, Reply, IsReply, Outcome, Goes, Asks, Ends}
 use Rattle.pb_kinds.specs.declared.frame.Kind.{Kind}
-use Rattle.pb_kinds.specs.declared.frame.Kind.TheVariants.{Unset, Number, Stack, Record}
 use Rattle.pb_kinds.specs.declared.frame.Frame.{Frame}
 use Rattle.pb_kinds.specs.Frames.{kind_of, has_byte}
 use Rattle.pb_verify.specs.Following.{after}
 
 -- a number is the same; where pointers point follows from the frame
 abbrev pub SameNumber : Kind → Option ℕ → Option ℕ → Type 0
-SameNumber Unset v w = Unit {0}
-SameNumber Number v w = v ≡ w
-SameNumber (Stack k) v w = Unit {0}
-SameNumber (Record k) v w = Unit {0}
+SameNumber Kind.Unset v w = Unit {0}
+SameNumber Kind.Number v w = v ≡ w
+SameNumber (Kind.Stack k) v w = Unit {0}
+SameNumber (Kind.Record k) v w = Unit {0}
 
 -- states at two placements: one slot, the same writes, numbers and written bytes
 pub record Alike (a b : Placement) (f : Frame) (s t : State) : Type 0 where

@@ -3,19 +3,17 @@ use Rattle.std.proofs.Common.{◌≡◌, ℕ, zero, suc, ◌+◌, ℤ, pos, ◌+
 use Rattle.std.proofs.lemmas.Bool.Decides.{nat_tests}
 use Rattle.pb_base.specs.Batch.{Writes}
 use Rattle.pb_base.specs.declared.content.Content.{Content}
-use Rattle.pb_base.specs.declared.content.Content.TheVariants.{Value as Bytes32, Deleted}
 use Rattle.pb_isa.specs.declared.limits.TheConstants.{STACK_BYTES}
-use Rattle.pb_isa.specs.declared.insn.Insn.TheVariants.{Call}
+use Rattle.pb_isa.specs.declared.insn.Insn.{Insn}
 use Rattle.pb_isa.specs.Helpers.{Helper, HelperSet, Read, Write, Delete, Start, helper_of, declared_helper, if_declared, has_helper}
 use Rattle.pb_isa.specs.Slots.{insn_at}
 use Rattle.pb_isa.specs.Machine as m
 use Rattle.pb_isa.specs.Machine.{IsReply, IsPlaced, Map, Environment, State, Reply, address, does, helps, writes_cell, with_list, called_regs}
 use Rattle.pb_kinds.specs.declared.frame.Kind.{Kind}
-use Rattle.pb_kinds.specs.declared.frame.Kind.TheVariants.{Unset, Number, Stack, Record}
 use Rattle.pb_kinds.specs.declared.frame.Frame.{Frame}
 use Rattle.pb_kinds.specs.Frames.{kind_of, is_number_kind}
 use Rattle.pb_kinds.specs.Ranges.{from_low, with_written}
-use Rattle.pb_helpers.specs.declared.code.RuleCode.TheVariants.{WrongArgument}
+use Rattle.pb_helpers.specs.declared.code.RuleCode.{RuleCode}
 use Rattle.pb_helpers.specs.Codes.{when}
 use Rattle.pb_helpers.specs.Arguments.{unset, filled_bytes, taken_bytes, is_cell, is_place, read_rules, call_rules, stack_writes}
 use Rattle.pb_verify.specs.Rules.{falls, insn_rules}
@@ -63,10 +61,10 @@ pub record Cell (s : State) : Type 0 where
   pub column_is : s.regs 2 ≡ Some column
 
 number_is : (e : Environment) (k : Kind) (v : Option ℕ) → is_number_kind k ≡ true → Holds e k v → HasValue v
-number_is e Unset v u h = cc
-number_is e Number v u h = h
-number_is e (Stack k) v u h = cc
-number_is e (Record k) v u h = cc
+number_is e Kind.Unset v u h = cc
+number_is e Kind.Number v u h = h
+number_is e (Kind.Stack k) v u h = cc
+number_is e (Kind.Record k) v u h = cc
 
 -- row and column are numbers, and have values
 pub cell_is : (e : Environment) (f : Frame) (s : State) → is_cell f ≡ true → FitsFrame e f s → Cell s
@@ -84,15 +82,15 @@ pub record Filled (e : Environment) (f : Frame) (s : State) : Type 0 where
   pub fits : (bs : List ℕ) (v : ℕ) → length bs ≡ 32 → FitsFrame e (after_call f (Some Read)) (m.state_after_read s at bs v)
 
 filled_at : (e : Environment) (f : Frame) (s : State) (k : Kind) → IsPlaced e → is_place k ≡ true → filled_bytes k ≡ [] → Holds e k (s.regs 3) → kind_of f 3 ≡ k → FitsFrame e f s → Filled e f s
-filled_at e f s Unset pl p b h q t = cc
-filled_at e f s Number pl p b h q t = cc
-filled_at e f s (Record k) pl p b h q t = cc
-filled_at e f s (Stack k) pl p b h q t =
+filled_at e f s Kind.Unset pl p b h q t = cc
+filled_at e f s Kind.Number pl p b h q t = cc
+filled_at e f s (Kind.Record k) pl p b h q t = cc
+filled_at e f s (Kind.Stack k) pl p b h q t =
     let same = plus_zero k in
     let here_on : stack_writes (k +ℤ pos 0) 32 ≡ [] = rw same b in
     let room = stack_room e f k (pos 0) 32 (omega arith) pl here_on in
     let base = e.place.stack + STACK_BYTES in
-    let x = e.place.stack + from_low (spot (Stack k) (pos 0)) in
+    let x = e.place.stack + from_low (spot (Kind.Stack k) (pos 0)) in
     let here : address base k ≡ x = ap (λ z. address base z) (sym same) ∙ sym (moved_word base k (pos 0)) ∙ room.there in
     record {
       at = x;
@@ -100,7 +98,7 @@ filled_at e f s (Stack k) pl p b h q t =
       inside = room.inside;
       fits = λ bs v l.
           let mid : State = record { slot = s.slot; regs = s.regs; stack = with_list s.stack x bs; writes = s.writes } in
-          rw (q, room.frame) (fits_returned e (with_written f (spot (Stack k) (pos 0)) 32) mid (m.state_after_read s x bs v) v (fits_put e f s mid (spot (Stack k) (pos 0)) 32 bs l t refl refl) refl refl);
+          rw (q, room.frame) (fits_returned e (with_written f (spot (Kind.Stack k) (pos 0)) 32) mid (m.state_after_read s x bs v) v (fits_put e f s mid (spot (Kind.Stack k) (pos 0)) 32 bs l t refl refl) refl refl);
     }
 
 -- 32 stack bytes that a write takes
@@ -113,10 +111,10 @@ pub record Taken (e : Environment) (s : State) : Type 0 where
   pub long : length bytes ≡ 32
 
 taken_at : (e : Environment) (f : Frame) (s : State) (k : Kind) → IsPlaced e → is_place k ≡ true → taken_bytes f k ≡ [] → Holds e k (s.regs 3) → FitsFrame e f s → Taken e s
-taken_at e f s Unset pl p b h t = cc
-taken_at e f s Number pl p b h t = cc
-taken_at e f s (Record k) pl p b h t = cc
-taken_at e f s (Stack k) pl p b h t =
+taken_at e f s Kind.Unset pl p b h t = cc
+taken_at e f s Kind.Number pl p b h t = cc
+taken_at e f s (Kind.Record k) pl p b h t = cc
+taken_at e f s (Kind.Stack k) pl p b h t =
     let st = stretch e f s k 32 (omega arith) pl t b in
     record {
       at = e.place.stack + from_low k;
@@ -139,7 +137,7 @@ called_is h k x e =
     go (helper_of k) e
 
 -- after a call of the helper x
-arrives : (e : Environment) (f : Frame) (s t : State) (k : ℤ) (x : Helper) → helper_of k ≡ Some x → is_some (insn_at e.judged.program.insns (s.slot + 1)) ≡ true → t.slot ≡ s.slot + 1 → FitsFrame e (after_call f (Some x)) t → Arrives e f s.slot (Call k) t
+arrives : (e : Environment) (f : Frame) (s t : State) (k : ℤ) (x : Helper) → helper_of k ≡ Some x → is_some (insn_at e.judged.program.insns (s.slot + 1)) ≡ true → t.slot ≡ s.slot + 1 → FitsFrame e (after_call f (Some x)) t → Arrives e f s.slot (Insn.Call k) t
 arrives e f s t k x hx lands at h = record { leads = rw at (among_one (s.slot + 1)); first = rw at lands; fits = rw hx h }
 
 -- a reply has 32 bytes for the stack, zeros where the cell is absent
@@ -148,51 +146,51 @@ reply_long None h = refl
 reply_long (Some v) h = grind (arith, nat_tests)
 
 -- a read goes on with each reply, or asks nothing where there is no such column
-read_on : (e : Environment) (f : Frame) (s : State) (k : ℤ) → IsPlaced e → helper_of k ≡ Some Read → is_some (insn_at e.judged.program.insns (s.slot + 1)) ≡ true → read_rules f ≡ [] → FitsFrame e f s → GoesOn e f s.slot (Call k) (helps e s Read)
+read_on : (e : Environment) (f : Frame) (s : State) (k : ℤ) → IsPlaced e → helper_of k ≡ Some Read → is_some (insn_at e.judged.program.insns (s.slot + 1)) ≡ true → read_rules f ≡ [] → FitsFrame e f s → GoesOn e f s.slot (Insn.Call k) (helps e s Read)
 read_on e f s k pl hx lands b t =
-    let p4 = empty_parts (unset f 1 ++ unset f 2 ++ unset f 3 ++ filled_bytes (kind_of f 3)) (when (not (is_cell f && is_place (kind_of f 3))) WrongArgument) b in
+    let p4 = empty_parts (unset f 1 ++ unset f 2 ++ unset f 3 ++ filled_bytes (kind_of f 3)) (when (not (is_cell f && is_place (kind_of f 3))) RuleCode.WrongArgument) b in
     let p3 = empty_parts (unset f 1 ++ unset f 2 ++ unset f 3) (filled_bytes (kind_of f 3)) p4.0 in
     let ok = and_true (is_cell f) (is_place (kind_of f 3)) (not_false _ (when_not _ _ p4.1)) in
     let c = cell_is e f s ok.0 t in
     let x = filled_at e f s (kind_of f 3) pl ok.1 p3.1 (t.reg 3) refl t in
-    let go : (low : Bool) → nat_lt c.column 16 ≡ low → GoesOn e f s.slot (Call k) (cond low (m.Asks (record { row = c.row; column = c.column }) (λ r. m.state_after_read s x.at (m.reply_bytes r) (m.reply_result r))) (m.Goes (m.state_after_read s x.at (replicate 32 0) 2))) = λ low. elim low as (λ low. nat_lt c.column 16 ≡ low → GoesOn e f s.slot (Call k) (cond low (m.Asks (record { row = c.row; column = c.column }) (λ r. m.state_after_read s x.at (m.reply_bytes r) (m.reply_result r))) (m.Goes (m.state_after_read s x.at (replicate 32 0) 2)))) [
+    let go : (low : Bool) → nat_lt c.column 16 ≡ low → GoesOn e f s.slot (Insn.Call k) (cond low (m.Asks (record { row = c.row; column = c.column }) (λ r. m.state_after_read s x.at (m.reply_bytes r) (m.reply_result r))) (m.Goes (m.state_after_read s x.at (replicate 32 0) 2))) = λ low. elim low as (λ low. nat_lt c.column 16 ≡ low → GoesOn e f s.slot (Insn.Call k) (cond low (m.Asks (record { row = c.row; column = c.column }) (λ r. m.state_after_read s x.at (m.reply_bytes r) (m.reply_result r))) (m.Goes (m.state_after_read s x.at (replicate 32 0) 2)))) [
       | true ↦ λ q. (below _ _ q, λ r l. arrives e f s _ k Read hx lands refl (x.fits (m.reply_bytes r) (m.reply_result r) (reply_long r l)))
       | false ↦ λ q. arrives e f s _ k Read hx lands refl (x.fits (replicate 32 0) 2 refl)
     ] in
     rw (c.row_is, c.column_is, x.is, x.inside) (go (nat_lt c.column 16) refl)
 
 -- a helper after which no byte is filled
-write_on : (e : Environment) (f : Frame) (s : State) (k : ℤ) (x : Helper) (row column : ℕ) (c : Content) → after_call f (Some x) ≡ clobber f → helper_of k ≡ Some x → is_some (insn_at e.judged.program.insns (s.slot + 1)) ≡ true → FitsFrame e f s → GoesOn e f s.slot (Call k) (writes_cell s row column c)
+write_on : (e : Environment) (f : Frame) (s : State) (k : ℤ) (x : Helper) (row column : ℕ) (c : Content) → after_call f (Some x) ≡ clobber f → helper_of k ≡ Some x → is_some (insn_at e.judged.program.insns (s.slot + 1)) ≡ true → FitsFrame e f s → GoesOn e f s.slot (Insn.Call k) (writes_cell s row column c)
 write_on e f s k x row column c same hx lands t =
-    let on : (ws : Writes) (v : ℕ) → Arrives e f s.slot (Call k) (m.state_after_call s ws v) = λ ws v. arrives e f s _ k x hx lands refl (rw same (fits_returned e f s (m.state_after_call s ws v) v t refl refl)) in
+    let on : (ws : Writes) (v : ℕ) → Arrives e f s.slot (Insn.Call k) (m.state_after_call s ws v) = λ ws v. arrives e f s _ k x hx lands refl (rw same (fits_returned e f s (m.state_after_call s ws v) v t refl refl)) in
     let ws = m.add_write (m.cell_of row column) c s.writes in
     let v = m.write_result (m.cell_of row column) s.writes in
-    let go : (low : Bool) → GoesOn e f s.slot (Call k) (cond low (m.Goes (m.state_after_call s ws v)) (m.Goes (m.state_after_call s s.writes 2))) = λ low. elim low as (λ low. GoesOn e f s.slot (Call k) (cond low (m.Goes (m.state_after_call s ws v)) (m.Goes (m.state_after_call s s.writes 2)))) [ true ↦ on ws v | false ↦ on s.writes 2 ] in
+    let go : (low : Bool) → GoesOn e f s.slot (Insn.Call k) (cond low (m.Goes (m.state_after_call s ws v)) (m.Goes (m.state_after_call s s.writes 2))) = λ low. elim low as (λ low. GoesOn e f s.slot (Insn.Call k) (cond low (m.Goes (m.state_after_call s ws v)) (m.Goes (m.state_after_call s s.writes 2)))) [ true ↦ on ws v | false ↦ on s.writes 2 ] in
     go (nat_lt column 16)
 
 -- each of the four helpers, where its arguments are accepted
-helps_on : (e : Environment) (f : Frame) (s : State) (k : ℤ) (x : Helper) → IsPlaced e → helper_of k ≡ Some x → is_some (insn_at e.judged.program.insns (s.slot + 1)) ≡ true → call_rules f (Some x) ≡ [] → FitsFrame e f s → GoesOn e f s.slot (Call k) (helps e s x)
+helps_on : (e : Environment) (f : Frame) (s : State) (k : ℤ) (x : Helper) → IsPlaced e → helper_of k ≡ Some x → is_some (insn_at e.judged.program.insns (s.slot + 1)) ≡ true → call_rules f (Some x) ≡ [] → FitsFrame e f s → GoesOn e f s.slot (Insn.Call k) (helps e s x)
 helps_on e f s k Read pl hx lands b t = read_on e f s k pl hx lands b t
 helps_on e f s k Write pl hx lands b t =
-    let p4 = empty_parts (unset f 1 ++ unset f 2 ++ unset f 3 ++ taken_bytes f (kind_of f 3)) (when (not (is_cell f && is_place (kind_of f 3))) WrongArgument) b in
+    let p4 = empty_parts (unset f 1 ++ unset f 2 ++ unset f 3 ++ taken_bytes f (kind_of f 3)) (when (not (is_cell f && is_place (kind_of f 3))) RuleCode.WrongArgument) b in
     let p3 = empty_parts (unset f 1 ++ unset f 2 ++ unset f 3) (taken_bytes f (kind_of f 3)) p4.0 in
     let ok = and_true (is_cell f) (is_place (kind_of f 3)) (not_false _ (when_not _ _ p4.1)) in
     let c = cell_is e f s ok.0 t in
     let x = taken_at e f s (kind_of f 3) pl ok.1 p3.1 (t.reg 3) t in
-    rw (c.row_is, c.column_is, x.is, x.inside, x.are) (write_on e f s k Write c.row c.column (Bytes32 x.bytes) refl hx lands t)
+    rw (c.row_is, c.column_is, x.is, x.inside, x.are) (write_on e f s k Write c.row c.column (Content.Value x.bytes) refl hx lands t)
 helps_on e f s k Delete pl hx lands b t =
-    let p = empty_parts (unset f 1 ++ unset f 2) (when (not (is_cell f)) WrongArgument) b in
+    let p = empty_parts (unset f 1 ++ unset f 2) (when (not (is_cell f)) RuleCode.WrongArgument) b in
     let c = cell_is e f s (not_false _ (when_not _ _ p.1)) t in
-    rw (c.row_is, c.column_is) (write_on e f s k Delete c.row c.column Deleted refl hx lands t)
+    rw (c.row_is, c.column_is) (write_on e f s k Delete c.row c.column Content.Deleted refl hx lands t)
 helps_on e f s k Start pl hx lands b t =
-    arrives e f s _ k Start hx lands refl (fits_returned e f s (m.state_after_call s s.writes e.began) e.began t refl refl)
+    arrives e f s _ k Start hx lands refl (fits_returned e f s (m.state_after_call s s.writes e.start) e.start t refl refl)
 
-calls_on : (e : Environment) (f : Frame) (s : State) (k : ℤ) (x : Option Helper) → IsPlaced e → declared_helper e.judged.helpers k ≡ x → is_some (insn_at e.judged.program.insns (s.slot + 1)) ≡ true → call_rules f x ≡ [] → FitsFrame e f s → GoesOn e f s.slot (Call k) (m.calls e s x)
+calls_on : (e : Environment) (f : Frame) (s : State) (k : ℤ) (x : Option Helper) → IsPlaced e → declared_helper e.judged.helpers k ≡ x → is_some (insn_at e.judged.program.insns (s.slot + 1)) ≡ true → call_rules f x ≡ [] → FitsFrame e f s → GoesOn e f s.slot (Insn.Call k) (m.calls e s x)
 calls_on e f s k None pl hx lands b t = cc
 calls_on e f s k (Some x) pl hx lands b t = rw lands (helps_on e f s k x pl (called_is e.judged.helpers k x hx) lands b t)
 
 -- a call whose rules hold is of a declared helper, and goes on
-pub call_on : (e : Environment) (f : Frame) (s : State) (k : ℤ) → IsPlaced e → IsFollowed e.judged.program.insns s.slot (Call k) → insn_rules e.judged s.slot f (Call k) ≡ [] → FitsFrame e f s → GoesOn e f s.slot (Call k) (does e s (Call k))
+pub call_on : (e : Environment) (f : Frame) (s : State) (k : ℤ) → IsPlaced e → IsFollowed e.judged.program.insns s.slot (Insn.Call k) → insn_rules e.judged s.slot f (Insn.Call k) ≡ [] → FitsFrame e f s → GoesOn e f s.slot (Insn.Call k) (does e s (Insn.Call k))
 call_on e f s k pl a b t =
     let parts = empty_parts (call_rules f (declared_helper e.judged.helpers k)) (falls e.judged.program.insns (s.slot + 1)) b in
-    calls_on e f s k (declared_helper e.judged.helpers k) pl refl (follows e.judged.program.insns (Call k) s.slot a parts.1) parts.0 t
+    calls_on e f s k (declared_helper e.judged.helpers k) pl refl (follows e.judged.program.insns (Insn.Call k) s.slot a parts.1) parts.0 t

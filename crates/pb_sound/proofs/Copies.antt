@@ -15,4 +15,4 @@ Copies e safe o n = ⊥
 
 -- of any instruction, accepted or not: so acceptance comes in later, and once
 abbrev pub CellsCopy : Type 0
-CellsCopy = (e : Environment) (c : Cells) (s : State) (i : Insn) → IsHere e → Mirrors e c s → Copies e (IsSafe c i) (does e s i) (cells_act e.began c i)
+CellsCopy = (e : Environment) (c : Cells) (s : State) (i : Insn) → IsHere e → Mirrors e c s → Copies e (IsSafe c i) (does e s i) (cells_act e.start c i)

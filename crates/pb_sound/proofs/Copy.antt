@@ -6,21 +6,15 @@ use Rattle.std.proofs.lemmas.Bool.Decides.{nat_tests}
 use Rattle.std.specs.Int.{from_le_bytes, to_le_bytes, byte_len}
 use Rattle.pb_base.specs.Batch.{Writes}
 use Rattle.pb_base.specs.declared.content.Content.{Content}
-use Rattle.pb_base.specs.declared.content.Content.TheVariants.{Value, Deleted}
 use Rattle.pb_isa.specs.declared.limits.TheConstants.{MAX_RECORD_BYTES, STACK_BYTES}
-use Rattle.pb_isa.specs.declared.insn.Insn.TheVariants.{Alu, MovSx, Neg, LoadImm, Load, StoreImm, Store, Jump, JumpIf, Call, Exit}
+use Rattle.pb_isa.specs.declared.insn.Insn.{Insn}
 use Rattle.pb_isa.specs.declared.insn.AluOp.{AluOp}
-use Rattle.pb_isa.specs.declared.insn.AluOp.TheVariants.{Sub, Mov}
 use Rattle.pb_isa.specs.declared.insn.Width.{Width}
-use Rattle.pb_isa.specs.declared.insn.Width.TheVariants.{Bits32, Bits64}
 use Rattle.pb_isa.specs.declared.insn.Operand.{Operand}
-use Rattle.pb_isa.specs.declared.insn.Operand.TheVariants as operands
 use Rattle.pb_isa.specs.declared.insn.Size.{Size}
-use Rattle.pb_isa.specs.declared.insn.Size.TheVariants.{B, H, W, Dw}
 use Rattle.pb_isa.specs.declared.insn.Extension.{Extension}
 use Rattle.pb_isa.specs.declared.insn.Reg.{Reg}
 use Rattle.pb_isa.specs.declared.insn.Cmp.{Cmp}
-use Rattle.pb_isa.specs.declared.insn.Reg.TheVariants as registers
 use Rattle.pb_isa.specs.Registers.{number}
 use Rattle.pb_isa.specs.Alu.{alu, holds, word}
 use Rattle.pb_isa.specs.Helpers.{Helper, Read, Write, Delete, Start, helper_of, declared_helper}
@@ -62,8 +56,8 @@ mirrored : (e : Environment) (c : Cells) (s : State) (r : Reg) (v : ℕ) → Mir
 mirrored e c s r v t h = t.reg (number r) v (number_lt r) h
 
 second_is : (e : Environment) (c : Cells) (s : State) (x : Operand) (v : ℕ) → Mirrors e c s → m.operand s x ≡ Some v → cell.second_of c x ≡ v
-second_is e c s (operands.Imm k) v t h = let q : word k ≡ v = cc in q
-second_is e c s (operands.Reg r) v t h = mirrored e c s r v t h
+second_is e c s (Operand.Imm k) v t h = let q : word k ≡ v = cc in q
+second_is e c s (Operand.Reg r) v t h = mirrored e c s r v t h
 
 reg_set : (rs : List ℕ) (g : Map) (d v : ℕ) → length rs ≡ 11 → ((r x : ℕ) → r < 11 → g r ≡ Some x → get_or rs r 0 ≡ x) → (r x : ℕ) → r < 11 → with_entry g d v r ≡ Some x → get_or (set rs d v) r 0 ≡ x
 reg_set rs g d v l h r x k q = elim (cases_eq r d) [
@@ -88,20 +82,20 @@ set_copy e p c s d v w size t safe same =
 
 -- mov doesn't read its left operand
 left_is : (op : AluOp) (w : Width) (s : State) (d : Reg) (a x b : ℕ) → ((v : ℕ) → m.value s d ≡ Some v → x ≡ v) → m.left s op d ≡ Some a → alu op w x b ≡ alu op w a b
-left_is Mov Bits32 s d a x b h q = refl
-left_is Mov Bits64 s d a x b h q = refl
+left_is AluOp.Mov Width.Bits32 s d a x b h q = refl
+left_is AluOp.Mov Width.Bits64 s d a x b h q = refl
 left_is op w s d a x b h q = ap (λ y. alu op w y b) (h a q)
 
-alu_copy : (e : Environment) (c : Cells) (s : State) (op : AluOp) (w : Width) (d : Reg) (x : Operand) → Mirrors e c s → Copies e (Unit {0}) (does e s (Alu op w d x)) (cells_act e.began c (Alu op w d x))
+alu_copy : (e : Environment) (c : Cells) (s : State) (op : AluOp) (w : Width) (d : Reg) (x : Operand) → Mirrors e c s → Copies e (Unit {0}) (does e s (Insn.Alu op w d x)) (cells_act e.start c (Insn.Alu op w d x))
 alu_copy e c s op w d x t =
     given_copy e _ (m.left s op d) _ _ (λ a ha. given_copy e _ (m.operand s x) _ _ (λ b hb.
     set_copy e _ c s d (alu op w a b) _ 1 t tt (ap (λ y. alu op w (cell.cell_reg c d) y) (second_is e c s x b t hb) ∙ left_is op w s d a (cell.cell_reg c d) b (λ v. mirrored e c s d v t) ha)))
 
-mov_sx_copy : (e : Environment) (c : Cells) (s : State) (w : Width) (z : Size) (d r : Reg) → Mirrors e c s → Copies e (Unit {0}) (does e s (MovSx w z d r)) (cells_act e.began c (MovSx w z d r))
+mov_sx_copy : (e : Environment) (c : Cells) (s : State) (w : Width) (z : Size) (d r : Reg) → Mirrors e c s → Copies e (Unit {0}) (does e s (Insn.MovSx w z d r)) (cells_act e.start c (Insn.MovSx w z d r))
 mov_sx_copy e c s w z d r t = given_copy e _ (m.value s r) _ _ (λ v hv. set_copy e _ c s d (mov_sx w z v) _ 1 t tt (ap (λ y. mov_sx w z y) (mirrored e c s r v t hv)))
 
-neg_copy : (e : Environment) (c : Cells) (s : State) (w : Width) (d : Reg) → Mirrors e c s → Copies e (Unit {0}) (does e s (Neg w d)) (cells_act e.began c (Neg w d))
-neg_copy e c s w d t = given_copy e _ (m.value s d) _ _ (λ a ha. set_copy e _ c s d (alu Sub w 0 a) _ 1 t tt (ap (λ y. alu Sub w 0 y) (mirrored e c s d a t ha)))
+neg_copy : (e : Environment) (c : Cells) (s : State) (w : Width) (d : Reg) → Mirrors e c s → Copies e (Unit {0}) (does e s (Insn.Neg w d)) (cells_act e.start c (Insn.Neg w d))
+neg_copy e c s w d t = given_copy e _ (m.value s d) _ _ (λ a ha. set_copy e _ c s d (alu AluOp.Sub w 0 a) _ 1 t tt (ap (λ y. alu AluOp.Sub w 0 y) (mirrored e c s d a t ha)))
 
 -- ---- loads
 
@@ -168,7 +162,7 @@ got e c s x n bs pl t q =
     ] in
     go (m.stack_has e x n) (m.record_has e x n) refl refl q
 
-load_copy : (e : Environment) (c : Cells) (s : State) (z : Size) (y : Extension) (d r : Reg) (o : ℤ) → IsHere e → Mirrors e c s → Copies e (IsSafe c (Load z y d r o)) (does e s (Load z y d r o)) (cells_act e.began c (Load z y d r o))
+load_copy : (e : Environment) (c : Cells) (s : State) (z : Size) (y : Extension) (d r : Reg) (o : ℤ) → IsHere e → Mirrors e c s → Copies e (IsSafe c (Insn.Load z y d r o)) (does e s (Insn.Load z y d r o)) (cells_act e.start c (Insn.Load z y d r o))
 load_copy e c s z y d r o pl t =
     given_copy e _ (m.value s r) _ _ (λ x hx. given_list_copy e _ (fetch e s (address x o) (byte_len (width z))) _ _ (λ bs hb.
     let base = mirrored e c s r x t hx in
@@ -241,12 +235,12 @@ store_copy e p c s x y vs ws pl t safe ex ev =
     )))
 
 length-bytes : (z : Size) (v : ℕ) → length (to_le_bytes (width z) v) ≡ byte_len (width z)
-length-bytes B v = refl
-length-bytes H v = refl
-length-bytes W v = refl
-length-bytes Dw v = refl
+length-bytes Size.B v = refl
+length-bytes Size.H v = refl
+length-bytes Size.W v = refl
+length-bytes Size.Dw v = refl
 
-store_imm_copy : (e : Environment) (c : Cells) (s : State) (z : Size) (d : Reg) (o k : ℤ) → IsHere e → Mirrors e c s → Copies e (IsSafe c (StoreImm z d o k)) (does e s (StoreImm z d o k)) (cells_act e.began c (StoreImm z d o k))
+store_imm_copy : (e : Environment) (c : Cells) (s : State) (z : Size) (d : Reg) (o k : ℤ) → IsHere e → Mirrors e c s → Copies e (IsSafe c (Insn.StoreImm z d o k)) (does e s (Insn.StoreImm z d o k)) (cells_act e.start c (Insn.StoreImm z d o k))
 store_imm_copy e c s z d o k pl t =
     given_copy e _ (m.value s d) _ _ (λ x hx.
     let base = mirrored e c s d x t hx in
@@ -254,7 +248,7 @@ store_imm_copy e c s z d o k pl t =
     let n = length-bytes z (word k) in
     store_copy e _ c s (address x o) _ vs vs pl t (λ l h. rw base (l, rw n at h)) (ap (λ y. address y o) base) refl)
 
-store_reg_copy : (e : Environment) (c : Cells) (s : State) (z : Size) (d : Reg) (o : ℤ) (r : Reg) → IsHere e → Mirrors e c s → Copies e (IsSafe c (Store z d r o)) (does e s (Store z d r o)) (cells_act e.began c (Store z d r o))
+store_reg_copy : (e : Environment) (c : Cells) (s : State) (z : Size) (d : Reg) (o : ℤ) (r : Reg) → IsHere e → Mirrors e c s → Copies e (IsSafe c (Insn.Store z d r o)) (does e s (Insn.Store z d r o)) (cells_act e.start c (Insn.Store z d r o))
 store_reg_copy e c s z d o r pl t =
     given_copy e _ (m.value s d) _ _ (λ x hx. given_copy e _ (m.value s r) _ _ (λ v hv.
     let base = mirrored e c s d x t hx in
@@ -277,19 +271,19 @@ jumped_is n (negsuc z) t h = either (nat_le z n) h
     either true h = some_same _ t h
     either false h = cc
 
-jump_copy : (e : Environment) (c : Cells) (s : State) (o : ℤ) → Mirrors e c s → Copies e (Unit {0}) (does e s (Jump o)) (cells_act e.began c (Jump o))
+jump_copy : (e : Environment) (c : Cells) (s : State) (o : ℤ) → Mirrors e c s → Copies e (Unit {0}) (does e s (Insn.Jump o)) (cells_act e.start c (Insn.Jump o))
 jump_copy e c s o t = given_copy e _ (m.target s.slot o) _ _ (λ n hn. goes_copy e c s n _ t (rw t.slot (jumped_is s.slot o n hn)))
 
 chosen : (b : Bool) (n : ℕ) (o : ℤ) (t : ℕ) → cond b (m.target n o) (Some (n + 1)) ≡ Some t → cond b (cell.jump_slot n o) (n + 1) ≡ t
 chosen true n o t h = jumped_is n o t h
 chosen false n o t h = some_same _ t h
 
-jump_if_copy : (e : Environment) (c : Cells) (s : State) (p : Cmp) (w : Width) (d : Reg) (x : Operand) (o : ℤ) → Mirrors e c s → Copies e (Unit {0}) (does e s (JumpIf p w d x o)) (cells_act e.began c (JumpIf p w d x o))
+jump_if_copy : (e : Environment) (c : Cells) (s : State) (p : Cmp) (w : Width) (d : Reg) (x : Operand) (o : ℤ) → Mirrors e c s → Copies e (Unit {0}) (does e s (Insn.JumpIf p w d x o)) (cells_act e.start c (Insn.JumpIf p w d x o))
 jump_if_copy e c s p w d x o t =
     given_copy e _ (m.value s d) _ _ (λ a ha. given_copy e _ (m.operand s x) _ _ (λ b hb. given_copy e _ (cond (holds p w a b) (m.target s.slot o) (Some (s.slot + 1))) _ _ (λ n hn.
     goes_copy e c s n _ t (rw (mirrored e c s d a t ha, second_is e c s x b t hb, t.slot) (chosen (holds p w a b) s.slot o n hn)))))
 
-exit_copy : (e : Environment) (c : Cells) (s : State) → Mirrors e c s → Copies e (Unit {0}) (does e s Exit) (cells_act e.began c Exit)
+exit_copy : (e : Environment) (c : Cells) (s : State) → Mirrors e c s → Copies e (Unit {0}) (does e s Insn.Exit) (cells_act e.start c Insn.Exit)
 exit_copy e c s t = given_copy e _ (s.regs 0) _ _ (λ v hv. (t.reg 0 v (omega arith) hv, t.writes))
 
 -- ---- calls
@@ -337,7 +331,7 @@ room_at e c s x pl t hx h =
       high = (let z = ap (λ (a : Placement). a.stack) pl.place in let l = i.high in omega arith);
     }
 
-read_copy : (e : Environment) (c : Cells) (s : State) → IsHere e → Mirrors e c s → Copies e (cell.IsSafeCall c (Some Read)) (m.helps e s Read) (cell.cells_call e.began c (Some Read))
+read_copy : (e : Environment) (c : Cells) (s : State) → IsHere e → Mirrors e c s → Copies e (cell.IsSafeCall c (Some Read)) (m.helps e s Read) (cell.cells_call e.start c (Some Read))
 read_copy e c s pl t =
     given_copy e _ (s.regs 1) _ _ (λ row h1. given_copy e _ (s.regs 2) _ _ (λ column h2. given_copy e _ (s.regs 3) _ _ (λ x h3. if_copy e _ (m.stack_has e x 32) _ _ (λ h.
     let r1 = t.reg 1 row (omega arith) h1 in
@@ -361,34 +355,34 @@ write_copy e p c s row column x y t safe r1 r2 ex =
     rw (r1, r2, ex, t.writes) (go (nat_lt column 16))
 
 -- each of the four helpers
-helps_copy : (e : Environment) (c : Cells) (s : State) (x : Helper) → IsHere e → Mirrors e c s → Copies e (cell.IsSafeCall c (Some x)) (m.helps e s x) (cell.cells_call e.began c (Some x))
+helps_copy : (e : Environment) (c : Cells) (s : State) (x : Helper) → IsHere e → Mirrors e c s → Copies e (cell.IsSafeCall c (Some x)) (m.helps e s x) (cell.cells_call e.start c (Some x))
 helps_copy e c s Read pl t = read_copy e c s pl t
 helps_copy e c s Write pl t =
     given_copy e _ (s.regs 1) _ _ (λ row h1. given_copy e _ (s.regs 2) _ _ (λ column h2. given_copy e _ (s.regs 3) _ _ (λ x h3. if_copy e _ (m.stack_has e x 32) _ _ (λ h. given_list_copy e _ (entries s.stack x 32) _ _ (λ bs hb.
     let a = room_at e c s x pl t h3 h in
     let g = stack_got e c s x 32 bs pl t h hb in
     let same : cell.bytes_at c (cell.argument c 3) 32 ≡ bs = rw a.is g.are in
-    write_copy e _ c s row column (Value bs) _ t (rw a.is a.high) (t.reg 1 row (omega arith) h1) (t.reg 2 column (omega arith) h2) (ap Value same))))))
+    write_copy e _ c s row column (Content.Value bs) _ t (rw a.is a.high) (t.reg 1 row (omega arith) h1) (t.reg 2 column (omega arith) h2) (ap Content.Value same))))))
 helps_copy e c s Delete pl t =
     given_copy e _ (s.regs 1) _ _ (λ row h1. given_copy e _ (s.regs 2) _ _ (λ column h2.
-    write_copy e _ c s row column Deleted Deleted t tt (t.reg 1 row (omega arith) h1) (t.reg 2 column (omega arith) h2) refl))
-helps_copy e c s Start pl t = (tt, returned_copy e c s s.writes c.writes e.began e.began t t.writes refl)
+    write_copy e _ c s row column Content.Deleted Content.Deleted t tt (t.reg 1 row (omega arith) h1) (t.reg 2 column (omega arith) h2) refl))
+helps_copy e c s Start pl t = (tt, returned_copy e c s s.writes c.writes e.start e.start t t.writes refl)
 
 -- a call of a declared helper; one of another is stuck, and needs no copy
-calls_copy : (e : Environment) (c : Cells) (s : State) (k : ℤ) (x : Option Helper) → IsHere e → Mirrors e c s → declared_helper e.judged.helpers k ≡ x → Copies e (cell.IsSafeCall c (helper_of k)) (m.calls e s x) (cell.cells_call e.began c (helper_of k))
+calls_copy : (e : Environment) (c : Cells) (s : State) (k : ℤ) (x : Option Helper) → IsHere e → Mirrors e c s → declared_helper e.judged.helpers k ≡ x → Copies e (cell.IsSafeCall c (helper_of k)) (m.calls e s x) (cell.cells_call e.start c (helper_of k))
 calls_copy e c s k None pl t q = tt
 calls_copy e c s k (Some x) pl t q = if_copy e _ (is_some (insn_at e.judged.program.insns (s.slot + 1))) _ _ (λ _. rw (called_is e.judged.helpers k x q) (helps_copy e c s x pl t))
 
 -- every instruction, by its kind
 pub cells_copy : CellsCopy
-cells_copy e c s (Alu op w d x) pl t = alu_copy e c s op w d x t
-cells_copy e c s (MovSx w z d r) pl t = mov_sx_copy e c s w z d r t
-cells_copy e c s (Neg w d) pl t = neg_copy e c s w d t
-cells_copy e c s (LoadImm d v) pl t = set_copy e _ c s d v v 2 t tt refl
-cells_copy e c s (Load z y d r o) pl t = load_copy e c s z y d r o pl t
-cells_copy e c s (StoreImm z d o k) pl t = store_imm_copy e c s z d o k pl t
-cells_copy e c s (Store z d r o) pl t = store_reg_copy e c s z d o r pl t
-cells_copy e c s (Jump o) pl t = jump_copy e c s o t
-cells_copy e c s (JumpIf p w d x o) pl t = jump_if_copy e c s p w d x o t
-cells_copy e c s (Call k) pl t = calls_copy e c s k (declared_helper e.judged.helpers k) pl t refl
-cells_copy e c s Exit pl t = exit_copy e c s t
+cells_copy e c s (Insn.Alu op w d x) pl t = alu_copy e c s op w d x t
+cells_copy e c s (Insn.MovSx w z d r) pl t = mov_sx_copy e c s w z d r t
+cells_copy e c s (Insn.Neg w d) pl t = neg_copy e c s w d t
+cells_copy e c s (Insn.LoadImm d v) pl t = set_copy e _ c s d v v 2 t tt refl
+cells_copy e c s (Insn.Load z y d r o) pl t = load_copy e c s z y d r o pl t
+cells_copy e c s (Insn.StoreImm z d o k) pl t = store_imm_copy e c s z d o k pl t
+cells_copy e c s (Insn.Store z d r o) pl t = store_reg_copy e c s z d o r pl t
+cells_copy e c s (Insn.Jump o) pl t = jump_copy e c s o t
+cells_copy e c s (Insn.JumpIf p w d x o) pl t = jump_if_copy e c s p w d x o t
+cells_copy e c s (Insn.Call k) pl t = calls_copy e c s k (declared_helper e.judged.helpers k) pl t refl
+cells_copy e c s Insn.Exit pl t = exit_copy e c s t

@@ -1,9 +1,7 @@
 -- Jumps, and the exit.
-use Rattle.std.proofs.Common.{◌≡◌, ℕ, ◌+◌, ℤ, pos, negsuc, Bool, true, false, cond, if◌then◌else◌, List, [], ◌∷◌, ◌++◌, Option, Some, None, refl, is_some, is_none, arith, nat_eq}
-use Rattle.std.specs.Prelude.{◌||◌}
+use Rattle.std.proofs.Common.{◌≡◌, ℕ, ◌+◌, ℤ, pos, negsuc, Bool, true, false, cond, if◌then◌else◌, List, [], ◌∷◌, ◌++◌, Option, Some, None, refl, is_some, is_none, arith, nat_eq, ◌||◌}
 use Rattle.std.proofs.lemmas.Bool.Decides.{nat_tests}
 use Rattle.pb_isa.specs.declared.insn.Insn.{Insn}
-use Rattle.pb_isa.specs.declared.insn.Insn.TheVariants.{Jump, JumpIf, Exit}
 use Rattle.pb_isa.specs.declared.insn.Cmp.{Cmp}
 use Rattle.pb_isa.specs.declared.insn.Width.{Width}
 use Rattle.pb_isa.specs.declared.insn.Operand.{Operand}
@@ -15,7 +13,6 @@ use Rattle.pb_isa.specs.Machine.{Environment, State, does, target}
 use Rattle.pb_kinds.specs.declared.frame.Frame.{Frame}
 use Rattle.pb_kinds.specs.Frames.{kind_of, is_pointer}
 use Rattle.pb_helpers.specs.declared.code.RuleCode.{RuleCode}
-use Rattle.pb_helpers.specs.declared.code.RuleCode.TheVariants.{PointerCompared, ExitsWithPointer}
 use Rattle.pb_helpers.specs.Codes.{when}
 use Rattle.pb_helpers.specs.Arguments.{unset}
 use Rattle.pb_verify.specs.Rules.{reads, reads_operand, on_pointer, falls, jump_rules, insn_rules}
@@ -62,23 +59,23 @@ lands p n (pos z) e = record { to = n + 1 + z; is = refl; leads = among_first (n
 goes_on : (e : Environment) (f : Frame) (s : State) (i : Insn) (n : ℕ) → after f i ≡ f → has_slot (leads s.slot i) n ≡ true → is_some (insn_at e.judged.program.insns n) ≡ true → FitsFrame e f s → GoesOn e f s.slot i (m.goes e s n s.regs s.stack)
 goes_on e f s i n ea l h t = rw h (record { leads = l; first = h; fits = rw ea (record { reg = t.reg; byte = t.byte }) })
 
-pub jump_on : (e : Environment) (f : Frame) (s : State) (o : ℤ) → insn_rules e.judged s.slot f (Jump o) ≡ [] → FitsFrame e f s → GoesOn e f s.slot (Jump o) (does e s (Jump o))
+pub jump_on : (e : Environment) (f : Frame) (s : State) (o : ℤ) → insn_rules e.judged s.slot f (Insn.Jump o) ≡ [] → FitsFrame e f s → GoesOn e f s.slot (Insn.Jump o) (does e s (Insn.Jump o))
 jump_on e f s o b t =
     let l = lands e.judged.program.insns s.slot o b in
-    rw l.is (goes_on e f s (Jump o) l.to refl l.leads l.first t)
+    rw l.is (goes_on e f s (Insn.Jump o) l.to refl l.leads l.first t)
 
 -- a conditional jump goes on either way: to its target, or to the next slot, which the rules ask for
-pub jump_if_on : (e : Environment) (f : Frame) (s : State) (c : Cmp) (w : Width) (d : Reg) (x : Operand) (o : ℤ) → IsFollowed e.judged.program.insns s.slot (JumpIf c w d x o) → insn_rules e.judged s.slot f (JumpIf c w d x o) ≡ [] → FitsFrame e f s → GoesOn e f s.slot (JumpIf c w d x o) (does e s (JumpIf c w d x o))
+pub jump_if_on : (e : Environment) (f : Frame) (s : State) (c : Cmp) (w : Width) (d : Reg) (x : Operand) (o : ℤ) → IsFollowed e.judged.program.insns s.slot (Insn.JumpIf c w d x o) → insn_rules e.judged s.slot f (Insn.JumpIf c w d x o) ≡ [] → FitsFrame e f s → GoesOn e f s.slot (Insn.JumpIf c w d x o) (does e s (Insn.JumpIf c w d x o))
 jump_if_on e f s c w d x o a b t =
     let n = s.slot in
-    let p4 = empty_parts (reads f d ++ reads_operand f x ++ jump_rules e.judged.program.insns n o ++ falls e.judged.program.insns (n + 1)) (when (on_pointer f d x) PointerCompared) b in
+    let p4 = empty_parts (reads f d ++ reads_operand f x ++ jump_rules e.judged.program.insns n o ++ falls e.judged.program.insns (n + 1)) (when (on_pointer f d x) RuleCode.PointerCompared) b in
     let p3 = empty_parts (reads f d ++ reads_operand f x ++ jump_rules e.judged.program.insns n o) (falls e.judged.program.insns (n + 1)) p4.0 in
     let p2 = empty_parts (reads f d ++ reads_operand f x) (jump_rules e.judged.program.insns n o) p3.0 in
     let p1 = empty_parts (reads f d) (reads_operand f x) p2.0 in
     let left = read_value e f s d p1.0 t in
     let right = operand_is e f s x p1.1 t in
     let l = lands e.judged.program.insns n o p2.1 in
-    let i = JumpIf c w d x o in
+    let i = Insn.JumpIf c w d x o in
     let cells_act = follows e.judged.program.insns i n a p3.1 in
     let either : (taken : Bool) → GoesOn e f n i (m.with_value (cond taken (target n o) (Some (n + 1))) (λ k. m.goes e s k s.regs s.stack)) = λ taken. elim taken as (λ t. GoesOn e f n i (m.with_value (cond t (target n o) (Some (n + 1))) (λ k. m.goes e s k s.regs s.stack))) [
       | true ↦ rw l.is (goes_on e f s i l.to refl (among_later l.to (n + 1) _ l.leads) l.first t)
@@ -87,8 +84,8 @@ jump_if_on e f s c w d x o a b t =
     rw (left.is, right.1) (either (holds c w left.value right.0))
 
 -- an exit whose rules hold ends, since register 0 has a value
-pub exit_on : (e : Environment) (f : Frame) (s : State) → insn_rules e.judged s.slot f Exit ≡ [] → FitsFrame e f s → GoesOn e f s.slot Exit (does e s Exit)
+pub exit_on : (e : Environment) (f : Frame) (s : State) → insn_rules e.judged s.slot f Insn.Exit ≡ [] → FitsFrame e f s → GoesOn e f s.slot Insn.Exit (does e s Insn.Exit)
 exit_on e f s b t =
-    let p = empty_parts (unset f 0) (when (is_pointer (kind_of f 0)) ExitsWithPointer) b in
+    let p = empty_parts (unset f 0) (when (is_pointer (kind_of f 0)) RuleCode.ExitsWithPointer) b in
     let v = value_of e (kind_of f 0) (s.regs 0) (when_not _ _ p.0) (t.reg 0) in
     rw v.is refl

@@ -3,15 +3,13 @@ use Rattle.std.proofs.Common.{◌∙◌, ◌≡◌, ℕ, ◌+◌, ◌-◌, ◌<�
 use Rattle.std.proofs.lemmas.Option.{slice_get-get_or}
 use Rattle.std.specs.Int.{from_le_bytes}
 use Rattle.pb_isa.specs.declared.limits.TheConstants.{STACK_BYTES}
-use Rattle.pb_isa.specs.declared.insn.Insn.TheVariants.{Load}
+use Rattle.pb_isa.specs.declared.insn.Insn.{Insn}
 use Rattle.pb_isa.specs.declared.insn.Reg.{Reg}
 use Rattle.pb_isa.specs.declared.insn.Size.{Size}
 use Rattle.pb_isa.specs.declared.insn.Extension.{Extension}
-use Rattle.pb_isa.specs.declared.insn.Size.TheVariants.{B, H, W, Dw}
 use Rattle.pb_isa.specs.Machine as m
 use Rattle.pb_isa.specs.Machine.{IsPlaced, Environment, State, address, width, extended, fetch, entries, does}
 use Rattle.pb_kinds.specs.declared.frame.Kind.{Kind}
-use Rattle.pb_kinds.specs.declared.frame.Kind.TheVariants.{Unset, Number, Stack, Record}
 use Rattle.pb_kinds.specs.declared.frame.Frame.{Frame}
 use Rattle.pb_kinds.specs.Frames.{is_unset}
 use Rattle.pb_kinds.specs.Ranges.{in_stack, in_record, from_low, are_written}
@@ -104,23 +102,23 @@ record_found e s z n some pl h =
 
 -- at a distance from what a register holds
 pub found : (e : Environment) (f : Frame) (s : State) (k : Kind) (x : ℕ) (o : ℤ) (n : ℕ) → 0 < n → IsPlaced e → FitsFrame e f s → is_unset k ≡ false → loads e.judged.record_size f k o n ≡ [] → Holds e k (Some x) → Found e s (address x o) n
-found e f s Unset x o n some pl t u l h = cc
-found e f s Number x o n some pl t u l h = cc
-found e f s (Stack k) x o n some pl t u l h =
+found e f s Kind.Unset x o n some pl t u l h = cc
+found e f s Kind.Number x o n some pl t u l h = cc
+found e f s (Kind.Stack k) x o n some pl t u l h =
     let same : x ≡ address (e.place.stack + STACK_BYTES) k = cc in
     rw (same, moved_word (e.place.stack + STACK_BYTES) k o) (stack_found e f s (k +ℤ o) n some pl t l)
-found e f s (Record k) x o n some pl t u l h =
+found e f s (Kind.Record k) x o n some pl t u l h =
     let same : x ≡ address e.place.record_at k = cc in
     rw (same, moved_word e.place.record_at k o) (record_found e s (k +ℤ o) n some pl (not_false _ (when_not _ _ l)))
 
 pub some_bytes : (z : Size) → 0 < bytes_of z
-some_bytes B = omega arith
-some_bytes H = omega arith
-some_bytes W = omega arith
-some_bytes Dw = omega arith
+some_bytes Size.B = omega arith
+some_bytes Size.H = omega arith
+some_bytes Size.W = omega arith
+some_bytes Size.Dw = omega arith
 
 -- a load whose rules hold goes on, with a number
-pub load_on : (e : Environment) (f : Frame) (s : State) (z : Size) (y : Extension) (d r : Reg) (o : ℤ) → IsPlaced e → IsFollowed e.judged.program.insns s.slot (Load z y d r o) → insn_rules e.judged s.slot f (Load z y d r o) ≡ [] → FitsFrame e f s → GoesOn e f s.slot (Load z y d r o) (does e s (Load z y d r o))
+pub load_on : (e : Environment) (f : Frame) (s : State) (z : Size) (y : Extension) (d r : Reg) (o : ℤ) → IsPlaced e → IsFollowed e.judged.program.insns s.slot (Insn.Load z y d r o) → insn_rules e.judged s.slot f (Insn.Load z y d r o) ≡ [] → FitsFrame e f s → GoesOn e f s.slot (Insn.Load z y d r o) (does e s (Insn.Load z y d r o))
 load_on e f s z y d r o pl a b t =
     let parts = empty_parts _ _ b in
     let more = empty_parts (reads f r ++ sets d) (loads e.judged.record_size f (at f r) o (bytes_of z)) parts.0 in
@@ -128,4 +126,4 @@ load_on e f s z y d r o pl a b t =
     let base = read_value e f s r first.0 t in
     let got = found e f s (at f r) base.value o (bytes_of z) (some_bytes z) pl t (when_not _ _ first.0) more.1 base.holds in
     let v = extended y z (from_le_bytes (width z) got.bytes) in
-    rw (base.is, got.are) (sets_on e f s (Load z y d r o) d Number v refl refl a parts.1 first.1 t (v, refl))
+    rw (base.is, got.are) (sets_on e f s (Insn.Load z y d r o) d Kind.Number v refl refl a parts.1 first.1 t (v, refl))

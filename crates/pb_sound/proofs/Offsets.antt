@@ -7,8 +7,8 @@ use Rattle.std.proofs.lemmas.Int.{ints}
 use Rattle.std.proofs.lemmas.Bool.Decides.{nat_tests}
 use Rattle.pb_isa.specs.declared.limits.TheConstants.{STACK_BYTES}
 use Rattle.pb_isa.specs.Alu.{alu, word}
-use Rattle.pb_isa.specs.declared.insn.AluOp.TheVariants.{Sub}
-use Rattle.pb_isa.specs.declared.insn.Width.TheVariants.{Bits64}
+use Rattle.pb_isa.specs.declared.insn.AluOp.{AluOp}
+use Rattle.pb_isa.specs.declared.insn.Width.{Width}
 use Rattle.pb_isa.specs.Machine.{address, lies_in}
 use Rattle.pb_kinds.specs.Ranges.{in_record, from_low}
 use Rattle.pb_base.proofs.Logic.{truth as t_true}
@@ -27,7 +27,7 @@ moved_word b (negsuc k) (pos z) = let e = word_sub z (suc k) in omega arith
 moved_word b (negsuc k) (negsuc z) = omega arith
 
 -- what is subtracted is added as its negative
-pub sub_is : (a : ℕ) (z : ℤ) → alu Sub Bits64 a (word z) ≡ address a (neg_ℤ z)
+pub sub_is : (a : ℕ) (z : ℤ) → alu AluOp.Sub Width.Bits64 a (word z) ≡ address a (neg_ℤ z)
 sub_is a (pos zero) = omega arith
 sub_is a (pos (suc n)) = omega arith
 sub_is a (negsuc n) = omega arith

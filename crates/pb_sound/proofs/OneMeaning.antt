@@ -56,6 +56,6 @@ one_end e talk r v ws us x y = elim (cases_eq x.steps y.steps) [
 
 -- and so a program means one result and one list of writes
 pub one_meaning : EachHasOneMeaning
-one_meaning j bytes began talk r v ws us x y =
+one_meaning j bytes start talk r v ws us x y =
     let a = x.some in
-    one_end (environment_of j bytes began a.0) talk r v ws us (x.at a.0 a.1) (y.at a.0 a.1)
+    one_end (environment_of j bytes start a.0) talk r v ws us (x.at a.0 a.1) (y.at a.0 a.1)

@@ -2,12 +2,10 @@
 use Rattle.std.proofs.Common.{◌≡◌, ℕ, zero, suc, ◌+◌, List, Option, Some, None, is_some, cond, refl, sym, ap, ◌∙◌, arith}
 use Rattle.pb_base.specs.Batch.{Writes}
 use Rattle.pb_isa.specs.declared.insn.Insn.{Insn}
-use Rattle.pb_isa.specs.declared.insn.Insn.TheVariants.{Alu, MovSx, Neg, LoadImm, Load, StoreImm, Store, Jump, JumpIf, Call, Exit}
 use Rattle.pb_isa.specs.declared.profile.Profile.{Profile}
-use Rattle.pb_isa.specs.declared.profile.Profile.TheVariants.{One, Two}
 use Rattle.pb_isa.specs.Slots.{insn_at}
 use Rattle.pb_isa.specs.Helpers.{Helper, Read, Write, Delete, Start, HelperSet, declared_helper}
-use Rattle.pb_isa.specs.Machine.{Placement, Environment, State, Stuck, fetch, helps, calls, does, does_at, act, start}
+use Rattle.pb_isa.specs.Machine.{Placement, Environment, State, Stuck, fetch, helps, calls, does, does_at, act, state_at_entry}
 use Rattle.pb_isa.specs.Meaning.{Talk, Point, on, onward, point_after, environment_of, EndsWith, Means}
 use Rattle.pb_kinds.specs.declared.frame.Frame.{Frame}
 use Rattle.pb_helpers.specs.declared.code.RuleCode.{RuleCode}
@@ -27,17 +25,17 @@ module _ (p q : Profile) (is : List Insn) (h : HelperSet) (size : ℕ) where
   -- ---- rules
 
   rules_same : (n : ℕ) (f : Frame) (i : Insn) → insn_rules (judged_in p is h size) n f i ≡ insn_rules (judged_in q is h size) n f i
-  rules_same n f (Alu op w d x) = refl
-  rules_same n f (MovSx w z d r) = refl
-  rules_same n f (Neg w d) = refl
-  rules_same n f (LoadImm d v) = refl
-  rules_same n f (Load z x d r o) = refl
-  rules_same n f (StoreImm z d o k) = refl
-  rules_same n f (Store z d r o) = refl
-  rules_same n f (Jump o) = refl
-  rules_same n f (JumpIf c w d x o) = refl
-  rules_same n f (Call k) = refl
-  rules_same n f Exit = refl
+  rules_same n f (Insn.Alu op w d x) = refl
+  rules_same n f (Insn.MovSx w z d r) = refl
+  rules_same n f (Insn.Neg w d) = refl
+  rules_same n f (Insn.LoadImm d v) = refl
+  rules_same n f (Insn.Load z x d r o) = refl
+  rules_same n f (Insn.StoreImm z d o k) = refl
+  rules_same n f (Insn.Store z d r o) = refl
+  rules_same n f (Insn.Jump o) = refl
+  rules_same n f (Insn.JumpIf c w d x o) = refl
+  rules_same n f (Insn.Call k) = refl
+  rules_same n f Insn.Exit = refl
 
   codes_same : (n : ℕ) (i : Option Insn) (f : Option Frame) → codes_at (judged_in p is h size) n i f ≡ codes_at (judged_in q is h size) n i f
   codes_same n None f = refl
@@ -55,12 +53,12 @@ module _ (p q : Profile) (is : List Insn) (h : HelperSet) (size : ℕ) where
 
   -- ---- runs
 
-  module _ (bytes : List ℕ) (began : ℕ) (a : Placement) where
+  module _ (bytes : List ℕ) (start : ℕ) (a : Placement) where
     abbrev in_one : Environment
-    in_one = environment_of (judged_in p is h size) bytes began a
+    in_one = environment_of (judged_in p is h size) bytes start a
 
     abbrev in_other : Environment
-    in_other = environment_of (judged_in q is h size) bytes began a
+    in_other = environment_of (judged_in q is h size) bytes start a
 
     helps_same : (s : State) (x : Helper) → helps in_one s x ≡ helps in_other s x
     helps_same s Read = refl
@@ -74,17 +72,17 @@ module _ (p q : Profile) (is : List Insn) (h : HelperSet) (size : ℕ) where
 
     does_same : (s : State) (i : Insn) → does in_one s i ≡ does in_other s i
     unfolding fetch
-    does_same s (Alu op w d x) = refl
-    does_same s (MovSx w z d r) = refl
-    does_same s (Neg w d) = refl
-    does_same s (LoadImm d v) = refl
-    does_same s (Load z x d r o) = refl
-    does_same s (StoreImm z d o k) = refl
-    does_same s (Store z d r o) = refl
-    does_same s (Jump o) = refl
-    does_same s (JumpIf c w d x o) = refl
-    does_same s (Call k) = calls_same s (declared_helper h k)
-    does_same s Exit = refl
+    does_same s (Insn.Alu op w d x) = refl
+    does_same s (Insn.MovSx w z d r) = refl
+    does_same s (Insn.Neg w d) = refl
+    does_same s (Insn.LoadImm d v) = refl
+    does_same s (Insn.Load z x d r o) = refl
+    does_same s (Insn.StoreImm z d o k) = refl
+    does_same s (Insn.Store z d r o) = refl
+    does_same s (Insn.Jump o) = refl
+    does_same s (Insn.JumpIf c w d x o) = refl
+    does_same s (Insn.Call k) = calls_same s (declared_helper h k)
+    does_same s Insn.Exit = refl
 
     does_at_same : (s : State) (i : Option Insn) → does_at in_one s i ≡ does_at in_other s i
     does_at_same s None = refl
@@ -99,7 +97,7 @@ module _ (p q : Profile) (is : List Insn) (h : HelperSet) (size : ℕ) where
     onward_same talk (Some x) = ap (λ o. on talk o x.told) (acts_same x.state)
 
     point_same : (talk : Talk) (n : ℕ) → point_after in_one talk n ≡ point_after in_other talk n
-    unfolding point_after start
+    unfolding point_after state_at_entry
     point_same talk zero = refl
     point_same talk (suc n) = ap (onward in_one talk) (point_same talk n) ∙ onward_same talk (point_after in_other talk n)
 
@@ -113,16 +111,16 @@ module _ (p q : Profile) (is : List Insn) (h : HelperSet) (size : ℕ) where
       kept = e.kept;
     }
 
-  means : (bytes : List ℕ) (began : ℕ) (talk : Talk) (r : ℕ) (ws : Writes) → Means (judged_in p is h size) bytes began talk r ws → Means (judged_in q is h size) bytes began talk r ws
-  means bytes began talk r ws m = record { size = m.size; some = m.some; at = λ a l. ends bytes began a talk r ws (m.at a l) }
+  means : (bytes : List ℕ) (start : ℕ) (talk : Talk) (r : ℕ) (ws : Writes) → Means (judged_in p is h size) bytes start talk r ws → Means (judged_in q is h size) bytes start talk r ws
+  means bytes start talk r ws m = record { size = m.size; some = m.some; at = λ a l. ends bytes start a talk r ws (m.at a l) }
 
 -- no rule looks at the profile
 pub accepted : SameAreAccepted
-accepted is h size = (accepts One Two is h size, accepts Two One is h size)
+accepted is h size = (accepts Profile.One Profile.Two is h size, accepts Profile.Two Profile.One is h size)
 
 pub refused : SameAreRefused
-refused is h size n c = (refuses One Two is h size n c, refuses Two One is h size n c)
+refused is h size n c = (refuses Profile.One Profile.Two is h size n c, refuses Profile.Two Profile.One is h size n c)
 
 -- nor does the machine
 pub meant : SameIsMeant
-meant is h size bytes began talk r ws = (means One Two is h size bytes began talk r ws, means Two One is h size bytes began talk r ws)
+meant is h size bytes start talk r ws = (means Profile.One Profile.Two is h size bytes start talk r ws, means Profile.Two Profile.One is h size bytes start talk r ws)

@@ -11,7 +11,6 @@ use Rattle.pb_isa.specs.NextSlots.{LeadOn}
 use Rattle.pb_isa.specs.Machine as m
 use Rattle.pb_isa.specs.Machine.{Map, Environment, State, Outcome, Goes, with_entry}
 use Rattle.pb_kinds.specs.declared.frame.Kind.{Kind}
-use Rattle.pb_kinds.specs.declared.frame.Kind.TheVariants.{Unset, Number, Stack, Record}
 use Rattle.pb_kinds.specs.declared.frame.Frame.{Frame}
 use Rattle.pb_kinds.specs.Frames.{is_unset}
 use Rattle.pb_verify.specs.Rules.{at, reads, sets, falls}
@@ -22,13 +21,13 @@ use Rattle.pb_sound.specs.Outcomes.{GoesOn}
 use Rattle.pb_sound.proofs.Lists.{when_not, with_at, with_other}
 
 -- past the end nothing is known
-holds_same : (e : Environment) (ks : List Kind) (d : ℕ) (k : Kind) (v : Option ℕ) → Holds e k v → Holds e (get_or (set ks d k) d Unset) v
+holds_same : (e : Environment) (ks : List Kind) (d : ℕ) (k : Kind) (v : Option ℕ) → Holds e k v → Holds e (get_or (set ks d k) d Kind.Unset) v
 holds_same e ks d k v h = elim (cases_lt d (length ks)) [
   | inl l ↦ rw (get_or-set_same) h
-  | inr l ↦ (let past : get_or (set ks d k) d Unset ≡ Unset = get_or_past (set ks d k) d Unset (rw (length-set ks d k) (omega arith)) in rw past tt)
+  | inr l ↦ (let past : get_or (set ks d k) d Kind.Unset ≡ Kind.Unset = get_or_past (set ks d k) d Kind.Unset (rw (length-set ks d k) (omega arith)) in rw past tt)
 ]
 
-holds_set : (e : Environment) (ks : List Kind) (m : Map) (d : ℕ) (k : Kind) (v : ℕ) → ((r : ℕ) → Holds e (get_or ks r Unset) (m r)) → Holds e k (Some v) → (r : ℕ) → Holds e (get_or (set ks d k) r Unset) (with_entry m d v r)
+holds_set : (e : Environment) (ks : List Kind) (m : Map) (d : ℕ) (k : Kind) (v : ℕ) → ((r : ℕ) → Holds e (get_or ks r Kind.Unset) (m r)) → Holds e k (Some v) → (r : ℕ) → Holds e (get_or (set ks d k) r Kind.Unset) (with_entry m d v r)
 holds_set e ks m d k v h n r = elim (cases_eq r d) [
   | inl same ↦ rw (with_at m d v r same, same) (holds_same e ks d k (Some v) n)
   | inr other ↦ rw (with_other m d v r other, get_or-set_other) (h r)
@@ -81,10 +80,10 @@ pub record Value (e : Environment) (k : Kind) (v : Option ℕ) : Type 0 where
   pub holds : Holds e k (Some value)
 
 pub value_of : (e : Environment) (k : Kind) (v : Option ℕ) → is_unset k ≡ false → Holds e k v → Value e k v
-value_of e Unset v u h = cc
-value_of e Number v u h = record { value = h.0; is = h.1; holds = (h.0, refl) }
-value_of e (Stack k) v u h = record { value = _; is = h; holds = refl }
-value_of e (Record k) v u h = record { value = _; is = h; holds = refl }
+value_of e Kind.Unset v u h = cc
+value_of e Kind.Number v u h = record { value = h.0; is = h.1; holds = (h.0, refl) }
+value_of e (Kind.Stack k) v u h = record { value = _; is = h; holds = refl }
+value_of e (Kind.Record k) v u h = record { value = _; is = h; holds = refl }
 
 -- a register that the rules let be read has a value
 pub read_value : (e : Environment) (f : Frame) (s : State) (r : Reg) → reads f r ≡ [] → FitsFrame e f s → Value e (at f r) (m.value s r)

@@ -1,6 +1,5 @@
 -- The writes of a run are distinct data cells without stamps, 16 at most, at each point of it.
-use Rattle.std.proofs.Common.{◌≡◌, ℕ, ◌+◌, ◌≤◌, zero, suc, Bool, true, false, cond, nat_eq, nat_lt, List, [], ◌∷◌, ◌++◌, length, Option, Some, None, refl, sym, ap, subst, ◌∙◌, inl, inr, arith, length-append}
-use Rattle.std.specs.Prelude.{◌&&◌, replicate, is_some, is_none, slice_get}
+use Rattle.std.proofs.Common.{◌≡◌, ℕ, ◌+◌, ◌≤◌, zero, suc, Bool, true, false, cond, nat_eq, nat_lt, List, [], ◌∷◌, ◌++◌, length, Option, Some, None, refl, sym, ap, subst, ◌∙◌, inl, inr, arith, length-append, ◌&&◌, replicate, is_some, is_none, slice_get}
 use Rattle.std.specs.Cmp.{eq_by_cmp_equiv}
 use Rattle.std.specs.List.{list_all}
 use Rattle.std.specs.Ordering.{eq_by_cmp}
@@ -8,14 +7,12 @@ use Rattle.std.proofs.lemmas.Bool.{and_parts, ltb-true, le-leb, lt-ltb}
 use Rattle.pb_base.specs.Cell.{cell_cmp, cell_cmp_total}
 use Rattle.pb_base.specs.declared.cell.Cell.{Cell}
 use Rattle.pb_base.specs.declared.content.Content.{Content}
-use Rattle.pb_base.specs.declared.content.Content.TheVariants.{Value, Deleted}
 use Rattle.pb_base.specs.declared.limits.TheConstants.{MAX_CELLS}
 use Rattle.pb_base.specs.Batch.{Writes, content_in, is_unstamped, is_data_write, are_distinct}
 use Rattle.pb_isa.specs.declared.insn.Insn.{Insn}
-use Rattle.pb_isa.specs.declared.insn.Insn.TheVariants.{Call}
 use Rattle.pb_isa.specs.Slots.{insn_at}
 use Rattle.pb_isa.specs.Helpers.{Helper, Read, Write, Delete, Start, declared_helper}
-use Rattle.pb_isa.specs.Machine.{Environment, State, Ask, Reply, is_reply, Outcome, Goes, Asks, Ends, Stuck, with_value, with_values, stack_has, entries, replace_write, add_write, write_result, cell_of, state_after_call, state_after_read, reply_bytes, reply_result, reads_cell, writes_cell, helps, calls, does, does_at, act, start}
+use Rattle.pb_isa.specs.Machine.{Environment, State, Ask, Reply, is_reply, Outcome, Goes, Asks, Ends, Stuck, with_value, with_values, stack_has, entries, replace_write, add_write, write_result, cell_of, state_after_call, state_after_read, reply_bytes, reply_result, reads_cell, writes_cell, helps, calls, does, does_at, act, state_at_entry}
 use Rattle.pb_isa.specs.Meaning.{Talk, Point, point, is_same_ask, on_reply, on, onward, point_after}
 use Rattle.pb_sound.specs.RunWrites.{AreRunWrites, RunsWriteBatches}
 use Rattle.pb_sound.proofs.Silent.{IsSilentStep, plain_is_silent}
@@ -161,9 +158,9 @@ module _ (e : Environment) (s : State) (m : AreMade s.writes) where
       either (stack_has e x 32) (reads_cell s row column x) Stuck (reads row column x) tt)))
   helping Write =
       with_one (s.regs 1) _ (λ row. with_one (s.regs 2) _ (λ column. with_one (s.regs 3) _ (λ x.
-      either (stack_has e x 32) (with_values (entries s.stack x 32) (λ bs. writes_cell s row column (Value bs))) Stuck
-      (with_many (entries s.stack x 32) _ (λ bs. writes row column (Value bs) refl)) tt)))
-  helping Delete = with_one (s.regs 1) _ (λ row. with_one (s.regs 2) _ (λ column. writes row column Deleted refl))
+      either (stack_has e x 32) (with_values (entries s.stack x 32) (λ bs. writes_cell s row column (Content.Value bs))) Stuck
+      (with_many (entries s.stack x 32) _ (λ bs. writes row column (Content.Value bs) refl)) tt)))
+  helping Delete = with_one (s.regs 1) _ (λ row. with_one (s.regs 2) _ (λ column. writes row column Content.Deleted refl))
   helping Start = m
 
   calling : (h : Option Helper) → IsMadeStep (calls e s h)
@@ -171,7 +168,7 @@ module _ (e : Environment) (s : State) (m : AreMade s.writes) where
   calling (Some h) = either (is_some (insn_at e.judged.program.insns (s.slot + 1))) (helps e s h) Stuck (helping h) tt
 
   doing : (i : Insn) → IsMadeStep (does e s i)
-  doing (Call imm) = calling (declared_helper e.judged.helpers imm)
+  doing (Insn.Call imm) = calling (declared_helper e.judged.helpers imm)
   doing i = from_silent s.writes m (does e s i) (plain_is_silent e s i tt)
 
   doing_at : (i : Option Insn) → IsMadeStep (does_at e s i)
@@ -203,8 +200,8 @@ nothing = record { few = omega arith; plain = refl; distinct = refl }
 
 -- at each point of a run
 points_made : (e : Environment) (talk : Talk) (n : ℕ) (u : Point) → point_after e talk n ≡ Some u → AreMade u.state.writes
-unfolding point_after start
-points_made e talk zero u h = let same : point (start e) 0 ≡ u = cc in subst (λ (z : Point). AreMade z.state.writes) same nothing
+unfolding point_after state_at_entry
+points_made e talk zero u h = let same : point (state_at_entry e) 0 ≡ u = cc in subst (λ (z : Point). AreMade z.state.writes) same nothing
 points_made e talk (suc n) u h =
     let go : (z : Option Point) → point_after e talk n ≡ z → onward e talk z ≡ Some u → AreMade u.state.writes = λ z. elim z as (λ z. point_after e talk n ≡ z → onward e talk z ≡ Some u → AreMade u.state.writes) [
       | None ↦ λ w q. cc
@@ -222,7 +219,7 @@ batch_or_none (w ∷ ws) m = inr (rw (lt-ltb 0 (length (w ∷ ws)) (omega arith)
 
 -- of whatever a program means to write
 pub runs_write_batches : RunsWriteBatches
-runs_write_batches j bytes began talk r ws means =
+runs_write_batches j bytes start talk r ws means =
     let a = means.some.0 in
     let e = means.at a means.some.1 in
     let u = points_made _ talk e.steps (point e.last (length talk)) e.leads in

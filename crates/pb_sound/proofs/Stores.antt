@@ -4,22 +4,19 @@ use Rattle.std.proofs.lemmas.Bool.{cases_lt}
 use Rattle.std.specs.Int.{to_le_bytes}
 use Rattle.pb_isa.specs.declared.limits.TheConstants.{STACK_BYTES}
 use Rattle.pb_isa.specs.declared.insn.Insn.{Insn}
-use Rattle.pb_isa.specs.declared.insn.Insn.TheVariants.{Store, StoreImm}
 use Rattle.pb_isa.specs.declared.insn.Reg.{Reg}
 use Rattle.pb_isa.specs.declared.insn.Size.{Size}
-use Rattle.pb_isa.specs.declared.insn.Size.TheVariants.{B, H, W, Dw}
 use Rattle.pb_isa.specs.Alu.{word}
 use Rattle.pb_isa.specs.Slots.{insn_at}
 use Rattle.pb_isa.specs.Machine as m
 use Rattle.pb_isa.specs.Machine.{IsPlaced, Map, Environment, State, address, width, does, with_list}
 use Rattle.pb_kinds.specs.declared.frame.Kind.{Kind}
-use Rattle.pb_kinds.specs.declared.frame.Kind.TheVariants.{Unset, Number, Stack, Record}
 use Rattle.pb_kinds.specs.declared.frame.Frame.{Frame}
 use Rattle.pb_kinds.specs.Frames.{is_unset, is_pointer}
 use Rattle.pb_kinds.specs.Ranges.{in_stack, from_low, set_flags, with_written}
 use Rattle.pb_helpers.specs.Codes.{when}
 use Rattle.pb_helpers.specs.Arguments.{stack_writes}
-use Rattle.pb_helpers.specs.declared.code.RuleCode.TheVariants.{PointerStored}
+use Rattle.pb_helpers.specs.declared.code.RuleCode.{RuleCode}
 use Rattle.pb_verify.specs.Rules.{at, reads, stores, bytes_of, insn_rules}
 use Rattle.pb_verify.specs.Following.{after, leads, with_store}
 use Rattle.pb_sound.specs.Fits.{HasValue, Holds, FitsFrame}
@@ -55,7 +52,7 @@ fits_put e f s t z n vs lv h er es = record {
 
 -- n stack bytes at a distance from what a register holds
 abbrev pub spot : Kind → ℤ → ℤ
-spot (Stack k) o = k +ℤ o
+spot (Kind.Stack k) o = k +ℤ o
 spot k o = o
 
 -- n bytes of the stack where the store goes, which are written after it
@@ -65,7 +62,7 @@ pub record Room (e : Environment) (f : Frame) (k : Kind) (o : ℤ) (n x : ℕ) :
   pub room : from_low (spot k o) + n ≤ STACK_BYTES
   pub inside : m.stack_has e (e.place.stack + from_low (spot k o)) n ≡ true
 
-pub stack_room : (e : Environment) (f : Frame) (k o : ℤ) (n : ℕ) → 0 < n → IsPlaced e → stack_writes (k +ℤ o) n ≡ [] → Room e f (Stack k) o n (address (e.place.stack + STACK_BYTES) k)
+pub stack_room : (e : Environment) (f : Frame) (k o : ℤ) (n : ℕ) → 0 < n → IsPlaced e → stack_writes (k +ℤ o) n ≡ [] → Room e f (Kind.Stack k) o n (address (e.place.stack + STACK_BYTES) k)
 stack_room e f k o n some pl l =
     let z = k +ℤ o in
     let ok : in_stack z n ≡ true = not_false _ (when_not _ _ l) in
@@ -83,10 +80,10 @@ stack_room e f k o n some pl l =
 
 -- a store whose rules hold goes through a pointer to the stack
 pub store_room : (e : Environment) (f : Frame) (k : Kind) (x : ℕ) (o : ℤ) (n : ℕ) → 0 < n → IsPlaced e → is_unset k ≡ false → stores k o n ≡ [] → Holds e k (Some x) → Room e f k o n x
-store_room e f Unset x o n some pl u l h = cc
-store_room e f Number x o n some pl u l h = cc
-store_room e f (Record k) x o n some pl u l h = cc
-store_room e f (Stack k) x o n some pl u l h =
+store_room e f Kind.Unset x o n some pl u l h = cc
+store_room e f Kind.Number x o n some pl u l h = cc
+store_room e f (Kind.Record k) x o n some pl u l h = cc
+store_room e f (Kind.Stack k) x o n some pl u l h =
     let same : x ≡ address (e.place.stack + STACK_BYTES) k = cc in
     rw same (stack_room e f k o n some pl l)
 
@@ -100,29 +97,29 @@ stores_on e f s i k x o n vs lv el ea lands h at =
     })
 
 pub length-bytes : (z : Size) (v : ℕ) → length (to_le_bytes (width z) v) ≡ bytes_of z
-length-bytes B v = refl
-length-bytes H v = refl
-length-bytes W v = refl
-length-bytes Dw v = refl
+length-bytes Size.B v = refl
+length-bytes Size.H v = refl
+length-bytes Size.W v = refl
+length-bytes Size.Dw v = refl
 
-pub store_imm_on : (e : Environment) (f : Frame) (s : State) (z : Size) (d : Reg) (o k : ℤ) → IsPlaced e → IsFollowed e.judged.program.insns s.slot (StoreImm z d o k) → insn_rules e.judged s.slot f (StoreImm z d o k) ≡ [] → FitsFrame e f s → GoesOn e f s.slot (StoreImm z d o k) (does e s (StoreImm z d o k))
+pub store_imm_on : (e : Environment) (f : Frame) (s : State) (z : Size) (d : Reg) (o k : ℤ) → IsPlaced e → IsFollowed e.judged.program.insns s.slot (Insn.StoreImm z d o k) → insn_rules e.judged s.slot f (Insn.StoreImm z d o k) ≡ [] → FitsFrame e f s → GoesOn e f s.slot (Insn.StoreImm z d o k) (does e s (Insn.StoreImm z d o k))
 store_imm_on e f s z d o k pl a b t =
     let parts = empty_parts _ _ b in
     let first = empty_parts (reads f d) (stores (at f d) o (bytes_of z)) parts.0 in
     let base = read_value e f s d first.0 t in
     let where_to = store_room e f (at f d) base.value o (bytes_of z) (some_bytes z) pl (when_not _ _ first.0) first.1 base.holds in
     let vs = to_le_bytes (width z) (word k) in
-    rw base.is (stores_on e f s (StoreImm z d o k) (at f d) base.value o (bytes_of z) vs (length-bytes z (word k)) refl refl (follows e.judged.program.insns (StoreImm z d o k) s.slot a parts.1) t where_to)
+    rw base.is (stores_on e f s (Insn.StoreImm z d o k) (at f d) base.value o (bytes_of z) vs (length-bytes z (word k)) refl refl (follows e.judged.program.insns (Insn.StoreImm z d o k) s.slot a parts.1) t where_to)
 
 -- a store whose rules hold goes on, with its bytes written
-pub store_on : (e : Environment) (f : Frame) (s : State) (z : Size) (d : Reg) (o : ℤ) (r : Reg) → IsPlaced e → IsFollowed e.judged.program.insns s.slot (Store z d r o) → insn_rules e.judged s.slot f (Store z d r o) ≡ [] → FitsFrame e f s → GoesOn e f s.slot (Store z d r o) (does e s (Store z d r o))
+pub store_on : (e : Environment) (f : Frame) (s : State) (z : Size) (d : Reg) (o : ℤ) (r : Reg) → IsPlaced e → IsFollowed e.judged.program.insns s.slot (Insn.Store z d r o) → insn_rules e.judged s.slot f (Insn.Store z d r o) ≡ [] → FitsFrame e f s → GoesOn e f s.slot (Insn.Store z d r o) (does e s (Insn.Store z d r o))
 store_on e f s z d o r pl a b t =
     let parts = empty_parts _ _ b in
-    let p3 = empty_parts (reads f d ++ reads f r ++ when (is_pointer (at f r)) PointerStored) (stores (at f d) o (bytes_of z)) parts.0 in
-    let p2 = empty_parts (reads f d ++ reads f r) (when (is_pointer (at f r)) PointerStored) p3.0 in
+    let p3 = empty_parts (reads f d ++ reads f r ++ when (is_pointer (at f r)) RuleCode.PointerStored) (stores (at f d) o (bytes_of z)) parts.0 in
+    let p2 = empty_parts (reads f d ++ reads f r) (when (is_pointer (at f r)) RuleCode.PointerStored) p3.0 in
     let p1 = empty_parts (reads f d) (reads f r) p2.0 in
     let base = read_value e f s d p1.0 t in
     let from = read_value e f s r p1.1 t in
     let where_to = store_room e f (at f d) base.value o (bytes_of z) (some_bytes z) pl (when_not _ _ p1.0) p3.1 base.holds in
     let vs = to_le_bytes (width z) from.value in
-    rw (base.is, from.is) (stores_on e f s (Store z d r o) (at f d) base.value o (bytes_of z) vs (length-bytes z from.value) refl refl (follows e.judged.program.insns (Store z d r o) s.slot a parts.1) t where_to)
+    rw (base.is, from.is) (stores_on e f s (Insn.Store z d r o) (at f d) base.value o (bytes_of z) vs (length-bytes z from.value) refl refl (follows e.judged.program.insns (Insn.Store z d r o) s.slot a parts.1) t where_to)

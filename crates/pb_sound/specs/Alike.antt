@@ -10,5 +10,5 @@ use Rattle.pb_verify.specs.Arriving.{Accepts}
 -- what a run of an accepted program ends with at one placement, it ends with at each
 abbrev pub EndIsMeaning : Type 0
 EndIsMeaning =
-    (j : JudgedOf) (bytes : List ℕ) (began : ℕ) (talk : Talk) (r : ℕ) (writes : Writes) (a : Placement) →
-    IsProgram j.program → Accepts j → IsPlaced (environment_of j bytes began a) → EndsWith (environment_of j bytes began a) talk r writes → Means j bytes began talk r writes
+    (j : JudgedOf) (bytes : List ℕ) (start : ℕ) (talk : Talk) (r : ℕ) (writes : Writes) (a : Placement) →
+    IsProgram j.program → Accepts j → IsPlaced (environment_of j bytes start a) → EndsWith (environment_of j bytes start a) talk r writes → Means j bytes start talk r writes

@@ -4,7 +4,6 @@ use Rattle.std.specs.Prelude.{◌≡◌, ℕ, ◌+◌, Option, Some, IsTrue}
 use Rattle.pb_isa.specs.declared.limits.TheConstants.{STACK_BYTES}
 use Rattle.pb_isa.specs.Machine.{Environment, State, address}
 use Rattle.pb_kinds.specs.declared.frame.Kind.{Kind}
-use Rattle.pb_kinds.specs.declared.frame.Kind.TheVariants.{Unset, Number, Stack, Record}
 use Rattle.pb_kinds.specs.declared.frame.Frame.{Frame}
 use Rattle.pb_kinds.specs.Frames.{kind_of, has_byte}
 
@@ -14,10 +13,10 @@ HasValue v = (x : ℕ) × (v ≡ Some x)
 
 -- what a register of this kind holds: a pointer's distance is from the end of the stack, or from the record's first byte
 abbrev pub Holds : Environment → Kind → Option ℕ → Type 0
-Holds e Unset v = Unit {0}
-Holds e Number v = HasValue v
-Holds e (Stack k) v = v ≡ Some (address (e.place.stack + STACK_BYTES) k)
-Holds e (Record k) v = v ≡ Some (address e.place.record_at k)
+Holds e Kind.Unset v = Unit {0}
+Holds e Kind.Number v = HasValue v
+Holds e (Kind.Stack k) v = v ≡ Some (address (e.place.stack + STACK_BYTES) k)
+Holds e (Kind.Record k) v = v ≡ Some (address e.place.record_at k)
 
 -- all that the frame says is so: registers are of their kinds, and written bytes have a value
 pub record FitsFrame (e : Environment) (f : Frame) (s : State) : Type 0 where

@@ -7,5 +7,5 @@ use Rattle.pb_isa.specs.Meaning.{Talk, Means}
 -- the same program, record, start timestamp, asks and replies mean one result and one list of writes
 abbrev pub EachHasOneMeaning : Type 0
 EachHasOneMeaning =
-    (j : JudgedOf) (bytes : List ℕ) (began : ℕ) (talk : Talk) (r v : ℕ) (ws us : Writes) →
-    Means j bytes began talk r ws → Means j bytes began talk v us → (r ≡ v) × (ws ≡ us)
+    (j : JudgedOf) (bytes : List ℕ) (start : ℕ) (talk : Talk) (r v : ℕ) (ws us : Writes) →
+    Means j bytes start talk r ws → Means j bytes start talk v us → (r ≡ v) × (ws ≡ us)

@@ -2,7 +2,6 @@
 -- any state that fits the frame before it.
 use Rattle.std.specs.Prelude.{◌≡◌, ℕ, ◌<◌, IsTrue, is_some}
 use Rattle.pb_isa.specs.declared.insn.Insn.{Insn}
-use Rattle.pb_isa.specs.declared.insn.Insn.TheVariants.{Exit}
 use Rattle.pb_isa.specs.Slots.{insn_at}
 use Rattle.pb_isa.specs.Machine.{Environment, State, Reply, IsReply, Outcome, Goes, Asks, Ends, Stuck}
 use Rattle.pb_kinds.specs.declared.frame.Frame.{Frame}
@@ -20,5 +19,5 @@ pub record Arrives (e : Environment) (f : Frame) (n : ℕ) (i : Insn) (t : State
 abbrev pub GoesOn : Environment → Frame → ℕ → Insn → Outcome → Type 0
 GoesOn e f n i (Goes t) = Arrives e f n i t
 GoesOn e f n i (Asks a go) = (a.column < 16) × ((r : Reply) → IsReply r → Arrives e f n i (go r))
-GoesOn e f n i (Ends v ws) = i ≡ Exit
+GoesOn e f n i (Ends v ws) = i ≡ Insn.Exit
 GoesOn e f n i Stuck = ⊥

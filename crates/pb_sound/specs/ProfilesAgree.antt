@@ -4,7 +4,6 @@ use Rattle.std.specs.Prelude.{ℕ, ◌↔◌, List}
 use Rattle.pb_base.specs.Batch.{Writes}
 use Rattle.pb_isa.specs.declared.insn.Insn.{Insn}
 use Rattle.pb_isa.specs.declared.profile.Profile.{Profile}
-use Rattle.pb_isa.specs.declared.profile.Profile.TheVariants.{One, Two}
 use Rattle.pb_isa.specs.Helpers.{HelperSet}
 use Rattle.pb_isa.specs.Programs.{ProgramOf, IsProgram, JudgedOf}
 use Rattle.pb_isa.specs.Meaning.{Talk, Means}
@@ -21,20 +20,20 @@ judged_in profile is helpers size = record { program = program_in profile is; he
 
 -- what is a program of profile 1 is one of profile 2
 abbrev pub ProgramsOfOneAreOfTwo : Type 0
-ProgramsOfOneAreOfTwo = (is : List Insn) → IsProgram (program_in One is) → IsProgram (program_in Two is)
+ProgramsOfOneAreOfTwo = (is : List Insn) → IsProgram (program_in Profile.One is) → IsProgram (program_in Profile.Two is)
 
 -- both are accepted or none is
 abbrev pub SameAreAccepted : Type 0
-SameAreAccepted = (is : List Insn) (helpers : HelperSet) (size : ℕ) → Accepts (judged_in One is helpers size) ↔ Accepts (judged_in Two is helpers size)
+SameAreAccepted = (is : List Insn) (helpers : HelperSet) (size : ℕ) → Accepts (judged_in Profile.One is helpers size) ↔ Accepts (judged_in Profile.Two is helpers size)
 
 -- both are refused at the same slot with the same code
 abbrev pub SameAreRefused : Type 0
 SameAreRefused =
     (is : List Insn) (helpers : HelperSet) (size slot : ℕ) (code : RuleCode) →
-    Refuses (judged_in One is helpers size) slot code ↔ Refuses (judged_in Two is helpers size) slot code
+    Refuses (judged_in Profile.One is helpers size) slot code ↔ Refuses (judged_in Profile.Two is helpers size) slot code
 
 -- both end with the same result and writes, after the same asks and replies
 abbrev pub SameIsMeant : Type 0
 SameIsMeant =
-    (is : List Insn) (helpers : HelperSet) (size : ℕ) (bytes : List ℕ) (began : ℕ) (talk : Talk) (r : ℕ) (writes : Writes) →
-    Means (judged_in One is helpers size) bytes began talk r writes ↔ Means (judged_in Two is helpers size) bytes began talk r writes
+    (is : List Insn) (helpers : HelperSet) (size : ℕ) (bytes : List ℕ) (start : ℕ) (talk : Talk) (r : ℕ) (writes : Writes) →
+    Means (judged_in Profile.One is helpers size) bytes start talk r writes ↔ Means (judged_in Profile.Two is helpers size) bytes start talk r writes

@@ -10,4 +10,4 @@ AreRunWrites ws = (ws ≡ []) ⊎ (is_batch ws ≡ true)
 
 -- of every program that means something, with any helpers
 abbrev pub RunsWriteBatches : Type 0
-RunsWriteBatches = (j : JudgedOf) (bytes : List ℕ) (began : ℕ) (talk : Talk) (r : ℕ) (ws : Writes) → Means j bytes began talk r ws → AreRunWrites ws
+RunsWriteBatches = (j : JudgedOf) (bytes : List ℕ) (start : ℕ) (talk : Talk) (r : ℕ) (ws : Writes) → Means j bytes start talk r ws → AreRunWrites ws

@@ -8,5 +8,5 @@ use Rattle.pb_isa.specs.Meaning.{Talk, Means}
 -- of every program that means something: a call of a helper that isn't declared is stuck
 abbrev pub WithoutHelpersSilent : Type 0
 WithoutHelpersSilent =
-    (j : JudgedOf) (bytes : List ℕ) (began : ℕ) (talk : Talk) (r : ℕ) (ws : Writes) →
-    j.helpers ≡ no_helpers → Means j bytes began talk r ws → (talk ≡ []) × (ws ≡ [])
+    (j : JudgedOf) (bytes : List ℕ) (start : ℕ) (talk : Talk) (r : ℕ) (ws : Writes) →
+    j.helpers ≡ no_helpers → Means j bytes start talk r ws → (talk ≡ []) × (ws ≡ [])

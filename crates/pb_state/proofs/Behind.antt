@@ -1,8 +1,7 @@
 -- Where observers are behind on a cell, and where they aren't.
-use Rattle.std.proofs.Common.{ℕ, ◌<◌, ◌≤◌, ◌⊎◌, inl, inr, Bool, true, false, List, length, arith}
-use Rattle.std.specs.Prelude.{MatchBool}
+use Rattle.std.proofs.Common.{ℕ, ◌<◌, ◌≤◌, ◌⊎◌, inl, inr, Bool, true, false, List, length, arith, MatchBool}
 use Rattle.std.proofs.lemmas.Option.{slice_get_within}
-use Rattle.pb_base.specs.declared.cell.Cell.TheVariants.{Data}
+use Rattle.pb_base.specs.declared.cell.Cell.{Cell}
 use Rattle.pb_base.specs.declared.names.Row.{Row}
 use Rattle.pb_base.specs.declared.content.Revision.{Revision}
 use Rattle.pb_store.specs.Contents.{Entries}
@@ -12,7 +11,7 @@ use Rattle.pb_steps.specs.Marks.{SomeBehind, AllUpToDate}
 use Rattle.pb_state.specs.Behind.{SomeLate, AreOnTime}
 
 module _ (observers : List ObserverOf) (e : Entries) (row : Row) (column : ℕ) where
-  pub some_behind : (v : Revision) → IsVersion e (Data row column) last_timestamp v → SomeLate e row column v.commit.0 observers → SomeBehind observers e (Data row column)
+  pub some_behind : (v : Revision) → IsVersion e (Cell.Data row column) last_timestamp v → SomeLate e row column v.commit.0 observers → SomeBehind observers e (Cell.Data row column)
   some_behind v n late =
       let stamp = late.3.2.2 in
       let below = late.3.3 in (
@@ -29,7 +28,7 @@ module _ (observers : List ObserverOf) (e : Entries) (row : Row) (column : ℕ) 
   above : (b c : ℕ) → (c < b) ⊎ (b ≤ c)
   above b c = grind arith
 
-  pub all_up_to_date : (v : Revision) → IsVersion e (Data row column) last_timestamp v → AreOnTime e row column v.commit.0 observers (length observers) → AllUpToDate observers e (Data row column)
+  pub all_up_to_date : (v : Revision) → IsVersion e (Cell.Data row column) last_timestamp v → AreOnTime e row column v.commit.0 observers (length observers) → AllUpToDate observers e (Cell.Data row column)
   all_up_to_date v n times p observer there observes c low written =
       let k = times p observer (slice_get_within observers p observer there) there observes in
       elim (above c v.commit.0) [

@@ -1,13 +1,12 @@
 -- What passes the test for a declaration of its transaction is one.
-use Rattle.std.proofs.Common.{◌≡◌, ℕ, Bool, true, false, cond, ◌&&◌, List, [], ◌∷◌, Option, Some, None, slice_get, refl, sym, ap, subst, ◌∙◌}
-use Rattle.std.specs.Prelude.{◌==◌, nat_lt}
+use Rattle.std.proofs.Common.{◌≡◌, ℕ, Bool, true, false, cond, ◌&&◌, List, [], ◌∷◌, Option, Some, None, slice_get, refl, sym, ap, subst, ◌∙◌, ◌==◌, nat_lt}
 use Rattle.std.specs.Ordering.{eq_by_cmp}
 use Rattle.std.proofs.lemmas.Bool.{eqb-true, ltb-true}
 use Rattle.pb_base.specs.declared.cell.Cell.{Cell}
 use Rattle.pb_base.specs.declared.names.Row.{Row}
 use Rattle.pb_base.specs.declared.names.Ts.{Ts}
 use Rattle.pb_base.specs.declared.content.Revision.{Revision}
-use Rattle.pb_base.specs.declared.content.Content.TheVariants as contents
+use Rattle.pb_base.specs.declared.content.Content.{Content}
 use Rattle.pb_base.specs.Cell.{cell_cmp}
 use Rattle.pb_base.specs.Same.{same, same_is}
 use Rattle.std.specs.Coded.{coded_ℕ, coded_list}
@@ -18,9 +17,7 @@ use Rattle.pb_vm.specs.Finished.{Meant}
 use Rattle.pb_steps.specs.declared.seen.RecordedRead.{RecordedRead}
 use Rattle.pb_steps.specs.declared.seen.Seen.{Seen}
 use Rattle.pb_steps.specs.declared.step.Work.{Work}
-use Rattle.pb_steps.specs.declared.step.Work.TheVariants as works
 use Rattle.pb_steps.specs.declared.step.Declared.{Declared}
-use Rattle.pb_steps.specs.declared.step.Declared.TheVariants as declared
 use Rattle.pb_steps.specs.Reads.{asked_cell, version_in, acknowledged_in, value_in, value_code}
 use Rattle.pb_steps.specs.State.{cells_of, batch_in}
 use Rattle.pb_verify.specs.Observers.{ObserverOf, observed_cell, acknowledgment}
@@ -136,7 +133,7 @@ run_by observers p row s reads f o (Some seen) oe ke h =
     let asked = asked_in (old_at (tells_old o.program) seen.acknowledged) reads in
     let k = both (nat_lt seen.acknowledged.0 seen.version.commit.0 && is_made_of o.program bytes s f) (are_replies asked f.talk) h in
     let q = both (nat_lt seen.acknowledged.0 seen.version.commit.0) (is_made_of o.program bytes s f) k.0 in
-    let m = both (same judged_code f.judged o.program && same (coded_list coded_ℕ) f.bytes bytes) (f.began == s) q.1 in
+    let m = both (same judged_code f.judged o.program && same (coded_list coded_ℕ) f.bytes bytes) (f.start == s) q.1 in
     let n = both (same judged_code f.judged o.program) (same (coded_list coded_ℕ) f.bytes bytes) m.0 in
     record {
       observer = o;
@@ -147,7 +144,7 @@ run_by observers p row s reads f o (Some seen) oe ke h =
       newer = ltb-true _ _ q.0;
       program = same_is judged_code f.judged o.program n.0;
       bytes = same_is (coded_list coded_ℕ) f.bytes bytes n.1;
-      began = eqb-true f.began s m.1;
+      start = eqb-true f.start s m.1;
       replied = replies_are asked f.talk k.1;
     }
 
@@ -158,33 +155,33 @@ run_of observers p row s reads f (Some o) oe h = run_by observers p row s reads 
 
 -- what passes the whole test is a declaration of its transaction, as the relation has it
 pub may_be_its : (observers : List ObserverOf) (work : Work) (s : ℕ) (reads : List RecordedRead) (what : Declared) → is_its observers work s reads what ≡ true → MayDeclare observers work s reads what
-may_be_its observers works.Script s reads (declared.Script batch) h = tt
-may_be_its observers works.Script s reads (declared.Run o f) h = cc
-may_be_its observers (works.Run p row) s reads (declared.Script batch) h = cc
-may_be_its observers (works.Run p row) s reads (declared.Run o f) h =
+may_be_its observers Work.Script s reads (Declared.Script batch) h = tt
+may_be_its observers Work.Script s reads (Declared.Run o f) h = cc
+may_be_its observers (Work.Run p row) s reads (Declared.Script batch) h = cc
+may_be_its observers (Work.Run p row) s reads (Declared.Run o f) h =
     let q = both (o == p) (is_run_of observers p row s reads f) h in
     (eqb-true o p q.0, run_of observers p row s reads f _ refl q.1)
 
 -- an observer that is there has an acknowledgment in each row
-by_observer : (observers : List ObserverOf) (p : ℕ) (row : Row) (ob : ObserverOf) → slice_get observers p ≡ Some ob → acknowledgment_by observers (works.Run p row) ≡ Some (acknowledgment observers p row)
+by_observer : (observers : List ObserverOf) (p : ℕ) (row : Row) (ob : ObserverOf) → slice_get observers p ≡ Some ob → acknowledgment_by observers (Work.Run p row) ≡ Some (acknowledgment observers p row)
 by_observer observers p row ob e = rw e refl
 
 -- a declaration without an acknowledgment is a script's, and writes its batch
 pub script_writes : (observers : List ObserverOf) (work : Work) (s : ℕ) (reads : List RecordedRead) (what : Declared) → is_its observers work s reads what ≡ true → None ≡ acknowledgment_by observers work → batch_in what ≡ cells_of observers work s what
-script_writes observers works.Script s reads (declared.Script batch) h none = refl
-script_writes observers works.Script s reads (declared.Run o f) h none = cc
-script_writes observers (works.Run p row) s reads (declared.Script batch) h none = cc
-script_writes observers (works.Run p row) s reads (declared.Run o f) h none =
-    let k = (may_be_its observers (works.Run p row) s reads (declared.Run o f) h).1 in
+script_writes observers Work.Script s reads (Declared.Script batch) h none = refl
+script_writes observers Work.Script s reads (Declared.Run o f) h none = cc
+script_writes observers (Work.Run p row) s reads (Declared.Script batch) h none = cc
+script_writes observers (Work.Run p row) s reads (Declared.Run o f) h none =
+    let k = (may_be_its observers (Work.Run p row) s reads (Declared.Run o f) h).1 in
     let there = by_observer observers p row k.observer k.observer_is in
     absurd cc
 
 -- a run writes its acknowledgment, and then what its program does
-pub run_writes_all : (observers : List ObserverOf) (work : Work) (s : Ts) (reads : List RecordedRead) (what : Declared) (x : Cell) → is_its observers work s.0 reads what ≡ true → Some x ≡ acknowledgment_by observers work → (x, contents.Stamp s) ∷ run_writes what ≡ cells_of observers work s.0 what
-run_writes_all observers works.Script s reads what x h some = cc
-run_writes_all observers (works.Run p row) s reads (declared.Script batch) x h some = cc
-run_writes_all observers (works.Run p row) s reads (declared.Run o f) x h some =
-    let k = (may_be_its observers (works.Run p row) s.0 reads (declared.Run o f) h).1 in
+pub run_writes_all : (observers : List ObserverOf) (work : Work) (s : Ts) (reads : List RecordedRead) (what : Declared) (x : Cell) → is_its observers work s.0 reads what ≡ true → Some x ≡ acknowledgment_by observers work → (x, Content.Stamp s) ∷ run_writes what ≡ cells_of observers work s.0 what
+run_writes_all observers Work.Script s reads what x h some = cc
+run_writes_all observers (Work.Run p row) s reads (Declared.Script batch) x h some = cc
+run_writes_all observers (Work.Run p row) s reads (Declared.Run o f) x h some =
+    let k = (may_be_its observers (Work.Run p row) s.0 reads (Declared.Run o f) h).1 in
     let there = by_observer observers p row k.observer k.observer_is in
     let same : x ≡ acknowledgment observers p row = cc in
-    ap (λ y. (y, contents.Stamp s) ∷ f.writes) same
+    ap (λ y. (y, Content.Stamp s) ∷ f.writes) same

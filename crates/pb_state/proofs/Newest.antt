@@ -1,11 +1,9 @@
 -- What the newest entry tells of locks and write records.
-use Rattle.std.proofs.Common.{◌≡◌, ℕ, ◌≤◌, true, Option, Some, None, refl, ap, ◌∙◌, arith}
-use Rattle.std.specs.Prelude.{is_some}
+use Rattle.std.proofs.Common.{◌≡◌, ℕ, ◌≤◌, true, Option, Some, None, refl, ap, ◌∙◌, arith, is_some}
 use Rattle.pb_base.specs.declared.cell.Cell.{Cell}
 use Rattle.pb_base.specs.declared.names.Ts.{Ts}
 use Rattle.pb_store.specs.declared.slot.Item.{Item}
-use Rattle.pb_store.specs.declared.slot.Item.TheVariants as items
-use Rattle.pb_store.specs.declared.slot.Sort.TheVariants as sorts
+use Rattle.pb_store.specs.declared.slot.Sort.{Sort}
 use Rattle.pb_store.specs.Contents.{Entries, IsNewest, IsOfSort}
 use Rattle.pb_steps.specs.Readings.{SomeLock, SomeWriteFrom, primary_of, start_of}
 
@@ -13,25 +11,25 @@ use Rattle.pb_steps.specs.Readings.{SomeLock, SomeWriteFrom, primary_of, start_o
 abbrev pub last : Ts
 last = record { 0 = 18446744073709551615 }
 
-lock_item : (i : Item) → IsOfSort sorts.Lock i → is_some (primary_of (Some i)) ≡ true
-lock_item (items.Data c) h = absurd h
-lock_item (items.Lock p) h = refl
-lock_item (items.Write s) h = absurd h
+lock_item : (i : Item) → IsOfSort Sort.Lock i → is_some (primary_of (Some i)) ≡ true
+lock_item (Item.Data c) h = absurd h
+lock_item (Item.Lock p) h = refl
+lock_item (Item.Write s) h = absurd h
 
-write_item : (i : Item) → IsOfSort sorts.Write i → is_some (start_of (Some i)) ≡ true
-write_item (items.Data c) h = absurd h
-write_item (items.Lock p) h = absurd h
-write_item (items.Write s) h = refl
+write_item : (i : Item) → IsOfSort Sort.Write i → is_some (start_of (Some i)) ≡ true
+write_item (Item.Data c) h = absurd h
+write_item (Item.Lock p) h = absurd h
+write_item (Item.Write s) h = refl
 
 -- the newest lock is a lock
-pub some_lock : (e : Entries) (x : Cell) (f : Ts × Item) → IsNewest e x sorts.Lock last (Some f) → SomeLock e x
+pub some_lock : (e : Entries) (x : Cell) (f : Ts × Item) → IsNewest e x Sort.Lock last (Some f) → SomeLock e x
 some_lock e x f h = let low = h.0 in (f.0.0, omega arith, ap (λ o. is_some (primary_of o)) h.1 ∙ lock_item f.1 h.2)
 
 -- a newest write record from s on is one from s on
-pub later_write : (e : Entries) (x : Cell) (s : ℕ) (f : Ts × Item) → IsNewest e x sorts.Write last (Some f) → s ≤ f.0.0 → SomeWriteFrom e x s
+pub later_write : (e : Entries) (x : Cell) (s : ℕ) (f : Ts × Item) → IsNewest e x Sort.Write last (Some f) → s ≤ f.0.0 → SomeWriteFrom e x s
 later_write e x s f h le = let low = h.0 in (f.0.0, le, omega arith, ap (λ o. is_some (start_of o)) h.1 ∙ write_item f.1 h.2)
 
 -- where the newest lock is there, a lock stands
-pub lock_if : (e : Entries) (x : Cell) (o : Option (Ts × Item)) → IsNewest e x sorts.Lock last o → is_some o ≡ true → SomeLock e x
+pub lock_if : (e : Entries) (x : Cell) (o : Option (Ts × Item)) → IsNewest e x Sort.Lock last o → is_some o ≡ true → SomeLock e x
 lock_if e x None h is = cc
 lock_if e x (Some f) h is = some_lock e x f h

@@ -5,7 +5,6 @@ use Rattle.pb_base.specs.declared.cell.Cell.{Cell}
 use Rattle.pb_base.specs.declared.content.Revision.{Revision}
 use Rattle.pb_base.specs.declared.names.Ts.{Ts}
 use Rattle.pb_steps.specs.declared.step.Answer.{Answer}
-use Rattle.pb_steps.specs.declared.step.Answer.TheVariants.{Absent}
 use Rattle.pb_steps.specs.Phases.{is_reading}
 use Rattle.pb_steps.specs.Reads.{read_up_to, found_answer}
 use Rattle.pb_steps.specs.State.{StateOf, TransactionOf, with_transaction}
@@ -19,7 +18,7 @@ case_found : (old : StateOf) (seat : ℕ) (s : Ts) (x : Cell) (at : Option Ts) (
 case_found old seat s x None v new m = m
 case_found old seat s x (Some t) v new m = m
 
-case_absent : (old : StateOf) (seat : ℕ) (s : Ts) (x : Cell) (at : Option Ts) (new : StateOf) → ReadsAbsent old seat s.0 x at new → StepCase old seat (read_step s x at) Absent new
+case_absent : (old : StateOf) (seat : ℕ) (s : Ts) (x : Cell) (at : Option Ts) (new : StateOf) → ReadsAbsent old seat s.0 x at new → StepCase old seat (read_step s x at) Answer.Absent new
 case_absent old seat s x None new m = m
 case_absent old seat s x (Some t) new m = m
 
@@ -39,7 +38,7 @@ module _ (old new : StateOf) (seat : ℕ) (start : Ts) (x : Cell) (at : Option T
         taken = case_found old seat start x at v new (record { t = t; own = own; reading = may.0; in_time = may.1; unlocked = unlocked; version = version; new_is = subst (λ b. new ≡ with_transaction old start.0 (with_read t x at b)) is put });
       })
 
-  pub absent : a ≡ Absent → NoVersion old.entries x (read_up_to start.0 at) → TableStep old seat (read_step start x at) a new
+  pub absent : a ≡ Answer.Absent → NoVersion old.entries x (read_up_to start.0 at) → TableStep old seat (read_step start x at) a new
   absent is none =
       let may = may_read old seat start x at t allowed own in
       subst (λ b. TableStep old seat (read_step start x at) b new) (sym is) (record {

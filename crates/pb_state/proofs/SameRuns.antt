@@ -1,6 +1,5 @@
 -- Whether a run is one of a program, a record and a start, by its tests in turn.
-use Rattle.std.proofs.Common.{◌≡◌, ◌↔◌, ℕ, not, ◌==◌, Bool, true, false, ◌&&◌, List, refl, sym, ap, ◌∙◌}
-use Rattle.std.specs.Prelude.{IsTrue}
+use Rattle.std.proofs.Common.{◌≡◌, ◌↔◌, ℕ, not, ◌==◌, Bool, true, false, ◌&&◌, List, refl, sym, ap, ◌∙◌, IsTrue}
 use Rattle.std.specs.Coded.{Coded, coded_ℕ, coded_list}
 use Rattle.std.proofs.lemmas.Bool.{false_from_ne_true as not_true}
 use Rattle.pb_base.specs.Same.{same, same_is, is_same}
@@ -26,16 +25,16 @@ true_and a b c e h = h ∙ ap (λ z. z && b) (sym e)
 
 module _ (f : Meant) (p : JudgedOf) (bytes : List ℕ) (s : ℕ) where
   pub other_program : (f.judged ≡ p → ⊥) → false ≡ is_made_of p bytes s f
-  other_program h = let no = sym (differ judged_code f.judged p h) in (λ i. no i && same (coded_list coded_ℕ) f.bytes bytes && (f.began == s))
+  other_program h = let no = sym (differ judged_code f.judged p h) in (λ i. no i && same (coded_list coded_ℕ) f.bytes bytes && (f.start == s))
 
   pub other_record : f.judged ≡ p → (f.bytes ≡ bytes → ⊥) → false ≡ is_made_of p bytes s f
   other_record e h =
       let one = sym (is_same judged_code f.judged p e) in
       let no = sym (differ (coded_list coded_ℕ) f.bytes bytes h) in
-      (λ i. one i && no i && (f.began == s))
+      (λ i. one i && no i && (f.start == s))
 
-  pub by_start : f.judged ≡ p → f.bytes ≡ bytes → (b : Bool) → b ≡ (f.began == s) → b ≡ is_made_of p bytes s f
+  pub by_start : f.judged ≡ p → f.bytes ≡ bytes → (b : Bool) → b ≡ (f.start == s) → b ≡ is_made_of p bytes s f
   by_start e h b is =
       let one = sym (is_same judged_code f.judged p e) in
       let two = sym (is_same (coded_list coded_ℕ) f.bytes bytes h) in
-      is ∙ (λ i. one i && two i && (f.began == s))
+      is ∙ (λ i. one i && two i && (f.start == s))

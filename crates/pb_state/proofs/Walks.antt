@@ -1,6 +1,5 @@
 -- A walk along marked cells.
-use Rattle.std.specs.Prelude.{ℕ, List, [], ◌∷◌, Option}
-use Rattle.std.proofs.Common.{zero, suc}
+use Rattle.std.proofs.Common.{zero, suc, ℕ, List, [], ◌∷◌, Option}
 use Rattle.pb_base.specs.declared.cell.Cell.{Cell}
 use Rattle.pb_store.specs.Contents.{ComesAfter}
 

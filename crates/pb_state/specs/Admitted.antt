@@ -4,8 +4,7 @@ use Rattle.std.specs.FinMap as map
 use Rattle.pb_base.specs.declared.refusal.Reason.{Reason}
 use Rattle.pb_base.specs.Batch.{content_in, primary_in}
 use Rattle.pb_steps.specs.declared.step.Step.{Step}
-use Rattle.pb_steps.specs.declared.step.Step.TheVariants as steps
-use Rattle.pb_steps.specs.declared.phase.Phase.TheVariants as phases
+use Rattle.pb_steps.specs.declared.phase.Phase.{Phase}
 use Rattle.pb_steps.specs.State.{StateOf, TransactionOf, Transactions}
 use Rattle.pb_steps.specs.Reasons.{IsOwn}
 use Rattle.pb_steps.specs.Read.{read_step}
@@ -13,7 +12,6 @@ use Rattle.pb_steps.specs.Steps.{step_reason}
 use Rattle.pb_state.specs.Cells.{acknowledgment_by}
 use Rattle.pb_state.specs.declared.admitted.TransactionAt.{TransactionAt}
 use Rattle.pb_state.specs.declared.admitted.Admitted.{Admitted}
-use Rattle.pb_state.specs.declared.admitted.Admitted.TheVariants.{Begin, Read, Declare, Prewrite, Stamp, CommitPrimary, CommitSecondary, Settle, Clear, NextMark, Sweep}
 
 -- the transaction stands there, in the order of starts
 abbrev pub StandsAt : Transactions → TransactionAt → TransactionOf → Type 0
@@ -26,26 +24,26 @@ pub record IsFound (s : StateOf) (seat : ℕ) (at : TransactionAt) (t : Transact
 
 -- the step, without what was found
 abbrev pub step_of : Admitted → Step
-step_of (Begin work) = steps.Begin work
-step_of (Read by x at) = read_step by.start x at
-step_of (Declare by what ack) = steps.Declare by.start what.now
-step_of (Prewrite by x content primary) = steps.Prewrite by.start x
-step_of (Stamp by) = steps.Stamp by.start
-step_of (CommitPrimary by commit primary) = steps.CommitPrimary by.start
-step_of (CommitSecondary start x commit) = steps.CommitSecondary start x
-step_of (Settle x) = steps.Settle x
-step_of (Clear x) = steps.Clear x
-step_of (NextMark after) = steps.NextMark after
-step_of (Sweep x) = steps.Sweep x
+step_of (Admitted.Begin work) = Step.Begin work
+step_of (Admitted.Read by x at) = read_step by.start x at
+step_of (Admitted.Declare by what ack) = Step.Declare by.start what.now
+step_of (Admitted.Prewrite by x content primary) = Step.Prewrite by.start x
+step_of (Admitted.Stamp by) = Step.Stamp by.start
+step_of (Admitted.CommitPrimary by commit primary) = Step.CommitPrimary by.start
+step_of (Admitted.CommitSecondary start x commit) = Step.CommitSecondary start x
+step_of (Admitted.Settle x) = Step.Settle x
+step_of (Admitted.Clear x) = Step.Clear x
+step_of (Admitted.NextMark after) = Step.NextMark after
+step_of (Admitted.Sweep x) = Step.Sweep x
 
 -- what was found is what the seat's transaction has
 abbrev pub Finds : StateOf → ℕ → Admitted → Type 0
-Finds s seat (Read by x at) = (t : TransactionOf) × IsFound s seat by t
-Finds s seat (Declare by what ack) = (t : TransactionOf) × IsFound s seat by t × (ack ≡ acknowledgment_by s.observers t.work)
-Finds s seat (Prewrite by x content primary) = (t : TransactionOf) × IsFound s seat by t × (content_in t.declared x ≡ Some content) × (primary_in t.declared ≡ Some primary)
-Finds s seat (Stamp by) = (t : TransactionOf) × IsFound s seat by t
-Finds s seat (CommitPrimary by commit primary) = (t : TransactionOf) × IsFound s seat by t × (t.phase ≡ phases.Stamped commit) × (primary_in t.declared ≡ Some primary)
-Finds s seat (CommitSecondary start x commit) = (t : TransactionOf) × IsOwn s seat start.0 t × (t.phase ≡ phases.Committed commit)
+Finds s seat (Admitted.Read by x at) = (t : TransactionOf) × IsFound s seat by t
+Finds s seat (Admitted.Declare by what ack) = (t : TransactionOf) × IsFound s seat by t × (ack ≡ acknowledgment_by s.observers t.work)
+Finds s seat (Admitted.Prewrite by x content primary) = (t : TransactionOf) × IsFound s seat by t × (content_in t.declared x ≡ Some content) × (primary_in t.declared ≡ Some primary)
+Finds s seat (Admitted.Stamp by) = (t : TransactionOf) × IsFound s seat by t
+Finds s seat (Admitted.CommitPrimary by commit primary) = (t : TransactionOf) × IsFound s seat by t × (t.phase ≡ Phase.Stamped commit) × (primary_in t.declared ≡ Some primary)
+Finds s seat (Admitted.CommitSecondary start x commit) = (t : TransactionOf) × IsOwn s seat start.0 t × (t.phase ≡ Phase.Committed commit)
 Finds s seat _ = Unit {0}
 
 -- the step isn't refused, and what was found is what the state has

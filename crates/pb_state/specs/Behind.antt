@@ -2,7 +2,6 @@
 -- late on the newest commit is that all are up to date with each.
 use Rattle.std.specs.Prelude.{◌≡◌, ℕ, ◌<◌, ◌≤◌, List, Option, Some, slice_get}
 use Rattle.pb_base.specs.declared.cell.Cell.{Cell}
-use Rattle.pb_base.specs.declared.cell.Cell.TheVariants.{Ack}
 use Rattle.pb_base.specs.declared.names.Row.{Row}
 use Rattle.pb_base.specs.declared.content.Revision.{Revision}
 use Rattle.pb_store.specs.Contents.{Entries}
@@ -16,11 +15,11 @@ IsNewestStamp e ack a = (v : Option Revision) × IsNewestVersion e ack v × (a �
 
 -- it is one of the column, and has acknowledged less than this commit
 abbrev pub IsLate : Entries → Row → ℕ → ℕ → ObserverOf → ℕ → Type 0
-IsLate e row column commit observer p = (observer.column ≡ column) × (a : ℕ) × IsNewestStamp e (Ack p row column) a × (a < commit)
+IsLate e row column commit observer p = (observer.column ≡ column) × (a : ℕ) × IsNewestStamp e (Cell.Ack p row column) a × (a < commit)
 
 -- if it is one of the column, it has acknowledged this commit
 abbrev pub IsOnTime : Entries → Row → ℕ → ℕ → ObserverOf → ℕ → Type 0
-IsOnTime e row column commit observer p = observer.column ≡ column → (a : ℕ) × IsNewestStamp e (Ack p row column) a × (commit ≤ a)
+IsOnTime e row column commit observer p = observer.column ≡ column → (a : ℕ) × IsNewestStamp e (Cell.Ack p row column) a × (commit ≤ a)
 
 -- one of these observers is late
 abbrev pub SomeLate : Entries → Row → ℕ → ℕ → List ObserverOf → Type 0

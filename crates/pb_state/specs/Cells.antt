@@ -1,29 +1,26 @@
 -- What a transaction keeps of what it has declared: the writes that its form stands for.
 use Rattle.std.specs.Prelude.{List, [], ◌∷◌, Option, None, slice_get}
 use Rattle.pb_base.specs.declared.cell.Cell.{Cell}
-use Rattle.pb_base.specs.declared.content.Content.TheVariants.{Stamp}
+use Rattle.pb_base.specs.declared.content.Content.{Content}
 use Rattle.pb_base.specs.Batch.{Writes}
 use Rattle.pb_steps.specs.declared.step.Declared.{Declared}
-use Rattle.pb_steps.specs.declared.step.Declared.TheVariants as declared
 use Rattle.pb_steps.specs.State.{batch_in}
 use Rattle.pb_steps.specs.declared.step.Work.{Work}
-use Rattle.pb_steps.specs.declared.step.Work.TheVariants as works
 use Rattle.pb_verify.specs.Observers.{ObserverOf, acknowledgment_at}
 use Rattle.pb_state.specs.declared.cells.Cells.{Cells}
-use Rattle.pb_state.specs.declared.cells.Cells.TheVariants.{Nothing, Batch, Run}
 
 -- what a run's program writes
 abbrev pub run_writes : Declared → Writes
-run_writes (declared.Script batch) = []
-run_writes (declared.Run o f) = f.writes
+run_writes (Declared.Script batch) = []
+run_writes (Declared.Run o f) = f.writes
 
 -- a run's acknowledgment comes first, since that is its primary
 abbrev pub cells_in : Cells → Writes
-cells_in Nothing = []
-cells_in (Batch what) = batch_in what
-cells_in (Run x s what) = (x, Stamp s) ∷ run_writes what
+cells_in Cells.Nothing = []
+cells_in (Cells.Batch what) = batch_in what
+cells_in (Cells.Run x s what) = (x, Content.Stamp s) ∷ run_writes what
 
 -- the acknowledgment of a run, where there is its observer
 abbrev pub acknowledgment_by : List ObserverOf → Work → Option Cell
-acknowledgment_by observers works.Script = None
-acknowledgment_by observers (works.Run o row) = acknowledgment_at (slice_get observers o) o row
+acknowledgment_by observers Work.Script = None
+acknowledgment_by observers (Work.Run o row) = acknowledgment_at (slice_get observers o) o row

@@ -174,7 +174,7 @@ fn is_made_of(finished: &Finished, program: &Accepted, change: &Record, start: T
     if !finished.record().is_same(change) {
         return false;
     }
-    finished.run() == start
+    finished.start() == start
 }
 
 // Whether a program is told what its cell held at the acknowledged timestamp.

@@ -2,9 +2,9 @@
 -- 2.2). Where one is gone, it was replaced by whoever cleared it.
 use Rattle.std.specs.Prelude.{◌≡◌, ℕ, Bool, true, not, if◌then◌else◌, [], ◌∷◌, is_none, is_some}
 use Rattle.pb_base.specs.declared.cell.Cell.{Cell}
-use Rattle.pb_base.specs.declared.refusal.Reason.TheVariants.{WrongPhase, NotDeclared}
+use Rattle.pb_base.specs.declared.refusal.Reason.{Reason}
 use Rattle.pb_base.specs.Batch.{content_in}
-use Rattle.pb_steps.specs.declared.phase.Phase.TheVariants as phases
+use Rattle.pb_steps.specs.declared.phase.Phase.{Phase}
 use Rattle.pb_steps.specs.Phases.{is_committed}
 use Rattle.pb_steps.specs.State.{StateOf, TransactionOf}
 use Rattle.pb_steps.specs.Readings.{lock_at}
@@ -13,7 +13,7 @@ use Rattle.pb_steps.specs.Reasons.{Reasons, IsOwn}
 
 -- not committed yet, since the primary decides; then a cell that isn't one of its own
 abbrev pub secondary_reasons : Cell → TransactionOf → Reasons
-secondary_reasons x t = (WrongPhase, not (is_committed t.phase)) ∷ (NotDeclared, is_none (content_in t.declared x)) ∷ []
+secondary_reasons x t = (Reason.WrongPhase, not (is_committed t.phase)) ∷ (Reason.NotDeclared, is_none (content_in t.declared x)) ∷ []
 
 -- the lock of s on x becomes its write record, if it is there
 abbrev pub if_locked : StateOf → Bool → Cell → ℕ → ℕ → StateOf
@@ -24,6 +24,6 @@ pub record CommitsSecondary (old : StateOf) (seat s : ℕ) (x : Cell) (new : Sta
   pub t : TransactionOf
   pub own : IsOwn old seat s t
   pub c : ℕ
-  pub committed : t.phase ≡ phases.Committed (record { 0 = c })
+  pub committed : t.phase ≡ Phase.Committed (record { 0 = c })
   pub declares : is_some (content_in t.declared x) ≡ true
   pub new_is : new ≡ if_locked old (is_some (lock_at old.entries x s)) x s c

@@ -3,15 +3,15 @@
 use Rattle.std.specs.Prelude.{ℕ}
 use Rattle.std.specs.FinMap as map
 use Rattle.pb_base.specs.declared.cell.Cell.{Cell}
-use Rattle.pb_store.specs.declared.slot.Item.TheVariants as items
-use Rattle.pb_store.specs.declared.slot.Sort.TheVariants as sorts
+use Rattle.pb_store.specs.declared.slot.Item.{Item}
+use Rattle.pb_store.specs.declared.slot.Sort.{Sort}
 use Rattle.pb_store.specs.Contents.{Entries, slot_at}
 use Rattle.pb_steps.specs.State.{StateOf}
 use Rattle.pb_steps.specs.Marks.{with_mark}
 
 -- the lock of s on x becomes the write record c
 abbrev pub commit_lock : Entries → Cell → ℕ → ℕ → Entries
-commit_lock e x s c = map.insert (map.remove e (slot_at x sorts.Lock s)) (slot_at x sorts.Write c) (items.Write (record { 0 = s }))
+commit_lock e x s c = map.insert (map.remove e (slot_at x Sort.Lock s)) (slot_at x Sort.Write c) (Item.Write (record { 0 = s }))
 
 -- every write record is put so, and marks its cell where it has observers (OSDI 2010, section 2.4)
 abbrev pub commits : StateOf → Cell → ℕ → ℕ → StateOf
@@ -19,7 +19,7 @@ commits old x s c = record old { entries = commit_lock old.entries x s c; marks 
 
 -- lock and data of s on x go
 abbrev pub erase_lock : Entries → Cell → ℕ → Entries
-erase_lock e x s = map.remove (map.remove e (slot_at x sorts.Lock s)) (slot_at x sorts.Data s)
+erase_lock e x s = map.remove (map.remove e (slot_at x Sort.Lock s)) (slot_at x Sort.Data s)
 
 -- no cell is marked, since nothing was committed
 abbrev pub rolls_back : StateOf → Cell → ℕ → StateOf

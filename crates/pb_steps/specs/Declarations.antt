@@ -20,17 +20,15 @@ use Rattle.pb_helpers.specs.OldRecord.{tells_old, record_by}
 use Rattle.pb_steps.specs.declared.seen.RecordedRead.{RecordedRead}
 use Rattle.pb_steps.specs.declared.seen.Seen.{Seen}
 use Rattle.pb_steps.specs.declared.step.Work.{Work}
-use Rattle.pb_steps.specs.declared.step.Work.TheVariants as works
 use Rattle.pb_steps.specs.declared.step.Declared.{Declared}
-use Rattle.pb_steps.specs.declared.step.Declared.TheVariants as declared
 use Rattle.pb_steps.specs.Reads.{asked_cell, version_in, acknowledged_in, value_in, value_code}
 use Rattle.pb_verify.specs.Observers.{ObserverOf, observed_cell, acknowledgment}
 
 -- what every declaration is: a script's writes are a batch; a run is its program's meaning, and writes nothing or what a
 -- batch could
 abbrev pub IsKnown : Declared → Type 0
-IsKnown (declared.Script batch) = is_batch batch ≡ true
-IsKnown (declared.Run o f) = IsMeant f × AreRunWrites f.writes
+IsKnown (Declared.Script batch) = is_batch batch ≡ true
+IsKnown (Declared.Run o f) = IsMeant f × AreRunWrites f.writes
 
 -- ---- as a relation
 
@@ -79,13 +77,13 @@ pub record IsItsRun (observers : List ObserverOf) (p : ℕ) (row : Row) (s : ℕ
   pub newer : seen.acknowledged.0 < seen.version.commit.0
   pub program : f.judged ≡ observer.program
   pub bytes : f.bytes ≡ record_by (tells_old observer.program) (observed_cell observers p row) seen.version seen.acknowledged.0 seen.old
-  pub began : f.began ≡ s
+  pub start : f.start ≡ s
   pub replied : AreReplies asked f.talk
 
 -- a transaction with this work, start and reads may declare it
 abbrev pub MayDeclare : List ObserverOf → Work → ℕ → List RecordedRead → Declared → Type 0
-MayDeclare observers works.Script s reads (declared.Script batch) = Unit {0}
-MayDeclare observers (works.Run p row) s reads (declared.Run o f) = (o ≡ p) × IsItsRun observers p row s reads f
+MayDeclare observers Work.Script s reads (Declared.Script batch) = Unit {0}
+MayDeclare observers (Work.Run p row) s reads (Declared.Run o f) = (o ≡ p) × IsItsRun observers p row s reads f
 MayDeclare observers _ s reads _ = ⊥
 
 -- ---- as a test
@@ -134,7 +132,7 @@ are_replies _ _ = false
 
 -- a run of this program on this record from this start
 abbrev pub is_made_of : JudgedOf → List ℕ → ℕ → Meant → Bool
-is_made_of program bytes s f = same judged_code f.judged program && same (coded_list coded_ℕ) f.bytes bytes && (f.began == s)
+is_made_of program bytes s f = same judged_code f.judged program && same (coded_list coded_ℕ) f.bytes bytes && (f.start == s)
 
 -- the change is newer than the acknowledgment, and the run is of this program on the record of what was seen, with the
 -- replies that were read
@@ -155,6 +153,6 @@ is_run_of observers p row s reads f = is_run_by (slice_get observers p) (observe
 
 -- whether the declaration is one of a transaction with this work, start and reads
 abbrev pub is_its : List ObserverOf → Work → ℕ → List RecordedRead → Declared → Bool
-is_its observers works.Script s reads (declared.Script batch) = true
-is_its observers (works.Run p row) s reads (declared.Run o f) = (o == p) && is_run_of observers p row s reads f
+is_its observers Work.Script s reads (Declared.Script batch) = true
+is_its observers (Work.Run p row) s reads (Declared.Run o f) = (o == p) && is_run_of observers p row s reads f
 is_its observers _ s reads _ = false

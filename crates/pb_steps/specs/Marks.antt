@@ -4,7 +4,6 @@ use Rattle.std.specs.Prelude.{◌≡◌, ℕ, ◌<◌, ◌≤◌, Bool, true, fa
 use Rattle.std.specs.List.{list_any}
 use Rattle.std.specs.FinMap as map
 use Rattle.pb_base.specs.declared.cell.Cell.{Cell}
-use Rattle.pb_base.specs.declared.cell.Cell.TheVariants.{Data, Ack}
 use Rattle.pb_base.specs.declared.names.Row.{Row}
 use Rattle.pb_base.specs.declared.content.Revision.{Revision}
 use Rattle.pb_store.specs.Contents.{Entries, Marks}
@@ -16,8 +15,8 @@ use Rattle.pb_steps.specs.Readings.{write_at, last_timestamp, IsVersion, IsNewes
 
 -- a data cell whose column has an observer
 abbrev pub is_observed : List ObserverOf → Cell → Bool
-is_observed observers (Data row column) = list_any (λ o. o.column == column) observers
-is_observed observers (Ack o row column) = false
+is_observed observers (Cell.Data row column) = list_any (λ o. o.column == column) observers
+is_observed observers (Cell.Ack o row column) = false
 
 -- a write record to an observed cell marks it
 abbrev pub with_mark : List ObserverOf → Marks → Cell → Marks
@@ -39,29 +38,29 @@ pub record Acknowledges (observers : List ObserverOf) (e : Entries) (row : Row) 
   pub observer : ObserverOf
   pub there : slice_get observers p ≡ Some observer
   pub observes : observer.column ≡ column
-  pub newest : IsNewestVersion e (Ack p row column) acknowledged
+  pub newest : IsNewestVersion e (Cell.Ack p row column) acknowledged
 
 -- the newest commit of the cell is above what the observer has acknowledged
 pub record IsBehind (observers : List ObserverOf) (e : Entries) (row : Row) (column p : ℕ) : Type 0 where
   pub version : Revision
-  pub newest : IsVersion e (Data row column) last_timestamp version
+  pub newest : IsVersion e (Cell.Data row column) last_timestamp version
   pub acknowledged : Option Revision
   pub acknowledges : Acknowledges observers e row column p acknowledged
   pub newer : stamp_in acknowledged < version.commit.0
 
 -- an observer is behind on the cell; on an acknowledgment none is, since no observer's column has any
 abbrev pub SomeBehind : List ObserverOf → Entries → Cell → Type 0
-SomeBehind observers e (Data row column) = (p : ℕ) × IsBehind observers e row column p
-SomeBehind observers e (Ack o row column) = ⊥
+SomeBehind observers e (Cell.Data row column) = (p : ℕ) × IsBehind observers e row column p
+SomeBehind observers e (Cell.Ack o row column) = ⊥
 
 -- the observer of this number, if it is one of the column, has acknowledged every commit of the cell
 abbrev pub IsUpToDate : List ObserverOf → Entries → Row → ℕ → ℕ → Type 0
 IsUpToDate observers e row column p =
     (observer : ObserverOf) → slice_get observers p ≡ Some observer → observer.column ≡ column
-    → (c : ℕ) → c ≤ last_timestamp → is_some (write_at e (Data row column) c) ≡ true
-    → (acknowledged : Option Revision) × IsNewestVersion e (Ack p row column) acknowledged × (c ≤ stamp_in acknowledged)
+    → (c : ℕ) → c ≤ last_timestamp → is_some (write_at e (Cell.Data row column) c) ≡ true
+    → (acknowledged : Option Revision) × IsNewestVersion e (Cell.Ack p row column) acknowledged × (c ≤ stamp_in acknowledged)
 
 -- every observer of the cell's column is up to date, so that its mark may go
 abbrev pub AllUpToDate : List ObserverOf → Entries → Cell → Type 0
-AllUpToDate observers e (Data row column) = (p : ℕ) → IsUpToDate observers e row column p
-AllUpToDate observers e (Ack o row column) = Unit {0}
+AllUpToDate observers e (Cell.Data row column) = (p : ℕ) → IsUpToDate observers e row column p
+AllUpToDate observers e (Cell.Ack o row column) = Unit {0}

@@ -5,13 +5,13 @@ use Rattle.std.specs.Ordering.{eq_by_cmp}
 use Rattle.std.specs.FinMap as map
 use Rattle.pb_base.specs.declared.cell.Cell.{Cell}
 use Rattle.pb_base.specs.declared.content.Content.{Content}
-use Rattle.pb_base.specs.declared.refusal.Reason.TheVariants.{WrongPhase, NotDeclared, AlreadyPrewritten}
+use Rattle.pb_base.specs.declared.refusal.Reason.{Reason}
 use Rattle.pb_base.specs.Cell.{cell_cmp}
 use Rattle.pb_base.specs.Batch.{content_in, primary_in}
-use Rattle.pb_store.specs.declared.slot.Item.TheVariants as items
-use Rattle.pb_store.specs.declared.slot.Sort.TheVariants as sorts
+use Rattle.pb_store.specs.declared.slot.Item.{Item}
+use Rattle.pb_store.specs.declared.slot.Sort.{Sort}
 use Rattle.pb_store.specs.Contents.{Entries, slot_at}
-use Rattle.pb_steps.specs.declared.phase.Phase.TheVariants as phases
+use Rattle.pb_steps.specs.declared.phase.Phase.{Phase}
 use Rattle.pb_steps.specs.Phases.{is_declared}
 use Rattle.pb_steps.specs.State.{StateOf, TransactionOf, with_transaction, is_in}
 use Rattle.pb_steps.specs.Readings.{NoLock, SomeLock, NoWriteFrom, SomeWriteFrom}
@@ -29,11 +29,11 @@ is_early t x = is_before_primary (primary_in t.declared) t.prewritten x
 -- another phase or too early; a cell that it didn't declare; one that it has prewritten
 abbrev pub prewrite_reasons : Cell → TransactionOf → Reasons
 prewrite_reasons x t =
-    (WrongPhase, not (is_declared t.phase) || is_early t x) ∷ (NotDeclared, is_none (content_in t.declared x)) ∷ (AlreadyPrewritten, is_in t.prewritten x) ∷ []
+    (Reason.WrongPhase, not (is_declared t.phase) || is_early t x) ∷ (Reason.NotDeclared, is_none (content_in t.declared x)) ∷ (Reason.AlreadyPrewritten, is_in t.prewritten x) ∷ []
 
 -- data and lock of s at x
 abbrev pub put_lock : Entries → Cell → ℕ → Content → Cell → Entries
-put_lock e x s content primary = map.insert (map.insert e (slot_at x sorts.Data s) (items.Data content)) (slot_at x sorts.Lock s) (items.Lock primary)
+put_lock e x s content primary = map.insert (map.insert e (slot_at x Sort.Data s) (Item.Data content)) (slot_at x Sort.Lock s) (Item.Lock primary)
 
 -- neither a lock nor a later write record stands on x: data and lock are put there
 pub record Prewrites (old : StateOf) (seat s : ℕ) (x : Cell) (new : StateOf) : Type 0 where
@@ -59,4 +59,4 @@ pub record Conflicts (old : StateOf) (seat s : ℕ) (x : Cell) (new : StateOf) :
   pub own : IsOwn old seat s t
   pub phase : is_declared t.phase ≡ true
   pub why : SomeLock old.entries x ⊎ SomeWriteFrom old.entries x s
-  pub new_is : new ≡ with_transaction old s (record t { phase = phases.Failed })
+  pub new_is : new ≡ with_transaction old s (record t { phase = Phase.Failed })

@@ -7,37 +7,35 @@ use Rattle.pb_base.specs.declared.content.Content.{Content}
 use Rattle.pb_base.specs.declared.content.Revision.{Revision}
 use Rattle.pb_base.specs.declared.names.Ts.{Ts}
 use Rattle.pb_store.specs.declared.slot.Item.{Item}
-use Rattle.pb_store.specs.declared.slot.Item.TheVariants as items
 use Rattle.pb_store.specs.declared.slot.Sort.{Sort}
-use Rattle.pb_store.specs.declared.slot.Sort.TheVariants as sorts
 use Rattle.pb_store.specs.Contents.{Entries, slot_at}
 
 -- the content of an item that is data
 abbrev pub data_of : Option Item → Option Content
-data_of (Some (items.Data c)) = Some c
+data_of (Some (Item.Data c)) = Some c
 data_of _ = None
 
 -- the primary that an item names which is a lock
 abbrev pub primary_of : Option Item → Option Cell
-primary_of (Some (items.Lock p)) = Some p
+primary_of (Some (Item.Lock p)) = Some p
 primary_of _ = None
 
 -- the start that an item names which is a write record
 abbrev pub start_of : Option Item → Option ℕ
-start_of (Some (items.Write s)) = Some s.0
+start_of (Some (Item.Write s)) = Some s.0
 start_of _ = None
 
 -- the data that start s wrote at x
 abbrev pub data_at : Entries → Cell → ℕ → Option Content
-data_at e x s = data_of (map.get e (slot_at x sorts.Data s))
+data_at e x s = data_of (map.get e (slot_at x Sort.Data s))
 
 -- the primary named by the lock of start s on x
 abbrev pub lock_at : Entries → Cell → ℕ → Option Cell
-lock_at e x s = primary_of (map.get e (slot_at x sorts.Lock s))
+lock_at e x s = primary_of (map.get e (slot_at x Sort.Lock s))
 
 -- the start named by the write record of commit c at x
 abbrev pub write_at : Entries → Cell → ℕ → Option ℕ
-write_at e x c = start_of (map.get e (slot_at x sorts.Write c))
+write_at e x c = start_of (map.get e (slot_at x Sort.Write c))
 
 -- no lock of a start at most s stands on x
 abbrev pub NoLockUpTo : Entries → Cell → ℕ → Type 0
@@ -92,9 +90,9 @@ SomeWriteFrom e x s = (c : ℕ) × (s ≤ c) × (c < 2 ^ 64) × (is_some (write_
 
 -- the entry's sort is that of locks
 abbrev pub is_lock : Sort → Bool
-is_lock sorts.Data = false
-is_lock sorts.Lock = true
-is_lock sorts.Write = false
+is_lock Sort.Data = false
+is_lock Sort.Lock = true
+is_lock Sort.Write = false
 
 -- how many locks stand
 abbrev pub lock_count : Entries → ℕ

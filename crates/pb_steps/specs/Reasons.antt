@@ -2,7 +2,6 @@
 use Rattle.std.specs.Prelude.{◌≡◌, ℕ, Bool, true, not, ◌==◌, nat_lt, if◌then◌else◌, List, [], ◌∷◌, Option, Some, None}
 use Rattle.std.specs.FinMap as map
 use Rattle.pb_base.specs.declared.refusal.Reason.{Reason}
-use Rattle.pb_base.specs.declared.refusal.Reason.TheVariants.{NotOfSeat}
 use Rattle.pb_steps.specs.State.{StateOf, TransactionOf}
 use Rattle.pb_steps.specs.Readings.{last_timestamp}
 
@@ -25,7 +24,7 @@ no_seat s seat = not (nat_lt seat s.seats)
 
 -- what names no transaction asks for a seat of the table alone
 abbrev pub seat_reasons : StateOf → ℕ → Reasons
-seat_reasons s seat = (NotOfSeat, no_seat s seat) ∷ []
+seat_reasons s seat = (Reason.NotOfSeat, no_seat s seat) ∷ []
 
 -- the transaction of this start is there, and is one of this seat
 pub record IsOwn (s : StateOf) (seat start : ℕ) (t : TransactionOf) : Type 0 where
@@ -43,7 +42,7 @@ own_transaction s seat start = if no_seat s seat then None else if_of_seat seat 
 
 -- without a transaction the one reason, and else what is asked of it
 abbrev pub reasons_of : Option TransactionOf → (TransactionOf → Reasons) → Reasons
-reasons_of None why = (NotOfSeat, true) ∷ []
+reasons_of None why = (Reason.NotOfSeat, true) ∷ []
 reasons_of (Some t) why = why t
 
 -- a step that names a start is refused where that isn't one of the seat's transactions, and else for that one's reasons

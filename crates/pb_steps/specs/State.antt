@@ -7,17 +7,14 @@ use Rattle.std.specs.List.{list_any}
 use Rattle.std.specs.Ordering.{nat_cmp, eq_by_cmp}
 use Rattle.std.specs.FinMap as map
 use Rattle.pb_base.specs.declared.cell.Cell.{Cell}
-use Rattle.pb_base.specs.declared.content.Content.TheVariants as contents
+use Rattle.pb_base.specs.declared.content.Content.{Content}
 use Rattle.pb_base.specs.Cell.{cell_cmp}
 use Rattle.pb_base.specs.Batch.{Writes}
 use Rattle.pb_store.specs.Contents.{Entries, Marks}
 use Rattle.pb_steps.specs.declared.step.Work.{Work}
-use Rattle.pb_steps.specs.declared.step.Work.TheVariants as works
 use Rattle.pb_steps.specs.declared.step.Declared.{Declared}
-use Rattle.pb_steps.specs.declared.step.Declared.TheVariants as declared
 use Rattle.pb_steps.specs.declared.seen.RecordedRead.{RecordedRead}
 use Rattle.pb_steps.specs.declared.phase.Phase.{Phase}
-use Rattle.pb_steps.specs.declared.phase.Phase.TheVariants as phases
 use Rattle.pb_base.specs.contracts.cell.Cell as cell
 use Rattle.pb_base.specs.contracts.content.Content as content
 use Rattle.pb_store.specs.contracts.slot.Slot as slot
@@ -56,7 +53,7 @@ opening observers seats last = record { entries = map.empty; marks = map.empty; 
 
 -- a transaction as it begins
 abbrev pub new_transaction : ℕ → Work → TransactionOf
-new_transaction seat w = record { seat = seat; work = w; phase = phases.Reading; reads = []; declared = []; prewritten = [] }
+new_transaction seat w = record { seat = seat; work = w; phase = Phase.Reading; reads = []; declared = []; prewritten = [] }
 
 -- the state with this transaction under a start
 abbrev pub with_transaction : StateOf → ℕ → TransactionOf → StateOf
@@ -69,14 +66,14 @@ phase_in s start = option_map (λ t. t.phase) (map.get s.transactions start)
 -- what a declaration writes: a script its batch; a run of start s its acknowledgment, stamped with s, and then the writes
 -- of its program
 abbrev pub cells_of : List ObserverOf → Work → ℕ → Declared → Writes
-cells_of observers work s (declared.Script batch) = batch
-cells_of observers works.Script s (declared.Run o f) = f.writes
-cells_of observers (works.Run p row) s (declared.Run o f) = (acknowledgment observers p row, contents.Stamp (record { 0 = s })) ∷ f.writes
+cells_of observers work s (Declared.Script batch) = batch
+cells_of observers Work.Script s (Declared.Run o f) = f.writes
+cells_of observers (Work.Run p row) s (Declared.Run o f) = (acknowledgment observers p row, Content.Stamp (record { 0 = s })) ∷ f.writes
 
 -- what a script declares
 abbrev pub batch_in : Declared → Writes
-batch_in (declared.Script batch) = batch
-batch_in (declared.Run o f) = []
+batch_in (Declared.Script batch) = batch
+batch_in (Declared.Run o f) = []
 
 -- the cell is in the list
 abbrev pub is_in : List Cell → Cell → Bool

@@ -52,10 +52,7 @@ impl Declared {
         ensures { IsKnown self.now }
     {
         match self {
-            Declared::Script(batch) => {
-                // The call is made for its clauses, by which it is a batch.
-                let _ = batch.len();
-            }
+            Declared::Script(batch) => batch.known(),
             Declared::Run(_, run) => run.get().known(),
         }
     }

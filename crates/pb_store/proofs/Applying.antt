@@ -1,6 +1,5 @@
 -- What an application of edits to one tablet, done or refused, does to all.
-use Rattle.std.proofs.Common.{◌≡◌, ℕ, ◌<◌, List, [], ◌∷◌, refl, sym, ap, ◌∙◌, subst, arith, length, get_or, set, Result, Ok, Err, OnOk, OnErr, false}
-use Rattle.std.specs.Result.{is_err}
+use Rattle.std.proofs.Common.{◌≡◌, ℕ, ◌<◌, List, [], ◌∷◌, refl, sym, ap, ◌∙◌, subst, arith, length, get_or, set, Result, Ok, Err, OnOk, OnErr, false, is_err}
 use Rattle.pb_base.specs.declared.names.Row.{Row}
 use Rattle.pb_store.specs.declared.slot.Edit.{Edit}
 use Rattle.pb_store.specs.Contents.{Contents, after_edits, edit_row, AreOfRow, AreOfOneRow}

@@ -1,12 +1,11 @@
 -- Tablets that hold nothing, side by side.
-use Rattle.std.proofs.Common.{◌≡◌, ℕ, ◌<◌, Bool, true, false, cond, ◌&&◌, ◌==◌, List, [], ◌∷◌, ◌++◌, None, Some, refl, sym, ap, ◌∙◌, subst, arith, is_some, length}
+use Rattle.std.proofs.Common.{◌≡◌, ℕ, ◌<◌, Bool, true, false, cond, ◌&&◌, ◌==◌, List, [], ◌∷◌, ◌++◌, None, Some, refl, sym, ap, ◌∙◌, subst, arith, is_some, length, Ordering}
 use Rattle.std.proofs.lemmas.Bool.Decides.{nat_tests}
-use Rattle.std.specs.declared.cmp.Ordering.{Ordering}
 use Rattle.std.specs.FinMap as map
 use Rattle.pb_base.specs.Cell.{cell_cmp}
 use Rattle.pb_store.specs.Slot.{slot_cmp}
 use Rattle.pb_store.specs.Contents.{Contents, nothing, is_nothing}
-use Rattle.pb_base.specs.declared.refusal.Reason.TheVariants.{NotEmpty, RowsDontRise}
+use Rattle.pb_base.specs.declared.refusal.Reason.{Reason}
 use Rattle.pb_store.specs.Tiles.{Tile, IsTile, AreTiled, IsTiling, IsBelow, all_entries, all_marks, joined, rise, rise_from_zero, all_nothing, table_reason}
 use Rattle.pb_store.proofs.Joined.{joined-entries, joined-marks}
 use Rattle.pb_base.proofs.Logic.{empty_by_length as no_length, right_true, below_true}
@@ -84,6 +83,6 @@ tiling_of_nothing (tile ∷ tiles) r e = record {
 }
 
 -- rows that don't rise from 0 are the reason that is told, whether or not the tablets are empty
-pub refused_unrisen : (tiles : List Tile) → 0 < length tiles → rise_from_zero tiles ≡ false → table_reason tiles ≡ Some RowsDontRise
+pub refused_unrisen : (tiles : List Tile) → 0 < length tiles → rise_from_zero tiles ≡ false → table_reason tiles ≡ Some Reason.RowsDontRise
 refused_unrisen [] lt e = absurd (omega arith)
-refused_unrisen (tile ∷ tiles) lt e = ap (λ b. cond b (cond (all_nothing (tile ∷ tiles)) None (Some NotEmpty)) (Some RowsDontRise)) e
+refused_unrisen (tile ∷ tiles) lt e = ap (λ b. cond b (cond (all_nothing (tile ∷ tiles)) None (Some Reason.NotEmpty)) (Some Reason.RowsDontRise)) e

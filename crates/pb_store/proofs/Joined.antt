@@ -1,7 +1,6 @@
 -- What tablets contain together: look-ups and edits go to the tablet of the row.
-use Rattle.std.proofs.Common.{◌≡◌, ℕ, ◌+◌, ◌<◌, ◌==◌, ◌&&◌, Bool, true, false, List, [], ◌∷◌, ◌++◌, refl, sym, ap, ◌∙◌, subst, arith, zero, suc, length, length-append}
+use Rattle.std.proofs.Common.{◌≡◌, ℕ, ◌+◌, ◌<◌, ◌==◌, ◌&&◌, Bool, true, false, List, [], ◌∷◌, ◌++◌, refl, sym, ap, ◌∙◌, subst, arith, zero, suc, length, length-append, Less}
 use Rattle.std.proofs.lemmas.Bool.Decides.{nat_tests}
-use Rattle.std.specs.declared.cmp.Ordering.TheVariants.{Less}
 use Rattle.std.specs.Ordering.{nat_cmp, ordering_then}
 use Rattle.std.specs.Cmp.{nat_cmp_is}
 use Rattle.std.specs.FinMap as map
@@ -10,7 +9,6 @@ use Rattle.pb_base.specs.Cell.{row_of, column_of, rank_of, cell_cmp, cell_cmp_to
 use Rattle.pb_store.specs.declared.slot.Slot.{Slot}
 use Rattle.pb_store.specs.declared.slot.Item.{Item}
 use Rattle.pb_store.specs.declared.slot.Edit.{Edit}
-use Rattle.pb_store.specs.declared.slot.Edit.TheVariants.{Put, Erase, Mark, Unmark}
 use Rattle.pb_store.specs.Slot.{sort_rank, slot_cmp, slot_cmp_total, slot_cmp-IsAntisymmetric}
 use Rattle.pb_store.specs.Contents.{Contents, Entries, Marks, is_nothing, after_edit, after_edits, edit_row, AreOfRow}
 use Rattle.pb_store.specs.Tiles.{Tile, AreTiled, BeginAtZero, IsTiling, IsPlace, all_entries, all_marks, all_nothing, joined}
@@ -136,31 +134,31 @@ marks_left c tiles i e = marks_joined _ ∙ ap (λ es. map.from_entries es) (all
 
 joined-edit : (edit : Edit) (tiles : List Tile) (i : ℕ) → AreTiled tiles → IsPlace tiles i (edit_row edit)
     → joined (replace tiles i (after_edit edit (tile_at tiles i))) ≡ after_edit edit (joined tiles)
-joined-edit (Put slot item) tiles i t place = both_same _ _ _
+joined-edit (Edit.Put slot item) tiles i t place = both_same _ _ _
     (entries_joined _ ∙ from_entries-inserted entry_half slot item _ tiles i (entries_kept tiles t) place refl ∙ ap (λ m. map.insert m slot item) (sym (entries_joined tiles)))
     (marks_left _ tiles i refl)
-joined-edit (Erase slot) tiles i t place = both_same _ _ _
+joined-edit (Edit.Erase slot) tiles i t place = both_same _ _ _
     (entries_joined _ ∙ from_entries-removed entry_half slot _ tiles i (entries_kept tiles t) place refl ∙ ap (λ m. map.remove m slot) (sym (entries_joined tiles)))
     (marks_left _ tiles i refl)
-joined-edit (Mark cell) tiles i t place = both_same _ _ _
+joined-edit (Edit.Mark cell) tiles i t place = both_same _ _ _
     (entries_left _ tiles i refl)
     (marks_joined _ ∙ from_entries-inserted mark_half cell tt _ tiles i (marks_kept tiles t) place refl ∙ ap (λ m. map.insert m cell tt) (sym (marks_joined tiles)))
-joined-edit (Unmark cell) tiles i t place = both_same _ _ _
+joined-edit (Edit.Unmark cell) tiles i t place = both_same _ _ _
     (entries_left _ tiles i refl)
     (marks_joined _ ∙ from_entries-removed mark_half cell _ tiles i (marks_kept tiles t) place refl ∙ ap (λ m. map.remove m cell) (sym (marks_joined tiles)))
 
 -- an edit in the tile of its row leaves each tile with its own rows
 still_tiled : (edit : Edit) (tiles : List Tile) (i : ℕ) → AreTiled tiles → IsPlace tiles i (edit_row edit) → AreTiled (replace tiles i (after_edit edit (tile_at tiles i)))
-still_tiled (Put slot item) tiles i t place = tiled_from_kept _
+still_tiled (Edit.Put slot item) tiles i t place = tiled_from_kept _
     (Kept-inserted entry_half slot item _ tiles i (entries_kept tiles t) place refl)
     (Kept-replace_same mark_half _ tiles i (marks_kept tiles t) refl)
-still_tiled (Erase slot) tiles i t place = tiled_from_kept _
+still_tiled (Edit.Erase slot) tiles i t place = tiled_from_kept _
     (Kept-removed entry_half slot _ tiles i (entries_kept tiles t) place refl)
     (Kept-replace_same mark_half _ tiles i (marks_kept tiles t) refl)
-still_tiled (Mark cell) tiles i t place = tiled_from_kept _
+still_tiled (Edit.Mark cell) tiles i t place = tiled_from_kept _
     (Kept-replace_same entry_half _ tiles i (entries_kept tiles t) refl)
     (Kept-inserted mark_half cell tt _ tiles i (marks_kept tiles t) place refl)
-still_tiled (Unmark cell) tiles i t place = tiled_from_kept _
+still_tiled (Edit.Unmark cell) tiles i t place = tiled_from_kept _
     (Kept-replace_same entry_half _ tiles i (entries_kept tiles t) refl)
     (Kept-removed mark_half cell _ tiles i (marks_kept tiles t) place refl)
 

@@ -1,6 +1,5 @@
 -- The next mark of all tablets is the first that any of them tells, from the row's on.
-use Rattle.std.proofs.Common.{◌≡◌, ℕ, ◌+◌, ◌<◌, Bool, true, false, List, Option, None, Some, ap, ◌∙◌, arith, is_some, length, below_more, inl, inr}
-use Rattle.std.specs.declared.cmp.Ordering.TheVariants.{Less}
+use Rattle.std.proofs.Common.{◌≡◌, ℕ, ◌+◌, ◌<◌, Bool, true, false, List, Option, None, Some, ap, ◌∙◌, arith, is_some, length, below_more, inl, inr, Less}
 use Rattle.std.proofs.lemmas.Bool.{cases_order, false_from_ne_true as not_marked}
 use Rattle.std.specs.FinMap as map
 use Rattle.pb_base.specs.declared.cell.Cell.{Cell}

@@ -1,7 +1,6 @@
 -- What a tablet or a table contains: entries by slot, and marked cells. Both are maps, so that an edit is one insert or
 -- one removal, and nothing is said of how they are kept. All contracts of tablets and tables speak of them.
-use Rattle.std.specs.Prelude.{◌≡◌, ℕ, ◌<◌, ◌≤◌, Bool, true, false, List, [], ◌∷◌, Option, None, Some, refl, ◌==◌, ◌&&◌}
-use Rattle.std.specs.List.{filter}
+use Rattle.std.specs.Prelude.{◌≡◌, ℕ, ◌<◌, ◌≤◌, Bool, true, false, List, [], ◌∷◌, Option, None, Some, refl, ◌==◌, ◌&&◌, filter}
 use Rattle.std.specs.Ordering.{is_lt}
 use Rattle.std.specs.FinMap as map
 use Rattle.std.specs.declared.cmp.Ordering.TheVariants.{Less}
@@ -11,10 +10,7 @@ use Rattle.pb_base.specs.Cell.{cell_cmp, row_of}
 use Rattle.pb_store.specs.declared.slot.Slot.{Slot}
 use Rattle.pb_store.specs.declared.slot.Sort.{Sort}
 use Rattle.pb_store.specs.declared.slot.Item.{Item}
-use Rattle.pb_store.specs.declared.slot.Item.TheVariants as items
-use Rattle.pb_store.specs.declared.slot.Sort.TheVariants as sorts
 use Rattle.pb_store.specs.declared.slot.Edit.{Edit}
-use Rattle.pb_store.specs.declared.slot.Edit.TheVariants.{Put, Erase, Mark, Unmark}
 use Rattle.pb_store.specs.Slot.{slot_cmp}
 use Rattle.std.specs.Coded.{Coded, code_by, coded×}
 use base.Stored.{coded_unit}
@@ -49,10 +45,10 @@ nothing = record { entries = map.empty; marks = map.empty }
 
 -- an edit replaces what its slot has; what is erased or unmarked need not be there
 abbrev pub after_edit : Edit → Contents → Contents
-after_edit (Put slot item) c = record { entries = map.insert c.entries slot item; marks = c.marks }
-after_edit (Erase slot) c = record { entries = map.remove c.entries slot; marks = c.marks }
-after_edit (Mark cell) c = record { entries = c.entries; marks = map.insert c.marks cell tt }
-after_edit (Unmark cell) c = record { entries = c.entries; marks = map.remove c.marks cell }
+after_edit (Edit.Put slot item) c = record { entries = map.insert c.entries slot item; marks = c.marks }
+after_edit (Edit.Erase slot) c = record { entries = map.remove c.entries slot; marks = c.marks }
+after_edit (Edit.Mark cell) c = record { entries = c.entries; marks = map.insert c.marks cell tt }
+after_edit (Edit.Unmark cell) c = record { entries = c.entries; marks = map.remove c.marks cell }
 
 -- what stands when all edits are done in order, where a later one may replace what an earlier one put
 abbrev pub after_edits : List Edit → Contents → Contents
@@ -65,9 +61,9 @@ slot_at cell sort t = record { cell = cell; sort = sort; ts = record { 0 = t } }
 
 -- a slot of this sort may hold the item: data a content, a lock its primary, a write record its start
 abbrev pub IsOfSort : Sort → Item → Type 0
-IsOfSort sorts.Data (items.Data content) = Unit {0}
-IsOfSort sorts.Lock (items.Lock primary) = Unit {0}
-IsOfSort sorts.Write (items.Write start) = Unit {0}
+IsOfSort Sort.Data (Item.Data content) = Unit {0}
+IsOfSort Sort.Lock (Item.Lock primary) = Unit {0}
+IsOfSort Sort.Write (Item.Write start) = Unit {0}
 IsOfSort _ _ = ⊥
 
 -- the entry with the greatest timestamp at most high, or none where no timestamp up to high has one
@@ -99,10 +95,10 @@ IsNextMark marks after (Some next) =
 
 -- the row by which a table finds the tablet of an edit
 abbrev pub edit_row : Edit → ℕ
-edit_row (Put slot item) = (row_of slot.cell).0
-edit_row (Erase slot) = (row_of slot.cell).0
-edit_row (Mark cell) = (row_of cell).0
-edit_row (Unmark cell) = (row_of cell).0
+edit_row (Edit.Put slot item) = (row_of slot.cell).0
+edit_row (Edit.Erase slot) = (row_of slot.cell).0
+edit_row (Edit.Mark cell) = (row_of cell).0
+edit_row (Edit.Unmark cell) = (row_of cell).0
 
 -- all edits are of this row
 abbrev pub AreOfRow : ℕ → List Edit → Type 0
@@ -116,7 +112,7 @@ AreOfOneRow (edit ∷ edits) = AreOfRow (edit_row edit) edits
 
 -- an item is put under its own sort
 abbrev pub PutsOfSort : Edit → Type 0
-PutsOfSort (Put slot item) = IsOfSort slot.sort item
+PutsOfSort (Edit.Put slot item) = IsOfSort slot.sort item
 PutsOfSort _ = Unit {0}
 
 -- no edit puts an item under another sort, so that a tablet never holds one there

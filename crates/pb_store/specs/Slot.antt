@@ -1,22 +1,20 @@
 -- Slots are ordered by cell, then sort, then timestamp: what a step looks at in a cell stands side by side, and the
 -- newest entry of a sort is the last one up to a timestamp. The order of `Slot` is this one, by its ghost members.
-use Rattle.std.specs.Prelude.{◌≡◌, ℕ, refl}
-use Rattle.std.proofs.Common.{arith}
+use Rattle.std.proofs.Common.{arith, ◌≡◌, ℕ, refl, Ordering}
 use Rattle.std.specs.FinMap.{IsAntisymmetric, nat_cmp-IsAntisymmetric}
-use Rattle.std.specs.declared.cmp.Ordering.{Ordering}
 use Rattle.std.specs.Ordering.{nat_cmp, on, then_cmp}
 use Rattle.std.specs.Cmp.{IsTotalOrder, nat_cmp_total}
 use Rattle.std.proofs.lemmas.Cmp.{on_total, then_total}
 use Rattle.pb_base.specs.Cell.{cell_cmp, cell_cmp_total, cell_cmp-IsAntisymmetric, both_equal}
 use Rattle.pb_store.specs.declared.slot.Slot.{Slot}
 use Rattle.pb_store.specs.declared.slot.Sort as sort
-use Rattle.pb_store.specs.declared.slot.Sort.TheVariants.{Data, Lock, Write}
+use Rattle.pb_store.specs.declared.slot.Sort.{Sort}
 
 -- data before locks before write records
 abbrev pub sort_rank : sort.Sort → ℕ
-sort_rank Data = 0
-sort_rank Lock = 1
-sort_rank Write = 2
+sort_rank Sort.Data = 0
+sort_rank Sort.Lock = 1
+sort_rank Sort.Write = 2
 
 -- among the entries of one cell, by sort and then by timestamp
 abbrev pub in_cell_cmp : Slot → Slot → Ordering
@@ -32,15 +30,15 @@ slot_cmp_total = then_total (on_total (λ s. s.cell) cell_cmp_total) (then_total
 
 -- no two sorts have one rank
 same_sort : (x y : sort.Sort) → sort_rank x ≡ sort_rank y → x ≡ y
-same_sort Data Data e = refl
-same_sort Data Lock e = absurd (omega arith)
-same_sort Data Write e = absurd (omega arith)
-same_sort Lock Data e = absurd (omega arith)
-same_sort Lock Lock e = refl
-same_sort Lock Write e = absurd (omega arith)
-same_sort Write Data e = absurd (omega arith)
-same_sort Write Lock e = absurd (omega arith)
-same_sort Write Write e = refl
+same_sort Sort.Data Sort.Data e = refl
+same_sort Sort.Data Sort.Lock e = absurd (omega arith)
+same_sort Sort.Data Sort.Write e = absurd (omega arith)
+same_sort Sort.Lock Sort.Data e = absurd (omega arith)
+same_sort Sort.Lock Sort.Lock e = refl
+same_sort Sort.Lock Sort.Write e = absurd (omega arith)
+same_sort Sort.Write Sort.Data e = absurd (omega arith)
+same_sort Sort.Write Sort.Lock e = absurd (omega arith)
+same_sort Sort.Write Sort.Write e = refl
 
 -- slots that compare alike are one
 pub slot_cmp-IsAntisymmetric : IsAntisymmetric slot_cmp

@@ -1,12 +1,10 @@
 -- Tablets side by side, each with the rows from its first up to the next one's first. They are seen by what they
 -- contain, so that nothing here depends on a sort of tablet. The invariant of `Table` cites them.
-use Rattle.std.specs.Prelude.{◌≡◌, ℕ, unwrap_or, ◌<◌, ◌≤◌, Bool, true, List, [], ◌∷◌, ◌++◌, Option, None, Some, false, nat_lt, ◌&&◌, ◌==◌, if◌then◌else◌}
-use Rattle.std.proofs.Common.{zero, suc}
+use Rattle.std.proofs.Common.{zero, suc, ◌≡◌, ℕ, unwrap_or, ◌<◌, ◌≤◌, Bool, true, List, [], ◌∷◌, ◌++◌, Option, None, Some, false, nat_lt, ◌&&◌, ◌==◌, if◌then◌else◌}
 use Rattle.std.specs.FinMap as map
 use Rattle.pb_base.specs.declared.cell.Cell.{Cell}
 use Rattle.pb_base.specs.declared.names.Row.{Row}
 use Rattle.pb_base.specs.declared.refusal.Reason.{Reason}
-use Rattle.pb_base.specs.declared.refusal.Reason.TheVariants.{NoMemory, NoTablet, RowsDontRise, NotEmpty, NoSuchPlace}
 use Rattle.pb_base.specs.declared.refusal.Refusal.{Refusal}
 use Rattle.pb_base.specs.Reasons.{refusal_by}
 use Rattle.pb_base.specs.Cell.{row_of}
@@ -93,16 +91,16 @@ all_nothing (tile ∷ tiles) = is_nothing tile.1 && all_nothing tiles
 
 -- why tablets make no table, if they make none: there is none, rows that don't rise from 0, one that isn't empty
 abbrev pub table_reason : List Tile → Option Reason
-table_reason [] = Some NoTablet
+table_reason [] = Some Reason.NoTablet
 table_reason (tile ∷ tiles) =
-    if rise_from_zero (tile ∷ tiles) then (if all_nothing (tile ∷ tiles) then None else Some NotEmpty) else Some RowsDontRise
+    if rise_from_zero (tile ∷ tiles) then (if all_nothing (tile ∷ tiles) then None else Some Reason.NotEmpty) else Some Reason.RowsDontRise
 
 -- why a tablet with these contents isn't put in this place of so many, if it isn't
 abbrev pub swap_reason : Contents → ℕ → ℕ → Option Reason
-swap_reason c place places = if is_nothing c then (if nat_lt place places then None else Some NoSuchPlace) else Some NotEmpty
+swap_reason c place places = if is_nothing c then (if nat_lt place places then None else Some Reason.NoSuchPlace) else Some Reason.NotEmpty
 
 -- this refusal tells that reason, or want of memory, for a table of some number of places
 pub record TellsSwapReason (c : Contents) (place : ℕ) (refusal : Refusal) : Type 0 where
   pub places : ℕ
   pub some : 0 < places
-  pub told : refusal ≡ refusal_by (unwrap_or (swap_reason c place places) NoMemory)
+  pub told : refusal ≡ refusal_by (unwrap_or (swap_reason c place places) Reason.NoMemory)

@@ -1,17 +1,15 @@
 -- How the story of a list of events grows, and how it ends.
-use Rattle.std.proofs.Common.{◌≡◌, ◌∙◌, ℕ, ◌+◌, ◌≤◌, Bool, false, List, [], ◌∷◌, ◌++◌, length, take, Option, Some, Ok, Err, inl, inr, refl, sym, ap, subst, arith, append_assoc, append-nil}
-use Rattle.std.specs.Prelude.{slice_get}
+use Rattle.std.proofs.Common.{◌≡◌, ◌∙◌, ℕ, ◌+◌, ◌≤◌, Bool, false, List, [], ◌∷◌, ◌++◌, length, take, Option, Some, Ok, Err, inl, inr, refl, sym, ap, subst, arith, append_assoc, append-nil, slice_get}
 use Rattle.std.specs.Io.KnownBytes.{Appends}
 use Rattle.std.proofs.KnownBytes.{Appends-trans}
 use Rattle.std.proofs.lemmas.List.{take_more, take_all, length-take-le}
 use Rattle.std.proofs.lemmas.Option.{slice_get_within, get_or_from_slice_get}
 use Rattle.pb_parse.specs.declared.event.Event.{Event}
 use Rattle.pb_world.specs.Events.{WorldOf}
-use Rattle.pb_script.specs.declared.fault.ReportFault.TheVariants as ends
+use Rattle.pb_script.specs.declared.fault.ReportFault.{ReportFault}
 use Rattle.pb_base.specs.Taking.{Taking, TookAll, TookPart}
 use Rattle.pb_script.specs.TableReports.{Reports}
 use Rattle.pb_story.specs.declared.fault.StoryFault.{StoryFault}
-use Rattle.pb_story.specs.declared.fault.StoryFault.TheVariants as faults
 use Rattle.pb_story.specs.Stories.{Recounts, IsTold, IsAtFault, EventEnds, AreTold, LinesEnd, StoryEnds}
 
 -- ---- one event more
@@ -67,13 +65,13 @@ told_more w es i v u e old mid now was failed is t end =
 -- the first fault ends the lines
 pub told_to : (w : WorldOf) (es : List Event) (i : ℕ) (v u : WorldOf) (e : Event) (old mid now : Option (List ℕ)) (was failed : Bool) (f : StoryFault)
     → slice_get es i ≡ Some e → AreTold w (take i es) v (took old mid was) → EventEnds v i e u (took mid now failed) (Err f) → LinesEnd w es u (took old now failed) (Err f)
-told_to w es i v u e old mid now was failed faults.Output is t end =
+told_to w es i v u e old mid now was failed StoryFault.Output is t end =
     let lines = recounts_next w es i t.lines v u e end.0 is t.recounts end.1 in
     let within : i + 1 ≤ length es = let lt = slice_get_within es i e is in omega (arith, lt) in
     record { count = i + 1; within = within; lines = t.lines ++ end.0; recounts = lines; taken = part_took old mid now was failed t.lines end.0 t.taken end.2 }
-told_to w es i v u e old mid now was failed faults.NoMemory is t end =
+told_to w es i v u e old mid now was failed StoryFault.NoMemory is t end =
     record { count = i; before = v; told = told_still w (take i es) v old mid now was failed t end.1.0 end.1.1; rest = inr (e, is, end.0) }
-told_to w es i v u e old mid now was failed (faults.Event f) is t end =
+told_to w es i v u e old mid now was failed (StoryFault.Event f) is t end =
     let at : i ≡ f.event = sym end.0.0 in
     let same : v ≡ u = sym end.0.2 in
     let told = told_still w (take i es) v old mid now was failed t end.1.0 end.1.1 in
@@ -95,7 +93,7 @@ reported w es v old mid now was failed t r = record {
 }
 
 -- and one that was cut short makes a beginning of it
-pub report_cut : (w : WorldOf) (es : List Event) (v : WorldOf) (old mid now : Option (List ℕ)) (was failed : Bool) → AreTold w es v (took old mid was) → Reports v.shared (took mid now failed) (Err ends.Output) → StoryEnds w es v (took old now failed) (Err faults.Output)
+pub report_cut : (w : WorldOf) (es : List Event) (v : WorldOf) (old mid now : Option (List ℕ)) (was failed : Bool) → AreTold w es v (took old mid was) → Reports v.shared (took mid now failed) (Err ReportFault.Output) → StoryEnds w es v (took old now failed) (Err StoryFault.Output)
 report_cut w es v old mid now was failed t r = inr (record {
   text = t.lines ++ r.text;
   story = record { lines = t.lines; recounts = t.recounts; report = r.text; reported = r.report; text_is = refl };
@@ -103,7 +101,7 @@ report_cut w es v old mid now was failed t r = inr (record {
 })
 
 -- where there is no memory for the report, all lines stand and no report follows
-pub report_unmade : (w : WorldOf) (es : List Event) (v : WorldOf) (old mid now : Option (List ℕ)) (was failed : Bool) → AreTold w es v (took old mid was) → Reports v.shared (took mid now failed) (Err ends.NoMemory) → StoryEnds w es v (took old now failed) (Err faults.NoMemory)
+pub report_unmade : (w : WorldOf) (es : List Event) (v : WorldOf) (old mid now : Option (List ℕ)) (was failed : Bool) → AreTold w es v (took old mid was) → Reports v.shared (took mid now failed) (Err ReportFault.NoMemory) → StoryEnds w es v (took old now failed) (Err StoryFault.NoMemory)
 report_unmade w es v old mid now was failed t r =
     let all : take (length es) es ≡ es = take_all (length es) es (omega arith) in
     let told = told_still w es v old mid now was failed t r.0 r.1 in

@@ -1,11 +1,9 @@
 -- Answers of the shared table in words. `add_answer` cites it; docs/FORMATS.md lists them by their steps.
-use Rattle.std.specs.Prelude.{ℕ, List, ◌++◌, codes}
-use Rattle.std.specs.Fmt.{decimal}
+use Rattle.std.specs.Prelude.{ℕ, List, ◌++◌, codes, decimal}
 use Rattle.pb_base.specs.declared.names.Ts.{Ts}
 use Rattle.pb_base.specs.declared.content.Content.{Content}
 use Rattle.pb_verify.specs.Observers.{ObserverOf}
 use Rattle.pb_steps.specs.declared.step.Answer.{Answer}
-use Rattle.pb_steps.specs.declared.step.Answer.TheVariants.{At, Locked, Found, Absent, Done, Conflict, Committed, Lost, RolledBack, Waits, CommittedAt, Marked, NoMark, StillBehind}
 use Rattle.pb_story.specs.Cells.{content_text}
 use Rattle.pb_story.specs.Steps.{start_text, on_cell_text, at_cell_text}
 
@@ -15,17 +13,17 @@ found_text s c content = codes "found " ++ (decimal s.0 ++ (codes " " ++ (decima
 
 -- an answer by its word, and behind it what it tells: timestamps, a cell, a content
 abbrev pub answer_text : List ObserverOf → Answer → List ℕ
-answer_text observers (At t) = start_text (codes "at") t
-answer_text observers (Locked s x) = at_cell_text observers (codes "locked") s x
-answer_text observers (Found s c content) = found_text s c content
-answer_text observers Absent = codes "absent"
-answer_text observers Done = codes "done"
-answer_text observers Conflict = codes "conflict"
-answer_text observers Committed = codes "committed"
-answer_text observers Lost = codes "lost"
-answer_text observers RolledBack = codes "rolled back"
-answer_text observers Waits = codes "waits"
-answer_text observers (CommittedAt c) = start_text (codes "committed at") c
-answer_text observers (Marked x) = on_cell_text observers (codes "marked") x
-answer_text observers NoMark = codes "no mark"
-answer_text observers StillBehind = codes "still behind"
+answer_text observers (Answer.At t) = start_text (codes "at") t
+answer_text observers (Answer.Locked s x) = at_cell_text observers (codes "locked") s x
+answer_text observers (Answer.Found s c content) = found_text s c content
+answer_text observers Answer.Absent = codes "absent"
+answer_text observers Answer.Done = codes "done"
+answer_text observers Answer.Conflict = codes "conflict"
+answer_text observers Answer.Committed = codes "committed"
+answer_text observers Answer.Lost = codes "lost"
+answer_text observers Answer.RolledBack = codes "rolled back"
+answer_text observers Answer.Waits = codes "waits"
+answer_text observers (Answer.CommittedAt c) = start_text (codes "committed at") c
+answer_text observers (Answer.Marked x) = on_cell_text observers (codes "marked") x
+answer_text observers Answer.NoMark = codes "no mark"
+answer_text observers Answer.StillBehind = codes "still behind"

@@ -1,15 +1,11 @@
 -- Cells, and what they hold, in words. Observers are told by their names and not by their numbers, as in schedules, so
 -- each text takes the list of them.
-use Rattle.std.specs.Prelude.{ℕ, List, [], ◌++◌, codes, Option, Some, None, slice_get}
-use Rattle.std.specs.List.{flat_map}
-use Rattle.std.specs.Fmt.{decimal}
+use Rattle.std.specs.Prelude.{ℕ, List, [], ◌++◌, codes, Option, Some, None, slice_get, flat_map, decimal}
 use Rattle.hex.specs.Hex.{encode_lower}
 use Rattle.pb_base.specs.Batch.{Writes}
 use Rattle.pb_base.specs.declared.names.Row.{Row}
 use Rattle.pb_base.specs.declared.cell.Cell.{Cell}
-use Rattle.pb_base.specs.declared.cell.Cell.TheVariants.{Data, Ack}
 use Rattle.pb_base.specs.declared.content.Content.{Content}
-use Rattle.pb_base.specs.declared.content.Content.TheVariants.{Value, Deleted, Stamp}
 use Rattle.pb_verify.specs.Observers.{ObserverOf}
 use Rattle.pb_script.specs.ReportLines.{trimmed}
 
@@ -28,14 +24,14 @@ row_and_column row column = decimal row.0 ++ (codes " " ++ decimal column)
 
 -- row and column, and before those of an acknowledgment its observer
 abbrev pub cell_text : List ObserverOf → Cell → List ℕ
-cell_text observers (Data row column) = row_and_column row column
-cell_text observers (Ack o row column) = codes "ack " ++ (observer_name observers o ++ (codes " " ++ row_and_column row column))
+cell_text observers (Cell.Data row column) = row_and_column row column
+cell_text observers (Cell.Ack o row column) = codes "ack " ++ (observer_name observers o ++ (codes " " ++ row_and_column row column))
 
 -- a value without the zeros at its end, as a report tells it
 abbrev pub content_text : Content → List ℕ
-content_text (Value bytes) = codes "value " ++ encode_lower (trimmed bytes)
-content_text Deleted = codes "deleted"
-content_text (Stamp t) = codes "stamp " ++ decimal t.0
+content_text (Content.Value bytes) = codes "value " ++ encode_lower (trimmed bytes)
+content_text Content.Deleted = codes "deleted"
+content_text (Content.Stamp t) = codes "stamp " ++ decimal t.0
 
 -- a write behind its semicolon: the cell and what is left there
 abbrev pub write_text : List ObserverOf → Cell × Content → List ℕ

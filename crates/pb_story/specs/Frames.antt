@@ -1,13 +1,11 @@
 -- What is known before each slot of a program, in words: kinds of registers and runs of written stack bytes, as the
 -- verifier knows them (`known_at`), whether the program is accepted or not. `frames_text` promises it.
-use Rattle.std.specs.Prelude.{ℕ, zero, suc, ◌+◌, ◌-◌, ℤ, pos, negsuc, Bool, true, false, not, ◌&&◌, if◌then◌else◌, List, [], ◌∷◌, ◌++◌, drop, codes, Option, Some, None, slice_index_or}
+use Rattle.std.specs.Prelude.{ℕ, zero, suc, ◌+◌, ◌-◌, ℤ, pos, negsuc, Bool, true, false, not, ◌&&◌, if◌then◌else◌, List, [], ◌∷◌, ◌++◌, drop, codes, Option, Some, None, slice_index_or, decimal}
 use Rattle.std.specs.List.{enumerate_from, flat_map}
-use Rattle.std.specs.Fmt.{decimal}
 use Rattle.pb_isa.specs.declared.limits.TheConstants.{STACK_BYTES}
 use Rattle.pb_isa.specs.declared.insn.Insn.{Insn}
 use Rattle.pb_isa.specs.Slots.{slots, insn_at}
 use Rattle.pb_kinds.specs.declared.frame.Kind.{Kind}
-use Rattle.pb_kinds.specs.declared.frame.Kind.TheVariants.{Unset, Number, Stack, Record}
 use Rattle.pb_kinds.specs.declared.frame.Frame.{Frame}
 use Rattle.pb_verify.specs.Known.{known_at}
 
@@ -20,10 +18,10 @@ distance_text (negsuc n) = codes "-" ++ decimal (suc n)
 
 -- the register of this number, unless it is unset
 abbrev pub register_text : ℕ → Kind → List ℕ
-register_text r Unset = []
-register_text r Number = codes " r" ++ (decimal r ++ codes "=number")
-register_text r (Stack k) = codes " r" ++ (decimal r ++ (codes "=stack" ++ distance_text k))
-register_text r (Record k) = codes " r" ++ (decimal r ++ (codes "=record" ++ distance_text k))
+register_text r Kind.Unset = []
+register_text r Kind.Number = codes " r" ++ (decimal r ++ codes "=number")
+register_text r (Kind.Stack k) = codes " r" ++ (decimal r ++ (codes "=stack" ++ distance_text k))
+register_text r (Kind.Record k) = codes " r" ++ (decimal r ++ (codes "=record" ++ distance_text k))
 
 -- the registers that aren't unset, by their numbers
 abbrev pub registers_text : List Kind → List ℕ

@@ -1,17 +1,12 @@
 -- The line of an event: its number, its seat, what it does and its note. What it does is said by the world before it,
 -- which knows the job's next step, and the note by what came of it. `open_line` and `end_line` cite these.
-use Rattle.std.specs.Prelude.{◌≡◌, ℕ, List, [], ◌++◌, codes, Option, Some, None}
-use Rattle.std.specs.Fmt.{decimal}
+use Rattle.std.specs.Prelude.{◌≡◌, ℕ, List, [], ◌++◌, codes, Option, Some, None, decimal}
 use Rattle.pb_verify.specs.Observers.{ObserverOf}
 use Rattle.pb_steps.specs.declared.step.Step.{Step}
-use Rattle.pb_steps.specs.declared.step.Step.TheVariants as steps
 use Rattle.pb_parse.specs.declared.event.Event.{Event}
-use Rattle.pb_parse.specs.declared.event.Event.TheVariants as events
 use Rattle.pb_parse.specs.declared.event.Job.{Job}
-use Rattle.pb_parse.specs.declared.event.Job.TheVariants as jobs
 use Rattle.pb_world.specs.declared.job.ActorJob.{ActorJob}
 use Rattle.pb_world.specs.declared.note.Note.{Note}
-use Rattle.pb_world.specs.declared.note.Note.TheVariants as notes
 use Rattle.pb_world.specs.Jobs.{next_of, IsSlotOf}
 use Rattle.pb_world.specs.Events.{WorldOf, held_job}
 use Rattle.pb_story.specs.Cells.{observer_name}
@@ -26,15 +21,15 @@ GrowsBy Is old new = (more : List ℕ) × Is more × (new ≡ old ++ more)
 
 -- an actor has the seat of its number; what no actor does, the main seat does
 abbrev pub seat_of : Event → ℕ
-seat_of (events.Launch k job) = k
-seat_of (events.Step k) = k
-seat_of (events.Crash k) = k
+seat_of (Event.Launch k job) = k
+seat_of (Event.Step k) = k
+seat_of (Event.Crash k) = k
 seat_of e = 0
 
 -- what an actor is launched for, in a schedule's words
 abbrev pub job_text : List ObserverOf → Job → List ℕ
-job_text observers (jobs.Change k) = codes "change " ++ decimal k
-job_text observers (jobs.Run o row) = codes "run " ++ (observer_name observers o ++ (codes " " ++ decimal row.0))
+job_text observers (Job.Change k) = codes "change " ++ decimal k
+job_text observers (Job.Run o row) = codes "run " ++ (observer_name observers o ++ (codes " " ++ decimal row.0))
 
 -- the instruction of this slot, or else this step of the table
 abbrev pub turn_text : List ObserverOf → Option ℕ → Option Step → List ℕ
@@ -49,23 +44,23 @@ IsTurn observers (Some j) text = (slot : Option ℕ) × IsSlotOf j slot × (text
 
 -- what the event does in a world
 abbrev pub IsDeed : WorldOf → Event → List ℕ → Type 0
-IsDeed w (events.Launch k job) text = text ≡ codes "launch " ++ job_text w.shared.state.observers job
-IsDeed w (events.Step k) text = IsTurn w.shared.state.observers (held_job w k) text
-IsDeed w (events.Crash k) text = text ≡ codes "crash"
-IsDeed w (events.Settle x) text = text ≡ step_text w.shared.state.observers (steps.Settle x)
-IsDeed w (events.Clear x) text = text ≡ step_text w.shared.state.observers (steps.Clear x)
-IsDeed w (events.Sweep x) text = text ≡ step_text w.shared.state.observers (steps.Sweep x)
+IsDeed w (Event.Launch k job) text = text ≡ codes "launch " ++ job_text w.shared.state.observers job
+IsDeed w (Event.Step k) text = IsTurn w.shared.state.observers (held_job w k) text
+IsDeed w (Event.Crash k) text = text ≡ codes "crash"
+IsDeed w (Event.Settle x) text = text ≡ step_text w.shared.state.observers (Step.Settle x)
+IsDeed w (Event.Clear x) text = text ≡ step_text w.shared.state.observers (Step.Clear x)
+IsDeed w (Event.Sweep x) text = text ≡ step_text w.shared.state.observers (Step.Sweep x)
 
 -- ---- what it came to
 
 -- an instruction has nothing to tell
 abbrev pub note_text : List ObserverOf → Note → List ℕ
-note_text observers notes.Launched = codes " -> launched"
-note_text observers (notes.Called answer) = codes " -> " ++ answer_text observers answer
-note_text observers (notes.Refused code) = codes " -> refused " ++ decimal code
-note_text observers notes.Instruction = []
-note_text observers notes.Crashed = codes " -> crashed"
-note_text observers notes.Idle = codes " -> idle"
+note_text observers Note.Launched = codes " -> launched"
+note_text observers (Note.Called answer) = codes " -> " ++ answer_text observers answer
+note_text observers (Note.Refused code) = codes " -> refused " ++ decimal code
+note_text observers Note.Instruction = []
+note_text observers Note.Crashed = codes " -> crashed"
+note_text observers Note.Idle = codes " -> idle"
 
 -- ---- the line
 

@@ -10,7 +10,6 @@ use Rattle.pb_world.specs.Events.{WorldOf, fault_of, Happens}
 use Rattle.pb_base.specs.Taking.{Taking, TookAll, TookPart, TookNothing}
 use Rattle.pb_script.specs.TableReports.{IsReportIn}
 use Rattle.pb_story.specs.declared.fault.StoryFault.{StoryFault}
-use Rattle.pb_story.specs.declared.fault.StoryFault.TheVariants as faults
 use Rattle.pb_story.specs.Lines.{IsLine}
 
 -- Each event happens in turn, the first of them that of this number, and the text is the line of each, with its note, in the
@@ -37,9 +36,9 @@ pub record IsAtFault (w : WorldOf) (e : Event) (code : ℕ) : Type 0 where
 
 -- why one event, that of this number, did nothing
 abbrev pub IsEventFault : WorldOf → ℕ → Event → WorldOf → StoryFault → Type 0
-IsEventFault w number e v (faults.Event f) = (f.event ≡ number) × IsAtFault w e f.code × (v ≡ w)
-IsEventFault w number e v faults.NoMemory = v ≡ w
-IsEventFault w number e v faults.Output = ⊥
+IsEventFault w number e v (StoryFault.Event f) = (f.event ≡ number) × IsAtFault w e f.code × (v ≡ w)
+IsEventFault w number e v StoryFault.NoMemory = v ≡ w
+IsEventFault w number e v StoryFault.Output = ⊥
 
 -- memory was refused before it happened, or for its line after that
 abbrev pub IsUntold : WorldOf → Event → WorldOf → Type 0
@@ -48,9 +47,9 @@ IsUntold w e v = (v ≡ w) ⊎ ((n : Note) × Happens w e n v)
 -- what the sink took: a line, a beginning of it where a write failed, or else nothing
 abbrev pub EventEnds : WorldOf → ℕ → Event → WorldOf → Taking → Result (Unit {0}) StoryFault → Type 0
 EventEnds w number e v out (Ok _) = (line : List ℕ) × IsTold w number e v line × TookAll out line
-EventEnds w number e v out (Err faults.Output) = (line : List ℕ) × IsTold w number e v line × TookPart out line
-EventEnds w number e v out (Err (faults.Event f)) = IsEventFault w number e v (faults.Event f) × TookNothing out
-EventEnds w number e v out (Err faults.NoMemory) = IsUntold w e v × TookNothing out
+EventEnds w number e v out (Err StoryFault.Output) = (line : List ℕ) × IsTold w number e v line × TookPart out line
+EventEnds w number e v out (Err (StoryFault.Event f)) = IsEventFault w number e v (StoryFault.Event f) × TookNothing out
+EventEnds w number e v out (Err StoryFault.NoMemory) = IsUntold w e v × TookNothing out
 
 -- ---- how all were told
 
@@ -89,9 +88,9 @@ pub record LeftOff (w : WorldOf) (es : List Event) (v : WorldOf) (out : Taking) 
 -- how the lines ended, before any report: all of them, or up to a write, an event or a growth that failed
 abbrev pub LinesEnd : WorldOf → List Event → WorldOf → Taking → Result (Unit {0}) StoryFault → Type 0
 LinesEnd w es v out (Ok _) = AreTold w es v out
-LinesEnd w es v out (Err faults.Output) = BeganLines w es v out
-LinesEnd w es v out (Err (faults.Event f)) = Stopped w es v f out
-LinesEnd w es v out (Err faults.NoMemory) = LeftOff w es v out
+LinesEnd w es v out (Err StoryFault.Output) = BeganLines w es v out
+LinesEnd w es v out (Err (StoryFault.Event f)) = Stopped w es v f out
+LinesEnd w es v out (Err StoryFault.NoMemory) = LeftOff w es v out
 
 -- ---- the story of events in a world: their lines, and then the report of what they left
 
@@ -118,6 +117,6 @@ pub record BeganStory (w : WorldOf) (es : List Event) (v : WorldOf) (out : Takin
 -- how a story ended, to which world the events led, and what the sink took
 abbrev pub StoryEnds : WorldOf → List Event → WorldOf → Taking → Result (Unit {0}) StoryFault → Type 0
 StoryEnds w es v out (Ok _) = WroteStory w es v out
-StoryEnds w es v out (Err faults.Output) = BeganLines w es v out ⊎ BeganStory w es v out
-StoryEnds w es v out (Err (faults.Event f)) = Stopped w es v f out
-StoryEnds w es v out (Err faults.NoMemory) = LeftOff w es v out
+StoryEnds w es v out (Err StoryFault.Output) = BeganLines w es v out ⊎ BeganStory w es v out
+StoryEnds w es v out (Err (StoryFault.Event f)) = Stopped w es v f out
+StoryEnds w es v out (Err StoryFault.NoMemory) = LeftOff w es v out

@@ -1,7 +1,5 @@
 -- A command line that `clap` takes asks for something.
-use Rattle.std.proofs.Common.{◌≡◌, ℕ, Bool, true, false, cond, List, [], ◌∷◌, Option, Some, None, refl, sym, ap, subst, ◌∙◌, inl, inr, codes, arith}
-use Rattle.std.specs.Prelude.{◌⊎◌, ◌||◌, not, fold, is_some, option_map, option_and_then}
-use Rattle.std.specs.Str.{bytes_eq}
+use Rattle.std.proofs.Common.{◌≡◌, ℕ, Bool, true, false, cond, List, [], ◌∷◌, Option, Some, None, refl, sym, ap, subst, ◌∙◌, inl, inr, codes, arith, ◌⊎◌, ◌||◌, not, fold, is_some, option_map, option_and_then, bytes_eq}
 use Rattle.clap.specs.Lexer.{long_of, short_of}
 use Rattle.clap.specs.Walk.{Text, Rule, Row, Held, Waiting, idle, option, positional, Outcome, done, waits, plain, refused, Step, Walk, Names, next, trailing, subcommand, value}
 use Rattle.clap.specs.Walk.{first_of, one_of, answers_to, arg_by_long, arg_by_index, long_met, bundle, plain_word, after_flag, short_or_plain, long_or_other, subcommand_met, subcommand_or_other, word_met, to_positional, after_step, walked_from, walked, walk_from, walk, finished, nothing_held, rows_after}

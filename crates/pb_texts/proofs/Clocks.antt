@@ -1,11 +1,10 @@
 -- The clock is read as `parse` reads a number of `u64`, and where it isn't one there is none.
-use Rattle.std.proofs.Common.{◌≡◌, ℕ, ◌<◌, ◌^◌, Bool, true, false, cond, Option, Some, None, Result, Ok, Err, refl, ap, arith}
-use Rattle.std.specs.Prelude.{unwrap_or}
+use Rattle.std.proofs.Common.{◌≡◌, ℕ, ◌<◌, ◌^◌, Bool, true, false, cond, Option, Some, None, Result, Ok, Err, refl, ap, arith, unwrap_or}
 use Rattle.std.specs.Str.Parse.{IsNumeral, ParsesUnsigned, ExplainsUnsignedError, HasUnsignedDigitsIfOk, without_leading_plus}
 use Rattle.std.specs.declared.num.ParseIntError.{ParseIntError}
 use Rattle.clap.specs.Walk.{Text}
 use Rattle.clap.specs.Matches.{TriesOne}
-use Rattle.clap.specs.declared.builder.value_parser.ValueParser.TheVariants.{Unsigned}
+use Rattle.clap.specs.declared.builder.value_parser.ValueParser.{ValueParser}
 use Rattle.clap.proofs.ValueTestLemmas.{accepts-Accepts, Accepts-accepts}
 use Rattle.pb_texts.specs.CommandLines.{last_clock, is_clock, clock_number, clock_of}
 use Rattle.pb_texts.proofs.Filled.{IsNumberIn}
@@ -14,10 +13,10 @@ abbrev IsNumber : Text → Type 0
 IsNumber t = IsNumeral 10 (without_leading_plus t) × (clock_number t < 2 ^ 64)
 
 number_passes : (t : Text) → IsNumber t → is_clock t ≡ true
-number_passes t h = Accepts-accepts false (Unsigned 0 last_clock) t (h.0, h.1, omega arith, omega (arith, h.1))
+number_passes t h = Accepts-accepts false (ValueParser.Unsigned 0 last_clock) t (h.0, h.1, omega arith, omega (arith, h.1))
 
 passes_number : (t : Text) → is_clock t ≡ true → IsNumber t
-passes_number t e = let a = accepts-Accepts false (Unsigned 0 last_clock) t e in (a.0, a.1)
+passes_number t e = let a = accepts-Accepts false (ValueParser.Unsigned 0 last_clock) t e in (a.0, a.1)
 
 -- the option has a clock, given or not
 pub has_clock : (o : Option Text) → IsNumberIn 0 last_clock o → (n : ℕ) × (clock_of o ≡ Some n)

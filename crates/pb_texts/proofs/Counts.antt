@@ -1,13 +1,12 @@
 -- The numbers of workers, of swaps and of a profile are read as `parse` reads a number of `u32`, but for a plus, which `clap` takes too.
-use Rattle.std.proofs.Common.{◌≡◌, ℕ, ◌<◌, ◌≤◌, ◌^◌, Bool, true, false, [], ◌∷◌, Option, Some, None, Ok, Err, refl, sym, ap, ◌∙◌, subst, arith}
-use Rattle.std.specs.Prelude.{◌&&◌, ◌==◌, nat_le, nat_lt, slice_index}
+use Rattle.std.proofs.Common.{◌≡◌, ℕ, ◌<◌, ◌≤◌, ◌^◌, Bool, true, false, [], ◌∷◌, Option, Some, None, Ok, Err, refl, sym, ap, ◌∙◌, subst, arith, ◌&&◌, ◌==◌, nat_le, nat_lt, slice_index}
 use Rattle.std.specs.Option.{option_map_or}
 use Rattle.std.proofs.lemmas.Bool.{eqb-true, leb-true, lt-ltb, and_right as and_false, and_left as false_and}
 use Rattle.std.specs.Str.Parse.{IsNumeral, ParsesUnsigned, digits_value, without_leading_plus}
 use Rattle.std.specs.declared.num.ParseIntError.{ParseIntError}
 use Rattle.clap.specs.Walk.{Text}
 use Rattle.clap.specs.ValueTests.{is_numeral, is_unsigned_in}
-use Rattle.clap.specs.declared.builder.value_parser.ValueParser.TheVariants.{Unsigned}
+use Rattle.clap.specs.declared.builder.value_parser.ValueParser.{ValueParser}
 use Rattle.clap.proofs.ValueTestLemmas.{accepts-Accepts, Accepts-accepts}
 use Rattle.pb_texts.specs.CommandLines.{is_within, is_count, count_number, count_of, begins_with_plus}
 use Rattle.pb_texts.proofs.Filled.{IsNumberIn}
@@ -69,13 +68,13 @@ module _ (low high : ℕ) where
       same_number = ap (digits_value 10) (without_plus t plain)
 
       within_is_count : (x : ℕ) → IsNumeral 10 (without_leading_plus t) × (digits_value 10 (without_leading_plus t) < 2 ^ 32) → x ≡ digits_value 10 (without_leading_plus t) → (low ≤ x) × (x ≤ high) → is_count low high t ≡ true
-      within_is_count x p is h = sym (plain_count t plain) ∙ Accepts-accepts false (Unsigned low high) t (p.0, omega (arith, p.1), omega (arith, is, h.0), omega (arith, is, h.1))
+      within_is_count x p is h = sym (plain_count t plain) ∙ Accepts-accepts false (ValueParser.Unsigned low high) t (p.0, omega (arith, p.1), omega (arith, is, h.0), omega (arith, is, h.1))
 
       pub count_read : (x : ℕ) → ParsesUnsigned {E = ParseIntError} 32 10 t (Ok x) → is_within low high x ≡ true → Some x ≡ count_of low high (Some t)
       count_read x p h = some_if (is_count low high t) x (count_number t) (within_is_count x p.0 p.1 (within x h)) (p.1 ∙ same_number)
 
       pub count_unread : (e : ParseIntError) → ParsesUnsigned 32 10 t (Err e) → None ≡ count_of low high (Some t)
-      count_unread e p = none_unless (is_count low high t) (count_number t) (λ is. let a = accepts-Accepts false (Unsigned low high) t (plain_count t plain ∙ is) in p (a.0, omega (arith, fits, a.3)))
+      count_unread e p = none_unless (is_count low high t) (count_number t) (λ is. let a = accepts-Accepts false (ValueParser.Unsigned low high) t (plain_count t plain ∙ is) in p (a.0, omega (arith, fits, a.3)))
 
     -- ---- what `clap` takes
 

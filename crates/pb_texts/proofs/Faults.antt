@@ -1,8 +1,6 @@
 -- A plus before the number of workers, of swaps, of a profile or of a version is a fault, and without one a run's numbers are in range.
-use Rattle.std.proofs.Common.{◌≡◌, ℕ, ◌≤◌, Bool, true, false, cond, List, [], ◌∷◌, Option, Some, None, refl, sym, ap, ◌∙◌, subst, arith, inl, inr, codes}
-use Rattle.std.specs.Prelude.{◌⊎◌, ◌||◌, option_and_then, option_map}
+use Rattle.std.proofs.Common.{◌≡◌, ℕ, ◌≤◌, Bool, true, false, cond, List, [], ◌∷◌, Option, Some, None, refl, sym, ap, ◌∙◌, subst, arith, inl, inr, codes, ◌⊎◌, ◌||◌, option_and_then, option_map, bytes_eq}
 use Rattle.std.specs.Option.{option_map_or}
-use Rattle.std.specs.Str.{bytes_eq}
 use Rattle.clap.specs.Walk.{Text, Row, first_of, one_of}
 use Rattle.clap.specs.Simple.{subcommand_of}
 use Rattle.clap.specs.Kinds.{Kinds, IsAmong, HasKind, or_else}
@@ -10,9 +8,7 @@ use Rattle.clap.specs.Values.{kind_of}
 use Rattle.clap.specs.declared.error.Error.{Error}
 use Rattle.clap.specs.Faults.{fault_of}
 use Rattle.clap.specs.declared.error.kind.ErrorKind.{ErrorKind}
-use Rattle.clap.specs.declared.error.kind.ErrorKind.TheVariants.{ValueValidation}
 use Rattle.pb_texts.specs.declared.words.choice.Options.{Options}
-use Rattle.pb_texts.specs.declared.words.choice.Options.TheVariants as options
 use Rattle.pb_isa.specs.declared.profile.Profile.{Profile}
 use Rattle.pb_helpers.specs.declared.change.Version.{Version}
 use Rattle.pb_texts.specs.CommandLines.{most_workers, most_swaps, last_profile, program_app, Request, Run, Replay, Asm, Dis, Check, both, all_three, is_count, count_number, count_of, workers_of, clock_of, profile_numbered, profile_of, with_profile, last_version, version_numbered, version_of, with_version, asm_in, dis_in, check_in, command_in, command_of, begins_with_plus, has_plus, has_plus_at, request_of, IsInRange}
@@ -79,12 +75,12 @@ none_has_plus words f n = true_unless (has_plus (subcommand_of program_app words
 -- ---- the kinds of fault
 
 abbrev plus_fault : Bool → Kinds
-plus_fault b = cond b (ValueValidation ∷ []) []
+plus_fault b = cond b (ErrorKind.ValueValidation ∷ []) []
 
 faultless : (f : Kinds) (b : Bool) → f ≡ [] → b ≡ false → or_else f (plus_fault b) ≡ []
 faultless f b e is = rw (e, is) refl
 
-refused_by_plus : (f : Kinds) (b : Bool) → f ≡ [] → b ≡ true → IsAmong ValueValidation (or_else f (plus_fault b))
+refused_by_plus : (f : Kinds) (b : Bool) → f ≡ [] → b ≡ true → IsAmong ErrorKind.ValueValidation (or_else f (plus_fault b))
 refused_by_plus f b e is = rw (e, is) (inl refl)
 
 still_among : (k : ErrorKind) (f g : Kinds) → IsAmong k f → IsAmong k (or_else f g)
@@ -98,7 +94,7 @@ has_kind_still f g e (inr among) = inr (still_among (kind_of e) f g among)
 pub asked_faultless : (words : List Text) (r : Request) → fault_of program_app words ≡ [] → command_of words ≡ Some r → or_else (fault_of program_app words) (plus_fault (has_plus (subcommand_of program_app words))) ≡ []
 asked_faultless words r f e = faultless _ _ f (some_has_no_plus (subcommand_of program_app words) r e)
 
-pub unasked_fault : (words : List Text) → fault_of program_app words ≡ [] → command_of words ≡ None → IsAmong ValueValidation (or_else (fault_of program_app words) (plus_fault (has_plus (subcommand_of program_app words))))
+pub unasked_fault : (words : List Text) → fault_of program_app words ≡ [] → command_of words ≡ None → IsAmong ErrorKind.ValueValidation (or_else (fault_of program_app words) (plus_fault (has_plus (subcommand_of program_app words))))
 unasked_fault words f n = refused_by_plus _ _ f (none_has_plus words f n)
 
 -- ---- the numbers of a run
@@ -168,11 +164,11 @@ command_in_range (Some p) =
     (asked_if (bytes_eq p.0 (codes "check")) _ _ (profile_in_range p.1 _ (λ v. version_in_range p.1 _ (λ w. one_in_range (λ f. Check f v w) (first_of (codes "FILE") p.1) (λ f. tt)))) tt))))
 
 options_in_range : (o : Options) → InRange (request_of o) → IsInRange o
-options_in_range (options.Run m s workers swaps) h = h
-options_in_range (options.Replay files) h = tt
-options_in_range (options.Asm i o profile) h = tt
-options_in_range (options.Dis f profile) h = tt
-options_in_range (options.Check file) h = tt
+options_in_range (Options.Run m s workers swaps) h = h
+options_in_range (Options.Replay files) h = tt
+options_in_range (Options.Asm i o profile) h = tt
+options_in_range (Options.Dis f profile) h = tt
+options_in_range (Options.Check file) h = tt
 
 pub asked_in_range : (words : List Text) (o : Options) → command_of words ≡ Some (request_of o) → IsInRange o
 asked_in_range words o e = options_in_range o (subst IfAsked e (command_in_range (subcommand_of program_app words)))

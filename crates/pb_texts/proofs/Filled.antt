@@ -1,8 +1,6 @@
 -- Each row of a subcommand has a value, and that of an option that takes a number is one.
-use Rattle.std.proofs.Common.{◌≡◌, ℕ, ◌<◌, Bool, true, false, cond, List, [], ◌∷◌, ◌++◌, length, Option, Some, None, refl, sym, ◌∙◌, subst, arith, length-append}
-use Rattle.std.specs.Prelude.{find, option_map, option_and_then, slice_get}
+use Rattle.std.proofs.Common.{◌≡◌, ℕ, ◌<◌, Bool, true, false, cond, List, [], ◌∷◌, ◌++◌, length, Option, Some, None, refl, sym, ◌∙◌, subst, arith, length-append, find, option_map, option_and_then, slice_get, bytes_eq}
 use Rattle.std.specs.Option.{option_map_or}
-use Rattle.std.specs.Str.{bytes_eq}
 use Rattle.std.proofs.lemmas.Slice.Eq.{bytes_eq-Decides}
 use Rattle.clap.specs.Facts.{explicit_source}
 use Rattle.clap.specs.Takes.{is_given}
@@ -10,10 +8,8 @@ use Rattle.clap.specs.Walk.{Text, Rule, Row, at_row, more_values, with_values, w
 use Rattle.clap.specs.Values.{read_as}
 use Rattle.clap.specs.Simple.{filled, help_rule, with_index}
 use Rattle.clap.specs.declared.error.kind.ErrorKind.{ErrorKind}
-use Rattle.clap.specs.declared.error.kind.ErrorKind.TheVariants.{ValueValidation}
-use Rattle.clap.specs.declared.parser.matches.ValueSource.TheVariants.{CommandLine}
+use Rattle.clap.specs.declared.parser.matches.ValueSource.{ValueSource}
 use Rattle.clap.specs.declared.builder.value_parser.Reading.{Reading}
-use Rattle.clap.specs.declared.builder.value_parser.Reading.TheVariants.{AsWritten}
 use Rattle.clap.specs.ValueTests.{is_unsigned_in}
 use Rattle.pb_texts.specs.CommandLines.{required_rule, number_rule}
 use Rattle.pb_texts.proofs.Kept.{Each, Keeps, or_else_none}
@@ -32,13 +28,13 @@ each_at P id change missing f m (r ∷ rs) g = each_if P (bytes_eq r.id id) (cha
 
 -- the row that a first use of an argument makes
 abbrev new_row : Text → Reading → List Text → Row
-new_row id how values = record { id = id; values = values; count = None; source = Some CommandLine; reading = how }
+new_row id how values = record { id = id; values = values; count = None; source = Some ValueSource.CommandLine; reading = how }
 
 -- what holds of a new row, and of one that gets more values, is kept at a use of an argument that is set
 each_set : (P : Row → Type 0) (id : Text) (how : Reading) (values : List Text) → P (new_row id how values)
-    → ((r : Row) → bytes_eq r.id id ≡ true → P r → Each P (more_values CommandLine values r)) → (rows : List Row) → Each P rows → Each P (with_values id how CommandLine values (without id rows))
+    → ((r : Row) → bytes_eq r.id id ≡ true → P r → Each P (more_values ValueSource.CommandLine values r)) → (rows : List Row) → Each P rows → Each P (with_values id how ValueSource.CommandLine values (without id rows))
 each_set P id how values new more rows g =
-    each_at P id (more_values CommandLine values) (new_row id how values ∷ []) (λ r rs e p q. ((more r e p).0, q)) (new, tt) (without id rows)
+    each_at P id (more_values ValueSource.CommandLine values) (new_row id how values ∷ []) (λ r rs e p q. ((more r e p).0, q)) (new, tt) (without id rows)
     (each_at P id (λ _. []) [] (λ r rs e p q. q) tt rows g)
 
 -- ---- the arguments, once built
@@ -66,16 +62,16 @@ longer xs v vs h = simp length-append (omega arith)
 some_value : (v : Text) (vs : List Text) → 0 < length (v ∷ vs)
 some_value v vs = omega arith
 
-value_set : (id : Text) (how : Reading) (v : Text) (vs : List Text) (rows : List Row) → Each HasValue rows → Each HasValue (with_values id how CommandLine (v ∷ vs) (without id rows))
+value_set : (id : Text) (how : Reading) (v : Text) (vs : List Text) (rows : List Row) → Each HasValue rows → Each HasValue (with_values id how ValueSource.CommandLine (v ∷ vs) (without id rows))
 value_set id how v vs rows g = each_set HasValue id how (v ∷ vs) (some_value v vs) (λ r e p. (longer r.values v vs p, tt)) rows g
 
 pub operand_has_value : (position : ℕ) (id : Text) → Keeps HasValue (operand position id)
 operand_has_value position id again [] rows e g = absurd cc
-operand_has_value position id again (v ∷ vs) rows e g = value_set id AsWritten v vs rows g
+operand_has_value position id again (v ∷ vs) rows e g = value_set id Reading.AsWritten v vs rows g
 
 pub number_has_value : (name : Text) (low high : ℕ) → Keeps HasValue (number name low high)
 number_has_value name low high again [] rows e g = absurd cc
-number_has_value name low high again (v ∷ vs) rows e g = value_set name AsWritten v vs rows g
+number_has_value name low high again (v ∷ vs) rows e g = value_set name Reading.AsWritten v vs rows g
 
 -- ---- numbers
 
@@ -85,7 +81,7 @@ IsNumberIn low high None = Unit {0}
 IsNumberIn low high (Some text) = is_unsigned_in low high text ≡ true
 
 abbrev pub ReadsNumber : Text → ℕ → ℕ → Row → Type 0
-ReadsNumber name low high r = r.id ≡ name → (r.reading ≡ AsWritten) × IsNumberIn low high (slice_get r.values 0)
+ReadsNumber name low high r = r.id ≡ name → (r.reading ≡ Reading.AsWritten) × IsNumberIn low high (slice_get r.values 0)
 
 same_id : (a b : Text) → bytes_eq a b ≡ true → a ≡ b
 same_id a b e = (bytes_eq-Decides a b).0 e
@@ -93,12 +89,12 @@ same_id a b e = (bytes_eq-Decides a b).0 e
 pub operand_keeps_number : (position : ℕ) (id name : Text) (low high : ℕ) → (id ≡ name → ⊥) → Keeps (ReadsNumber name low high) (operand position id)
 operand_keeps_number position id name low high other again [] rows e g = absurd cc
 operand_keeps_number position id name low high other again (v ∷ vs) rows e g =
-    each_set (ReadsNumber name low high) id AsWritten (v ∷ vs) (λ is. absurd (other is)) (λ r same p. ((λ is. absurd (other (sym (same_id r.id id same) ∙ is))), tt)) rows g
+    each_set (ReadsNumber name low high) id Reading.AsWritten (v ∷ vs) (λ is. absurd (other is)) (λ r same p. ((λ is. absurd (other (sym (same_id r.id id same) ∙ is))), tt)) rows g
 
 pub number_keeps_number : (other_name : Text) (from to : ℕ) (name : Text) (low high : ℕ) → (other_name ≡ name → ⊥) → Keeps (ReadsNumber name low high) (number other_name from to)
 number_keeps_number other_name from to name low high other again [] rows e g = absurd cc
 number_keeps_number other_name from to name low high other again (v ∷ vs) rows e g =
-    each_set (ReadsNumber name low high) other_name AsWritten (v ∷ vs) (λ is. absurd (other is)) (λ r same p. ((λ is. absurd (other (sym (same_id r.id other_name same) ∙ is))), tt)) rows g
+    each_set (ReadsNumber name low high) other_name Reading.AsWritten (v ∷ vs) (λ is. absurd (other is)) (λ r same p. ((λ is. absurd (other (sym (same_id r.id other_name same) ∙ is))), tt)) rows g
 
 first_still : (low high : ℕ) (xs : List Text) (v : Text) (vs : List Text) → is_unsigned_in low high v ≡ true → IsNumberIn low high (slice_get xs 0) → IsNumberIn low high (slice_get (xs ++ v ∷ vs) 0)
 first_still low high [] v vs is p = is
@@ -113,8 +109,8 @@ number_reads name low high again [] rows e g = absurd cc
 number_reads name low high again (v ∷ vs) rows e g =
     let a = or_else_none _ _ e in
     let b = or_else_none _ _ a.1 in
-    let is : is_unsigned_in low high v ≡ true = taken (is_unsigned_in low high v) ValueValidation (or_else_none _ _ b.1).0 in
-    each_set (ReadsNumber name low high) name AsWritten (v ∷ vs) (λ _. (refl, is)) (λ r same p. ((λ own. ((p own).0, first_still low high r.values v vs is (p own).1)), tt)) rows g
+    let is : is_unsigned_in low high v ≡ true = taken (is_unsigned_in low high v) ErrorKind.ValueValidation (or_else_none _ _ b.1).0 in
+    each_set (ReadsNumber name low high) name Reading.AsWritten (v ∷ vs) (λ _. (refl, is)) (λ r same p. ((λ own. ((p own).0, first_still low high r.values v vs is (p own).1)), tt)) rows g
 
 -- ---- what is read of a row
 
@@ -140,7 +136,7 @@ pub given_first : (id : Text) (rows : List Row) → Each HasValue rows → is_gi
 given_first id rows f g = first_in rows (λ r. bytes_eq r.id id) (find (λ r. bytes_eq r.id id) rows) f refl g
 
 module _ (name : Text) (low high : ℕ) where
-  row_reads : (how : Reading) (o : Option Text) → how ≡ AsWritten → IsNumberIn low high o → IsNumberIn low high (option_map (read_as how) o)
+  row_reads : (how : Reading) (o : Option Text) → how ≡ Reading.AsWritten → IsNumberIn low high o → IsNumberIn low high (option_map (read_as how) o)
   row_reads how None e p = tt
   row_reads how (Some text) e p = subst (λ (k : Reading). is_unsigned_in low high (read_as k text) ≡ true) (sym e) p
 

@@ -1,8 +1,6 @@
 -- What each use of an argument keeps of the rows, they keep to the end of a level that is read without fault.
-use Rattle.std.proofs.Common.{◌≡◌, ℕ, zero, suc, Bool, true, false, cond, List, [], ◌∷◌, length, drop, Option, Some, None, refl, sym, subst}
-use Rattle.std.specs.Prelude.{◌&&◌, not, find, fold, is_some, encode_utf8, slice_get}
+use Rattle.std.proofs.Common.{◌≡◌, ℕ, zero, suc, Bool, true, false, cond, List, [], ◌∷◌, length, drop, Option, Some, None, refl, sym, subst, ◌&&◌, not, find, fold, is_some, encode_utf8, slice_get, bytes_eq, chars}
 use Rattle.std.specs.Option.{option_map_or}
-use Rattle.std.specs.Str.{bytes_eq, chars}
 use Rattle.clap.specs.Lexer.{long_of, short_of}
 use Rattle.clap.specs.Walk.{Text, Rule, Row, Held, Waiting, idle, option, positional, Outcome, done, waits, plain, refused, Step, Walk, Names}
 use Rattle.clap.specs.Walk.{next, trailing, subcommand, value}
@@ -14,7 +12,7 @@ use Rattle.clap.specs.Simple.{Shape}
 use Rattle.clap.specs.Kinds.{Kinds, or_else}
 use Rattle.clap.specs.Faults.{use_fault, settle_fault, react_fault, option_fault, long_fault, short_fault, bundle_step_fault, flags_fault, bundle_fault, flag_word_fault}
 use Rattle.clap.specs.Faults.{other_fault, word_fault, positional_fault, stray_fault, step_fault, turn_fault, walk_fault, check_fault, level_fault}
-use Rattle.clap.specs.declared.error.kind.ErrorKind.TheVariants.{TooManyValues}
+use Rattle.clap.specs.declared.error.kind.ErrorKind.{ErrorKind}
 
 abbrev pub Each : {A : Type 0} → (A → Type 0) → List A → Type 0
 Each P [] = Unit {0}
@@ -96,13 +94,13 @@ module _ (s : Shape) (P : Row → Type 0) (keeps : Each (Keeps P) s.rules) where
   option_kept a (Some v) h k e g = reacted_kept a (v ∷ []) h k e g
   option_kept a None h k e g = settled_kept h e g
 
-  flag_kept : (a : Rule) (v : Option Text) (h : Held) → Keeps P a → cond (is_some v) (TooManyValues ∷ []) (react_fault s.rules s.args_override_self a [] h) ≡ [] → Each P h.rows
+  flag_kept : (a : Rule) (v : Option Text) (h : Held) → Keeps P a → cond (is_some v) (ErrorKind.TooManyValues ∷ []) (react_fault s.rules s.args_override_self a [] h) ≡ [] → Each P h.rows
       → Each P (flag_met s.rules a v h).0.rows
   flag_kept a (Some v) h k e g = g
   flag_kept a None h k e g = reacted_kept a [] h k e g
 
   long_by : (b : Bool) (a : Rule) (v : Option Text) (h : Held) → Keeps P a
-      → cond b (option_fault s.rules s.args_override_self a v h) (cond (is_some v) (TooManyValues ∷ []) (react_fault s.rules s.args_override_self a [] h)) ≡ []
+      → cond b (option_fault s.rules s.args_override_self a v h) (cond (is_some v) (ErrorKind.TooManyValues ∷ []) (react_fault s.rules s.args_override_self a [] h)) ≡ []
       → Each P h.rows → Each P (cond b (option_met s.rules a v h) (flag_met s.rules a v h)).0.rows
   long_by true a v h k e g = option_kept a v h k e g
   long_by false a v h k e g = flag_kept a v h k e g

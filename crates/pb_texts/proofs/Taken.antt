@@ -1,16 +1,14 @@
 -- The plain forms of the subcommands are taken.
-use Rattle.std.proofs.Common.{◌≡◌, ℕ, ◌<◌, ◌^◌, Bool, true, false, cond, [], ◌∷◌, Some, None, refl, sym, ◌∙◌, subst, arith}
-use Rattle.std.specs.Prelude.{◌==◌, ◌||◌, not, option_map, option_and_then}
+use Rattle.std.proofs.Common.{◌≡◌, ℕ, ◌<◌, ◌^◌, Bool, true, false, cond, [], ◌∷◌, Some, None, refl, sym, ◌∙◌, subst, arith, ◌==◌, ◌||◌, not, option_map, option_and_then, bytes_eq}
 use Rattle.std.proofs.lemmas.Bool.{eqb-true, and_right as and_false, and_left as false_and, false_from_ne_true as false_unless}
-use Rattle.std.specs.Str.{bytes_eq}
 use Rattle.clap.specs.Lexer.{strip_byte}
 use Rattle.clap.specs.Walk.{Text}
 use Rattle.clap.specs.Kinds.{Kinds, or_else}
 use Rattle.clap.specs.ValueTests.{is_unsigned_in}
-use Rattle.clap.specs.declared.error.kind.ErrorKind.TheVariants.{ValueValidation}
+use Rattle.clap.specs.declared.error.kind.ErrorKind.{ErrorKind}
 use Rattle.clap.proofs.OnLiterals.{clap_on_literals}
-use Rattle.pb_isa.specs.declared.profile.Profile.TheVariants.{One}
-use Rattle.pb_helpers.specs.declared.change.Version.TheVariants.{First}
+use Rattle.pb_isa.specs.declared.profile.Profile.{Profile}
+use Rattle.pb_helpers.specs.declared.change.Version.{Version}
 use Rattle.pb_texts.specs.CommandLines.{most_workers, most_swaps, last_profile, is_plain_word, is_count, is_workers, is_swaps, is_profile, profile_numbered, count_number, begins_with_plus, is_clock, clock_number, run_words, workers_words, swaps_words, replay_words, clock_words, asm_words, dis_words, check_words, profile_words, Run, Replay, Asm, Dis, Check, Request, AskFor, HaveBadValue, TakeProfiles, RefuseOtherProfiles, last_version, is_version, version_numbered, record_words, TakeVersions, RefuseOtherVersions}
 use Rattle.pb_texts.proofs.Counts.{plus_no_count, plain_count}
 use Rattle.pb_base.proofs.Logic.{false_if_not as not_true, not_both as true_not_false}
@@ -54,18 +52,18 @@ count_plain low high t h = plain_of (is_count low high) refl (hyphen_no_count lo
 
 -- what a level below and the one above make of the fault of a value
 abbrev value_fault : Bool → Kinds
-value_fault b = or_else (or_else (or_else (cond b [] (ValueValidation ∷ [])) []) []) []
+value_fault b = or_else (or_else (or_else (cond b [] (ErrorKind.ValueValidation ∷ [])) []) []) []
 
 -- the same with that of a plus
 abbrev plus_or_value_fault : Bool → Bool → Kinds
-plus_or_value_fault b plus = or_else (value_fault b) (cond plus (ValueValidation ∷ []) [])
+plus_or_value_fault b plus = or_else (value_fault b) (cond plus (ErrorKind.ValueValidation ∷ []) [])
 
 no_fault : (b plus : Bool) → b ≡ true → plus ≡ false → plus_or_value_fault b plus ≡ []
 no_fault true false e f = refl
 no_fault true true e f = absurd cc
 no_fault false plus e f = absurd cc
 
-bad_value : (b plus : Bool) → (plus ≡ false → b ≡ false) → plus_or_value_fault b plus ≡ ValueValidation ∷ []
+bad_value : (b plus : Bool) → (plus ≡ false → b ≡ false) → plus_or_value_fault b plus ≡ ErrorKind.ValueValidation ∷ []
 bad_value true true f = refl
 bad_value true false f = absurd (true_not_false true refl (f refl))
 bad_value false plus f = refl
@@ -130,15 +128,15 @@ other_clock_by : (program m s e t : Text) → NoHyphen m → NoHyphen s → NoHy
 unfolding clap_on_literals
 other_clock_by program m s e t a b c d is = rw (a.1, a.0, a.0, b.1, b.0, b.0, c.1, c.0, c.0, d.1, d.0, d.0) (bad_value (is_clock t) false (λ _. is))
 
-asm_by : (program i o : Text) → NoHyphen i → NoHyphen o → AskFor (asm_words program i o) (Asm i o One)
+asm_by : (program i o : Text) → NoHyphen i → NoHyphen o → AskFor (asm_words program i o) (Asm i o Profile.One)
 unfolding clap_on_literals
 asm_by program i o a b = (rw (a.1, a.0, a.0, b.1, b.0, b.0) refl, rw (a.1, a.0, a.0, b.1, b.0, b.0) refl)
 
-dis_by : (program f : Text) → NoHyphen f → AskFor (dis_words program f) (Dis f One)
+dis_by : (program f : Text) → NoHyphen f → AskFor (dis_words program f) (Dis f Profile.One)
 unfolding clap_on_literals
 dis_by program f a = (rw (a.1, a.0, a.0) refl, rw (a.1, a.0, a.0) refl)
 
-check_by : (program f : Text) → NoHyphen f → AskFor (check_words program f) (Check f One First)
+check_by : (program f : Text) → NoHyphen f → AskFor (check_words program f) (Check f Profile.One Version.First)
 unfolding clap_on_literals
 check_by program f a = (rw (a.1, a.0, a.0) refl, rw (a.1, a.0, a.0) refl)
 
@@ -158,7 +156,7 @@ module _ (t : Text) where
       let plain = no_plus 1 last_profile t is in
       no_fault (is_unsigned_in 1 last_profile t) (begins_with_plus t || false) (plain_count 1 last_profile (omega arith) t plain ∙ is) (or_nothing _ plain)
 
-  checked_refused : is_profile t ≡ false → checked_fault ≡ ValueValidation ∷ []
+  checked_refused : is_profile t ≡ false → checked_fault ≡ ErrorKind.ValueValidation ∷ []
   checked_refused is = bad_value (is_unsigned_in 1 last_profile t) (begins_with_plus t || false) (λ plain. plain_count 1 last_profile (omega arith) t (nothing_or _ plain) ∙ is)
 
   -- the fault of a version
@@ -170,7 +168,7 @@ module _ (t : Text) where
       let plain = no_plus 1 last_version t is in
       no_fault (is_unsigned_in 1 last_version t) (begins_with_plus t) (plain_count 1 last_version (omega arith) t plain ∙ is) plain
 
-  version_refused : is_version t ≡ false → version_fault ≡ ValueValidation ∷ []
+  version_refused : is_version t ≡ false → version_fault ≡ ErrorKind.ValueValidation ∷ []
   version_refused is = bad_value (is_unsigned_in 1 last_version t) (begins_with_plus t) (λ plain. plain_count 1 last_version (omega arith) t plain ∙ is)
 
   profile_faultless : is_profile t ≡ true → profile_fault ≡ []
@@ -178,7 +176,7 @@ module _ (t : Text) where
       let plain = no_plus 1 last_profile t is in
       no_fault (is_unsigned_in 1 last_profile t) (begins_with_plus t) (plain_count 1 last_profile (omega arith) t plain ∙ is) plain
 
-  profile_refused : is_profile t ≡ false → profile_fault ≡ ValueValidation ∷ []
+  profile_refused : is_profile t ≡ false → profile_fault ≡ ErrorKind.ValueValidation ∷ []
   profile_refused is = bad_value (is_unsigned_in 1 last_profile t) (begins_with_plus t) (λ plain. plain_count 1 last_profile (omega arith) t plain ∙ is)
 
 with_numbered : {A : Type 0} (numbered : ℕ → A) (b : Bool) (make : A → Request) (n : ℕ) → b ≡ true → option_and_then (λ x. Some (make x)) (option_map numbered (cond b (Some n) None)) ≡ Some (make (numbered n))
@@ -207,11 +205,11 @@ other_dis_profile_by : (program f t : Text) → NoHyphen f → NoHyphen t → is
 unfolding clap_on_literals
 other_dis_profile_by program f t a c is = rw (a.1, a.0, a.0, c.1, c.0, c.0) (profile_refused t is)
 
-check_profile_by : (program f t : Text) → NoHyphen f → NoHyphen t → is_profile t ≡ true → AskFor (profile_words (check_words program f) t) (Check f (profile_numbered (count_number t)) First)
+check_profile_by : (program f t : Text) → NoHyphen f → NoHyphen t → is_profile t ≡ true → AskFor (profile_words (check_words program f) t) (Check f (profile_numbered (count_number t)) Version.First)
 unfolding clap_on_literals
 check_profile_by program f t a c is = (
   rw (a.1, a.0, a.0, c.1, c.0, c.0) (checked_faultless t is),
-  rw (a.1, a.0, a.0, c.1, c.0, c.0) (with_numbered profile_numbered (is_profile t) (λ p. Check f p First) (count_number t) is),
+  rw (a.1, a.0, a.0, c.1, c.0, c.0) (with_numbered profile_numbered (is_profile t) (λ p. Check f p Version.First) (count_number t) is),
 )
 
 other_check_profile_by : (program f t : Text) → NoHyphen f → NoHyphen t → is_profile t ≡ false → HaveBadValue (profile_words (check_words program f) t)
@@ -220,11 +218,11 @@ other_check_profile_by program f t a c is = rw (a.1, a.0, a.0, c.1, c.0, c.0) (c
 
 -- ---- `--record`
 
-check_record_by : (program f t : Text) → NoHyphen f → NoHyphen t → is_version t ≡ true → AskFor (record_words (check_words program f) t) (Check f One (version_numbered (count_number t)))
+check_record_by : (program f t : Text) → NoHyphen f → NoHyphen t → is_version t ≡ true → AskFor (record_words (check_words program f) t) (Check f Profile.One (version_numbered (count_number t)))
 unfolding clap_on_literals
 check_record_by program f t a c is = (
   rw (a.1, a.0, a.0, c.1, c.0, c.0) (version_faultless t is),
-  rw (a.1, a.0, a.0, c.1, c.0, c.0) (with_numbered version_numbered (is_version t) (Check f One) (count_number t) is),
+  rw (a.1, a.0, a.0, c.1, c.0, c.0) (with_numbered version_numbered (is_version t) (Check f Profile.One) (count_number t) is),
 )
 
 other_check_record_by : (program f t : Text) → NoHyphen f → NoHyphen t → is_version t ≡ false → HaveBadValue (record_words (check_words program f) t)
@@ -260,7 +258,7 @@ other_clock_refused program m s e t p q r u is = other_clock_by program m s e t 
 plain_profile : (t : Text) → is_profile t ≡ true → NoHyphen t
 plain_profile t is = plain_word t (count_plain 1 last_profile t is)
 
-pub asm_taken : (program i o : Text) → is_plain_word i ≡ true → is_plain_word o ≡ true → AskFor (asm_words program i o) (Asm i o One)
+pub asm_taken : (program i o : Text) → is_plain_word i ≡ true → is_plain_word o ≡ true → AskFor (asm_words program i o) (Asm i o Profile.One)
 asm_taken program i o p q = asm_by program i o (plain_word i p) (plain_word o q)
 
 pub asm_profile_taken : (program i o : Text) → is_plain_word i ≡ true → is_plain_word o ≡ true → TakeProfiles (asm_words program i o) (Asm i o)
@@ -269,7 +267,7 @@ asm_profile_taken program i o p q t is = asm_profile_by program i o t (plain_wor
 pub other_asm_profile_refused : (program i o : Text) → is_plain_word i ≡ true → is_plain_word o ≡ true → RefuseOtherProfiles (asm_words program i o)
 other_asm_profile_refused program i o p q t u is = other_asm_profile_by program i o t (plain_word i p) (plain_word o q) (plain_word t u) is
 
-pub dis_taken : (program f : Text) → is_plain_word f ≡ true → AskFor (dis_words program f) (Dis f One)
+pub dis_taken : (program f : Text) → is_plain_word f ≡ true → AskFor (dis_words program f) (Dis f Profile.One)
 dis_taken program f p = dis_by program f (plain_word f p)
 
 pub dis_profile_taken : (program f : Text) → is_plain_word f ≡ true → TakeProfiles (dis_words program f) (Dis f)
@@ -278,16 +276,16 @@ dis_profile_taken program f p t is = dis_profile_by program f t (plain_word f p)
 pub other_dis_profile_refused : (program f : Text) → is_plain_word f ≡ true → RefuseOtherProfiles (dis_words program f)
 other_dis_profile_refused program f p t u is = other_dis_profile_by program f t (plain_word f p) (plain_word t u) is
 
-pub check_taken : (program f : Text) → is_plain_word f ≡ true → AskFor (check_words program f) (Check f One First)
+pub check_taken : (program f : Text) → is_plain_word f ≡ true → AskFor (check_words program f) (Check f Profile.One Version.First)
 check_taken program f p = check_by program f (plain_word f p)
 
-pub check_profile_taken : (program f : Text) → is_plain_word f ≡ true → TakeProfiles (check_words program f) (λ profile. Check f profile First)
+pub check_profile_taken : (program f : Text) → is_plain_word f ≡ true → TakeProfiles (check_words program f) (λ profile. Check f profile Version.First)
 check_profile_taken program f p t is = check_profile_by program f t (plain_word f p) (plain_profile t is) is
 
 pub other_check_profile_refused : (program f : Text) → is_plain_word f ≡ true → RefuseOtherProfiles (check_words program f)
 other_check_profile_refused program f p t u is = other_check_profile_by program f t (plain_word f p) (plain_word t u) is
 
-pub check_record_taken : (program f : Text) → is_plain_word f ≡ true → TakeVersions (check_words program f) (Check f One)
+pub check_record_taken : (program f : Text) → is_plain_word f ≡ true → TakeVersions (check_words program f) (Check f Profile.One)
 check_record_taken program f p t is = check_record_by program f t (plain_word f p) (plain_word t (count_plain 1 last_version t is)) is
 
 pub other_check_record_refused : (program f : Text) → is_plain_word f ≡ true → RefuseOtherVersions (check_words program f)

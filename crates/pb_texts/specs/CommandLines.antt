@@ -1,21 +1,17 @@
 -- What a command line asks for, as `clap` reads it.
-use Rattle.std.specs.Prelude.{◌≡◌, ◌≤◌, ◌-◌, ℕ, Bool, true, false, not, ◌==◌, ◌&&◌, ◌||◌, nat_le, if◌then◌else◌, List, [], ◌∷◌, ◌++◌, codes, Option, Some, None, option_map, option_and_then}
+use Rattle.std.specs.Prelude.{◌≡◌, ◌≤◌, ◌-◌, ℕ, Bool, true, false, not, ◌==◌, ◌&&◌, ◌||◌, nat_le, if◌then◌else◌, List, [], ◌∷◌, ◌++◌, codes, Option, Some, None, option_map, option_and_then, bytes_eq}
 use Rattle.std.specs.Option.{option_map_or}
-use Rattle.std.specs.Str.{bytes_eq}
 use Rattle.std.specs.Str.Parse.{digits_value, without_leading_plus}
 use Rattle.clap.specs.Words.{App, Row, Rule, Text, fault_of, first_of, new_app, new_rule, one_of, subcommand_of, with_rule, with_subcommand}
 use Rattle.clap.specs.ValueTests.{is_numeral, is_unsigned_in}
 use Rattle.clap.specs.Kinds.{Kinds, or_else}
-use Rattle.clap.specs.declared.builder.value_parser.ValueParser.TheVariants.{Unsigned}
-use Rattle.clap.specs.declared.error.kind.ErrorKind.TheVariants.{ValueValidation}
+use Rattle.clap.specs.declared.builder.value_parser.ValueParser.{ValueParser}
+use Rattle.clap.specs.declared.error.kind.ErrorKind.{ErrorKind}
 use Rattle.clap.specs.Simple.{on_top}
 use Rattle.pb_base.specs.declared.limits.TheConstants.{MAX_SEATS}
 use Rattle.pb_isa.specs.declared.profile.Profile.{Profile}
-use Rattle.pb_isa.specs.declared.profile.Profile.TheVariants.{One, Two}
 use Rattle.pb_helpers.specs.declared.change.Version.{Version}
-use Rattle.pb_helpers.specs.declared.change.Version.TheVariants.{First, Second}
 use Rattle.pb_texts.specs.declared.words.choice.Options.{Options}
-use Rattle.pb_texts.specs.declared.words.choice.Options.TheVariants as options
 use Rattle.pb_texts.specs.declared.words.choice.ReplayFiles.{ReplayFiles}
 use Rattle.pb_texts.specs.declared.words.choice.ProgramFile.{ProgramFile}
 
@@ -24,7 +20,7 @@ required_rule id = record (new_rule id) { required = true }
 
 -- an option whose value is a number from `low` to `high`
 abbrev pub number_rule : Text → ℕ → ℕ → Rule
-number_rule name low high = record (new_rule name) { long = Some name; value_names = 1; parser = Some (Unsigned low high) }
+number_rule name low high = record (new_rule name) { long = Some name; value_names = 1; parser = Some (ValueParser.Unsigned low high) }
 
 -- the first seat is the main thread's
 abbrev pub most_workers : ℕ
@@ -159,7 +155,7 @@ clock_of (Some text) = if is_clock text then Some (clock_number text) else None
 
 -- the profile of this number, which is 1 or 2
 abbrev pub profile_numbered : ℕ → Profile
-profile_numbered number = if number == 1 then One else Two
+profile_numbered number = if number == 1 then Profile.One else Profile.Two
 
 abbrev pub is_profile : Text → Bool
 is_profile text = is_count 1 last_profile text
@@ -174,7 +170,7 @@ with_profile ask rows = option_and_then ask (profile_of (first_of (codes "profil
 
 -- the version of this number, which is 1 or 2
 abbrev pub version_numbered : ℕ → Version
-version_numbered number = if number == 1 then First else Second
+version_numbered number = if number == 1 then Version.First else Version.Second
 
 abbrev pub is_version : Text → Bool
 is_version text = is_count 1 last_version text
@@ -243,7 +239,7 @@ has_plus (Some p) =
 
 -- the fault that `clap` finds, or that of a plus before the number of workers, of swaps, of a profile or of a version
 abbrev pub words_fault : List Text → Kinds
-words_fault words = or_else (fault_of program_app words) (if has_plus (subcommand_of program_app words) then ValueValidation ∷ [] else [])
+words_fault words = or_else (fault_of program_app words) (if has_plus (subcommand_of program_app words) then ErrorKind.ValueValidation ∷ [] else [])
 
 abbrev pub replay_request : ReplayFiles → Request
 replay_request r = Replay r.manifest.now r.script.now r.schedule.now r.clock.0
@@ -252,20 +248,20 @@ abbrev pub check_request : ProgramFile → Request
 check_request f = Check f.file.now f.profile f.version
 
 abbrev pub request_of : Options → Request
-request_of (options.Run manifest script workers swaps) = Run manifest.now script.now workers swaps
-request_of (options.Replay files) = replay_request files
-request_of (options.Asm input output profile) = Asm input.now output.now profile
-request_of (options.Dis file profile) = Dis file.now profile
-request_of (options.Check file) = check_request file
+request_of (Options.Run manifest script workers swaps) = Run manifest.now script.now workers swaps
+request_of (Options.Replay files) = replay_request files
+request_of (Options.Asm input output profile) = Asm input.now output.now profile
+request_of (Options.Dis file profile) = Dis file.now profile
+request_of (Options.Check file) = check_request file
 
 -- a run has a worker at least, and a seat for each, and no more swaps than it may be asked for
 abbrev pub IsInRange : Options → Type 0
-IsInRange (options.Run manifest script workers swaps) = (1 ≤ workers) × (workers ≤ most_workers) × (swaps ≤ most_swaps)
+IsInRange (Options.Run manifest script workers swaps) = (1 ≤ workers) × (workers ≤ most_workers) × (swaps ≤ most_swaps)
 IsInRange other = Unit {0}
 
 -- how many tablets are to be replaced: none but by a run
 abbrev pub swaps_asked : Options → ℕ
-swaps_asked (options.Run manifest script workers swaps) = swaps
+swaps_asked (Options.Run manifest script workers swaps) = swaps
 swaps_asked other = 0
 
 -- the word doesn't begin with a hyphen
@@ -315,7 +311,7 @@ AskFor words request = (words_fault words ≡ []) × (command_of words ≡ Some 
 
 -- the words are refused for a value that isn't what its argument takes
 abbrev pub HaveBadValue : List Text → Type 0
-HaveBadValue words = words_fault words ≡ ValueValidation ∷ []
+HaveBadValue words = words_fault words ≡ ErrorKind.ValueValidation ∷ []
 
 -- with `--profile` and the number of a profile behind them, the words ask for this of that profile
 abbrev pub TakeProfiles : List Text → (Profile → Request) → Type 0

@@ -1,11 +1,9 @@
 -- What a command line of the story program asks for, as `clap` reads it.
-use Rattle.std.specs.Prelude.{List, [], ◌∷◌, codes, if◌then◌else◌, Option, Some, None}
-use Rattle.std.specs.Str.{bytes_eq}
+use Rattle.std.specs.Prelude.{List, [], ◌∷◌, codes, if◌then◌else◌, Option, Some, None, bytes_eq}
 use Rattle.clap.specs.Words.{App, Row, Text, fault_of, new_app, subcommand_of, with_rule, with_subcommand}
 use Rattle.clap.specs.Kinds.{Kinds, or_else}
-use Rattle.clap.specs.declared.error.kind.ErrorKind.TheVariants.{ValueValidation}
+use Rattle.clap.specs.declared.error.kind.ErrorKind.{ErrorKind}
 use Rattle.pb_texts.specs.declared.words.choice.StoryOptions.{StoryOptions}
-use Rattle.pb_texts.specs.declared.words.choice.StoryOptions.TheVariants as options
 use Rattle.pb_texts.specs.CommandLines.{required_rule, profile_rule, record_rule, needs_subcommand, replay_app, replay_in, check_in, Request, replay_request, check_request}
 
 -- `frames FILE [--profile N] [--record N]`
@@ -29,7 +27,7 @@ story_of words = story_in (subcommand_of story_app words)
 
 -- the fault of words that ask for nothing
 abbrev pub unasked : Option Request → Kinds
-unasked None = ValueValidation ∷ []
+unasked None = ErrorKind.ValueValidation ∷ []
 unasked (Some r) = []
 
 -- the fault that `clap` finds, or that of what it takes and is no number in digits alone
@@ -37,5 +35,5 @@ abbrev pub story_fault : List Text → Kinds
 story_fault words = or_else (fault_of story_app words) (unasked (story_of words))
 
 abbrev pub story_request : StoryOptions → Request
-story_request (options.Frames file) = check_request file
-story_request (options.Replay files) = replay_request files
+story_request (StoryOptions.Frames file) = check_request file
+story_request (StoryOptions.Replay files) = replay_request files

@@ -1,11 +1,10 @@
 -- What a change has asked is its begin, and then what its plan has asked.
 use Rattle.std.proofs.Common.{◌≡◌, ◌≢◌, ℕ, List, [], ◌∷◌, ◌++◌, Some, None, refl, sym, ap, subst, ◌∙◌}
 use Rattle.pb_base.specs.Batch.{Writes}
-use Rattle.pb_steps.specs.declared.step.Work.TheVariants as works
-use Rattle.pb_steps.specs.declared.step.Declared.TheVariants as declared
-use Rattle.pb_steps.specs.declared.step.Step.TheVariants.{Begin}
+use Rattle.pb_steps.specs.declared.step.Work.{Work}
+use Rattle.pb_steps.specs.declared.step.Declared.{Declared}
+use Rattle.pb_steps.specs.declared.step.Step.{Step}
 use Rattle.pb_steps.specs.declared.step.Answer.{Answer}
-use Rattle.pb_steps.specs.declared.step.Answer.TheVariants.{At}
 use Rattle.pb_steps.specs.Answers.{CanAnswer}
 use Rattle.pb_history.specs.declared.entry.Received.{Received}
 use Rattle.pb_txn.specs.declared.place.Outcome.{Outcome}
@@ -36,45 +35,45 @@ plan_converses batch p (x ∷ xs) q t = let r = plan_converses batch (plans.answ
 -- its first answer is the start
 pub record HasBegun (batch : Writes) (r : Received) (rest : List Received) (q : ChangeOf) : Type 0 where
   pub s : ℕ
-  pub first : r ≡ told (Begin works.Script) (At (record { 0 = s }))
+  pub first : r ≡ told (Step.Begin Work.Script) (Answer.At (record { 0 = s }))
   pub plan : PlanOf
   pub q_is : q ≡ following batch plan
-  pub said : conversations.Converses (fresh s (declared.Script batch)) rest plan
+  pub said : conversations.Converses (fresh s (Declared.Script batch)) rest plan
 
 -- a begin is answered with a start, of which the plan is then
-begun : (batch : Writes) (a : Answer) (rest : List Received) (q : ChangeOf) → CanAnswer (Begin works.Script) a → Converses (answered (new_change batch) a) rest q → HasBegun batch (told (Begin works.Script) a) rest q
-begun batch (At s) rest q can t = let p = plan_converses batch (fresh s.0 (declared.Script batch)) rest q t in record { s = s.0; first = refl; plan = p.0; q_is = p.1; said = p.2 }
+begun : (batch : Writes) (a : Answer) (rest : List Received) (q : ChangeOf) → CanAnswer (Step.Begin Work.Script) a → Converses (answered (new_change batch) a) rest q → HasBegun batch (told (Step.Begin Work.Script) a) rest q
+begun batch (Answer.At s) rest q can t = let p = plan_converses batch (fresh s.0 (Declared.Script batch)) rest q t in record { s = s.0; first = refl; plan = p.0; q_is = p.1; said = p.2 }
 begun batch _ rest q can t = absurd can
 
 -- a change of which a step was answered has begun
 pub begins : (batch : Writes) (r : Received) (rest : List Received) (q : ChangeOf) → Converses (new_change batch) (r ∷ rest) q → HasBegun batch r rest q
 begins batch r rest q t =
-    let is : Begin works.Script ≡ r.step = same_step _ _ t.0 in
+    let is : Step.Begin Work.Script ≡ r.step = same_step _ _ t.0 in
     let b = begun batch r.answer rest q (subst (λ z. CanAnswer z r.answer) (sym is) t.1) t.2 in
     subst (λ (z : Received). HasBegun batch z rest q) (λ i. record { step = is i; answer = r.answer }) b
 
 -- some way to make it
-whole : (batch : Writes) → batch ≢ [] → (rest : List Received) × (o : Outcome) × IsWhole (record { 0 = 0 }) (declared.Script batch) (declared_cells (declared.Script batch)) rest o
+whole : (batch : Writes) → batch ≢ [] → (rest : List Received) × (o : Outcome) × IsWhole (record { 0 = 0 }) (Declared.Script batch) (declared_cells (Declared.Script batch)) rest o
 whole [] some = absurd (some refl)
-whole (w ∷ ws) some = plans_converse 0 (declared.Script (w ∷ ws)) w.0 _ [] (fresh 0 (declared.Script (w ∷ ws))) refl refl
+whole (w ∷ ws) some = plans_converse 0 (Declared.Script (w ∷ ws)) w.0 _ [] (fresh 0 (Declared.Script (w ∷ ws))) refl refl
 
 -- what was said since the begin can be ended, since a batch has some cells
-on_from : (batch : Writes) (s : ℕ) (rest : List Received) (q : PlanOf) → batch ≢ [] → conversations.Converses (fresh s (declared.Script batch)) rest q
-    → (more : List Received) × (o : Outcome) × IsWhole (record { 0 = s }) (declared.Script batch) (declared_cells (declared.Script batch)) (rest ++ more) o
+on_from : (batch : Writes) (s : ℕ) (rest : List Received) (q : PlanOf) → batch ≢ [] → conversations.Converses (fresh s (Declared.Script batch)) rest q
+    → (more : List Received) × (o : Outcome) × IsWhole (record { 0 = s }) (Declared.Script batch) (declared_cells (Declared.Script batch)) (rest ++ more) o
 on_from [] s rest q some t = absurd (some refl)
-on_from (w ∷ ws) s rest q some t = plans_converse s (declared.Script (w ∷ ws)) w.0 _ rest q refl t
+on_from (w ∷ ws) s rest q some t = plans_converse s (Declared.Script (w ∷ ws)) w.0 _ rest q refl t
 
 -- and once its plan is over, it is a whole conversation
-at_end : (batch : Writes) (s : ℕ) (rest : List Received) (q : PlanOf) (o : Outcome) → batch ≢ [] → conversations.Converses (fresh s (declared.Script batch)) rest q → plans.outcome_of q ≡ Some o
-    → IsWhole (record { 0 = s }) (declared.Script batch) (declared_cells (declared.Script batch)) rest o
+at_end : (batch : Writes) (s : ℕ) (rest : List Received) (q : PlanOf) (o : Outcome) → batch ≢ [] → conversations.Converses (fresh s (Declared.Script batch)) rest q → plans.outcome_of q ≡ Some o
+    → IsWhole (record { 0 = s }) (Declared.Script batch) (declared_cells (Declared.Script batch)) rest o
 at_end [] s rest q o some t e = absurd (some refl)
-at_end (w ∷ ws) s rest q o some t e = plans_end s (declared.Script (w ∷ ws)) w.0 _ rest q o refl t e
+at_end (w ∷ ws) s rest q o some t e = plans_end s (Declared.Script (w ∷ ws)) w.0 _ rest q o refl t e
 
 -- before its begin any whole change may follow, and later one that ends as its plan may
 pub changes_converse : ChangesConverse
 changes_converse batch [] q some t =
     let w = whole batch some in
-    (record { 0 = 0 }, told (Begin works.Script) (At (record { 0 = 0 })) ∷ w.0, w.1, record { rest = w.0; said_is = refl; whole = w.2 })
+    (record { 0 = 0 }, told (Step.Begin Work.Script) (Answer.At (record { 0 = 0 })) ∷ w.0, w.1, record { rest = w.0; said_is = refl; whole = w.2 })
 changes_converse batch (r ∷ rest) q some t =
     let b = begins batch r rest q t in
     let w = on_from batch b.s rest b.plan some b.said in
@@ -88,6 +87,6 @@ changes_end batch [] q p o some t e done = absurd (none_is batch q p t e)
 changes_end batch (r ∷ rest) q p o some t e done =
     let b = begins batch r rest q t in
     let same : b.plan ≡ p = same_plan b.plan p (ap (λ (j : ChangeOf). j.plan) (sym b.q_is) ∙ e) in
-    let start : p.start ≡ b.s = ap (λ (z : PlanOf). z.start) (sym same) ∙ start_stays (fresh b.s (declared.Script batch)) rest b.plan b.said in
+    let start : p.start ≡ b.s = ap (λ (z : PlanOf). z.start) (sym same) ∙ start_stays (fresh b.s (Declared.Script batch)) rest b.plan b.said in
     subst (λ n. IsWholeChange batch (record { 0 = n }) (r ∷ rest) o) (sym start)
     (record { rest = rest; said_is = ap (λ (z : Received). z ∷ rest) b.first; whole = at_end batch b.s rest b.plan o some b.said (ap plans.outcome_of same ∙ done) })

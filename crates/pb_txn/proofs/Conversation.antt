@@ -1,20 +1,15 @@
 -- What a plan has asked at each place, and that it is a beginning of a whole conversation.
-use Rattle.std.proofs.Common.{◌≡◌, suc, ◌+◌, true, false, List, [], ◌∷◌, ◌++◌, length, refl, sym, ◌∙◌, ap, subst, arith, append_assoc, append-nil, length-append, Some, None, ltb, eqb, ne_eqb}
+use Rattle.std.proofs.Common.{◌≡◌, suc, ◌+◌, true, false, List, [], ◌∷◌, ◌++◌, length, refl, sym, ◌∙◌, ap, subst, arith, append_assoc, append-nil, length-append, Some, None, ltb, eqb, ne_eqb, slice_get, option_map}
 use Rattle.std.proofs.lemmas.Bool.{lt-ltb, le-ltb}
-use Rattle.std.specs.Prelude.{slice_get, option_map}
 use Rattle.pb_base.specs.declared.cell.Cell.{Cell}
 use Rattle.pb_base.specs.declared.names.Ts.{Ts}
 use Rattle.pb_steps.specs.declared.step.Declared.{Declared}
 use Rattle.pb_steps.specs.declared.step.Step.{Step}
-use Rattle.pb_steps.specs.declared.step.Step.TheVariants.{Declare, Prewrite, Stamp, CommitPrimary, CommitSecondary, Settle, Clear}
 use Rattle.pb_steps.specs.declared.step.Answer.{Answer}
-use Rattle.pb_steps.specs.declared.step.Answer.TheVariants.{At, Absent, Done, Conflict, Committed, Lost}
 use Rattle.pb_steps.specs.Answers.{CanAnswer}
 use Rattle.pb_history.specs.declared.entry.Received.{Received}
 use Rattle.pb_txn.specs.declared.place.Outcome.{Outcome}
-use Rattle.pb_txn.specs.declared.place.Outcome.TheVariants as outcomes
 use Rattle.pb_txn.specs.declared.place.PlanPlace.{PlanPlace}
-use Rattle.pb_txn.specs.declared.place.PlanPlace.TheVariants.{Declaring, Prewriting, Stamping, CommittingPrimary, CommittingSecondary, Settling, Clearing, Over}
 use Rattle.pb_txn.specs.Places.{declared_cells, place_after, after_prewrite, after_stamp, after_primary, prewrite_from, commit_from, clear_from, step_at}
 use Rattle.pb_txn.specs.Plans.{PlanOf, fresh, answered, outcome_at}
 use Rattle.pb_txn.specs.Conversations.{told, Converses}
@@ -23,14 +18,14 @@ use Rattle.pb_base.proofs.Logic.{same_some as some_some, none_some, some_none}
 
 prewrites_append : (s : Ts) (xs ys : List Cell) → prewrites s (xs ++ ys) ≡ prewrites s xs ++ prewrites s ys
 prewrites_append s [] ys = refl
-prewrites_append s (x ∷ xs) ys = ap (λ rs. told (Prewrite s x) Done ∷ rs) (prewrites_append s xs ys)
+prewrites_append s (x ∷ xs) ys = ap (λ rs. told (Step.Prewrite s x) Answer.Done ∷ rs) (prewrites_append s xs ys)
 
 secondaries_append : (s : Ts) (xs ys : List Cell) → secondaries s (xs ++ ys) ≡ secondaries s xs ++ secondaries s ys
 secondaries_append s [] ys = refl
-secondaries_append s (x ∷ xs) ys = ap (λ rs. told (CommitSecondary s x) Done ∷ rs) (secondaries_append s xs ys)
+secondaries_append s (x ∷ xs) ys = ap (λ rs. told (Step.CommitSecondary s x) Answer.Done ∷ rs) (secondaries_append s xs ys)
 
 -- one more cell is cleared
-cleared_more : (xs : List Cell) (rs : List Received) (y : Cell) (a : Answer) → AreCleared xs rs → CanAnswer (Clear y) a → AreCleared (xs ++ y ∷ []) (rs ++ told (Clear y) a ∷ [])
+cleared_more : (xs : List Cell) (rs : List Received) (y : Cell) (a : Answer) → AreCleared xs rs → CanAnswer (Step.Clear y) a → AreCleared (xs ++ y ∷ []) (rs ++ told (Step.Clear y) a ∷ [])
 cleared_more [] rs y a c can = rw c (refl, can, refl)
 cleared_more (x ∷ xs) [] y a c can = absurd c
 cleared_more (x ∷ xs) (r ∷ rs) y a c can = (c.0, c.1, cleared_more xs rs y a c.2 can)
@@ -38,7 +33,7 @@ cleared_more (x ∷ xs) (r ∷ rs) y a c can = (c.0, c.1, cleared_more xs rs y a
 -- some way to clear them
 unfoldable pub clears : List Cell → List Received
 clears [] = []
-clears (x ∷ xs) = told (Clear x) Absent ∷ clears xs
+clears (x ∷ xs) = told (Step.Clear x) Answer.Absent ∷ clears xs
 
 -- and what was cleared, with them
 pub are_cleared : (xs ys : List Cell) (rs : List Received) → AreCleared xs rs → AreCleared (xs ++ ys) (rs ++ clears ys)
@@ -61,7 +56,7 @@ module _ (s : Ts) (what : Declared) (x : Cell) (others : List Cell) where
   Whole said o = IsWhole s what cells said o
 
   abbrev declares : Received
-  declares = told (Declare s what) Done
+  declares = told (Step.Declare s what) Answer.Done
 
   -- all prewritten, and more
   abbrev ready : List Received → List Received
@@ -69,23 +64,23 @@ module _ (s : Ts) (what : Declared) (x : Cell) (others : List Cell) where
 
   -- the primary committed, and more
   abbrev paid : Ts → List Received → List Received
-  paid c more = ready (told (Stamp s) (At c) ∷ told (CommitPrimary s) Committed ∷ more)
+  paid c more = ready (told (Step.Stamp s) (Answer.At c) ∷ told (Step.CommitPrimary s) Answer.Committed ∷ more)
 
   ready_more : (xs ys : List Received) → ready xs ++ ys ≡ ready (xs ++ ys)
   ready_more xs ys = ap (λ rs. declares ∷ rs) (append_assoc (prewrites s cells) xs ys)
 
   pub data SoFar : PlanPlace → List Received → Type 0 where
-    declaring : SoFar Declaring []
-    prewriting : (before : List Cell) (y : Cell) (after : List Cell) → cells ≡ before ++ y ∷ after → SoFar (Prewriting (length before)) (declares ∷ prewrites s before)
-    stamping : SoFar Stamping (declares ∷ prewrites s cells)
-    committing : (c : Ts) → SoFar (CommittingPrimary c) (ready (told (Stamp s) (At c) ∷ []))
-    finishing : (c : Ts) (done : List Cell) (y : Cell) (left : List Cell) → others ≡ done ++ y ∷ left → SoFar (CommittingSecondary c (suc (length done))) (paid c (secondaries s done))
+    declaring : SoFar PlanPlace.Declaring []
+    prewriting : (before : List Cell) (y : Cell) (after : List Cell) → cells ≡ before ++ y ∷ after → SoFar (PlanPlace.Prewriting (length before)) (declares ∷ prewrites s before)
+    stamping : SoFar PlanPlace.Stamping (declares ∷ prewrites s cells)
+    committing : (c : Ts) → SoFar (PlanPlace.CommittingPrimary c) (ready (told (Step.Stamp s) (Answer.At c) ∷ []))
+    finishing : (c : Ts) (done : List Cell) (y : Cell) (left : List Cell) → others ≡ done ++ y ∷ left → SoFar (PlanPlace.CommittingSecondary c (suc (length done))) (paid c (secondaries s done))
     settling : (before : List Cell) (y : Cell) (after : List Cell) → cells ≡ x ∷ before ++ y ∷ after
-        → SoFar (Settling (suc (length before))) (declares ∷ prewrites s (x ∷ before) ++ told (Prewrite s y) Conflict ∷ [])
+        → SoFar (PlanPlace.Settling (suc (length before))) (declares ∷ prewrites s (x ∷ before) ++ told (Step.Prewrite s y) Answer.Conflict ∷ [])
     clearing : (o : Outcome) (done : List Cell) (y : Cell) (left more : List Cell) (said cs : List Received) → cells ≡ x ∷ done ++ y ∷ (left ++ more)
         → AreCleared done cs → ((all : List Received) → AreCleared (done ++ y ∷ left) all → Whole (said ++ all) o)
-        → SoFar (Clearing (suc (length done)) (suc (length (done ++ y ∷ left))) o) (said ++ cs)
-    over : (o : Outcome) (said : List Received) → Whole said o → SoFar (Over o) said
+        → SoFar (PlanPlace.Clearing (suc (length done)) (suc (length (done ++ y ∷ left))) o) (said ++ cs)
+    over : (o : Outcome) (said : List Received) → Whole said o → SoFar (PlanPlace.Over o) said
 
   -- ---- the next place
 
@@ -104,7 +99,7 @@ module _ (s : Ts) (what : Declared) (x : Cell) (others : List Cell) where
   finishing_next c done [] is =
       let all : others ≡ done = is ∙ append-nil done in
       let no : ltb (suc (length others)) (length cells) ≡ false = le-ltb _ _ (omega arith) in
-      subst (λ d. SoFar (commit_from (length cells) c (suc (length d))) (paid c (secondaries s d))) all (rw no (over (outcomes.Committed c) _ (committed x others c)))
+      subst (λ d. SoFar (commit_from (length cells) c (suc (length d))) (paid c (secondaries s d))) all (rw no (over (Outcome.Committed c) _ (committed x others c)))
   finishing_next c done (y ∷ left) is =
       let yes : ltb (suc (length done)) (length cells) ≡ true = lt-ltb _ _ (omega (arith, ap length is, length-append done (y ∷ left))) in
       rw yes (finishing c done y left is)
@@ -122,76 +117,76 @@ module _ (s : Ts) (what : Declared) (x : Cell) (others : List Cell) where
 
   -- ---- one more answer
 
-  first_more : (a : Answer) → CanAnswer (Declare s what) a → SoFar (prewrite_from (length cells) 0) (told (Declare s what) a ∷ [])
-  first_more Done can = prewriting_next [] cells refl
+  first_more : (a : Answer) → CanAnswer (Step.Declare s what) a → SoFar (prewrite_from (length cells) 0) (told (Step.Declare s what) a ∷ [])
+  first_more Answer.Done can = prewriting_next [] cells refl
   first_more _ can = absurd can
 
-  prewrite_more : (before : List Cell) (y : Cell) (after : List Cell) → cells ≡ before ++ y ∷ after → (a : Answer) → CanAnswer (Prewrite s y) a
-      → SoFar (after_prewrite (length cells) (length before) a) ((declares ∷ prewrites s before) ++ told (Prewrite s y) a ∷ [])
-  prewrite_more before y after is Done can =
-      let said : declares ∷ prewrites s (before ++ y ∷ []) ≡ (declares ∷ prewrites s before) ++ told (Prewrite s y) Done ∷ [] = ap (λ rs. declares ∷ rs) (prewrites_append s before (y ∷ [])) in
+  prewrite_more : (before : List Cell) (y : Cell) (after : List Cell) → cells ≡ before ++ y ∷ after → (a : Answer) → CanAnswer (Step.Prewrite s y) a
+      → SoFar (after_prewrite (length cells) (length before) a) ((declares ∷ prewrites s before) ++ told (Step.Prewrite s y) a ∷ [])
+  prewrite_more before y after is Answer.Done can =
+      let said : declares ∷ prewrites s (before ++ y ∷ []) ≡ (declares ∷ prewrites s before) ++ told (Step.Prewrite s y) Answer.Done ∷ [] = ap (λ rs. declares ∷ rs) (prewrites_append s before (y ∷ [])) in
       let count : length (before ++ y ∷ []) ≡ length before + 1 = omega (arith, length-append before (y ∷ [])) in
       let next = prewriting_next (before ++ y ∷ []) after (is ∙ sym (append_assoc before (y ∷ []) after)) in
       subst (λ rs. SoFar (prewrite_from (length cells) (length before + 1)) rs) said (subst (λ n. SoFar (prewrite_from (length cells) n) (declares ∷ prewrites s (before ++ y ∷ []))) count next)
-  prewrite_more [] y after is Conflict can =
+  prewrite_more [] y after is Answer.Conflict can =
       let same : x ≡ y = cc in
-      subst (λ z. SoFar (Over outcomes.Conflicted) (declares ∷ told (Prewrite s z) Conflict ∷ [])) same (over _ _ (conflicted_first x others))
-  prewrite_more (b ∷ before) y after is Conflict can =
+      subst (λ z. SoFar (PlanPlace.Over Outcome.Conflicted) (declares ∷ told (Step.Prewrite s z) Answer.Conflict ∷ [])) same (over _ _ (conflicted_first x others))
+  prewrite_more (b ∷ before) y after is Answer.Conflict can =
       let same : b ≡ x = cc in
       let no : eqb (suc (length before)) 0 ≡ false = ne_eqb (suc (length before)) 0 (λ e. cc) in
-      rw no (subst (λ z. SoFar (Settling (suc (length before))) (declares ∷ prewrites s (z ∷ before) ++ told (Prewrite s y) Conflict ∷ [])) (sym same)
+      rw no (subst (λ z. SoFar (PlanPlace.Settling (suc (length before))) (declares ∷ prewrites s (z ∷ before) ++ told (Step.Prewrite s y) Answer.Conflict ∷ [])) (sym same)
       (settling before y after (is ∙ ap (λ z. z ∷ before ++ y ∷ after) same)))
   prewrite_more before y after is _ can = absurd can
 
-  stamp_more : (a : Answer) → CanAnswer (Stamp s) a → SoFar (after_stamp a) ((declares ∷ prewrites s cells) ++ told (Stamp s) a ∷ [])
-  stamp_more (At c) can = committing c
+  stamp_more : (a : Answer) → CanAnswer (Step.Stamp s) a → SoFar (after_stamp a) ((declares ∷ prewrites s cells) ++ told (Step.Stamp s) a ∷ [])
+  stamp_more (Answer.At c) can = committing c
   stamp_more _ can = absurd can
 
-  primary_more : (c : Ts) (a : Answer) → CanAnswer (CommitPrimary s) a → SoFar (after_primary (length cells) c a) (ready (told (Stamp s) (At c) ∷ []) ++ told (CommitPrimary s) a ∷ [])
-  primary_more c Committed can =
-      subst (λ rs. SoFar (commit_from (length cells) c 1) rs) (sym (ready_more (told (Stamp s) (At c) ∷ []) (told (CommitPrimary s) Committed ∷ []))) (finishing_next c [] others refl)
-  primary_more c Lost can =
-      let said = ready (told (Stamp s) (At c) ∷ []) ++ told (CommitPrimary s) Lost ∷ [] in
-      let is : (all : List Received) → said ++ all ≡ ready (told (Stamp s) (At c) ∷ told (CommitPrimary s) Lost ∷ all) =
-      λ all. ap (λ rs. rs ++ all) (ready_more (told (Stamp s) (At c) ∷ []) (told (CommitPrimary s) Lost ∷ [])) ∙ ready_more (told (Stamp s) (At c) ∷ told (CommitPrimary s) Lost ∷ []) all in
-      let ends : (all : List Received) → AreCleared others all → Whole (said ++ all) outcomes.Lost = λ all k. subst (λ rs. Whole rs outcomes.Lost) (sym (is all)) (lost x others c all k) in
-      subst (λ rs. SoFar (clear_from 1 (length cells) outcomes.Lost) rs) (append-nil said) (clearing_next outcomes.Lost [] others [] said [] (rw append-nil refl) refl ends)
+  primary_more : (c : Ts) (a : Answer) → CanAnswer (Step.CommitPrimary s) a → SoFar (after_primary (length cells) c a) (ready (told (Step.Stamp s) (Answer.At c) ∷ []) ++ told (Step.CommitPrimary s) a ∷ [])
+  primary_more c Answer.Committed can =
+      subst (λ rs. SoFar (commit_from (length cells) c 1) rs) (sym (ready_more (told (Step.Stamp s) (Answer.At c) ∷ []) (told (Step.CommitPrimary s) Answer.Committed ∷ []))) (finishing_next c [] others refl)
+  primary_more c Answer.Lost can =
+      let said = ready (told (Step.Stamp s) (Answer.At c) ∷ []) ++ told (Step.CommitPrimary s) Answer.Lost ∷ [] in
+      let is : (all : List Received) → said ++ all ≡ ready (told (Step.Stamp s) (Answer.At c) ∷ told (Step.CommitPrimary s) Answer.Lost ∷ all) =
+      λ all. ap (λ rs. rs ++ all) (ready_more (told (Step.Stamp s) (Answer.At c) ∷ []) (told (Step.CommitPrimary s) Answer.Lost ∷ [])) ∙ ready_more (told (Step.Stamp s) (Answer.At c) ∷ told (Step.CommitPrimary s) Answer.Lost ∷ []) all in
+      let ends : (all : List Received) → AreCleared others all → Whole (said ++ all) Outcome.Lost = λ all k. subst (λ rs. Whole rs Outcome.Lost) (sym (is all)) (lost x others c all k) in
+      subst (λ rs. SoFar (clear_from 1 (length cells) Outcome.Lost) rs) (append-nil said) (clearing_next Outcome.Lost [] others [] said [] (rw append-nil refl) refl ends)
   primary_more c _ can = absurd can
 
-  secondary_more : (c : Ts) (done : List Cell) (y : Cell) (left : List Cell) → others ≡ done ++ y ∷ left → (a : Answer) → CanAnswer (CommitSecondary s y) a
-      → SoFar (commit_from (length cells) c (suc (length done) + 1)) (paid c (secondaries s done) ++ told (CommitSecondary s y) a ∷ [])
-  secondary_more c done y left is Done can =
-      let said : paid c (secondaries s (done ++ y ∷ [])) ≡ paid c (secondaries s done) ++ told (CommitSecondary s y) Done ∷ [] =
-      ap (paid c) (secondaries_append s done (y ∷ [])) ∙ sym (ready_more (told (Stamp s) (At c) ∷ told (CommitPrimary s) Committed ∷ secondaries s done) (told (CommitSecondary s y) Done ∷ [])) in
+  secondary_more : (c : Ts) (done : List Cell) (y : Cell) (left : List Cell) → others ≡ done ++ y ∷ left → (a : Answer) → CanAnswer (Step.CommitSecondary s y) a
+      → SoFar (commit_from (length cells) c (suc (length done) + 1)) (paid c (secondaries s done) ++ told (Step.CommitSecondary s y) a ∷ [])
+  secondary_more c done y left is Answer.Done can =
+      let said : paid c (secondaries s (done ++ y ∷ [])) ≡ paid c (secondaries s done) ++ told (Step.CommitSecondary s y) Answer.Done ∷ [] =
+      ap (paid c) (secondaries_append s done (y ∷ [])) ∙ sym (ready_more (told (Step.Stamp s) (Answer.At c) ∷ told (Step.CommitPrimary s) Answer.Committed ∷ secondaries s done) (told (Step.CommitSecondary s y) Answer.Done ∷ [])) in
       let count : suc (length (done ++ y ∷ [])) ≡ suc (length done) + 1 = omega (arith, length-append done (y ∷ [])) in
       let next = finishing_next c (done ++ y ∷ []) left (is ∙ sym (append_assoc done (y ∷ []) left)) in
       subst (λ rs. SoFar (commit_from (length cells) c (suc (length done) + 1)) rs) said (subst (λ n. SoFar (commit_from (length cells) c n) (paid c (secondaries s (done ++ y ∷ [])))) count next)
   secondary_more c done y left is _ can = absurd can
 
-  settle_more : (before : List Cell) (y : Cell) (after : List Cell) → cells ≡ x ∷ before ++ y ∷ after → (a : Answer) → CanAnswer (Settle x) a
-      → SoFar (clear_from 1 (suc (length before)) outcomes.Conflicted) ((declares ∷ prewrites s (x ∷ before) ++ told (Prewrite s y) Conflict ∷ []) ++ told (Settle x) a ∷ [])
+  settle_more : (before : List Cell) (y : Cell) (after : List Cell) → cells ≡ x ∷ before ++ y ∷ after → (a : Answer) → CanAnswer (Step.Settle x) a
+      → SoFar (clear_from 1 (suc (length before)) Outcome.Conflicted) ((declares ∷ prewrites s (x ∷ before) ++ told (Step.Prewrite s y) Answer.Conflict ∷ []) ++ told (Step.Settle x) a ∷ [])
   settle_more before y after is a can =
       let put = declares ∷ prewrites s (x ∷ before) in
-      let said = (put ++ told (Prewrite s y) Conflict ∷ []) ++ told (Settle x) a ∷ [] in
-      let whole : (all : List Received) → said ++ all ≡ put ++ told (Prewrite s y) Conflict ∷ told (Settle x) a ∷ all =
-      λ all. append_assoc (put ++ told (Prewrite s y) Conflict ∷ []) (told (Settle x) a ∷ []) all ∙ append_assoc put (told (Prewrite s y) Conflict ∷ []) (told (Settle x) a ∷ all) in
-      let P : List Cell → List Received → Type 0 = λ cs all. IsWhole s what cs (declares ∷ prewrites s (x ∷ before) ++ told (Prewrite s y) Conflict ∷ told (Settle x) a ∷ all) outcomes.Conflicted in
-      let ends : (all : List Received) → AreCleared before all → Whole (said ++ all) outcomes.Conflicted =
-      λ all c. subst (λ rs. Whole rs outcomes.Conflicted) (sym (whole all)) (subst (λ cs. P cs all) (sym is) (conflicted_later x y before after a all can c)) in
-      subst (λ rs. SoFar (clear_from 1 (suc (length before)) outcomes.Conflicted) rs) (append-nil said) (clearing_next outcomes.Conflicted [] before (y ∷ after) said [] is refl ends)
+      let said = (put ++ told (Step.Prewrite s y) Answer.Conflict ∷ []) ++ told (Step.Settle x) a ∷ [] in
+      let whole : (all : List Received) → said ++ all ≡ put ++ told (Step.Prewrite s y) Answer.Conflict ∷ told (Step.Settle x) a ∷ all =
+      λ all. append_assoc (put ++ told (Step.Prewrite s y) Answer.Conflict ∷ []) (told (Step.Settle x) a ∷ []) all ∙ append_assoc put (told (Step.Prewrite s y) Answer.Conflict ∷ []) (told (Step.Settle x) a ∷ all) in
+      let P : List Cell → List Received → Type 0 = λ cs all. IsWhole s what cs (declares ∷ prewrites s (x ∷ before) ++ told (Step.Prewrite s y) Answer.Conflict ∷ told (Step.Settle x) a ∷ all) Outcome.Conflicted in
+      let ends : (all : List Received) → AreCleared before all → Whole (said ++ all) Outcome.Conflicted =
+      λ all c. subst (λ rs. Whole rs Outcome.Conflicted) (sym (whole all)) (subst (λ cs. P cs all) (sym is) (conflicted_later x y before after a all can c)) in
+      subst (λ rs. SoFar (clear_from 1 (suc (length before)) Outcome.Conflicted) rs) (append-nil said) (clearing_next Outcome.Conflicted [] before (y ∷ after) said [] is refl ends)
 
   clear_more : (o : Outcome) (done : List Cell) (y : Cell) (left more : List Cell) (said cs : List Received) → cells ≡ x ∷ done ++ y ∷ (left ++ more)
       → AreCleared done cs → ((all : List Received) → AreCleared (done ++ y ∷ left) all → Whole (said ++ all) o)
-      → (a : Answer) → CanAnswer (Clear y) a
-      → SoFar (clear_from (suc (length done) + 1) (suc (length (done ++ y ∷ left))) o) ((said ++ cs) ++ told (Clear y) a ∷ [])
+      → (a : Answer) → CanAnswer (Step.Clear y) a
+      → SoFar (clear_from (suc (length done) + 1) (suc (length (done ++ y ∷ left))) o) ((said ++ cs) ++ told (Step.Clear y) a ∷ [])
   clear_more o done y left more said cs is c ends a can =
       let split : (ys : List Cell) → (done ++ y ∷ []) ++ ys ≡ done ++ y ∷ ys = λ ys. append_assoc done (y ∷ []) ys in
       let count : suc (length (done ++ y ∷ [])) ≡ suc (length done) + 1 = omega (arith, length-append done (y ∷ [])) in
-      let next = clearing_next o (done ++ y ∷ []) left more said (cs ++ told (Clear y) a ∷ []) (is ∙ ap (λ ys. x ∷ ys) (sym (split (left ++ more)))) (cleared_more done cs y a c can)
+      let next = clearing_next o (done ++ y ∷ []) left more said (cs ++ told (Step.Clear y) a ∷ []) (is ∙ ap (λ ys. x ∷ ys) (sym (split (left ++ more)))) (cleared_more done cs y a c can)
       (λ all k. ends all (subst (λ ys. AreCleared ys all) (split left) k)) in
-      subst (λ rs. SoFar (clear_from (suc (length done) + 1) (suc (length (done ++ y ∷ left))) o) rs) (sym (append_assoc said cs (told (Clear y) a ∷ [])))
-      (subst (λ n. SoFar (clear_from n (suc (length (done ++ y ∷ left))) o) (said ++ (cs ++ told (Clear y) a ∷ []))) count
-      (subst (λ ys. SoFar (clear_from (suc (length (done ++ y ∷ []))) (suc (length ys)) o) (said ++ (cs ++ told (Clear y) a ∷ []))) (split left) next))
+      subst (λ rs. SoFar (clear_from (suc (length done) + 1) (suc (length (done ++ y ∷ left))) o) rs) (sym (append_assoc said cs (told (Step.Clear y) a ∷ [])))
+      (subst (λ n. SoFar (clear_from n (suc (length (done ++ y ∷ left))) o) (said ++ (cs ++ told (Step.Clear y) a ∷ []))) count
+      (subst (λ ys. SoFar (clear_from (suc (length (done ++ y ∷ []))) (suc (length ys)) o) (said ++ (cs ++ told (Step.Clear y) a ∷ []))) (split left) next))
 
   of_step : (t u : Step) → Some t ≡ Some u → t ≡ u
   of_step t u e = cc
@@ -204,22 +199,22 @@ module _ (s : Ts) (what : Declared) (x : Cell) (others : List Cell) where
     pub said_more : (p : PlanPlace) (l : List Received) (t : Step) (a : Answer) → SoFar p l → step_at s.0 what p ≡ Some t → CanAnswer t a
         → SoFar (place_after (length cells) p a) (l ++ told t a ∷ [])
     said_more p l t a declaring e can =
-        subst (λ u. CanAnswer u a → SoFar (prewrite_from (length cells) 0) (told u a ∷ [])) (of_step (Declare s what) t e) (first_more a) can
+        subst (λ u. CanAnswer u a → SoFar (prewrite_from (length cells) 0) (told u a ∷ [])) (of_step (Step.Declare s what) t e) (first_more a) can
     said_more p l t a (prewriting before y after at) e can =
-        let is : Prewrite s y ≡ t = of_step _ t (ap (option_map (λ z. Prewrite s z)) (sym (at_seam before y after at)) ∙ e) in
+        let is : Step.Prewrite s y ≡ t = of_step _ t (ap (option_map (λ z. Step.Prewrite s z)) (sym (at_seam before y after at)) ∙ e) in
         subst (λ u. CanAnswer u a → SoFar (after_prewrite (length cells) (length before) a) ((declares ∷ prewrites s before) ++ told u a ∷ [])) is (prewrite_more before y after at a) can
     said_more p l t a stamping e can =
         subst (λ u. CanAnswer u a → SoFar (after_stamp a) ((declares ∷ prewrites s cells) ++ told u a ∷ [])) (of_step _ t e) (stamp_more a) can
     said_more p l t a (committing c) e can =
-        subst (λ u. CanAnswer u a → SoFar (after_primary (length cells) c a) (ready (told (Stamp s) (At c) ∷ []) ++ told u a ∷ [])) (of_step _ t e) (primary_more c a) can
+        subst (λ u. CanAnswer u a → SoFar (after_primary (length cells) c a) (ready (told (Step.Stamp s) (Answer.At c) ∷ []) ++ told u a ∷ [])) (of_step _ t e) (primary_more c a) can
     said_more p l t a (finishing c done y left at) e can =
-        let is : CommitSecondary s y ≡ t = of_step _ t (ap (option_map (λ z. CommitSecondary s z)) (sym (at_seam (x ∷ done) y left (ap (λ xs. x ∷ xs) at))) ∙ e) in
+        let is : Step.CommitSecondary s y ≡ t = of_step _ t (ap (option_map (λ z. Step.CommitSecondary s z)) (sym (at_seam (x ∷ done) y left (ap (λ xs. x ∷ xs) at))) ∙ e) in
         subst (λ u. CanAnswer u a → SoFar (commit_from (length cells) c (suc (length done) + 1)) (paid c (secondaries s done) ++ told u a ∷ [])) is (secondary_more c done y left at a) can
     said_more p l t a (settling before y after at) e can =
-        let is : Settle x ≡ t = of_step _ t (ap (option_map (λ z. Settle z)) (sym (at_seam [] x others refl)) ∙ e) in
-        subst (λ u. CanAnswer u a → SoFar (clear_from 1 (suc (length before)) outcomes.Conflicted) ((declares ∷ prewrites s (x ∷ before) ++ told (Prewrite s y) Conflict ∷ []) ++ told u a ∷ [])) is (settle_more before y after at a) can
+        let is : Step.Settle x ≡ t = of_step _ t (ap (option_map (λ z. Step.Settle z)) (sym (at_seam [] x others refl)) ∙ e) in
+        subst (λ u. CanAnswer u a → SoFar (clear_from 1 (suc (length before)) Outcome.Conflicted) ((declares ∷ prewrites s (x ∷ before) ++ told (Step.Prewrite s y) Answer.Conflict ∷ []) ++ told u a ∷ [])) is (settle_more before y after at a) can
     said_more p l t a (clearing o done y left more said cs at c ends) e can =
-        let is : Clear y ≡ t = of_step _ t (ap (option_map (λ z. Clear z)) (sym (at_seam (x ∷ done) y (left ++ more) at)) ∙ e) in
+        let is : Step.Clear y ≡ t = of_step _ t (ap (option_map (λ z. Step.Clear z)) (sym (at_seam (x ∷ done) y (left ++ more) at)) ∙ e) in
         subst (λ u. CanAnswer u a → SoFar (clear_from (suc (length done) + 1) (suc (length (done ++ y ∷ left))) o) ((said ++ cs) ++ told u a ∷ [])) is (clear_more o done y left more said cs at c ends a) can
     said_more p l t a (over o said whole) e can = absurd (none_some t e)
 
@@ -229,12 +224,12 @@ module _ (s : Ts) (what : Declared) (x : Cell) (others : List Cell) where
     -- where there is no step, it is over
     pub stops : (p : PlanPlace) (l : List Received) → SoFar p l → step_at s.0 what p ≡ None → (o : Outcome) × (outcome_at p ≡ Some o)
     stops p l declaring e = absurd (some_none _ e)
-    stops p l (prewriting before y after at) e = absurd (no_step (λ z. Prewrite s z) before y after at e)
+    stops p l (prewriting before y after at) e = absurd (no_step (λ z. Step.Prewrite s z) before y after at e)
     stops p l stamping e = absurd (some_none _ e)
     stops p l (committing c) e = absurd (some_none _ e)
-    stops p l (finishing c done y left at) e = absurd (no_step (λ z. CommitSecondary s z) (x ∷ done) y left (ap (λ xs. x ∷ xs) at) e)
-    stops p l (settling before y after at) e = absurd (no_step (λ z. Settle z) [] x others refl e)
-    stops p l (clearing o done y left more said cs at c ends) e = absurd (no_step (λ z. Clear z) (x ∷ done) y (left ++ more) at e)
+    stops p l (finishing c done y left at) e = absurd (no_step (λ z. Step.CommitSecondary s z) (x ∷ done) y left (ap (λ xs. x ∷ xs) at) e)
+    stops p l (settling before y after at) e = absurd (no_step (λ z. Step.Settle z) [] x others refl e)
+    stops p l (clearing o done y left more said cs at c ends) e = absurd (no_step (λ z. Step.Clear z) (x ∷ done) y (left ++ more) at e)
     stops p l (over o said whole) e = (o, refl)
 
     -- a talk goes on from what was said
@@ -249,28 +244,28 @@ module _ (s : Ts) (what : Declared) (x : Cell) (others : List Cell) where
   -- ---- what has been said can be ended
 
   pub can_end : (p : PlanPlace) (l : List Received) → SoFar p l → (rest : List Received) × (o : Outcome) × Whole (l ++ rest) o
-  can_end p l declaring = (paid (record { 0 = 0 }) (secondaries s others), outcomes.Committed (record { 0 = 0 }), committed x others _)
+  can_end p l declaring = (paid (record { 0 = 0 }) (secondaries s others), Outcome.Committed (record { 0 = 0 }), committed x others _)
   can_end p l (prewriting before y after at) =
       let c : Ts = record { 0 = 0 } in
-      let ends = told (Stamp s) (At c) ∷ told (CommitPrimary s) Committed ∷ secondaries s others in
+      let ends = told (Step.Stamp s) (Answer.At c) ∷ told (Step.CommitPrimary s) Answer.Committed ∷ secondaries s others in
       let rest = prewrites s (y ∷ after) ++ ends in
       let all : (declares ∷ prewrites s before) ++ rest ≡ paid c (secondaries s others) =
       ap (λ rs. declares ∷ rs) (sym (append_assoc (prewrites s before) (prewrites s (y ∷ after)) ends) ∙ ap (λ rs. rs ++ ends) (sym (prewrites_append s before (y ∷ after)) ∙ ap (λ xs. prewrites s xs) (sym at))) in
-      (rest, outcomes.Committed c, subst (λ rs. Whole rs (outcomes.Committed c)) (sym all) (committed x others c))
-  can_end p l stamping = let c : Ts = record { 0 = 0 } in (told (Stamp s) (At c) ∷ told (CommitPrimary s) Committed ∷ secondaries s others, outcomes.Committed c, committed x others c)
+      (rest, Outcome.Committed c, subst (λ rs. Whole rs (Outcome.Committed c)) (sym all) (committed x others c))
+  can_end p l stamping = let c : Ts = record { 0 = 0 } in (told (Step.Stamp s) (Answer.At c) ∷ told (Step.CommitPrimary s) Answer.Committed ∷ secondaries s others, Outcome.Committed c, committed x others c)
   can_end p l (committing c) =
-      let rest = told (CommitPrimary s) Committed ∷ secondaries s others in
-      (rest, outcomes.Committed c, subst (λ rs. Whole rs (outcomes.Committed c)) (sym (ready_more (told (Stamp s) (At c) ∷ []) rest)) (committed x others c))
+      let rest = told (Step.CommitPrimary s) Answer.Committed ∷ secondaries s others in
+      (rest, Outcome.Committed c, subst (λ rs. Whole rs (Outcome.Committed c)) (sym (ready_more (told (Step.Stamp s) (Answer.At c) ∷ []) rest)) (committed x others c))
   can_end p l (finishing c done y left at) =
       let rest = secondaries s (y ∷ left) in
       let all : paid c (secondaries s done) ++ rest ≡ paid c (secondaries s others) =
-      ready_more (told (Stamp s) (At c) ∷ told (CommitPrimary s) Committed ∷ secondaries s done) rest ∙ ap (paid c) (sym (secondaries_append s done (y ∷ left)) ∙ ap (secondaries s) (sym at)) in
-      (rest, outcomes.Committed c, subst (λ rs. Whole rs (outcomes.Committed c)) (sym all) (committed x others c))
+      ready_more (told (Step.Stamp s) (Answer.At c) ∷ told (Step.CommitPrimary s) Answer.Committed ∷ secondaries s done) rest ∙ ap (paid c) (sym (secondaries_append s done (y ∷ left)) ∙ ap (secondaries s) (sym at)) in
+      (rest, Outcome.Committed c, subst (λ rs. Whole rs (Outcome.Committed c)) (sym all) (committed x others c))
   can_end p l (settling before y after at) =
       let put = declares ∷ prewrites s (x ∷ before) in
-      let rest = told (Settle x) Absent ∷ clears before in
-      let P : List Cell → Type 0 = λ cs. IsWhole s what cs (declares ∷ prewrites s (x ∷ before) ++ told (Prewrite s y) Conflict ∷ rest) outcomes.Conflicted in
-      (rest, outcomes.Conflicted, subst (λ rs. Whole rs outcomes.Conflicted) (sym (append_assoc put (told (Prewrite s y) Conflict ∷ []) rest)) (subst P (sym at) (conflicted_later x y before after Absent (clears before) tt (are_cleared [] before [] refl))))
+      let rest = told (Step.Settle x) Answer.Absent ∷ clears before in
+      let P : List Cell → Type 0 = λ cs. IsWhole s what cs (declares ∷ prewrites s (x ∷ before) ++ told (Step.Prewrite s y) Answer.Conflict ∷ rest) Outcome.Conflicted in
+      (rest, Outcome.Conflicted, subst (λ rs. Whole rs Outcome.Conflicted) (sym (append_assoc put (told (Step.Prewrite s y) Answer.Conflict ∷ []) rest)) (subst P (sym at) (conflicted_later x y before after Answer.Absent (clears before) tt (are_cleared [] before [] refl))))
   can_end p l (clearing o done y left more said cs at c ends) =
       let rest = clears (y ∷ left) in
       (rest, o, subst (λ rs. Whole rs o) (sym (append_assoc said cs rest)) (ends (cs ++ rest) (are_cleared done (y ∷ left) cs c)))

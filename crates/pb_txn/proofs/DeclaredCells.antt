@@ -2,15 +2,12 @@
 use Rattle.std.proofs.Common.{◌≡◌, ℕ, ◌<◌, ◌^◌, Bool, true, false, Option, List, ◌∷◌, map, refl, sym, ap, ◌∙◌}
 use Rattle.std.proofs.lemmas.Nat.{from_le_bytes-to_le_bytes_8}
 use Rattle.pb_base.specs.declared.cell.Cell.{Cell}
-use Rattle.pb_base.specs.declared.cell.Cell.TheVariants.{Ack}
 use Rattle.pb_base.specs.declared.content.Revision.{Revision}
 use Rattle.pb_base.specs.Cell.{row_of, column_of}
 use Rattle.pb_helpers.specs.Record.{recorded_row, recorded_column}
 use Rattle.pb_helpers.specs.OldRecord.{record_by}
 use Rattle.pb_steps.specs.declared.step.Work.{Work}
-use Rattle.pb_steps.specs.declared.step.Work.TheVariants as works
 use Rattle.pb_steps.specs.declared.step.Declared.{Declared}
-use Rattle.pb_steps.specs.declared.step.Declared.TheVariants as declared
 use Rattle.pb_steps.specs.State.{cells_of}
 use Rattle.pb_verify.specs.Observers.{ObserverOf, observed_cell}
 use Rattle.pb_history.specs.History.{IsForWork}
@@ -30,10 +27,10 @@ column_recorded false x v a old lt = from_le_bytes-to_le_bytes_8 (column_of x) l
 -- the cells that the table keeps of a declaration for this work are those that a plan reads off it
 pub cells_are : (observers : List ObserverOf) (work : Work) (s : ℕ) (what : Declared) → IsForWork observers work what → IsInRange observers work
     → map (λ w. w.0) (cells_of observers work s what) ≡ declared_cells what
-cells_are observers works.Script s (declared.Script batch) f r = refl
-cells_are observers works.Script s (declared.Run o m) f r = absurd f
-cells_are observers (works.Run p row) s (declared.Script batch) f r = absurd f
-cells_are observers (works.Run p row) s (declared.Run o m) f r =
+cells_are observers Work.Script s (Declared.Script batch) f r = refl
+cells_are observers Work.Script s (Declared.Run o m) f r = absurd f
+cells_are observers (Work.Run p row) s (Declared.Script batch) f r = absurd f
+cells_are observers (Work.Run p row) s (Declared.Run o m) f r =
     let row-is = ap recorded_row f.5 ∙ row_recorded f.1 (observed_cell observers p row) f.2 f.3 f.4 r.0 in
     let column-is = ap recorded_column f.5 ∙ column_recorded f.1 (observed_cell observers p row) f.2 f.3 f.4 r.1 in
-    λ i. Ack (sym f.0 i) (record { 0 = sym row-is i }) (sym column-is i) ∷ map (λ w. w.0) m.writes
+    λ i. Cell.Ack (sym f.0 i) (record { 0 = sym row-is i }) (sym column-is i) ∷ map (λ w. w.0) m.writes

@@ -1,15 +1,12 @@
 -- What a transaction has come to at each place of its plan.
-use Rattle.std.proofs.Common.{◌≡◌, ℕ, ◌+◌, ◌≤◌, Bool, true, false, cond, List, [], ◌∷◌, ◌++◌, length, map, take, Option, Some, None, refl, sym, ap, subst, ◌∙◌, arith, add-one}
-use Rattle.std.specs.Prelude.{slice_get, option_map, ◌==◌, nat_lt}
-use Rattle.std.specs.List.{filter}
+use Rattle.std.proofs.Common.{◌≡◌, ℕ, ◌+◌, ◌≤◌, Bool, true, false, cond, List, [], ◌∷◌, ◌++◌, length, map, take, Option, Some, None, refl, sym, ap, subst, ◌∙◌, arith, add-one, slice_get, option_map, ◌==◌, nat_lt, filter}
 use Rattle.pb_base.specs.declared.cell.Cell.{Cell}
 use Rattle.pb_base.specs.declared.names.Ts.{Ts}
+use Rattle.pb_steps.specs.declared.phase.Phase.{Phase}
 use Rattle.pb_steps.specs.declared.phase.Phase.TheVariants as phases
 use Rattle.pb_steps.specs.declared.step.Declared.{Declared}
 use Rattle.pb_steps.specs.declared.step.Step.{Step}
-use Rattle.pb_steps.specs.declared.step.Step.TheVariants.{Declare, Prewrite, Stamp, CommitPrimary, CommitSecondary, Settle, Clear}
 use Rattle.pb_steps.specs.declared.step.Answer.{Answer}
-use Rattle.pb_steps.specs.declared.step.Answer.TheVariants.{At, Done, Conflict, Committed, Lost}
 use Rattle.pb_steps.specs.Answers.{CanAnswer}
 use Rattle.pb_steps.specs.Phases.{is_stamped, is_committed}
 use Rattle.pb_verify.specs.Observers.{ObserverOf}
@@ -18,9 +15,7 @@ use Rattle.pb_history.specs.declared.entry.Entry.{Entry}
 use Rattle.pb_history.specs.declared.entry.Received.{Received}
 use Rattle.pb_history.specs.TransactionsTold.{committed_phase, transaction_from}
 use Rattle.pb_txn.specs.declared.place.Outcome.{Outcome}
-use Rattle.pb_txn.specs.declared.place.Outcome.TheVariants as outcomes
 use Rattle.pb_txn.specs.declared.place.PlanPlace.{PlanPlace}
-use Rattle.pb_txn.specs.declared.place.PlanPlace.TheVariants.{Declaring, Prewriting, Stamping, CommittingPrimary, CommittingSecondary, Settling, Clearing, Over}
 use Rattle.pb_txn.specs.Places.{declared_cells, place_after, after_prewrite, after_stamp, after_primary, prewrite_from, commit_from, clear_from, step_at}
 use Rattle.pb_txn.specs.Plans.{PlanOf, answered}
 use Rattle.pb_txn.specs.Conversations.{Converses}
@@ -35,11 +30,11 @@ cell_of f (Some x) t e = (x, refl, same_step (f x) t e)
 
 -- the cells have this phase, and these are prewritten
 abbrev pub IsAt : List Cell → PlanPlace → TransactionOf → Type 0
-IsAt cells Declaring u = (u.phase ≡ phases.Reading) × (u.prewritten ≡ [])
-IsAt cells (Prewriting k) u = (u.phase ≡ phases.Declared) × (u.prewritten ≡ take k cells)
-IsAt cells Stamping u = (u.phase ≡ phases.Declared) × (u.prewritten ≡ cells)
-IsAt cells (CommittingPrimary c) u = is_stamped u.phase ≡ true
-IsAt cells (CommittingSecondary c k) u = is_committed u.phase ≡ true
+IsAt cells PlanPlace.Declaring u = (u.phase ≡ Phase.Reading) × (u.prewritten ≡ [])
+IsAt cells (PlanPlace.Prewriting k) u = (u.phase ≡ Phase.Declared) × (u.prewritten ≡ take k cells)
+IsAt cells PlanPlace.Stamping u = (u.phase ≡ Phase.Declared) × (u.prewritten ≡ cells)
+IsAt cells (PlanPlace.CommittingPrimary c) u = is_stamped u.phase ≡ true
+IsAt cells (PlanPlace.CommittingSecondary c k) u = is_committed u.phase ≡ true
 IsAt cells _ u = Unit {0}
 
 -- what a seat received, as the journal's entry of it
@@ -59,8 +54,8 @@ module _ (observers : List ObserverOf) (seat s : ℕ) (what : Declared) where
 
   -- ---- where an answer leads
 
-  prewriting_next : (k : ℕ) (u : TransactionOf) → u.phase ≡ phases.Declared → u.prewritten ≡ take k cells → IsAt cells (prewrite_from (length cells) k) u
-  prewriting_next k u phase put = elim (nat_lt k (length cells)) as (λ b. nat_lt k (length cells) ≡ b → IsAt cells (cond b (Prewriting k) Stamping) u) [
+  prewriting_next : (k : ℕ) (u : TransactionOf) → u.phase ≡ Phase.Declared → u.prewritten ≡ take k cells → IsAt cells (prewrite_from (length cells) k) u
+  prewriting_next k u phase put = elim (nat_lt k (length cells)) as (λ b. nat_lt k (length cells) ≡ b → IsAt cells (cond b (PlanPlace.Prewriting k) PlanPlace.Stamping) u) [
     | true ↦ λ e. (phase, put)
     | false ↦ λ e. (phase, put ∙ take_all cells k (past k (length cells) e))
   ] refl
@@ -81,69 +76,69 @@ module _ (observers : List ObserverOf) (seat s : ℕ) (what : Declared) where
     pub told : (es : List Entry)
         → transaction_from observers (Some u) (cond (names s step) (record { seat = seat; step = step; answer = answer } ∷ es) es) ≡ transaction_from observers (Some v) es
 
-  after_declare : (u : TransactionOf) (a : Answer) → IsAt cells Declaring u → CanAnswer (Declare start what) a → Makes (prewrite_from (length cells) 0) (Declare start what) a u
-  after_declare u Done i can =
-      let v : TransactionOf = record u { phase = phases.Declared; declared = cells_of observers u.work s what } in
+  after_declare : (u : TransactionOf) (a : Answer) → IsAt cells PlanPlace.Declaring u → CanAnswer (Step.Declare start what) a → Makes (prewrite_from (length cells) 0) (Step.Declare start what) a u
+  after_declare u Answer.Done i can =
+      let v : TransactionOf = record u { phase = Phase.Declared; declared = cells_of observers u.work s what } in
       record { v = v; at = prewriting_next 0 v refl i.1; told = λ es. rw (itself s) refl }
   after_declare u _ i can = absurd can
 
-  prewrites : (k : ℕ) (x : Cell) (u : TransactionOf) (a : Answer) → slice_get cells k ≡ Some x → IsAt cells (Prewriting k) u → CanAnswer (Prewrite start x) a
-      → Makes (after_prewrite (length cells) k a) (Prewrite start x) a u
-  prewrites k x u Done here i can =
+  prewrites : (k : ℕ) (x : Cell) (u : TransactionOf) (a : Answer) → slice_get cells k ≡ Some x → IsAt cells (PlanPlace.Prewriting k) u → CanAnswer (Step.Prewrite start x) a
+      → Makes (after_prewrite (length cells) k a) (Step.Prewrite start x) a u
+  prewrites k x u Answer.Done here i can =
       let v : TransactionOf = record u { prewritten = u.prewritten ++ x ∷ [] } in
       let put : u.prewritten ++ x ∷ [] ≡ take (k + 1) cells = ap (λ ys. ys ++ x ∷ []) i.1 ∙ take_one cells k x here ∙ ap (λ n. take n cells) (sym (add-one k)) in
       record { v = v; at = prewriting_next (k + 1) v i.0 put; told = λ es. rw (itself s) refl }
-  prewrites k x u Conflict here i can =
-      let v : TransactionOf = record u { phase = phases.Failed } in
-      record { v = v; at = by_lt (k == 0) (Over outcomes.Conflicted) (Settling k) v tt tt; told = λ es. rw (itself s) refl }
+  prewrites k x u Answer.Conflict here i can =
+      let v : TransactionOf = record u { phase = Phase.Failed } in
+      record { v = v; at = by_lt (k == 0) (PlanPlace.Over Outcome.Conflicted) (PlanPlace.Settling k) v tt tt; told = λ es. rw (itself s) refl }
   prewrites k x u _ here i can = absurd can
 
-  after_stamped : (u : TransactionOf) (a : Answer) → IsAt cells Stamping u → CanAnswer (Stamp start) a → Makes (after_stamp a) (Stamp start) a u
-  after_stamped u (At c) i can = record { v = record u { phase = phases.Stamped c }; at = refl; told = λ es. rw (itself s) refl }
+  after_stamped : (u : TransactionOf) (a : Answer) → IsAt cells PlanPlace.Stamping u → CanAnswer (Step.Stamp start) a → Makes (after_stamp a) (Step.Stamp start) a u
+  after_stamped u (Answer.At c) i can = record { v = record u { phase = Phase.Stamped c }; at = refl; told = λ es. rw (itself s) refl }
   after_stamped u _ i can = absurd can
 
   then_committed : (h : phases.the_data) → is_stamped h ≡ true → is_committed (committed_phase h) ≡ true
-  then_committed (phases.Stamped c) e = refl
+  then_committed (Phase.Stamped c) e = refl
   then_committed _ e = absurd cc
 
-  commits : (c : Ts) (u : TransactionOf) (a : Answer) → IsAt cells (CommittingPrimary c) u → CanAnswer (CommitPrimary start) a
-      → Makes (after_primary (length cells) c a) (CommitPrimary start) a u
-  commits c u Committed i can =
+  commits : (c : Ts) (u : TransactionOf) (a : Answer) → IsAt cells (PlanPlace.CommittingPrimary c) u → CanAnswer (Step.CommitPrimary start) a
+      → Makes (after_primary (length cells) c a) (Step.CommitPrimary start) a u
+  commits c u Answer.Committed i can =
       let v : TransactionOf = record u { phase = committed_phase u.phase } in
-      record { v = v; at = by_lt (nat_lt 1 (length cells)) (CommittingSecondary c 1) (Over (outcomes.Committed c)) v (then_committed u.phase i) tt; told = λ es. rw (itself s) refl }
-  commits c u Lost i can =
-      let v : TransactionOf = record u { phase = phases.Failed } in
-      record { v = v; at = by_lt (nat_lt 1 (length cells)) (Clearing 1 (length cells) outcomes.Lost) (Over outcomes.Lost) v tt tt; told = λ es. rw (itself s) refl }
+      record { v = v; at = by_lt (nat_lt 1 (length cells)) (PlanPlace.CommittingSecondary c 1) (PlanPlace.Over (Outcome.Committed c)) v (then_committed u.phase i) tt; told = λ es. rw (itself s) refl }
+  commits c u Answer.Lost i can =
+      let v : TransactionOf = record u { phase = Phase.Failed } in
+      record { v = v; at = by_lt (nat_lt 1 (length cells)) (PlanPlace.Clearing 1 (length cells) Outcome.Lost) (PlanPlace.Over Outcome.Lost) v tt tt; told = λ es. rw (itself s) refl }
   commits c u _ i can = absurd can
 
-  finishes : (c : Ts) (k : ℕ) (x : Cell) (u : TransactionOf) (a : Answer) → IsAt cells (CommittingSecondary c k) u → CanAnswer (CommitSecondary start x) a
-      → Makes (commit_from (length cells) c (k + 1)) (CommitSecondary start x) a u
-  finishes c k x u Done i can =
-      record { v = u; at = by_lt (nat_lt (k + 1) (length cells)) (CommittingSecondary c (k + 1)) (Over (outcomes.Committed c)) u i tt; told = λ es. rw (itself s) refl }
+  finishes : (c : Ts) (k : ℕ) (x : Cell) (u : TransactionOf) (a : Answer) → IsAt cells (PlanPlace.CommittingSecondary c k) u → CanAnswer (Step.CommitSecondary start x) a
+      → Makes (commit_from (length cells) c (k + 1)) (Step.CommitSecondary start x) a u
+  finishes c k x u Answer.Done i can =
+      record { v = u; at = by_lt (nat_lt (k + 1) (length cells)) (PlanPlace.CommittingSecondary c (k + 1)) (PlanPlace.Over (Outcome.Committed c)) u i tt; told = λ es. rw (itself s) refl }
   finishes c k x u _ i can = absurd can
 
   clears : (k end : ℕ) (o : Outcome) (u : TransactionOf) → IsAt cells (clear_from k end o) u
-  clears k end o u = by_lt (nat_lt k end) (Clearing k end o) (Over o) u tt tt
+  clears k end o u = by_lt (nat_lt k end) (PlanPlace.Clearing k end o) (PlanPlace.Over o) u tt tt
 
   one : (p : PlanPlace) (u : TransactionOf) (t : Step) (a : Answer) → IsAt cells p u → step_at s what p ≡ Some t → CanAnswer t a → Makes (place_after (length cells) p a) t a u
-  one Declaring u t a i e can =
-      subst (λ z. CanAnswer z a → Makes (prewrite_from (length cells) 0) z a u) (same_step (Declare start what) t e) (after_declare u a i) can
-  one (Prewriting k) u t a i e can =
-      let is = cell_of (λ x. Prewrite start x) (slice_get cells k) t e in
+  one PlanPlace.Declaring u t a i e can =
+      subst (λ z. CanAnswer z a → Makes (prewrite_from (length cells) 0) z a u) (same_step (Step.Declare start what) t e) (after_declare u a i) can
+  one (PlanPlace.Prewriting k) u t a i e can =
+      let is = cell_of (λ x. Step.Prewrite start x) (slice_get cells k) t e in
       subst (λ z. CanAnswer z a → Makes (after_prewrite (length cells) k a) z a u) is.2 (prewrites k is.0 u a is.1 i) can
-  one Stamping u t a i e can = subst (λ z. CanAnswer z a → Makes (after_stamp a) z a u) (same_step (Stamp start) t e) (after_stamped u a i) can
-  one (CommittingPrimary c) u t a i e can =
-      subst (λ z. CanAnswer z a → Makes (after_primary (length cells) c a) z a u) (same_step (CommitPrimary start) t e) (commits c u a i) can
-  one (CommittingSecondary c k) u t a i e can =
-      let is = cell_of (λ x. CommitSecondary start x) (slice_get cells k) t e in
+  one PlanPlace.Stamping u t a i e can = subst (λ z. CanAnswer z a → Makes (after_stamp a) z a u) (same_step (Step.Stamp start) t e) (after_stamped u a i) can
+  one (PlanPlace.CommittingPrimary c) u t a i e can =
+      subst (λ z. CanAnswer z a → Makes (after_primary (length cells) c a) z a u) (same_step (Step.CommitPrimary start) t e) (commits c u a i) can
+  one (PlanPlace.CommittingSecondary c k) u t a i e can =
+      let is = cell_of (λ x. Step.CommitSecondary start x) (slice_get cells k) t e in
       subst (λ z. CanAnswer z a → Makes (commit_from (length cells) c (k + 1)) z a u) is.2 (finishes c k is.0 u a i) can
-  one (Settling k) u t a i e can =
-      let is = cell_of (λ x. Settle x) (slice_get cells 0) t e in
-      subst (λ z. Makes (clear_from 1 k outcomes.Conflicted) z a u) is.2 (record { v = u; at = clears 1 k outcomes.Conflicted u; told = λ es. refl })
-  one (Clearing k end o) u t a i e can =
-      let is = cell_of (λ x. Clear x) (slice_get cells k) t e in
+  one (PlanPlace.Settling k) u t a i e can =
+      let is = cell_of (λ x. Step.Settle x) (slice_get cells 0) t e in
+      subst (λ z. Makes (clear_from 1 k Outcome.Conflicted) z a u) is.2 (record { v = u; at = clears 1 k Outcome.Conflicted u; told = λ es. refl })
+  one (PlanPlace.Clearing k end o) u t a i e can =
+      let is = cell_of (λ x. Step.Clear x) (slice_get cells k) t e in
       subst (λ z. Makes (clear_from (k + 1) end o) z a u) is.2 (record { v = u; at = clears (k + 1) end o u; told = λ es. refl })
-  one (Over o) u t a i e can = absurd cc
+  one (PlanPlace.Over o) u t a i e can = absurd cc
 
   -- ---- all of them
 

@@ -1,14 +1,11 @@
 -- The transaction of a plan, whose entries are the plan's conversation, has come to where the plan stands.
-use Rattle.std.proofs.Common.{◌≡◌, ℕ, inl, inr, true, false, cond, List, [], ◌∷◌, map, Some, refl, sym, ap, subst, ◌∙◌}
+use Rattle.std.proofs.Common.{◌≡◌, ℕ, inl, inr, true, false, cond, List, [], ◌∷◌, map, Some, refl, sym, ap, subst, ◌∙◌, ◌==◌, filter}
 use Rattle.std.proofs.lemmas.Bool.{eq-eqb}
-use Rattle.std.specs.Prelude.{◌==◌}
-use Rattle.std.specs.List.{filter}
 use Rattle.std.specs.FinMap as finite
 use Rattle.pb_base.specs.Batch.{Writes, are_distinct}
 use Rattle.pb_steps.specs.declared.step.Declared.{Declared}
-use Rattle.pb_steps.specs.declared.step.Step.TheVariants.{Declare}
+use Rattle.pb_steps.specs.declared.step.Step.{Step}
 use Rattle.pb_steps.specs.declared.step.Answer.{Answer}
-use Rattle.pb_steps.specs.declared.step.Answer.TheVariants.{Done}
 use Rattle.pb_steps.specs.Answers.{CanAnswer}
 use Rattle.pb_steps.specs.State.{StateOf, TransactionOf, new_transaction, cells_of}
 use Rattle.pb_history.specs.declared.entry.Entry.{Entry}
@@ -16,7 +13,6 @@ use Rattle.pb_history.specs.declared.entry.Received.{Received}
 use Rattle.pb_history.specs.History.{Has, IsEntry, IsForWork, TellsHistory}
 use Rattle.pb_history.specs.TransactionsTold.{TellsTransactions, transaction_from}
 use Rattle.pb_txn.specs.declared.place.PlanPlace.{PlanPlace}
-use Rattle.pb_txn.specs.declared.place.PlanPlace.TheVariants.{Declaring}
 use Rattle.pb_txn.specs.Places.{declared_cells}
 use Rattle.pb_txn.specs.Plans.{PlanOf, fresh, answered}
 use Rattle.pb_txn.specs.Conversations.{Converses}
@@ -40,11 +36,11 @@ pub record HasCells (what : Declared) (t : TransactionOf) : Type 0 where
 
 -- needed once the declaration was answered
 abbrev pub HasCellsAt : PlanPlace → Declared → TransactionOf → Type 0
-HasCellsAt Declaring what t = Unit {0}
+HasCellsAt PlanPlace.Declaring what t = Unit {0}
 HasCellsAt _ what t = HasCells what t
 
 has_cells : (p : PlanPlace) (what : Declared) (t : TransactionOf) → HasCells what t → HasCellsAt p what t
-has_cells Declaring what t h = tt
+has_cells PlanPlace.Declaring what t h = tt
 has_cells _ what t h = h
 
 -- an entry that names the start is one of the journal
@@ -57,23 +53,23 @@ in_filter s (d ∷ ds) e h = elim (names s d.step) as (λ b. Has (cond b (d ∷ 
 
 module _ (seat s : ℕ) (what : Declared) where
   abbrev declaration : Entry
-  declaration = record { seat = seat; step = Declare (record { 0 = s }) what; answer = Done }
+  declaration = record { seat = seat; step = Step.Declare (record { 0 = s }) what; answer = Answer.Done }
 
   -- a conversation begins with its declaration
-  first_said : (a : Answer) (rest : List Received) → CanAnswer (Declare (record { 0 = s }) what) a
-      → Has (map (entry_of seat) (cond (s == s) (record { step = Declare (record { 0 = s }) what; answer = a } ∷ rest) rest)) declaration
-  first_said Done rest can = rw (eq-eqb s s refl) (inl refl)
+  first_said : (a : Answer) (rest : List Received) → CanAnswer (Step.Declare (record { 0 = s }) what) a
+      → Has (map (entry_of seat) (cond (s == s) (record { step = Step.Declare (record { 0 = s }) what; answer = a } ∷ rest) rest)) declaration
+  first_said Answer.Done rest can = rw (eq-eqb s s refl) (inl refl)
   first_said _ rest can = absurd can
 
-  is_declared : (journal : List Entry) (r : Received) (rs : List Received) → Some (Declare (record { 0 = s }) what) ≡ Some r.step → CanAnswer r.step r.answer → HasSaid journal seat s (r ∷ rs)
-      → IsEntry journal seat (Declare (record { 0 = s }) what) Done
+  is_declared : (journal : List Entry) (r : Received) (rs : List Received) → Some (Step.Declare (record { 0 = s }) what) ≡ Some r.step → CanAnswer r.step r.answer → HasSaid journal seat s (r ∷ rs)
+      → IsEntry journal seat (Step.Declare (record { 0 = s }) what) Answer.Done
   is_declared journal r rs next can has =
       let rest = filter (λ x. names s x.step) rs in
       let first = subst (λ z. CanAnswer z r.answer → Has (map (entry_of seat) (cond (names s z) (record { step = z; answer = r.answer } ∷ rest) rest)) declaration) (same_step _ r.step next) (λ c. first_said r.answer rest c) can in
       in_filter s journal declaration (subst (λ l. Has l declaration) (sym has) first)
 
   cells_at : (journal : List Entry) (state : StateOf) (t : TransactionOf) → TellsHistory journal state → finite.get state.transactions s ≡ Some t → IsInRange state.observers t.work
-      → IsEntry journal seat (Declare (record { 0 = s }) what) Done → HasCells what t
+      → IsEntry journal seat (Step.Declare (record { 0 = s }) what) Answer.Done → HasCells what t
   cells_at journal state t tells there range said =
       let d = tells.declared seat s what said in
       let is : d.t ≡ t = same_transaction (finite.get state.transactions s) d.t t d.there there in

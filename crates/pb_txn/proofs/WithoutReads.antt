@@ -1,14 +1,11 @@
 -- What the table keeps of a transaction, its reads aside, follows from the entries that name its start, reads aside.
-use Rattle.std.proofs.Common.{◌≡◌, ℕ, Bool, true, false, cond, ◌||◌, List, [], ◌∷◌, Option, Some, None, refl, sym, ap, ◌∙◌}
-use Rattle.std.specs.Prelude.{option_map}
+use Rattle.std.proofs.Common.{◌≡◌, ℕ, Bool, true, false, cond, ◌||◌, List, [], ◌∷◌, Option, Some, None, refl, sym, ap, ◌∙◌, option_map}
 use Rattle.std.specs.List.{filter, list_any}
 use Rattle.pb_base.specs.declared.cell.Cell.{Cell}
 use Rattle.pb_base.specs.declared.names.Ts.{Ts}
 use Rattle.pb_steps.specs.declared.step.Work.{Work}
 use Rattle.pb_steps.specs.declared.step.Step.{Step}
-use Rattle.pb_steps.specs.declared.step.Step.TheVariants.{Begin, Read, ReadAt, Declare, Prewrite, Stamp, CommitPrimary, CommitSecondary, Settle, Clear, NextMark, Sweep}
 use Rattle.pb_steps.specs.declared.step.Answer.{Answer}
-use Rattle.pb_steps.specs.declared.step.Answer.TheVariants.{At, Found, Absent, Done, Conflict, Committed, Lost}
 use Rattle.pb_verify.specs.Observers.{ObserverOf}
 use Rattle.pb_steps.specs.State.{TransactionOf, new_transaction}
 use Rattle.pb_steps.specs.Read.{with_read}
@@ -46,35 +43,35 @@ module _ (observers : List ObserverOf) (s : ℕ) where
   -- one entry
   one : (seat : ℕ) (step : Step) (answer : Answer) (t : Option TransactionOf) → is_begin step ≡ false → names_start s step answer ≡ true
       → bare_if (transaction_after observers seat step answer t) ≡ cond (names s step) (transaction_after observers seat step answer (bare_if t)) (bare_if t)
-  one seat (Begin work) answer t b n = absurd cc
-  one seat (Read m x) (Found start commit content) t b n = read_leaves x None (Found start commit content) t
-  one seat (Read m x) Absent t b n = read_leaves x None Absent t
-  one seat (Read m x) _ t b n = refl
-  one seat (ReadAt m x at) (Found start commit content) t b n = read_leaves x (Some at) (Found start commit content) t
-  one seat (ReadAt m x at) Absent t b n = read_leaves x (Some at) Absent t
-  one seat (ReadAt m x at) _ t b n = refl
-  one seat (Declare m what) Done t b n = named _ _ _ _ n (apart_from_reads _ (λ u. refl) t)
-  one seat (Prewrite m x) Done t b n = named _ _ _ _ n (apart_from_reads _ (λ u. refl) t)
-  one seat (Prewrite m x) Conflict t b n = named _ _ _ _ n (apart_from_reads _ (λ u. refl) t)
-  one seat (Stamp m) (At c) t b n = named _ _ _ _ n (apart_from_reads _ (λ u. refl) t)
-  one seat (CommitPrimary m) Committed t b n = named _ _ _ _ n (apart_from_reads _ (λ u. refl) t)
-  one seat (CommitPrimary m) Lost t b n = named _ _ _ _ n (apart_from_reads _ (λ u. refl) t)
+  one seat (Step.Begin work) answer t b n = absurd cc
+  one seat (Step.Read m x) (Answer.Found start commit content) t b n = read_leaves x None (Answer.Found start commit content) t
+  one seat (Step.Read m x) Answer.Absent t b n = read_leaves x None Answer.Absent t
+  one seat (Step.Read m x) _ t b n = refl
+  one seat (Step.ReadAt m x at) (Answer.Found start commit content) t b n = read_leaves x (Some at) (Answer.Found start commit content) t
+  one seat (Step.ReadAt m x at) Answer.Absent t b n = read_leaves x (Some at) Answer.Absent t
+  one seat (Step.ReadAt m x at) _ t b n = refl
+  one seat (Step.Declare m what) Answer.Done t b n = named _ _ _ _ n (apart_from_reads _ (λ u. refl) t)
+  one seat (Step.Prewrite m x) Answer.Done t b n = named _ _ _ _ n (apart_from_reads _ (λ u. refl) t)
+  one seat (Step.Prewrite m x) Answer.Conflict t b n = named _ _ _ _ n (apart_from_reads _ (λ u. refl) t)
+  one seat (Step.Stamp m) (Answer.At c) t b n = named _ _ _ _ n (apart_from_reads _ (λ u. refl) t)
+  one seat (Step.CommitPrimary m) Answer.Committed t b n = named _ _ _ _ n (apart_from_reads _ (λ u. refl) t)
+  one seat (Step.CommitPrimary m) Answer.Lost t b n = named _ _ _ _ n (apart_from_reads _ (λ u. refl) t)
   one seat step answer t b n = same_both (names s step) (bare_if t)
 
   -- what names no start, or another, is left out either way
   named_no : (step : Step) (answer : Answer) → names_start s step answer ≡ false → names s step ≡ false
-  named_no (Begin work) answer n = refl
-  named_no (Read m x) answer n = refl
-  named_no (ReadAt m x at) answer n = refl
-  named_no (Declare m what) answer n = n
-  named_no (Prewrite m x) answer n = n
-  named_no (Stamp m) answer n = n
-  named_no (CommitPrimary m) answer n = n
-  named_no (CommitSecondary m x) answer n = n
-  named_no (Settle x) answer n = refl
-  named_no (Clear x) answer n = refl
-  named_no (NextMark after) answer n = refl
-  named_no (Sweep x) answer n = refl
+  named_no (Step.Begin work) answer n = refl
+  named_no (Step.Read m x) answer n = refl
+  named_no (Step.ReadAt m x at) answer n = refl
+  named_no (Step.Declare m what) answer n = n
+  named_no (Step.Prewrite m x) answer n = n
+  named_no (Step.Stamp m) answer n = n
+  named_no (Step.CommitPrimary m) answer n = n
+  named_no (Step.CommitSecondary m x) answer n = n
+  named_no (Step.Settle x) answer n = refl
+  named_no (Step.Clear x) answer n = refl
+  named_no (Step.NextMark after) answer n = refl
+  named_no (Step.Sweep x) answer n = refl
 
   from_first : (e : Entry) (es : List Entry) (t : Option TransactionOf) (b : Bool)
       → transaction_from observers (cond b (transaction_after observers e.seat e.step e.answer t) t) es ≡ transaction_from observers t (cond b (e ∷ es) es)
@@ -108,8 +105,8 @@ module _ (observers : List ObserverOf) (s : ℕ) where
     pub aside : names s step ≡ false
 
   is_begun : (seat : ℕ) (step : Step) (answer : Answer) → is_begin step ≡ true → names_start s step answer ≡ true → IsBegun seat step answer
-  is_begun seat (Begin work) (At n) b is = record { work = work; after = refl; aside = refl }
-  is_begun seat (Begin work) _ b is = absurd cc
+  is_begun seat (Step.Begin work) (Answer.At n) b is = record { work = work; after = refl; aside = refl }
+  is_begun seat (Step.Begin work) _ b is = absurd cc
   is_begun seat _ answer b is = absurd cc
 
   -- the entries that name the start lead to it

@@ -1,16 +1,12 @@
 -- No step of a plan comes at a wrong time: in a legal journal it isn't refused for its phase, for its cell, or as
 -- prewritten already. The law `plans_are_allowed` cites it. It asks that nobody else names the plan's start, and
 -- nothing of the other steps, so that it holds in whatever order they come.
-use Rattle.std.specs.Prelude.{◌≡◌, ◌≢◌, ℕ, ◌<◌, ◌^◌, Bool, false, ◌==◌, List, map, Some}
-use Rattle.std.specs.List.{filter}
+use Rattle.std.specs.Prelude.{◌≡◌, ◌≢◌, ℕ, ◌<◌, ◌^◌, Bool, false, ◌==◌, List, map, Some, filter}
 use Rattle.std.specs.FinMap as finite
 use Rattle.pb_base.specs.declared.refusal.Reason.{Reason}
-use Rattle.pb_base.specs.declared.refusal.Reason.TheVariants.{WrongPhase, NotDeclared, AlreadyPrewritten}
 use Rattle.pb_steps.specs.declared.step.Work.{Work}
-use Rattle.pb_steps.specs.declared.step.Work.TheVariants as works
 use Rattle.pb_steps.specs.declared.step.Declared.{Declared}
 use Rattle.pb_steps.specs.declared.step.Step.{Step}
-use Rattle.pb_steps.specs.declared.step.Step.TheVariants.{Declare, Prewrite, Stamp, CommitPrimary, CommitSecondary}
 use Rattle.pb_verify.specs.Observers.{ObserverOf, observed_column}
 use Rattle.pb_steps.specs.State.{StateOf, TransactionOf}
 use Rattle.pb_steps.specs.Steps.{step_reason}
@@ -22,11 +18,11 @@ use Rattle.pb_txn.specs.Conversations.{Converses}
 
 -- the step names the start, and is no read: reads are left aside, since a run reads before its plan begins
 abbrev pub names : ℕ → Step → Bool
-names s (Declare start what) = s == start.0
-names s (Prewrite start x) = s == start.0
-names s (Stamp start) = s == start.0
-names s (CommitPrimary start) = s == start.0
-names s (CommitSecondary start x) = s == start.0
+names s (Step.Declare start what) = s == start.0
+names s (Step.Prewrite start x) = s == start.0
+names s (Step.Stamp start) = s == start.0
+names s (Step.CommitPrimary start) = s == start.0
+names s (Step.CommitSecondary start x) = s == start.0
 names s _ = false
 
 -- the entries whose steps name the start, reads aside, are this seat's, and those of this conversation that do
@@ -36,14 +32,14 @@ HasSaid journal seat s said =
 
 -- row and column are numbers that a record has room for
 abbrev pub IsInRange : List ObserverOf → Work → Type 0
-IsInRange observers works.Script = Unit {0}
-IsInRange observers (works.Run o row) = (row.0 < 2 ^ 64) × (observed_column observers o < 2 ^ 64)
+IsInRange observers Work.Script = Unit {0}
+IsInRange observers (Work.Run o row) = (row.0 < 2 ^ 64) × (observed_column observers o < 2 ^ 64)
 
 -- the refusal isn't 42, 45 or 46; 40, 41, 43 and 44 are for the plan's owner to see to
 pub record IsTimely (why : Reason) : Type 0 where
-  pub phase : why ≢ WrongPhase
-  pub declared : why ≢ NotDeclared
-  pub once : why ≢ AlreadyPrewritten
+  pub phase : why ≢ Reason.WrongPhase
+  pub declared : why ≢ Reason.NotDeclared
+  pub once : why ≢ Reason.AlreadyPrewritten
 
 -- where the entries of a legal journal that name the start are the plan's, its next step isn't refused for such a
 -- reason

@@ -3,13 +3,10 @@
 use Rattle.std.specs.Prelude.{◌≡◌, ◌≢◌, List, [], ◌∷◌, ◌++◌, Option, Some, None}
 use Rattle.pb_base.specs.Batch.{Writes}
 use Rattle.pb_base.specs.declared.names.Ts.{Ts}
-use Rattle.pb_steps.specs.declared.step.Work.TheVariants as works
+use Rattle.pb_steps.specs.declared.step.Work.{Work}
 use Rattle.pb_steps.specs.declared.step.Declared.{Declared}
-use Rattle.pb_steps.specs.declared.step.Declared.TheVariants as declared
 use Rattle.pb_steps.specs.declared.step.Step.{Step}
-use Rattle.pb_steps.specs.declared.step.Step.TheVariants.{Begin}
 use Rattle.pb_steps.specs.declared.step.Answer.{Answer}
-use Rattle.pb_steps.specs.declared.step.Answer.TheVariants.{At}
 use Rattle.pb_steps.specs.State.{batch_in}
 use Rattle.pb_steps.specs.Answers.{CanAnswer}
 use Rattle.pb_history.specs.declared.entry.Received.{Received}
@@ -31,7 +28,7 @@ new_change batch = record { batch = batch; plan = None }
 
 -- as long as there is no plan, the begin is next
 abbrev pub next_in : Option PlanOf → Option Step
-next_in None = Some (Begin works.Script)
+next_in None = Some (Step.Begin Work.Script)
 next_in (Some p) = plans.next_of p
 
 -- the step that a change asks next, none once it is over
@@ -40,7 +37,7 @@ next_of j = next_in j.plan
 
 -- the answer of the begin is the start
 abbrev pub begun_at : Writes → Answer → Option PlanOf
-begun_at batch (At s) = Some (fresh s.0 (declared.Script batch))
+begun_at batch (Answer.At s) = Some (fresh s.0 (Declared.Script batch))
 begun_at batch _ = None
 
 -- the first answer makes the plan, and each later one is the plan's
@@ -71,8 +68,8 @@ Converses p (r ∷ rs) q = (next_of p ≡ Some r.step) × CanAnswer r.step r.ans
 -- it begins at this start, and the rest is that of a transaction of its cells
 pub record IsWholeChange (batch : Writes) (start : Ts) (said : List Received) (o : Outcome) : Type 0 where
   pub rest : List Received
-  pub said_is : said ≡ told (Begin works.Script) (At start) ∷ rest
-  pub whole : IsWhole start (declared.Script batch) (declared_cells (declared.Script batch)) rest o
+  pub said_is : said ≡ told (Step.Begin Work.Script) (Answer.At start) ∷ rest
+  pub whole : IsWhole start (Declared.Script batch) (declared_cells (Declared.Script batch)) rest o
 
 -- what a change of some cells has asked so far is a beginning of such a conversation
 abbrev pub ChangesConverse : Type 0
@@ -94,6 +91,6 @@ batch_by None None = []
 
 -- until it has begun it keeps its declaration, and then its plan
 abbrev pub IsChange : Option Declared → Option PlanOf → Type 0
-IsChange (Some what) None = what ≡ declared.Script (batch_in what)
-IsChange None (Some p) = p.what ≡ declared.Script (batch_in p.what)
+IsChange (Some what) None = what ≡ Declared.Script (batch_in what)
+IsChange None (Some p) = p.what ≡ Declared.Script (batch_in p.what)
 IsChange _ _ = ⊥

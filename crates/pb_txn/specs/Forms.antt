@@ -4,45 +4,43 @@ use Rattle.std.specs.Prelude.{◌≡◌, ℕ, List, [], ◌∷◌, ◌++◌, map
 use Rattle.pb_base.specs.declared.cell.Cell.{Cell}
 use Rattle.pb_base.specs.declared.names.Ts.{Ts}
 use Rattle.pb_steps.specs.declared.step.Declared.{Declared}
-use Rattle.pb_steps.specs.declared.step.Step.TheVariants.{Declare, Prewrite, Stamp, CommitPrimary, CommitSecondary, Settle, Clear}
+use Rattle.pb_steps.specs.declared.step.Step.{Step}
 use Rattle.pb_steps.specs.declared.step.Answer.{Answer}
-use Rattle.pb_steps.specs.declared.step.Answer.TheVariants.{At, Done, Conflict, Committed, Lost}
 use Rattle.pb_steps.specs.Answers.{CanAnswer}
 use Rattle.pb_history.specs.declared.entry.Received.{Received}
 use Rattle.pb_txn.specs.declared.place.Outcome.{Outcome}
-use Rattle.pb_txn.specs.declared.place.Outcome.TheVariants as outcomes
 use Rattle.pb_txn.specs.Places.{declared_cells}
 use Rattle.pb_txn.specs.Plans.{PlanOf, fresh, next_of, outcome_of}
 use Rattle.pb_txn.specs.Conversations.{told, Converses}
 
 -- each cell prewritten, without a conflict
 abbrev pub prewrites : Ts → List Cell → List Received
-prewrites s xs = map (λ x. told (Prewrite s x) Done) xs
+prewrites s xs = map (λ x. told (Step.Prewrite s x) Answer.Done) xs
 
 -- each cell committed; the answer is the same where another has cleared it already
 abbrev pub secondaries : Ts → List Cell → List Received
-secondaries s xs = map (λ x. told (CommitSecondary s x) Done) xs
+secondaries s xs = map (λ x. told (Step.CommitSecondary s x) Answer.Done) xs
 
 -- each cell cleared, whatever the answers
 abbrev pub AreCleared : List Cell → List Received → Type 0
 AreCleared [] rs = rs ≡ []
 AreCleared (x ∷ xs) [] = ⊥
-AreCleared (x ∷ xs) (r ∷ rs) = (r.step ≡ Clear x) × CanAnswer r.step r.answer × AreCleared xs rs
+AreCleared (x ∷ xs) (r ∷ rs) = (r.step ≡ Step.Clear x) × CanAnswer r.step r.answer × AreCleared xs rs
 
 -- the conversation of a transaction of these cells, and how it ended
 pub data IsWhole (s : Ts) (what : Declared) : List Cell → List Received → Outcome → Type 0 where
   -- all were prewritten, and the primary and then the others committed
   committed : (x : Cell) (others : List Cell) (c : Ts)
-      → IsWhole s what (x ∷ others) (told (Declare s what) Done ∷ prewrites s (x ∷ others) ++ told (Stamp s) (At c) ∷ told (CommitPrimary s) Committed ∷ secondaries s others) (outcomes.Committed c)
+      → IsWhole s what (x ∷ others) (told (Step.Declare s what) Answer.Done ∷ prewrites s (x ∷ others) ++ told (Step.Stamp s) (Answer.At c) ∷ told (Step.CommitPrimary s) Answer.Committed ∷ secondaries s others) (Outcome.Committed c)
   -- a conflict on the primary
   conflicted_first : (x : Cell) (after : List Cell)
-      → IsWhole s what (x ∷ after) (told (Declare s what) Done ∷ told (Prewrite s x) Conflict ∷ []) outcomes.Conflicted
+      → IsWhole s what (x ∷ after) (told (Step.Declare s what) Answer.Done ∷ told (Step.Prewrite s x) Answer.Conflict ∷ []) Outcome.Conflicted
   -- a conflict on a later cell: the primary is settled, and what was prewritten besides is cleared
-  conflicted_later : (x y : Cell) (before after : List Cell) (a : Answer) (cs : List Received) → CanAnswer (Settle x) a → AreCleared before cs
-      → IsWhole s what (x ∷ before ++ y ∷ after) (told (Declare s what) Done ∷ prewrites s (x ∷ before) ++ told (Prewrite s y) Conflict ∷ told (Settle x) a ∷ cs) outcomes.Conflicted
+  conflicted_later : (x y : Cell) (before after : List Cell) (a : Answer) (cs : List Received) → CanAnswer (Step.Settle x) a → AreCleared before cs
+      → IsWhole s what (x ∷ before ++ y ∷ after) (told (Step.Declare s what) Answer.Done ∷ prewrites s (x ∷ before) ++ told (Step.Prewrite s y) Answer.Conflict ∷ told (Step.Settle x) a ∷ cs) Outcome.Conflicted
   -- the primary's lock was gone: the others are cleared
   lost : (x : Cell) (others : List Cell) (c : Ts) (cs : List Received) → AreCleared others cs
-      → IsWhole s what (x ∷ others) (told (Declare s what) Done ∷ prewrites s (x ∷ others) ++ told (Stamp s) (At c) ∷ told (CommitPrimary s) Lost ∷ cs) outcomes.Lost
+      → IsWhole s what (x ∷ others) (told (Step.Declare s what) Answer.Done ∷ prewrites s (x ∷ others) ++ told (Step.Stamp s) (Answer.At c) ∷ told (Step.CommitPrimary s) Answer.Lost ∷ cs) Outcome.Lost
 
 -- a beginning of such a conversation
 abbrev pub IsBeginning : Ts → Declared → List Received → Type 0

@@ -2,14 +2,11 @@
 -- of `pb_notify`, which follow plans.
 use Rattle.std.specs.Prelude.{◌≡◌, ℕ, [], length, Option, Some, None, MatchOption}
 use Rattle.pb_steps.specs.declared.step.Declared.{Declared}
-use Rattle.pb_steps.specs.declared.step.Declared.TheVariants as declared
 use Rattle.pb_steps.specs.declared.step.Step.{Step}
-use Rattle.pb_steps.specs.declared.step.Step.TheVariants as steps
 use Rattle.pb_steps.specs.declared.step.Answer.{Answer}
 use Rattle.pb_steps.specs.Answers.{CanAnswer}
 use Rattle.pb_txn.specs.declared.place.Outcome.{Outcome}
 use Rattle.pb_txn.specs.declared.place.PlanPlace.{PlanPlace}
-use Rattle.pb_txn.specs.declared.place.PlanPlace.TheVariants.{Declaring, Over}
 use Rattle.pb_txn.specs.Places.{declared_cells, place_after, later_step, step_at, LiesWithin}
 
 -- a transaction's start, what it declares, and which step is next
@@ -20,7 +17,7 @@ pub record PlanOf : Type 0 where
 
 -- before its first step
 abbrev pub fresh : ℕ → Declared → PlanOf
-fresh s what = record { start = s; what = what; place = Declaring }
+fresh s what = record { start = s; what = what; place = PlanPlace.Declaring }
 
 -- the step that a plan asks next, none once it is over
 abbrev pub next_of : PlanOf → Option Step
@@ -32,7 +29,7 @@ answered p a = record p { place = place_after (length (declared_cells p.what)) p
 
 -- there is an outcome at the end alone
 abbrev pub outcome_at : PlanPlace → Option Outcome
-outcome_at (Over o) = Some o
+outcome_at (PlanPlace.Over o) = Some o
 outcome_at _ = None
 
 -- how the transaction ended, once it is over
@@ -47,16 +44,16 @@ CanTake next a = MatchOption next ⊥ (λ s. CanAnswer s a)
 
 -- what the kept step declares: a plan keeps none but a declaration
 abbrev pub what_in : Step → Declared
-what_in (steps.Declare s what) = what
-what_in _ = declared.Script []
+what_in (Step.Declare s what) = what
+what_in _ = Declared.Script []
 
 -- the declaration is kept as its step, and each later step as it comes, so that the next one can be lent
 pub record IsPlan (s : ℕ) (declare : Step) (later : Option Step) (place : PlanPlace) : Type 0 where
-  pub declares : declare ≡ steps.Declare (record { 0 = s }) (what_in declare)
+  pub declares : declare ≡ Step.Declare (record { 0 = s }) (what_in declare)
   pub stored : later ≡ later_step s (declared_cells (what_in declare)) place
   pub fits : LiesWithin (length (declared_cells (what_in declare))) place
 
 -- the step is a declaration
 abbrev pub IsDeclaration : Step → Type 0
-IsDeclaration (steps.Declare s what) = Unit {0}
+IsDeclaration (Step.Declare s what) = Unit {0}
 IsDeclaration _ = ⊥

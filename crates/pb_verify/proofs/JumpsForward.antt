@@ -4,12 +4,10 @@ use Rattle.std.proofs.lemmas.List.{get_or_past}
 use Rattle.std.proofs.lemmas.Bool.{cases_lt}
 use Rattle.std.proofs.lemmas.Bool.Decides.{nat_tests}
 use Rattle.pb_isa.specs.declared.insn.Insn.{Insn}
-use Rattle.pb_isa.specs.declared.insn.Insn.TheVariants.{Alu, MovSx, Neg, LoadImm, Load, StoreImm, Store, Jump, JumpIf, Call, Exit}
 use Rattle.pb_isa.specs.Programs.{JudgedOf}
 use Rattle.pb_isa.specs.Slots.{layout, slots, insn_at}
 use Rattle.pb_kinds.specs.declared.frame.Frame.{Frame}
 use Rattle.pb_helpers.specs.declared.code.RuleCode.{RuleCode}
-use Rattle.pb_helpers.specs.declared.code.RuleCode.TheVariants.{PointerCompared}
 use Rattle.pb_helpers.specs.Codes.{when}
 use Rattle.pb_verify.specs.Rules.{reads, reads_operand, on_pointer, falls, jump_rules, insn_rules}
 use Rattle.pb_verify.specs.Following.{ahead}
@@ -39,17 +37,17 @@ next_later m n h = let e = one_is n (m + 1) h in omega arith
 
 -- each instruction leads to later slots alone, so that a run ends
 pub leads_later : LeadsAreLater
-leads_later m n (Alu op w d x) h = next_later m n h
-leads_later m n (MovSx w z d r) h = next_later m n h
-leads_later m n (Neg w d) h = next_later m n h
-leads_later m n (LoadImm d v) h = let e = one_is n (m + 2) h in omega arith
-leads_later m n (Load z x d r o) h = next_later m n h
-leads_later m n (StoreImm z d o k) h = next_later m n h
-leads_later m n (Store z d r o) h = next_later m n h
-leads_later m n (Jump o) h = ahead_later m n o h
-leads_later m n (JumpIf c w d x o) h = elim (parts n (m + 1) (ahead m o) h) [ inl e ↦ omega arith | inr e ↦ ahead_later m n o e ]
-leads_later m n (Call k) h = next_later m n h
-leads_later m n Exit h = cc
+leads_later m n (Insn.Alu op w d x) h = next_later m n h
+leads_later m n (Insn.MovSx w z d r) h = next_later m n h
+leads_later m n (Insn.Neg w d) h = next_later m n h
+leads_later m n (Insn.LoadImm d v) h = let e = one_is n (m + 2) h in omega arith
+leads_later m n (Insn.Load z x d r o) h = next_later m n h
+leads_later m n (Insn.StoreImm z d o k) h = next_later m n h
+leads_later m n (Insn.Store z d r o) h = next_later m n h
+leads_later m n (Insn.Jump o) h = ahead_later m n o h
+leads_later m n (Insn.JumpIf c w d x o) h = elim (parts n (m + 1) (ahead m o) h) [ inl e ↦ omega arith | inr e ↦ ahead_later m n o e ]
+leads_later m n (Insn.Call k) h = next_later m n h
+leads_later m n Insn.Exit h = cc
 
 -- ---- jumps
 
@@ -64,10 +62,10 @@ ahead_is p n (negsuc z) e = cc
 
 -- an instruction whose rules hold doesn't jump back
 forward_by : (j : JudgedOf) (n : ℕ) (f : Frame) (i : Insn) → insn_rules j n f i ≡ [] → IsForward i
-forward_by j n f (Jump o) b = ahead_is j.program.insns n o b
-forward_by j n f (JumpIf c w d x o) b =
+forward_by j n f (Insn.Jump o) b = ahead_is j.program.insns n o b
+forward_by j n f (Insn.JumpIf c w d x o) b =
     let p = j.program.insns in
-    let p4 = empty_parts (reads f d ++ reads_operand f x ++ jump_rules p n o ++ falls p (n + 1)) (when (on_pointer f d x) PointerCompared) b in
+    let p4 = empty_parts (reads f d ++ reads_operand f x ++ jump_rules p n o ++ falls p (n + 1)) (when (on_pointer f d x) RuleCode.PointerCompared) b in
     let p3 = empty_parts (reads f d ++ reads_operand f x ++ jump_rules p n o) (falls p (n + 1)) p4.0 in
     let p2 = empty_parts (reads f d ++ reads_operand f x) (jump_rules p n o) p3.0 in
     ahead_is p n o p2.1

@@ -1,6 +1,5 @@
 -- Each program has one verdict: it is accepted, or refused at one slot with one code.
-use Rattle.std.proofs.Common.{◌≡◌, ℕ, zero, suc, ◌<◌, ◌≤◌, List, [], ◌∷◌, Some, None, refl, sym, ap, ◌∙◌, arith, below_more, add-one}
-use Rattle.std.specs.Prelude.{◌⊎◌}
+use Rattle.std.proofs.Common.{◌≡◌, ℕ, zero, suc, ◌<◌, ◌≤◌, List, [], ◌∷◌, Some, None, refl, sym, ap, ◌∙◌, arith, below_more, add-one, ◌⊎◌}
 use Rattle.std.proofs.lemmas.Bool.Decides.{leb_tells}
 use mathlib.Core.Logic.{inl, inr}
 use Rattle.pb_isa.specs.Slots.{slots}

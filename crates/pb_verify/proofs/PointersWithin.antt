@@ -1,13 +1,11 @@
 -- Pointers stay near: each instruction moves one by at most 2 ^ 31, and a join moves none. So no sum of the verifier
 -- leaves its 64 bits, also of a program that is refused.
-use Rattle.std.proofs.Common.{◌≡◌, ℕ, zero, suc, ◌+◌, ◌≤◌, Bool, true, false, cond, List, [], ◌∷◌, ◌++◌, Option, Some, None, set, get_or, arith, nat_eq}
-use Rattle.std.specs.Prelude.{slice_index_or}
+use Rattle.std.proofs.Common.{◌≡◌, ℕ, zero, suc, ◌+◌, ◌≤◌, Bool, true, false, cond, List, [], ◌∷◌, ◌++◌, Option, Some, None, set, get_or, arith, nat_eq, slice_index_or}
 use Rattle.pb_isa.specs.declared.insn.Insn.{Insn}
 use Rattle.pb_isa.specs.declared.insn.Reg.{Reg}
 use Rattle.pb_isa.specs.Registers.{number}
 use Rattle.pb_isa.specs.Slots.{insn_at}
 use Rattle.pb_kinds.specs.declared.frame.Kind.{Kind}
-use Rattle.pb_kinds.specs.declared.frame.Kind.TheVariants.{Unset, Number, Stack, Record}
 use Rattle.pb_kinds.specs.declared.frame.Frame.{Frame}
 use Rattle.pb_kinds.specs.Frames.{kind_of, pointwise, meet, same_kind, join, entry_frame}
 use Rattle.pb_verify.specs.Following.{with_kind, leads}
@@ -20,12 +18,12 @@ pub record AllWithin (b : ℕ) (fs : List (Option Frame)) : Type 0 where
 
 -- what is near is so within a larger distance
 pub near_more : (a b : ℕ) (k : Kind) → a ≤ b → IsNear a k → IsNear b k
-near_more a b Unset l h = tt
-near_more a b Number l h = tt
-near_more a b (Stack k) l h = omega arith
-near_more a b (Record k) l h = omega arith
+near_more a b Kind.Unset l h = tt
+near_more a b Kind.Number l h = tt
+near_more a b (Kind.Stack k) l h = omega arith
+near_more a b (Kind.Record k) l h = omega arith
 
-near_set : (b : ℕ) (ks : List Kind) (i : ℕ) (k : Kind) → ((r : ℕ) → IsNear b (get_or ks r Unset)) → IsNear b k → (r : ℕ) → IsNear b (get_or (set ks i k) r Unset)
+near_set : (b : ℕ) (ks : List Kind) (i : ℕ) (k : Kind) → ((r : ℕ) → IsNear b (get_or ks r Kind.Unset)) → IsNear b k → (r : ℕ) → IsNear b (get_or (set ks i k) r Kind.Unset)
 near_set b [] i k h n r = h r
 near_set b (x ∷ ks) zero k h n zero = n
 near_set b (x ∷ ks) zero k h n (suc r) = h (suc r)
@@ -40,16 +38,16 @@ abbrev EachNear : ℕ → List Kind → Type 0
 EachNear b [] = Unit {0}
 EachNear b (k ∷ ks) = IsNear b k × EachNear b ks
 
-near_each : (b : ℕ) (ks : List Kind) → EachNear b ks → (r : ℕ) → IsNear b (get_or ks r Unset)
+near_each : (b : ℕ) (ks : List Kind) → EachNear b ks → (r : ℕ) → IsNear b (get_or ks r Kind.Unset)
 near_each b [] h r = tt
 near_each b (k ∷ ks) h zero = h.0
 near_each b (k ∷ ks) h (suc r) = near_each b ks h.1 r
 
-near_meet : (b : ℕ) (t : Bool) (k : Kind) → IsNear b k → IsNear b (cond t k Unset)
+near_meet : (b : ℕ) (t : Bool) (k : Kind) → IsNear b k → IsNear b (cond t k Kind.Unset)
 near_meet b true k h = h
 near_meet b false k h = tt
 
-near_both : (b : ℕ) (ks ms : List Kind) → ((r : ℕ) → IsNear b (get_or ks r Unset)) → (r : ℕ) → IsNear b (get_or (pointwise meet ks ms) r Unset)
+near_both : (b : ℕ) (ks ms : List Kind) → ((r : ℕ) → IsNear b (get_or ks r Kind.Unset)) → (r : ℕ) → IsNear b (get_or (pointwise meet ks ms) r Kind.Unset)
 near_both b [] ms h r = tt
 near_both b (k ∷ ks) [] h r = tt
 near_both b (k ∷ ks) (m ∷ ms) h zero = near_meet b (same_kind k m) k (h zero)

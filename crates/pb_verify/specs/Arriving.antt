@@ -8,7 +8,6 @@ use Rattle.pb_isa.specs.Programs.{JudgedOf}
 use Rattle.pb_kinds.specs.declared.frame.Frame.{Frame}
 use Rattle.pb_kinds.specs.Frames.{join, entry_frame}
 use Rattle.pb_helpers.specs.declared.code.RuleCode.{RuleCode}
-use Rattle.pb_helpers.specs.declared.code.RuleCode.TheVariants.{Unreachable}
 use Rattle.pb_helpers.specs.Codes.{lowest_code}
 use Rattle.pb_verify.specs.Rules.{insn_rules}
 use Rattle.pb_verify.specs.Following.{after, leads}
@@ -55,7 +54,7 @@ in_at p n = frame_before p n (outs p n)
 -- the codes at a slot: a second slot has no rules, and an instruction that nothing leads to breaks one
 abbrev pub codes_at : JudgedOf → ℕ → Option Insn → Option Frame → List RuleCode
 codes_at j n None f = []
-codes_at j n (Some i) None = Unreachable ∷ []
+codes_at j n (Some i) None = RuleCode.Unreachable ∷ []
 codes_at j n (Some i) (Some f) = insn_rules j n f i
 
 -- the codes that are told of slot n: none where the rules hold there

@@ -2,18 +2,13 @@
 -- them. They are total, also where rules are broken, since `frames` tells what is known of refused programs too.
 use Rattle.std.specs.Prelude.{ℕ, ◌+◌, ℤ, pos, negsuc, ◌+ℤ◌, neg_ℤ, if◌then◌else◌, List, [], ◌∷◌, slice_set, slice_index_or, Option, Some}
 use Rattle.pb_isa.specs.declared.insn.Insn.{Insn}
-use Rattle.pb_isa.specs.declared.insn.Insn.TheVariants.{Alu, MovSx, Neg, LoadImm, Load, StoreImm, Store, Jump, JumpIf, Call, Exit}
 use Rattle.pb_isa.specs.declared.insn.AluOp.{AluOp}
-use Rattle.pb_isa.specs.declared.insn.AluOp.TheVariants.{Add, Sub, Mov}
 use Rattle.pb_isa.specs.declared.insn.Width.{Width}
-use Rattle.pb_isa.specs.declared.insn.Width.TheVariants.{Bits64}
 use Rattle.pb_isa.specs.declared.insn.Operand.{Operand}
-use Rattle.pb_isa.specs.declared.insn.Operand.TheVariants as operands
 use Rattle.pb_isa.specs.declared.insn.Reg.{Reg}
 use Rattle.pb_isa.specs.Registers.{number}
 use Rattle.pb_isa.specs.Helpers.{Helper, Read, helper_of}
 use Rattle.pb_kinds.specs.declared.frame.Kind.{Kind}
-use Rattle.pb_kinds.specs.declared.frame.Kind.TheVariants.{Unset, Number, Stack, Record}
 use Rattle.pb_kinds.specs.declared.frame.Frame.{Frame}
 use Rattle.pb_kinds.specs.Frames.{kind_of}
 use Rattle.pb_kinds.specs.Ranges.{in_stack, with_written}
@@ -25,25 +20,25 @@ with_kind f r k = record { kinds = slice_set f.kinds (number r) k; written = f.w
 
 -- a pointer goes on pointing, moved by the number; all else becomes a number
 abbrev pub move_pointer : Kind → ℤ → Kind
-move_pointer (Stack k) z = Stack (k +ℤ z)
-move_pointer (Record k) z = Record (k +ℤ z)
-move_pointer k z = Number
+move_pointer (Kind.Stack k) z = Kind.Stack (k +ℤ z)
+move_pointer (Kind.Record k) z = Kind.Record (k +ℤ z)
+move_pointer k z = Kind.Number
 
 -- what the destination of an operation holds: mov64 keeps the source's kind, and add64 and sub64 move pointers
 abbrev pub kind_after : Frame → AluOp → Width → Reg → Operand → Kind
-kind_after f Mov Bits64 dst (operands.Reg src) = at f src
-kind_after f Add Bits64 dst (operands.Imm imm) = move_pointer (at f dst) imm
-kind_after f Sub Bits64 dst (operands.Imm imm) = move_pointer (at f dst) (neg_ℤ imm)
-kind_after f op w dst src = Number
+kind_after f AluOp.Mov Width.Bits64 dst (Operand.Reg src) = at f src
+kind_after f AluOp.Add Width.Bits64 dst (Operand.Imm imm) = move_pointer (at f dst) imm
+kind_after f AluOp.Sub Width.Bits64 dst (Operand.Imm imm) = move_pointer (at f dst) (neg_ℤ imm)
+kind_after f op w dst src = Kind.Number
 
 -- the bytes of a store are written, where they lie in the stack
 abbrev pub with_store : Frame → Kind → ℤ → ℕ → Frame
-with_store f (Stack k) offset n = if in_stack (k +ℤ offset) n then with_written f (k +ℤ offset) n else f
+with_store f (Kind.Stack k) offset n = if in_stack (k +ℤ offset) n then with_written f (k +ℤ offset) n else f
 with_store f k offset n = f
 
 -- a call sets R0 and leaves R1 to R5 unset
 abbrev pub kinds_after_call : List Kind → List Kind
-kinds_after_call ks = Number ∷ Unset ∷ Unset ∷ Unset ∷ Unset ∷ Unset ∷ slice_index_or ks 6 Unset ∷ slice_index_or ks 7 Unset ∷ slice_index_or ks 8 Unset ∷ slice_index_or ks 9 Unset ∷ slice_index_or ks 10 Unset ∷ []
+kinds_after_call ks = Kind.Number ∷ Kind.Unset ∷ Kind.Unset ∷ Kind.Unset ∷ Kind.Unset ∷ Kind.Unset ∷ slice_index_or ks 6 Kind.Unset ∷ slice_index_or ks 7 Kind.Unset ∷ slice_index_or ks 8 Kind.Unset ∷ slice_index_or ks 9 Kind.Unset ∷ slice_index_or ks 10 Kind.Unset ∷ []
 
 -- what a call leaves: other registers, and the bytes that were written before
 abbrev pub clobber : Frame → Frame
@@ -56,17 +51,17 @@ after_call f h = clobber f
 
 -- the frame after an instruction, by the frame before it. A jump and the exit change nothing
 abbrev pub after : Frame → Insn → Frame
-after f (Alu op w dst src) = with_kind f dst (kind_after f op w dst src)
-after f (MovSx w z dst src) = with_kind f dst Number
-after f (Neg w dst) = with_kind f dst Number
-after f (LoadImm dst imm) = with_kind f dst Number
-after f (Load z x dst src offset) = with_kind f dst Number
-after f (StoreImm z dst offset imm) = with_store f (at f dst) offset (bytes_of z)
-after f (Store z dst src offset) = with_store f (at f dst) offset (bytes_of z)
-after f (Jump offset) = f
-after f (JumpIf c w dst src offset) = f
-after f (Call imm) = after_call f (helper_of imm)
-after f Exit = f
+after f (Insn.Alu op w dst src) = with_kind f dst (kind_after f op w dst src)
+after f (Insn.MovSx w z dst src) = with_kind f dst Kind.Number
+after f (Insn.Neg w dst) = with_kind f dst Kind.Number
+after f (Insn.LoadImm dst imm) = with_kind f dst Kind.Number
+after f (Insn.Load z x dst src offset) = with_kind f dst Kind.Number
+after f (Insn.StoreImm z dst offset imm) = with_store f (at f dst) offset (bytes_of z)
+after f (Insn.Store z dst src offset) = with_store f (at f dst) offset (bytes_of z)
+after f (Insn.Jump offset) = f
+after f (Insn.JumpIf c w dst src offset) = f
+after f (Insn.Call imm) = after_call f (helper_of imm)
+after f Insn.Exit = f
 
 -- the slot that a jump from slot n leads to, where it goes forward
 abbrev pub ahead : ℕ → ℤ → List ℕ
@@ -75,8 +70,8 @@ ahead n (negsuc z) = []
 
 -- the later slots that the instruction at slot n leads to
 abbrev pub leads : ℕ → Insn → List ℕ
-leads n (LoadImm dst imm) = (n + 2) ∷ []
-leads n (Jump offset) = ahead n offset
-leads n (JumpIf c w dst src offset) = (n + 1) ∷ ahead n offset
-leads n Exit = []
+leads n (Insn.LoadImm dst imm) = (n + 2) ∷ []
+leads n (Insn.Jump offset) = ahead n offset
+leads n (Insn.JumpIf c w dst src offset) = (n + 1) ∷ ahead n offset
+leads n Insn.Exit = []
 leads n i = (n + 1) ∷ []

@@ -2,7 +2,6 @@
 -- takes fewer instructions than it has slots.
 use Rattle.std.specs.Prelude.{◌≡◌, ℕ, ◌<◌, ℤ, pos, negsuc, Some, IsTrue}
 use Rattle.pb_isa.specs.declared.insn.Insn.{Insn}
-use Rattle.pb_isa.specs.declared.insn.Insn.TheVariants.{Jump, JumpIf}
 use Rattle.pb_isa.specs.Programs.{JudgedOf}
 use Rattle.pb_isa.specs.Slots.{insn_at}
 use Rattle.pb_verify.specs.Following.{leads}
@@ -15,8 +14,8 @@ IsAhead (negsuc z) = ⊥
 
 -- a jump goes forward
 abbrev pub IsForward : Insn → Type 0
-IsForward (Jump offset) = IsAhead offset
-IsForward (JumpIf c w dst src offset) = IsAhead offset
+IsForward (Insn.Jump offset) = IsAhead offset
+IsForward (Insn.JumpIf c w dst src offset) = IsAhead offset
 IsForward i = Unit {0}
 
 -- the slots that an instruction leads to come later

@@ -2,7 +2,6 @@
 use Rattle.std.specs.Prelude.{ℕ, List, Option, Some, None, slice_get, refl}
 use Rattle.std.specs.Coded.{Coded, code_by, coded×, coded_ℕ, coded_list}
 use Rattle.pb_base.specs.declared.cell.Cell.{Cell}
-use Rattle.pb_base.specs.declared.cell.Cell.TheVariants.{Data, Ack}
 use Rattle.pb_base.specs.declared.names.Row.{Row}
 use Rattle.pb_isa.specs.Programs.{JudgedOf, judged_code}
 
@@ -31,13 +30,13 @@ observed_column observers o = column_or_zero (slice_get observers o)
 
 -- the cell that an observer observes in a row
 abbrev pub observed_cell : List ObserverOf → ℕ → Row → Cell
-observed_cell observers o row = Data row (observed_column observers o)
+observed_cell observers o row = Cell.Data row (observed_column observers o)
 
 -- where an observer keeps up to which start it has handled the changes of its cell in a row
 abbrev pub acknowledgment : List ObserverOf → ℕ → Row → Cell
-acknowledgment observers o row = Ack o row (observed_column observers o)
+acknowledgment observers o row = Cell.Ack o row (observed_column observers o)
 
 -- the acknowledgment of an observer that may not be there
 abbrev pub acknowledgment_at : Option ObserverOf → ℕ → Row → Option Cell
 acknowledgment_at None o row = None
-acknowledgment_at (Some observer) o row = Some (Ack o row observer.column)
+acknowledgment_at (Some observer) o row = Some (Cell.Ack o row observer.column)

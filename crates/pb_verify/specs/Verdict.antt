@@ -6,7 +6,6 @@ use Rattle.pb_isa.specs.Helpers.{HelperSet}
 use Rattle.pb_helpers.specs.declared.code.RuleCode.{RuleCode}
 use Rattle.pb_helpers.specs.Codes.{code_number}
 use Rattle.pb_verify.specs.declared.verifier.VerifyFault.{VerifyFault}
-use Rattle.pb_verify.specs.declared.verifier.VerifyFault.TheVariants.{NoMemory, Refused}
 use Rattle.pb_helpers.specs.declared.change.Version.{Version}
 use Rattle.pb_verify.specs.Versions.{judged_by}
 use Rattle.pb_verify.specs.Arriving.{Accepts, Refuses}
@@ -18,8 +17,8 @@ pub record IsAccepted (v : Version) (p : ProgramOf) (h : HelperSet) (a : JudgedO
 
 -- memory was refused, or this is the first slot at fault with its lowest code
 abbrev pub IsVerifyFault : JudgedOf → VerifyFault → Type 0
-IsVerifyFault j NoMemory = Unit {0}
-IsVerifyFault j (Refused r) = (c : RuleCode) × (r.code ≡ code_number c) × Refuses j r.slot c
+IsVerifyFault j VerifyFault.NoMemory = Unit {0}
+IsVerifyFault j (VerifyFault.Refused r) = (c : RuleCode) × (r.code ≡ code_number c) × Refuses j r.slot c
 
 -- the rules accept a program, or refuse it at one slot with one code, and not both
 pub record HasOneVerdict (j : JudgedOf) : Type 0 where

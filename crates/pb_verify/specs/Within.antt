@@ -3,16 +3,15 @@
 -- code.
 use Rattle.std.specs.Prelude.{ℕ, ◌≤◌, nat_abs, Option, Some, None}
 use Rattle.pb_kinds.specs.declared.frame.Kind.{Kind}
-use Rattle.pb_kinds.specs.declared.frame.Kind.TheVariants.{Unset, Number, Stack, Record}
 use Rattle.pb_kinds.specs.declared.frame.Frame.{Frame}
 use Rattle.pb_kinds.specs.Frames.{kind_of}
 
 -- a pointer at most b bytes from where its region begins or ends; of all else nothing is asked
 abbrev pub IsNear : ℕ → Kind → Type 0
-IsNear b Unset = Unit {0}
-IsNear b Number = Unit {0}
-IsNear b (Stack k) = nat_abs k ≤ b
-IsNear b (Record k) = nat_abs k ≤ b
+IsNear b Kind.Unset = Unit {0}
+IsNear b Kind.Number = Unit {0}
+IsNear b (Kind.Stack k) = nat_abs k ≤ b
+IsNear b (Kind.Record k) = nat_abs k ≤ b
 
 -- each register is so near
 pub record IsWithin (b : ℕ) (f : Frame) : Type 0 where

@@ -1,6 +1,5 @@
 -- A write that replaces another: the code looks for the place, and the definition for the cell.
-use Rattle.std.proofs.Common.{◌≡◌, suc, ◌<◌, ◌≤◌, Bool, true, false, cond, [], ◌∷◌, length, slice_set, Some, refl, ap, arith}
-use Rattle.std.specs.Prelude.{is_some, if◌then◌else◌}
+use Rattle.std.proofs.Common.{◌≡◌, suc, ◌<◌, ◌≤◌, Bool, true, false, cond, [], ◌∷◌, length, slice_set, Some, refl, ap, arith, is_some, if◌then◌else◌}
 use Rattle.std.specs.Ordering.{eq_by_cmp}
 use Rattle.pb_base.specs.declared.cell.Cell.{Cell}
 use Rattle.pb_base.specs.declared.content.Content.{Content}

@@ -19,7 +19,7 @@ use std::sync::Arc;
 pub struct Finished {
     accepted: Arc<Accepted>,
     change: Record,
-    run: Ts,
+    start: Ts,
     talk: Vec<(Ask, Reply)>,
     end: u64,
     writes: Vec<(Cell, Content)>,
@@ -34,9 +34,9 @@ impl Model for Finished {
 
     ghost coded = { meant_code };
 
-    ghost view = { λ f. record { judged = f.accepted.value; bytes = f.change; began = f.run.0; talk = talk_of f.talk.items; result = f.end; writes = f.writes.items } };
+    ghost view = { λ f. record { judged = f.accepted.value; bytes = f.change; start = f.start.0; talk = talk_of f.talk.items; result = f.end; writes = f.writes.items } };
 
-    ghost invariant = { λ f. Means f.accepted.value f.change f.run.0 (talk_of f.talk.items) f.end f.writes.items };
+    ghost invariant = { λ f. Means f.accepted.value f.change f.start.0 (talk_of f.talk.items) f.end f.writes.items };
 }
 
 // Whether the asks and replies are the same, in the same order.
@@ -58,15 +58,15 @@ impl Finished {
     pub(crate) fn new(
         accepted: Arc<Accepted>,
         change: Record,
-        run: Ts,
+        start: Ts,
         talk: Vec<(Ask, Reply)>,
         end: u64,
         writes: Vec<(Cell, Content)>,
     ) -> Finished
-        requires { Means accepted.value change run.0 (talk_of talk.items) end writes.items }
+        requires { Means accepted.value change start.0 (talk_of talk.items) end writes.items }
         ensures judged { result.judged ≡ accepted.value }
         ensures bytes { result.bytes ≡ change }
-        ensures began { result.began ≡ run.0 }
+        ensures start { result.start ≡ start.0 }
         ensures talk { result.talk ≡ talk_of talk.items }
         ensures end { result.result ≡ end }
         ensures writes { result.writes ≡ writes.items }
@@ -74,7 +74,7 @@ impl Finished {
         Finished {
             accepted,
             change,
-            run,
+            start,
             talk,
             end,
             writes,
@@ -114,10 +114,10 @@ impl Finished {
     }
 
     /// The run's start timestamp.
-    pub fn run(&self) -> Ts
-        ensures { result.0 ≡ self.now.began }
+    pub fn start(&self) -> Ts
+        ensures { result.0 ≡ self.now.start }
     {
-        self.run
+        self.start
     }
 
     /// The cells that it asked for, and what it was told, in order.
@@ -154,7 +154,7 @@ impl Finished {
     {
         self.is_of(other.accepted())
             && self.record().is_same(other.record())
-            && self.run() == other.run()
+            && self.start() == other.start()
             && is_same_talk(self.talk(), other.talk())
             && self.result() == other.result()
             && are_same_writes(self.writes(), other.writes())

@@ -2,10 +2,10 @@
 use Rattle.std.proofs.Common.{List}
 use Rattle.pb_base.specs.declared.names.Ts.{Ts}
 use Rattle.pb_base.specs.Batch.{Writes}
-use Rattle.pb_steps.specs.declared.step.Step.TheVariants.{Begin, Declare, Stamp, CommitPrimary}
-use Rattle.pb_steps.specs.declared.step.Answer.TheVariants.{At, Done, Committed}
-use Rattle.pb_steps.specs.declared.step.Work.TheVariants as works
-use Rattle.pb_steps.specs.declared.step.Declared.TheVariants as declared
+use Rattle.pb_steps.specs.declared.step.Step.{Step}
+use Rattle.pb_steps.specs.declared.step.Answer.{Answer}
+use Rattle.pb_steps.specs.declared.step.Work.{Work}
+use Rattle.pb_steps.specs.declared.step.Declared.{Declared}
 use Rattle.pb_history.specs.declared.entry.Received.{Received}
 use Rattle.pb_history.specs.History.{Has}
 use Rattle.pb_txn.specs.Conversations.{told}
@@ -20,14 +20,14 @@ Within xs ys = (r : Received) → Has xs r → Has ys r
 
 -- that the transaction of this start was committed
 abbrev pub commit_of : Ts → Received
-commit_of s = told (CommitPrimary s) Committed
+commit_of s = told (Step.CommitPrimary s) Answer.Committed
 
 -- a transaction of this start began for a script, declared the batch, was stamped and is committed
 pub record HasCommitted (batch : Writes) (start : Ts) (said : List Received) : Type 0 where
   pub commit : Ts
-  pub begun : Has said (told (Begin works.Script) (At start))
-  pub declared : Has said (told (Declare start (declared.Script batch)) Done)
-  pub stamped : Has said (told (Stamp start) (At commit))
+  pub begun : Has said (told (Step.Begin Work.Script) (Answer.At start))
+  pub declared : Has said (told (Step.Declare start (Declared.Script batch)) Answer.Done)
+  pub stamped : Has said (told (Step.Stamp start) (Answer.At commit))
   pub committed : Has said (commit_of start)
 
 -- and so it is in all that was said

@@ -1,6 +1,5 @@
 -- One pass along a journal, with a cursor in each seat's list.
-use Rattle.std.proofs.Common.{◌≡◌, ◌≢◌, ◌↔◌, ℕ, ◌+◌, ◌<◌, ◌≤◌, zero, suc, Bool, true, false, not, eqb, IsTrue, List, [], ◌∷◌, length, drop, replicate, Some, slice_set, slice_index_or, get_or-set_same, get_or-set_other, length-set, inl, inr, refl, sym, ◌∙◌, ap, subst, arith, eq-eqb}
-use Rattle.std.specs.Prelude.{slice_get, ◌==◌}
+use Rattle.std.proofs.Common.{◌≡◌, ◌≢◌, ◌↔◌, ℕ, ◌+◌, ◌<◌, ◌≤◌, zero, suc, Bool, true, false, not, eqb, IsTrue, List, [], ◌∷◌, length, drop, replicate, Some, slice_set, slice_index_or, get_or-set_same, get_or-set_other, length-set, inl, inr, refl, sym, ◌∙◌, ap, subst, arith, eq-eqb, slice_get, ◌==◌}
 use Rattle.std.specs.List.{list_any}
 use Rattle.std.proofs.lemmas.Bool.{eqb-true, eqb-false, and_parts, not-true, both_ways, cases_lt}
 use Rattle.std.proofs.lemmas.List.{get_or_default, get_or-replicate, get_or_past, length-replicate}

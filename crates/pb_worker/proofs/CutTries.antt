@@ -4,13 +4,9 @@ use Rattle.pb_base.specs.declared.names.Ts.{Ts}
 use Rattle.pb_base.specs.declared.cell.Cell.{Cell}
 use Rattle.pb_base.specs.Batch.{Writes}
 use Rattle.pb_steps.specs.declared.step.Step.{Step}
-use Rattle.pb_steps.specs.declared.step.Step.TheVariants.{Begin, Declare, Prewrite, Stamp, CommitPrimary, Settle, Clear}
 use Rattle.pb_steps.specs.declared.step.Answer.{Answer}
-use Rattle.pb_steps.specs.declared.step.Answer.TheVariants as answers
-use Rattle.pb_steps.specs.declared.step.Answer.TheVariants.{At, Done, Committed, Absent, Conflict, Lost}
-use Rattle.pb_steps.specs.declared.step.Work.TheVariants as works
+use Rattle.pb_steps.specs.declared.step.Work.{Work}
 use Rattle.pb_steps.specs.declared.step.Declared.{Declared}
-use Rattle.pb_steps.specs.declared.step.Declared.TheVariants as declared
 use Rattle.pb_steps.specs.Answers.{CanAnswer}
 use Rattle.pb_history.specs.declared.entry.Received.{Received}
 use Rattle.pb_history.specs.History.{Has}
@@ -47,7 +43,7 @@ commit_in (x ∷ xs) ys = ap (λ b. is_commit x.answer || b) (commit_in xs ys) �
 
 -- it clears a cell, as a transaction does only where it failed
 abbrev is_clear : Step → Bool
-is_clear (Clear x) = true
+is_clear (Step.Clear x) = true
 is_clear _ = false
 
 -- something was cleared
@@ -77,17 +73,17 @@ none_after : (s : Ts) (xs : List Cell) (ys : List Received) → has_commit ys �
 none_after s xs ys none = commit_in (prewrites s xs) ys ∙ both_false (has_commit (prewrites s xs)) (has_commit ys) (no_prewrite s xs) none
 
 -- to clear a lock forward is no commit of one's own
-clear_answer : (x : Cell) (a : Answer) → CanAnswer (Clear x) a → is_commit a ≡ false
-clear_answer x answers.Absent can = refl
-clear_answer x answers.Waits can = refl
-clear_answer x (answers.CommittedAt c) can = refl
-clear_answer x answers.RolledBack can = refl
+clear_answer : (x : Cell) (a : Answer) → CanAnswer (Step.Clear x) a → is_commit a ≡ false
+clear_answer x Answer.Absent can = refl
+clear_answer x Answer.Waits can = refl
+clear_answer x (Answer.CommittedAt c) can = refl
+clear_answer x Answer.RolledBack can = refl
 clear_answer x _ can = absurd can
 
-settle_answer : (x : Cell) (a : Answer) → CanAnswer (Settle x) a → is_commit a ≡ false
-settle_answer x answers.Absent can = refl
-settle_answer x (answers.Locked start primary) can = refl
-settle_answer x answers.RolledBack can = refl
+settle_answer : (x : Cell) (a : Answer) → CanAnswer (Step.Settle x) a → is_commit a ≡ false
+settle_answer x Answer.Absent can = refl
+settle_answer x (Answer.Locked start primary) can = refl
+settle_answer x Answer.RolledBack can = refl
 settle_answer x _ can = absurd can
 
 -- what is cleared commits nothing
@@ -101,13 +97,13 @@ pub uncommitted : (s : Ts) (what : Declared) (cells : List Cell) (said : List Re
 uncommitted s what cells said o otherwise (committed x others c) = cc
 uncommitted s what cells said o otherwise (conflicted_first x after) = refl
 uncommitted s what cells said o otherwise (conflicted_later x y before after a cs can c) =
-    none_after s (x ∷ before) (told (Prewrite s y) Conflict ∷ told (Settle x) a ∷ cs) (both_false (is_commit a) (has_commit cs) (settle_answer x a can) (cleared before cs c))
-uncommitted s what cells said o otherwise (lost x others c cs k) = none_after s (x ∷ others) (told (Stamp s) (At c) ∷ told (CommitPrimary s) Lost ∷ cs) (cleared others cs k)
+    none_after s (x ∷ before) (told (Step.Prewrite s y) Answer.Conflict ∷ told (Step.Settle x) a ∷ cs) (both_false (is_commit a) (has_commit cs) (settle_answer x a can) (cleared before cs c))
+uncommitted s what cells said o otherwise (lost x others c cs k) = none_after s (x ∷ others) (told (Step.Stamp s) (Answer.At c) ∷ told (Step.CommitPrimary s) Answer.Lost ∷ cs) (cleared others cs k)
 
 -- a whole conversation has no commit, or clears nothing
 by_form : (s : Ts) (what : Declared) (cells : List Cell) (said : List Received) (o : Outcome) → IsWhole s what cells said o → (has_commit said ≡ false) ⊎ (has_clear said ≡ false)
 by_form s what cells said o (committed x others c) =
-    inr (clear_in (prewrites s (x ∷ others)) (told (Stamp s) (At c) ∷ told (CommitPrimary s) Committed ∷ secondaries s others) ∙ both_false (has_clear (prewrites s (x ∷ others))) (has_clear (secondaries s others)) (prewrites_clear s (x ∷ others)) (secondaries_clear s others))
+    inr (clear_in (prewrites s (x ∷ others)) (told (Step.Stamp s) (Answer.At c) ∷ told (Step.CommitPrimary s) Answer.Committed ∷ secondaries s others) ∙ both_false (has_clear (prewrites s (x ∷ others))) (has_clear (secondaries s others)) (prewrites_clear s (x ∷ others)) (secondaries_clear s others))
 by_form s what cells said o (conflicted_first x after) = inl refl
 by_form s what cells said o (conflicted_later x y before after a cs can c) = inl (uncommitted s what _ _ _ refl (conflicted_later x y before after a cs can c))
 by_form s what cells said o (lost x others c cs k) = inl (uncommitted s what _ _ _ refl (lost x others c cs k))
@@ -116,12 +112,12 @@ by_form s what cells said o (lost x others c cs k) = inl (uncommitted s what _ _
 
 -- it was declared, stamped and committed
 abbrev Commits : Ts → Declared → List Received → Type 0
-Commits s what rest = (c : Ts) × Has rest (told (Declare s what) Done) × Has rest (told (Stamp s) (At c)) × Has rest (told (CommitPrimary s) Committed)
+Commits s what rest = (c : Ts) × Has rest (told (Step.Declare s what) Answer.Done) × Has rest (told (Step.Stamp s) (Answer.At c)) × Has rest (told (Step.CommitPrimary s) Answer.Committed)
 
-paid : (s : Ts) (what : Declared) (xs : List Cell) (c : Ts) (more : List Received) → Commits s what (told (Declare s what) Done ∷ prewrites s xs ++ told (Stamp s) (At c) ∷ told (CommitPrimary s) Committed ∷ more)
+paid : (s : Ts) (what : Declared) (xs : List Cell) (c : Ts) (more : List Received) → Commits s what (told (Step.Declare s what) Answer.Done ∷ prewrites s xs ++ told (Step.Stamp s) (Answer.At c) ∷ told (Step.CommitPrimary s) Answer.Committed ∷ more)
 paid s what xs c more =
-    let rest = told (Stamp s) (At c) ∷ told (CommitPrimary s) Committed ∷ more in
-    (c, inl refl, inr (has_right (prewrites s xs) rest (told (Stamp s) (At c)) (inl refl)), inr (has_right (prewrites s xs) rest (told (CommitPrimary s) Committed) (inr (inl refl))))
+    let rest = told (Step.Stamp s) (Answer.At c) ∷ told (Step.CommitPrimary s) Answer.Committed ∷ more in
+    (c, inl refl, inr (has_right (prewrites s xs) rest (told (Step.Stamp s) (Answer.At c)) (inl refl)), inr (has_right (prewrites s xs) rest (told (Step.CommitPrimary s) Answer.Committed) (inr (inl refl))))
 
 -- a whole conversation with a commit in it is that of a committed transaction
 whole_commits : (s : Ts) (what : Declared) (cells : List Cell) (said : List Received) (o : Outcome) → IsWhole s what cells said o → has_commit said ≡ true → Commits s what said
@@ -156,9 +152,9 @@ module _ (s : Ts) (what : Declared) (x : Cell) (others : List Cell) where
   at_place p said declaring e = cc
   at_place p said (prewriting before y after at) e = absurd (not_both _ e (no_prewrite s before))
   at_place p said stamping e = absurd (not_both _ e (no_prewrite s (x ∷ others)))
-  at_place p said (committing c) e = absurd (not_both _ e (none_after s (x ∷ others) (told (Stamp s) (At c) ∷ []) refl))
+  at_place p said (committing c) e = absurd (not_both _ e (none_after s (x ∷ others) (told (Step.Stamp s) (Answer.At c) ∷ []) refl))
   at_place p said (finishing c done y left at) e = paid s what (x ∷ others) c (secondaries s done)
-  at_place p said (settling before y after at) e = absurd (not_both _ e (none_after s (x ∷ before) (told (Prewrite s y) Conflict ∷ []) refl))
+  at_place p said (settling before y after at) e = absurd (not_both _ e (none_after s (x ∷ before) (told (Step.Prewrite s y) Answer.Conflict ∷ []) refl))
   at_place p all (clearing o done y left more said cs at c ends) e = absurd (clearing_none o done y left said cs c ends e)
   at_place p said (over o said' w) e = whole_commits s what (x ∷ others) said o w e
 
@@ -168,9 +164,9 @@ of_begun [] r rest q some b e = absurd (some refl)
 of_begun (w ∷ ws) r rest q some b e =
     let batch : Writes = w ∷ ws in
     let s : Ts = record { 0 = b.s } in
-    let first : has_commit (told (Begin works.Script) (At s) ∷ rest) ≡ true = ap (λ (z : Received). has_commit (z ∷ rest)) (sym b.first) ∙ e in
-    let so = said_all s (declared.Script batch) w.0 _ refl (fresh b.s (declared.Script batch)) b.plan [] rest refl refl declaring b.said in
-    let k = at_place s (declared.Script batch) w.0 _ b.plan.place rest so first in
+    let first : has_commit (told (Step.Begin Work.Script) (Answer.At s) ∷ rest) ≡ true = ap (λ (z : Received). has_commit (z ∷ rest)) (sym b.first) ∙ e in
+    let so = said_all s (Declared.Script batch) w.0 _ refl (fresh b.s (Declared.Script batch)) b.plan [] rest refl refl declaring b.said in
+    let k = at_place s (Declared.Script batch) w.0 _ b.plan.place rest so first in
     (s, record { commit = k.0; begun = inl b.first; declared = inr k.1; stamped = inr k.2; committed = inr k.3 })
 
 -- so a try that was cut off behind its commit has committed its change

@@ -1,6 +1,5 @@
 -- The committed script transactions of the journal are the changes of which a try committed, each once.
-use Rattle.std.proofs.Common.{◌≡◌, ◌≢◌, ℕ, zero, suc, ◌+◌, ◌-◌, ◌*◌, ◌/◌, ◌%◌, ◌<◌, ◌⊎◌, Bool, true, false, cond, eqb, List, [], ◌∷◌, ◌++◌, length, Option, None, inl, inr, refl, sym, ap, subst, ◌∙◌, add_comm, arith}
-use Rattle.std.specs.Prelude.{slice_get, slice_index_or}
+use Rattle.std.proofs.Common.{◌≡◌, ◌≢◌, ℕ, zero, suc, ◌+◌, ◌-◌, ◌*◌, ◌/◌, ◌%◌, ◌<◌, ◌⊎◌, Bool, true, false, cond, eqb, List, [], ◌∷◌, ◌++◌, length, Option, None, inl, inr, refl, sym, ap, subst, ◌∙◌, add_comm, arith, slice_get, slice_index_or}
 use Rattle.std.proofs.lemmas.Bool.{eqb-true, eqb-false, cases_lt, cases_order}
 use Rattle.std.proofs.lemmas.Nat.{div-mul-add, mod-mul-add}
 use Rattle.std.proofs.lemmas.Option.{slice_get_within}
@@ -9,10 +8,10 @@ use Rattle.pb_base.specs.declared.names.Row.{Row}
 use Rattle.pb_base.specs.declared.names.Ts.{Ts}
 use Rattle.pb_base.specs.declared.refusal.Refusal.{Refusal}
 use Rattle.pb_base.specs.Batch.{Writes}
-use Rattle.pb_steps.specs.declared.step.Step.TheVariants.{Begin}
-use Rattle.pb_steps.specs.declared.step.Answer.TheVariants.{At}
-use Rattle.pb_steps.specs.declared.step.Work.TheVariants as works
-use Rattle.pb_steps.specs.declared.step.Declared.TheVariants as declared
+use Rattle.pb_steps.specs.declared.step.Step.{Step}
+use Rattle.pb_steps.specs.declared.step.Answer.{Answer}
+use Rattle.pb_steps.specs.declared.step.Work.{Work}
+use Rattle.pb_steps.specs.declared.step.Declared.{Declared}
 use Rattle.pb_verify.specs.Observers.{ObserverOf}
 use Rattle.pb_steps.specs.State.{opening}
 use Rattle.pb_history.specs.declared.entry.Entry.{Entry}
@@ -85,7 +84,7 @@ main_or_worker : (k : ℕ) → (k ≡ 0) ⊎ ((w : ℕ) × (k ≡ w + 1))
 main_or_worker zero = inl refl
 main_or_worker (suc w) = inr (w, omega arith)
 
-no_script : (o : ℕ) (row : Row) → works.Script ≡ works.Run o row → ⊥
+no_script : (o : ℕ) (row : Row) → Work.Script ≡ Work.Run o row → ⊥
 no_script o row e = cc
 
 abbrev ts : ℕ → Ts
@@ -150,11 +149,11 @@ module _ (observers : List ObserverOf) (batches : List Writes) (spares : List Sp
       let same : h.batch ≡ batch = same_some h.batch batch (sym h.at ∙ ap (slice_get batches) place ∙ f.there) in
       let entered : (r : Received) → Has (list_of (wk + 1)) r → IsEntry table.journal (wk + 1) r.step r.answer = λ r k. in_journal (wk + 1) table.journal r k in
       let c = h.made in (
-        record { start = (start_of i).0; commit = c.commit.0; seat = wk + 1; work = works.Script; writes = h.batch },
+        record { start = (start_of i).0; commit = c.commit.0; seat = wk + 1; work = Work.Script; writes = h.batch },
         record {
           there = record {
             begun = entered _ c.begun;
-            what = declared.Script h.batch;
+            what = Declared.Script h.batch;
             declared = entered _ c.declared;
             writes_are = refl;
             stamped = entered _ c.stamped;
@@ -169,10 +168,10 @@ module _ (observers : List ObserverOf) (batches : List Writes) (spares : List Sp
 
   -- ---- no others
 
-  not_run : (k : ℕ) (u : Ts) → IsEntry table.journal k (Begin works.Script) (At u) → HasBegunRun (list_of k) u → ⊥
+  not_run : (k : ℕ) (u : Ts) → IsEntry table.journal k (Step.Begin Work.Script) (Answer.At u) → HasBegunRun (list_of k) u → ⊥
   not_run k u h r =
-      let run : IsEntry table.journal k (Begin (works.Run r.o r.row)) (At u) = in_journal k table.journal (told (Begin (works.Run r.o r.row)) (At u)) r.begun in
-      no_script r.o r.row (same_begin table.journal table.state tells u k k works.Script (works.Run r.o r.row) h run).1
+      let run : IsEntry table.journal k (Step.Begin (Work.Run r.o r.row)) (Answer.At u) = in_journal k table.journal (told (Step.Begin (Work.Run r.o r.row)) (Answer.At u)) r.begun in
+      no_script r.o r.row (same_begin table.journal table.state tells u k k Work.Script (Work.Run r.o r.row) h run).1
 
   abbrev IsChange : Ts → Type 0
   IsChange u = (i : ℕ) × (batch : Writes) × IsFinished batches unfinished i batch × (u.0 ≡ (start_of i).0)
@@ -192,37 +191,37 @@ module _ (observers : List ObserverOf) (batches : List Writes) (spares : List Sp
         ap (λ (t : Ts). t.0) (s.same ∙ sym start),
       )
 
-  by_seat : (k : ℕ) (u : Ts) → k < length olds → IsEntry table.journal k (Begin works.Script) (At u) → Has (list_of k) (commit_of u) → (k ≡ 0) ⊎ ((wk : ℕ) × (k ≡ wk + 1)) → IsChange u
+  by_seat : (k : ℕ) (u : Ts) → k < length olds → IsEntry table.journal k (Step.Begin Work.Script) (Answer.At u) → Has (list_of k) (commit_of u) → (k ≡ 0) ⊎ ((wk : ℕ) × (k ≡ wk + 1)) → IsChange u
   by_seat k u lt h c (inl is) =
       let first : 0 < length olds = omega (arith, some) in
       let refusal = slice_index_or refusals 0 None in
       let passes = of_last_drain spares 0 observers refusal (list_of 0) (gained (IsLastDrain spares 0 observers refusal) 0 first (w.main nobody)) in
-      absurd (not_run 0 u (subst (λ m. IsEntry table.journal m (Begin works.Script) (At u)) is h) (passes.each u (subst (λ m. Has (list_of m) (commit_of u)) is c)))
+      absurd (not_run 0 u (subst (λ m. IsEntry table.journal m (Step.Begin Work.Script) (Answer.At u)) is h) (passes.each u (subst (λ m. Has (list_of m) (commit_of u)) is c)))
   by_seat k u lt h c (inr p) =
       let wk = p.0 in
       let is = p.1 in
       let low : wk < n = omega (arith, lt, is, some) in
       elim (((starts wk).1 low).only u (subst (λ m. Has (list_of m) (commit_of u)) is c)) [
         | inl s ↦ of_start wk u low s
-        | inr r ↦ absurd (not_run (wk + 1) u (subst (λ m. IsEntry table.journal m (Begin works.Script) (At u)) is h) r)
+        | inr r ↦ absurd (not_run (wk + 1) u (subst (λ m. IsEntry table.journal m (Step.Begin Work.Script) (Answer.At u)) is h) r)
       ]
 
-  only : (m : Member) → InHistory table.state.observers table.journal m → m.work ≡ works.Script → IsChange (ts m.start)
+  only : (m : Member) → InHistory table.state.observers table.journal m → m.work ≡ Work.Script → IsChange (ts m.start)
   only m h script =
       let u : Ts = ts m.start in
-      let begun : IsEntry table.journal m.seat (Begin works.Script) (At u) = subst (λ v. IsEntry table.journal m.seat (Begin v) (At u)) script h.begun in
-      let below : m.seat < table.state.seats = begun_by_seat (opening table.state.observers table.state.seats table.opened) table.journal table.state m.seat works.Script u legal.run begun in
+      let begun : IsEntry table.journal m.seat (Step.Begin Work.Script) (Answer.At u) = subst (λ v. IsEntry table.journal m.seat (Step.Begin v) (Answer.At u)) script h.begun in
+      let below : m.seat < table.state.seats = begun_by_seat (opening table.state.observers table.state.seats table.opened) table.journal table.state m.seat Work.Script u legal.run begun in
       let seats : table.state.seats ≡ length olds = sym agree.counted ∙ w.seats in
       by_seat m.seat u (subst (λ k. m.seat < k) seats below) begun (in_list m.seat table.journal (commit_of u) h.committed) (main_or_worker m.seat)
 
   -- ---- each once
 
-  begins_at : (i : ℕ) (batch : Writes) → IsFinished batches unfinished i batch → IsEntry table.journal (i % n + 1) (Begin works.Script) (At (start_of i))
-  begins_at i batch f = in_journal (i % n + 1) table.journal (told (Begin works.Script) (At (start_of i))) (((starts (i % n)).1 (small i)).made (i / n) (flagged i batch f)).made.begun
+  begins_at : (i : ℕ) (batch : Writes) → IsFinished batches unfinished i batch → IsEntry table.journal (i % n + 1) (Step.Begin Work.Script) (Answer.At (start_of i))
+  begins_at i batch f = in_journal (i % n + 1) table.journal (told (Step.Begin Work.Script) (Answer.At (start_of i))) (((starts (i % n)).1 (small i)).made (i / n) (flagged i batch f)).made.begun
 
   -- not two of one worker
   not_both : (wk i j : ℕ) → wk < n → i < j → slice_index_or (w.done wk) i false ≡ true → slice_index_or (w.done wk) j false ≡ true → (starts wk).0 i ≡ (starts wk).0 j → ⊥
-  not_both wk i j lt less e f same = begun_once table.journal table.state tells ((starts wk).0 i) (wk + 1) works.Script (((starts wk).1 lt).apart i j less e f same)
+  not_both wk i j lt less e f same = begun_once table.journal table.state tells ((starts wk).0 i) (wk + 1) Work.Script (((starts wk).1 lt).apart i j less e f same)
 
   one_place : (wk i j : ℕ) → wk < n → slice_index_or (w.done wk) i false ≡ true → slice_index_or (w.done wk) j false ≡ true → (starts wk).0 i ≡ (starts wk).0 j → i ≡ j
   one_place wk i j lt e f same = elim (cases_order i j) [
@@ -233,8 +232,8 @@ module _ (observers : List ObserverOf) (batches : List Writes) (spares : List Sp
   once : (i j : ℕ) (a b : Writes) → IsFinished batches unfinished i a → IsFinished batches unfinished j b → (start_of i).0 ≡ (start_of j).0 → i ≡ j
   once i j a b f g e =
       let same : start_of i ≡ start_of j = same_ts (start_of i) (start_of j) e in
-      let first : IsEntry table.journal (i % n + 1) (Begin works.Script) (At (start_of j)) = subst (λ s. IsEntry table.journal (i % n + 1) (Begin works.Script) (At s)) same (begins_at i a f) in
-      let seats = (same_begin table.journal table.state tells (start_of j) (i % n + 1) (j % n + 1) works.Script works.Script first (begins_at j b g)).0 in
+      let first : IsEntry table.journal (i % n + 1) (Step.Begin Work.Script) (Answer.At (start_of j)) = subst (λ s. IsEntry table.journal (i % n + 1) (Step.Begin Work.Script) (Answer.At s)) same (begins_at i a f) in
+      let seats = (same_begin table.journal table.state tells (start_of j) (i % n + 1) (j % n + 1) Work.Script Work.Script first (begins_at j b g)).0 in
       let worker : j % n ≡ i % n = omega (arith, seats) in
       let its : (starts (j % n)).0 (j / n) ≡ (starts (i % n)).0 (j / n) = ap (λ k. (starts k).0 (j / n)) worker in
       let place : i / n ≡ j / n = one_place (i % n) (i / n) (j / n) (small i) (flagged i a f) (subst (λ k. slice_index_or (w.done k) (j / n) false ≡ true) worker (flagged j b g)) (same ∙ its) in

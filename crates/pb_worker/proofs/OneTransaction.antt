@@ -1,7 +1,6 @@
 -- A conversation of a change or of a run begins its transaction first, and commits no other.
 use Rattle.std.proofs.Common.{◌≡◌, ℕ, inl, inr, List, [], ◌∷◌, ◌++◌, Option, Some, None, refl, sym, ap, subst}
 use Rattle.pb_base.specs.declared.cell.Cell.{Cell}
-use Rattle.pb_base.specs.declared.cell.Cell.TheVariants.{Data, Ack}
 use Rattle.pb_base.specs.declared.content.Revision.{Revision}
 use Rattle.pb_base.specs.declared.names.Ts.{Ts}
 use Rattle.pb_base.specs.Batch.{Writes}
@@ -9,12 +8,9 @@ use Rattle.pb_isa.specs.Meaning.{Talk}
 use Rattle.pb_vm.specs.Finished.{Meant}
 use Rattle.pb_steps.specs.declared.seen.Seen.{Seen}
 use Rattle.pb_steps.specs.declared.step.Work.{Work}
-use Rattle.pb_steps.specs.declared.step.Work.TheVariants as works
 use Rattle.pb_steps.specs.declared.step.Declared.{Declared}
 use Rattle.pb_steps.specs.declared.step.Step.{Step}
-use Rattle.pb_steps.specs.declared.step.Step.TheVariants.{Begin, Declare, Prewrite, Stamp, CommitPrimary, CommitSecondary, Settle, Clear, Sweep}
 use Rattle.pb_steps.specs.declared.step.Answer.{Answer}
-use Rattle.pb_steps.specs.declared.step.Answer.TheVariants.{At, Done, Conflict, Committed, Lost, Locked, Waits}
 use Rattle.pb_steps.specs.Read.{read_step}
 use Rattle.pb_steps.specs.Reads.{asked_cell}
 use Rattle.pb_history.specs.declared.entry.Received.{Received}
@@ -33,7 +29,7 @@ use Rattle.pb_history.proofs.Updates.{has_which}
 
 -- it commits no other transaction than that of this start
 abbrev IsNoOther : Ts → Step → Type 0
-IsNoOther s step = (u : Ts) → step ≡ CommitPrimary u → u ≡ s
+IsNoOther s step = (u : Ts) → step ≡ Step.CommitPrimary u → u ≡ s
 
 -- none of them does
 pub record CommitNoOther (s : Ts) (said : List Received) : Type 0 where
@@ -61,13 +57,13 @@ both s xs ys h k = record { each = λ r has. elim (has_which xs ys r has) [ inl 
 -- prewrites commit none
 prewrites_none : (s : Ts) (xs : List Cell) → CommitNoOther s (prewrites s xs)
 prewrites_none s [] = nothing s
-prewrites_none s (x ∷ xs) = and_first s (told (Prewrite s x) Done) (prewrites s xs) (λ u e. cc) (prewrites_none s xs)
+prewrites_none s (x ∷ xs) = and_first s (told (Step.Prewrite s x) Answer.Done) (prewrites s xs) (λ u e. cc) (prewrites_none s xs)
 
 secondaries_none : (s : Ts) (xs : List Cell) → CommitNoOther s (secondaries s xs)
 secondaries_none s [] = nothing s
-secondaries_none s (x ∷ xs) = and_first s (told (CommitSecondary s x) Done) (secondaries s xs) (λ u e. cc) (secondaries_none s xs)
+secondaries_none s (x ∷ xs) = and_first s (told (Step.CommitSecondary s x) Answer.Done) (secondaries s xs) (λ u e. cc) (secondaries_none s xs)
 
-clear_none : (s : Ts) (x : Cell) → IsNoOther s (Clear x)
+clear_none : (s : Ts) (x : Cell) → IsNoOther s (Step.Clear x)
 clear_none s x u e = cc
 
 -- to clear what was prewritten commits none
@@ -79,37 +75,37 @@ cleared_none s (x ∷ xs) (r ∷ rs) c = and_first s r rs (subst (IsNoOther s) (
 -- a transaction's conversation commits none but its own
 whole_own : (s : Ts) (what : Declared) (cells : List Cell) (said : List Received) (o : Outcome) → IsWhole s what cells said o → CommitNoOther s said
 whole_own s what cells said o (committed x others c) =
-    let after = and_first s (told (Stamp s) (At c)) (told (CommitPrimary s) Committed ∷ secondaries s others) (λ u e. cc) (and_first s (told (CommitPrimary s) Committed) (secondaries s others) (λ u e. cc) (secondaries_none s others)) in
-    and_first s (told (Declare s what) Done) (prewrites s (x ∷ others) ++ told (Stamp s) (At c) ∷ told (CommitPrimary s) Committed ∷ secondaries s others) (λ u e. cc) (both s (prewrites s (x ∷ others)) (told (Stamp s) (At c) ∷ told (CommitPrimary s) Committed ∷ secondaries s others) (prewrites_none s (x ∷ others)) after)
+    let after = and_first s (told (Step.Stamp s) (Answer.At c)) (told (Step.CommitPrimary s) Answer.Committed ∷ secondaries s others) (λ u e. cc) (and_first s (told (Step.CommitPrimary s) Answer.Committed) (secondaries s others) (λ u e. cc) (secondaries_none s others)) in
+    and_first s (told (Step.Declare s what) Answer.Done) (prewrites s (x ∷ others) ++ told (Step.Stamp s) (Answer.At c) ∷ told (Step.CommitPrimary s) Answer.Committed ∷ secondaries s others) (λ u e. cc) (both s (prewrites s (x ∷ others)) (told (Step.Stamp s) (Answer.At c) ∷ told (Step.CommitPrimary s) Answer.Committed ∷ secondaries s others) (prewrites_none s (x ∷ others)) after)
 whole_own s what cells said o (conflicted_first x after) =
-    and_first s (told (Declare s what) Done) (told (Prewrite s x) Conflict ∷ []) (λ u e. cc) (only_one s (told (Prewrite s x) Conflict) (λ u e. cc))
+    and_first s (told (Step.Declare s what) Answer.Done) (told (Step.Prewrite s x) Answer.Conflict ∷ []) (λ u e. cc) (only_one s (told (Step.Prewrite s x) Answer.Conflict) (λ u e. cc))
 whole_own s what cells said o (conflicted_later x y before after a cs can c) =
-    let later = and_first s (told (Prewrite s y) Conflict) (told (Settle x) a ∷ cs) (λ u e. cc) (and_first s (told (Settle x) a) cs (λ u e. cc) (cleared_none s before cs c)) in
-    and_first s (told (Declare s what) Done) (prewrites s (x ∷ before) ++ told (Prewrite s y) Conflict ∷ told (Settle x) a ∷ cs) (λ u e. cc) (both s (prewrites s (x ∷ before)) (told (Prewrite s y) Conflict ∷ told (Settle x) a ∷ cs) (prewrites_none s (x ∷ before)) later)
+    let later = and_first s (told (Step.Prewrite s y) Answer.Conflict) (told (Step.Settle x) a ∷ cs) (λ u e. cc) (and_first s (told (Step.Settle x) a) cs (λ u e. cc) (cleared_none s before cs c)) in
+    and_first s (told (Step.Declare s what) Answer.Done) (prewrites s (x ∷ before) ++ told (Step.Prewrite s y) Answer.Conflict ∷ told (Step.Settle x) a ∷ cs) (λ u e. cc) (both s (prewrites s (x ∷ before)) (told (Step.Prewrite s y) Answer.Conflict ∷ told (Step.Settle x) a ∷ cs) (prewrites_none s (x ∷ before)) later)
 whole_own s what cells said o (lost x others c cs k) =
-    let after = and_first s (told (Stamp s) (At c)) (told (CommitPrimary s) Lost ∷ cs) (λ u e. cc) (and_first s (told (CommitPrimary s) Lost) cs (λ u e. cc) (cleared_none s others cs k)) in
-    and_first s (told (Declare s what) Done) (prewrites s (x ∷ others) ++ told (Stamp s) (At c) ∷ told (CommitPrimary s) Lost ∷ cs) (λ u e. cc) (both s (prewrites s (x ∷ others)) (told (Stamp s) (At c) ∷ told (CommitPrimary s) Lost ∷ cs) (prewrites_none s (x ∷ others)) after)
+    let after = and_first s (told (Step.Stamp s) (Answer.At c)) (told (Step.CommitPrimary s) Answer.Lost ∷ cs) (λ u e. cc) (and_first s (told (Step.CommitPrimary s) Answer.Lost) cs (λ u e. cc) (cleared_none s others cs k)) in
+    and_first s (told (Step.Declare s what) Answer.Done) (prewrites s (x ∷ others) ++ told (Step.Stamp s) (Answer.At c) ∷ told (Step.CommitPrimary s) Answer.Lost ∷ cs) (λ u e. cc) (both s (prewrites s (x ∷ others)) (told (Step.Stamp s) (Answer.At c) ∷ told (Step.CommitPrimary s) Answer.Lost ∷ cs) (prewrites_none s (x ∷ others)) after)
 
 -- ---- with its begin
 
 -- it begins a transaction for this work first, with this start, and commits no other
 pub record IsOneTransaction (work : Work) (s : Ts) (said : List Received) : Type 0 where
   pub rest : List Received
-  pub said_is : said ≡ told (Begin work) (At s) ∷ rest
+  pub said_is : said ≡ told (Step.Begin work) (Answer.At s) ∷ rest
   pub own : CommitNoOther s said
 
 goes_on : (work : Work) (s : Ts) (said more : List Received) → IsOneTransaction work s said → CommitNoOther s more → IsOneTransaction work s (said ++ more)
 goes_on work s said more i m = record { rest = i.rest ++ more; said_is = ap (λ l. l ++ more) i.said_is; own = both s said more i.own m }
 
-begins : (work : Work) (s : Ts) → IsOneTransaction work s (told (Begin work) (At s) ∷ [])
-begins work s = record { rest = []; said_is = refl; own = only_one s (told (Begin work) (At s)) (λ u e. cc) }
+begins : (work : Work) (s : Ts) → IsOneTransaction work s (told (Step.Begin work) (Answer.At s) ∷ [])
+begins work s = record { rest = []; said_is = refl; own = only_one s (told (Step.Begin work) (Answer.At s)) (λ u e. cc) }
 
 -- a change begins one transaction, and commits no other
-pub of_change : (batch : Writes) (start : Ts) (said : List Received) (o : Outcome) → IsWholeChange batch start said o → IsOneTransaction works.Script start said
+pub of_change : (batch : Writes) (start : Ts) (said : List Received) (o : Outcome) → IsWholeChange batch start said o → IsOneTransaction Work.Script start said
 of_change batch start said o w = record {
   rest = w.rest;
   said_is = w.said_is;
-  own = subst (CommitNoOther start) (sym w.said_is) (and_first start (told (Begin works.Script) (At start)) w.rest (λ u e. cc) (whole_own start _ _ w.rest o w.whole));
+  own = subst (CommitNoOther start) (sym w.said_is) (and_first start (told (Step.Begin Work.Script) (Answer.At start)) w.rest (λ u e. cc) (whole_own start _ _ w.rest o w.whole));
 }
 
 -- ---- a run
@@ -122,60 +118,60 @@ read_none s t x (Some v) u e = cc
 -- nor does what clears a lock that a read met
 round_none : (s : Ts) (x : Cell) (at : Option Ts) (round : List Received) → IsRound s x at round → CommitNoOther s round
 round_none s x at round (cleared t primary a can goes) =
-    and_first s (told (read_step s x at) (Locked t primary)) (told (Clear x) a ∷ []) (read_none s s x at) (only_one s (told (Clear x) a) (λ u e. cc))
+    and_first s (told (read_step s x at) (Answer.Locked t primary)) (told (Step.Clear x) a ∷ []) (read_none s s x at) (only_one s (told (Step.Clear x) a) (λ u e. cc))
 round_none s x at round (settled t primary a b can also) =
-    and_first s (told (read_step s x at) (Locked t primary)) (told (Clear x) Waits ∷ told (Settle primary) a ∷ told (Clear x) b ∷ []) (read_none s s x at)
-    (and_first s (told (Clear x) Waits) (told (Settle primary) a ∷ told (Clear x) b ∷ []) (λ u e. cc) (and_first s (told (Settle primary) a) (told (Clear x) b ∷ []) (λ u e. cc) (only_one s (told (Clear x) b) (λ u e. cc))))
+    and_first s (told (read_step s x at) (Answer.Locked t primary)) (told (Step.Clear x) Answer.Waits ∷ told (Step.Settle primary) a ∷ told (Step.Clear x) b ∷ []) (read_none s s x at)
+    (and_first s (told (Step.Clear x) Answer.Waits) (told (Step.Settle primary) a ∷ told (Step.Clear x) b ∷ []) (λ u e. cc) (and_first s (told (Step.Settle primary) a) (told (Step.Clear x) b ∷ []) (λ u e. cc) (only_one s (told (Step.Clear x) b) (λ u e. cc))))
 
 module _ (o : Watch) (s : Ts) where
   abbrev IsOfRun : List Received → Type 0
-  IsOfRun said = IsOneTransaction (works.Run o.observer o.row) s said
+  IsOfRun said = IsOneTransaction (Work.Run o.observer o.row) s said
 
   with_rounds : (x : Cell) (at : Option Ts) (m : ℕ) (base : List Received) (n : ℕ) (said : List Received) → AreRounds s x at m base n said → IsOfRun base → IsOfRun said
   with_rounds x at m base n said at_first i = i
-  with_rounds x at m base k all (one_more n said round before r) i = goes_on (works.Run o.observer o.row) s said round (with_rounds x at m base n said before i) (round_none s x at round r)
+  with_rounds x at m base k all (one_more n said round before r) i = goes_on (Work.Run o.observer o.row) s said round (with_rounds x at m base n said before i) (round_none s x at round r)
 
   with_look : (x : Cell) (at : Option Ts) (m : ℕ) (base : List Received) (n : ℕ) (said : List Received) → IsLooked s x at m base n said → IsOfRun base → IsOfRun said
   with_look x at m base n said l i =
       let a = l.answer in
       let last = only_one s (told (read_step s x at) a) (read_none s s x at) in
-      subst (IsOneTransaction (works.Run o.observer o.row) s) (sym l.said_is) (goes_on (works.Run o.observer o.row) s l.before (told (read_step s x at) a ∷ []) (with_rounds x at m base n l.before l.rounds i) last)
+      subst (IsOneTransaction (Work.Run o.observer o.row) s) (sym l.said_is) (goes_on (Work.Run o.observer o.row) s l.before (told (read_step s x at) a ∷ []) (with_rounds x at m base n l.before l.rounds i) last)
 
   observed : (found : Revision) (n : ℕ) (said : List Received) → IsObserved o s found n said → IsOfRun said
-  observed found n said b = with_look (Data o.row o.column) None 0 (its_begin o s) n said b.look (begins (works.Run o.observer o.row) s)
+  observed found n said b = with_look (Cell.Data o.row o.column) None 0 (its_begin o s) n said b.look (begins (Work.Run o.observer o.row) s)
 
   acknowledged : (seen : Seen) (n : ℕ) (said : List Received) → IsAcknowledged o s seen n said → IsOfRun said
-  acknowledged seen n said k = with_look (Ack o.observer o.row o.column) None k.met k.base n said k.look (observed seen.version k.met k.base k.observed)
+  acknowledged seen n said k = with_look (Cell.Ack o.observer o.row o.column) None k.met k.base n said k.look (observed seen.version k.met k.base k.observed)
 
   recalled : (seen : Seen) (t : Option Ts) (n : ℕ) (said : List Received) → IsRecalled o s seen t n said → IsOfRun said
   recalled seen None n said k = acknowledged seen n said k.1
-  recalled seen (Some t) n said k = with_look (Data o.row o.column) (Some t) k.0 k.1 n said k.3 (acknowledged seen k.0 k.1 k.2)
+  recalled seen (Some t) n said k = with_look (Cell.Data o.row o.column) (Some t) k.0 k.1 n said k.3 (acknowledged seen k.0 k.1 k.2)
 
   after_asks : (seen : Seen) (talk : Talk) (n : ℕ) (said : List Received) → AreAsked o s seen talk n said → IsOfRun said
   after_asks seen talk m all (dirty n said r newer) = recalled seen _ n said r
   after_asks seen whole n all (asked talk m base q k said before look) = with_look (asked_cell q) None m base k said look (after_asks seen talk m base before)
 
   before_look : (x : Cell) (at : Option Ts) (m : ℕ) (base : List Received) → LooksFrom o s x at m base → IsOfRun base
-  before_look x at m base at_cell = begins (works.Run o.observer o.row) s
+  before_look x at m base at_cell = begins (Work.Run o.observer o.row) s
   before_look x at m base (at_acknowledgment found n said b) = observed found n said b
   before_look x at m base (at_old seen t n said k newer old) = acknowledged seen n said k
   before_look x at m base (at_ask seen talk n said q k) = after_asks seen talk n said k
 
-  swept : (x : Cell) (w : Answer) → CommitNoOther s (told (Sweep x) w ∷ [])
-  swept x w = only_one s (told (Sweep x) w) (λ u e. cc)
+  swept : (x : Cell) (w : Answer) → CommitNoOther s (told (Step.Sweep x) w ∷ [])
+  swept x w = only_one s (told (Step.Sweep x) w) (λ u e. cc)
 
 -- a run begins one transaction, and commits no other, however many locks it clears
-pub of_run : (o : Watch) (said : List Received) (end : JobEnd) (run : Option Meant) → IsRunConversation o said end run → (s : Ts) × IsOneTransaction (works.Run o.observer o.row) s said
+pub of_run : (o : Watch) (said : List Received) (end : JobEnd) (run : Option Meant) → IsRunConversation o said end run → (s : Ts) × IsOneTransaction (Work.Run o.observer o.row) s said
 of_run o all end run (absent s n said w look none few can) =
-    (s, goes_on (works.Run o.observer o.row) s said (told (Sweep (Data o.row o.column)) w ∷ []) (with_look o s (Data o.row o.column) None 0 (its_begin o s) n said look (begins (works.Run o.observer o.row) s)) (swept o s (Data o.row o.column) w))
+    (s, goes_on (Work.Run o.observer o.row) s said (told (Step.Sweep (Cell.Data o.row o.column)) w ∷ []) (with_look o s (Cell.Data o.row o.column) None 0 (its_begin o s) n said look (begins (Work.Run o.observer o.row) s)) (swept o s (Cell.Data o.row o.column) w))
 of_run o all end run (clean s seen n said w k newer few can) =
-    (s, goes_on (works.Run o.observer o.row) s said (told (Sweep (Data o.row o.column)) w ∷ []) (acknowledged o s seen n said k) (swept o s (Data o.row o.column) w))
+    (s, goes_on (Work.Run o.observer o.row) s said (told (Step.Sweep (Cell.Data o.row o.column)) w ∷ []) (acknowledged o s seen n said k) (swept o s (Cell.Data o.row o.column) w))
 of_run o all end run (ran s seen talk n said plan f c w k few is whole can) =
-    let before = goes_on (works.Run o.observer o.row) s said plan (after_asks o s seen talk n said k) (whole_own s _ _ plan _ whole) in
-    (s, goes_on (works.Run o.observer o.row) s (said ++ plan) (told (Sweep (Data o.row o.column)) w ∷ []) before (swept o s (Data o.row o.column) w))
+    let before = goes_on (Work.Run o.observer o.row) s said plan (after_asks o s seen talk n said k) (whole_own s _ _ plan _ whole) in
+    (s, goes_on (Work.Run o.observer o.row) s (said ++ plan) (told (Step.Sweep (Cell.Data o.row o.column)) w ∷ []) before (swept o s (Cell.Data o.row o.column) w))
 of_run o all end run (conflicted s seen talk n said plan f k few is whole) =
-    (s, goes_on (works.Run o.observer o.row) s said plan (after_asks o s seen talk n said k) (whole_own s _ _ plan _ whole))
+    (s, goes_on (Work.Run o.observer o.row) s said plan (after_asks o s seen talk n said k) (whole_own s _ _ plan _ whole))
 of_run o all end run (lost_run s seen talk n said plan f k few is whole) =
-    (s, goes_on (works.Run o.observer o.row) s said plan (after_asks o s seen talk n said k) (whole_own s _ _ plan _ whole))
+    (s, goes_on (Work.Run o.observer o.row) s said plan (after_asks o s seen talk n said k) (whole_own s _ _ plan _ whole))
 of_run o all end run (blocked s x at m base n said t primary from rounds last) =
-    (s, goes_on (works.Run o.observer o.row) s said (told (read_step s x at) (Locked t primary) ∷ []) (with_rounds o s x at m base n said rounds (before_look o s x at m base from)) (only_one s (told (read_step s x at) (Locked t primary)) (read_none s s x at)))
+    (s, goes_on (Work.Run o.observer o.row) s said (told (read_step s x at) (Answer.Locked t primary) ∷ []) (with_rounds o s x at m base n said rounds (before_look o s x at m base from)) (only_one s (told (read_step s x at) (Answer.Locked t primary)) (read_none s s x at)))

@@ -1,11 +1,9 @@
 -- Passes over the marked cells on their way.
-use Rattle.std.proofs.Common.{◌≡◌, ◌≢◌, ℕ, ◌+◌, ◌<◌, Bool, true, false, List, [], ◌∷◌, ◌++◌, Option, Some, None, refl, sym, ap, subst, ◌∙◌, inl}
-use Rattle.std.specs.Prelude.{is_some}
+use Rattle.std.proofs.Common.{◌≡◌, ◌≢◌, ℕ, ◌+◌, ◌<◌, Bool, true, false, List, [], ◌∷◌, ◌++◌, Option, Some, None, refl, sym, ap, subst, ◌∙◌, inl, is_some}
 use Rattle.pb_base.specs.declared.cell.Cell.{Cell}
 use Rattle.pb_base.specs.declared.refusal.Refusal.{Refusal}
-use Rattle.pb_steps.specs.declared.step.Step.TheVariants.{NextMark}
+use Rattle.pb_steps.specs.declared.step.Step.{Step}
 use Rattle.pb_steps.specs.declared.step.Answer.{Answer}
-use Rattle.pb_steps.specs.declared.step.Answer.TheVariants.{Marked, NoMark}
 use Rattle.pb_steps.specs.Answers.{CanAnswer}
 use Rattle.pb_verify.specs.Observers.{ObserverOf}
 use Rattle.pb_history.specs.declared.entry.Received.{Received}
@@ -37,45 +35,45 @@ module _ (observers : List ObserverOf) (x : Cell) (i : ℕ) (a b : SeatOf) (runs
 -- ---- from mark to mark
 
 -- an answer that tells no cell tells that there is no mark
-pub no_mark : (after : Option Cell) (a : Answer) → CanAnswer (NextMark after) a → ((x : Cell) → a ≢ Marked x) → a ≡ NoMark
-no_mark after NoMark can isnt = refl
-no_mark after (Marked x) can isnt = absurd (isnt x refl)
+pub no_mark : (after : Option Cell) (a : Answer) → CanAnswer (Step.NextMark after) a → ((x : Cell) → a ≢ Answer.Marked x) → a ≡ Answer.NoMark
+no_mark after Answer.NoMark can isnt = refl
+no_mark after (Answer.Marked x) can isnt = absurd (isnt x refl)
 no_mark after _ can isnt = absurd can
 
 -- a walk, and the mark that it found then
 record Found (observers : List ObserverOf) (last : Option Cell) (x : Cell) (said : List Received) : Type 0 where
   pub before : List Received
   pub walk : IsWalk observers before last
-  pub said_is : said ≡ before ++ told (NextMark last) (Marked x) ∷ []
+  pub said_is : said ≡ before ++ told (Step.NextMark last) (Answer.Marked x) ∷ []
 
 -- a pass begins before all cells
 pub no_walk : (observers : List ObserverOf) (a : SeatOf) → Gains (λ said. IsWalk observers said None) a a
 no_walk observers a = gains_none a at_beginning
 
 module _ (observers : List ObserverOf) (last : Option Cell) (a b : SeatOf) (walk : Gains (λ said. IsWalk observers said last) a b) where
-  pub walk_stops : (r : Refusal) → MayRefuse b.number (NextMark last) r → Gains (PassStops a.number observers r) a b
-  walk_stops r h = gains_as a b (λ said w. at_a_mark said last w (stops_at a.number (Some (NextMark last)) (NextMark last) r refl (subst (λ m. MayRefuse m (NextMark last) r) walk.number h))) walk
+  pub walk_stops : (r : Refusal) → MayRefuse b.number (Step.NextMark last) r → Gains (PassStops a.number observers r) a b
+  walk_stops r h = gains_as a b (λ said w. at_a_mark said last w (stops_at a.number (Some (Step.NextMark last)) (Step.NextMark last) r refl (subst (λ m. MayRefuse m (Step.NextMark last) r) walk.number h))) walk
 
   module _ (b1 : SeatOf) where
-    found : (x : Cell) → Told b (NextMark last) (Marked x) b1 → Gains (Found observers last x) a b1
-    found x t = gains_more a b b1 (NextMark last) (Marked x) walk t (λ said w. record { before = said; walk = w; said_is = refl })
+    found : (x : Cell) → Told b (Step.NextMark last) (Answer.Marked x) b1 → Gains (Found observers last x) a b1
+    found x t = gains_more a b b1 (Step.NextMark last) (Answer.Marked x) walk t (λ said w. record { before = said; walk = w; said_is = refl })
 
-    pub walk_on : (x : Cell) → Told b (NextMark last) (Marked x) b1 → (c : SeatOf) → Gains (AreAllRuns observers x) b1 c → Gains (λ said. IsWalk observers said (Some x)) a c
+    pub walk_on : (x : Cell) → Told b (Step.NextMark last) (Answer.Marked x) b1 → (c : SeatOf) → Gains (AreAllRuns observers x) b1 c → Gains (λ said. IsWalk observers said (Some x)) a c
     walk_on x t c h =
         gains_on a b1 c (found x t) h
-        (λ said more w r. subst (λ l. IsWalk observers l (Some x)) (sym (ap (λ l. l ++ more) w.said_is ∙ append_assoc w.before (told (NextMark last) (Marked x) ∷ []) more)) (found_then w.before last x more w.walk r))
+        (λ said more w r. subst (λ l. IsWalk observers l (Some x)) (sym (ap (λ l. l ++ more) w.said_is ∙ append_assoc w.before (told (Step.NextMark last) (Answer.Marked x) ∷ []) more)) (found_then w.before last x more w.walk r))
 
-    pub walk_stops_at : (x : Cell) → Told b (NextMark last) (Marked x) b1 → (c : SeatOf) (r : Refusal) → Gains (RunsStop b1.number observers x r) b1 c → Gains (PassStops a.number observers r) a c
+    pub walk_stops_at : (x : Cell) → Told b (Step.NextMark last) (Answer.Marked x) b1 → (c : SeatOf) (r : Refusal) → Gains (RunsStop b1.number observers x r) b1 c → Gains (PassStops a.number observers r) a c
     walk_stops_at x t c r h =
         gains_on a b1 c (found x t) (renumbered (λ m. RunsStop m observers x r) b1 c b1.number a.number (t.number ∙ walk.number) h)
-        (λ said more w s. subst (λ l. PassStops a.number observers r l) (sym (ap (λ l. l ++ more) w.said_is ∙ append_assoc w.before (told (NextMark last) (Marked x) ∷ []) more)) (in_runs w.before last x more w.walk s))
+        (λ said more w s. subst (λ l. PassStops a.number observers r l) (sym (ap (λ l. l ++ more) w.said_is ∙ append_assoc w.before (told (Step.NextMark last) (Answer.Marked x) ∷ []) more)) (in_runs w.before last x more w.walk s))
 
     pass_that : (o : Option Cell) (said : List Received) → IsPass observers o said → IsPassThat observers (is_some o) said
     pass_that None said p = p
     pass_that (Some x) said p = (x, p)
 
-    pub walk_ends : Told b (NextMark last) NoMark b1 → Gains (IsPassThat observers (is_some last)) a b1
-    walk_ends t = gains_more a b b1 (NextMark last) NoMark walk t (λ said w. pass_that last (said ++ told (NextMark last) NoMark ∷ []) (record { before = said; walk = w; said_is = refl }))
+    pub walk_ends : Told b (Step.NextMark last) Answer.NoMark b1 → Gains (IsPassThat observers (is_some last)) a b1
+    walk_ends t = gains_more a b b1 (Step.NextMark last) Answer.NoMark walk t (λ said w. pass_that last (said ++ told (Step.NextMark last) Answer.NoMark ∷ []) (record { before = said; walk = w; said_is = refl }))
 
 -- ---- pass after pass
 

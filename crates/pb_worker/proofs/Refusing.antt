@@ -1,7 +1,6 @@
 -- Why a call was refused.
 use Rattle.std.proofs.Common.{◌≡◌, ℕ, Option, Some, None, Result, Ok, Err, IfErr, refl, sym, subst, inl, inr}
 use Rattle.pb_base.specs.declared.refusal.Reason.{Reason}
-use Rattle.pb_base.specs.declared.refusal.Reason.TheVariants.{NoMemory}
 use Rattle.pb_base.specs.declared.refusal.Refusal.{Refusal}
 use Rattle.pb_base.specs.Reasons.{refusal_by}
 use Rattle.pb_steps.specs.declared.step.Step.{Step}
@@ -11,13 +10,13 @@ use Rattle.pb_core.specs.Histories.{IsLegalTable}
 use Rattle.pb_worker.specs.Gains.{MayRefuse, IsStop}
 
 -- what is refused for want of memory may be refused
-want : (n : ℕ) (step : Step) (res : Result Answer Refusal) → IfErr res (λ r. r ≡ refusal_by NoMemory) → IfErr res (λ r. MayRefuse n step r)
+want : (n : ℕ) (step : Step) (res : Result Answer Refusal) → IfErr res (λ r. r ≡ refusal_by Reason.NoMemory) → IfErr res (λ r. MayRefuse n step r)
 want n step (Ok a) h = tt
 want n step (Err r) h = inl h
 
 -- a table of a legal journal refuses a call for its reason, or for want of memory where there is none
 pub may_refuse : (s : SharedOf) (n : ℕ) (step : Step) (res : Result Answer Refusal) → IsLegalTable s → ((w : Reason) → call_reason s n step ≡ Some w → res ≡ Err (refusal_by w))
-    → (call_reason s n step ≡ None → IfErr res (λ r. r ≡ refusal_by NoMemory)) → IfErr res (λ r. MayRefuse n step r)
+    → (call_reason s n step ≡ None → IfErr res (λ r. r ≡ refusal_by Reason.NoMemory)) → IfErr res (λ r. MayRefuse n step r)
 may_refuse s n step res legal refused allowed = by (call_reason s n step) refl
   where
     by : (o : Option Reason) → call_reason s n step ≡ o → IfErr res (λ r. MayRefuse n step r)

@@ -10,7 +10,6 @@ use Rattle.pb_verify.specs.Observers.{ObserverOf}
 use Rattle.pb_core.specs.Calls.{SeatOf}
 use Rattle.pb_txn.specs.Conversations.{told}
 use Rattle.pb_notify.specs.declared.need.Need.{Need}
-use Rattle.pb_notify.specs.declared.need.Need.TheVariants.{Local, Call, Over}
 use Rattle.pb_notify.specs.declared.need.JobEnd.{JobEnd}
 use Rattle.pb_notify.specs.Runs.{RunOf, watch_of, HasNext, next_of, need_of, answered, HearsLook, ComputesOn, at_first, one_more}
 use Rattle.pb_notify.specs.Conversations.{Reaches, made, took, computed}
@@ -38,7 +37,7 @@ pub record IsAlong (observers : List ObserverOf) (n : ℕ) (x : Cell) (a b : Sea
   pub gains : Gains (λ said. Reaches (job_on n o x) said job) a b
 
 -- a run begins with a call, and not in its machine
-begins : (n : ℕ) (o : ObserverOf) (x : Cell) → need_of (job_on n o x) ≢ Local
+begins : (n : ℕ) (o : ObserverOf) (x : Cell) → need_of (job_on n o x) ≢ Need.Local
 begins n o x e = cc
 
 job_is : (observers : List ObserverOf) (n : ℕ) (x : Cell) (job : RunOf) (known : HasColumn observers n x) → IsJobOn observers n x job → job ≡ job_on n known.0 x
@@ -54,8 +53,8 @@ first observers n x a job known is = record {
   gains = gains_none a (subst (λ j. Reaches (job_on n known.0 x) [] j) (sym (job_is observers n x job known is)) made);
 }
 
-pub first_calls : (observers : List ObserverOf) (n : ℕ) (x : Cell) (job : RunOf) → HasColumn observers n x → IsJobOn observers n x job → need_of job ≢ Local
-first_calls observers n x job known is = subst (λ j. need_of j ≢ Local) (sym (job_is observers n x job known is)) (begins n known.0 x)
+pub first_calls : (observers : List ObserverOf) (n : ℕ) (x : Cell) (job : RunOf) → HasColumn observers n x → IsJobOn observers n x job → need_of job ≢ Need.Local
+first_calls observers n x job known is = subst (λ j. need_of j ≢ Need.Local) (sym (job_is observers n x job known is)) (begins n known.0 x)
 
 -- it couldn't be made
 pub not_made : (observers : List ObserverOf) (n : ℕ) (x : Cell) (a : SeatOf) → JobsConverse → HasColumn observers n x → (r : Refusal) → IsWant r → Gains (RunStops a.number observers n x r) a a
@@ -87,15 +86,15 @@ module _ (observers : List ObserverOf) (n : ℕ) (x : Cell) (a b : SeatOf) (job 
   wants law r w = stopped law r (inl w)
 
   -- at its end
-  over_by : (need : Need) → need_of job ≡ need → need_of job ≢ Local → next_of job ≡ None → (need_of job ≡ Call → HasNext job) → (end : JobEnd) × (need_of job ≡ Over end)
-  over_by Local e calls none some = absurd (calls e)
-  over_by Call e calls none some = let h = some e in absurd (none_some h.0 (sym none ∙ h.1))
+  over_by : (need : Need) → need_of job ≡ need → need_of job ≢ Need.Local → next_of job ≡ None → (need_of job ≡ Need.Call → HasNext job) → (end : JobEnd) × (need_of job ≡ Need.Over end)
+  over_by Need.Local e calls none some = absurd (calls e)
+  over_by Need.Call e calls none some = let h = some e in absurd (none_some h.0 (sym none ∙ h.1))
     where
       none_some : (step : Step) → ◌≡◌ {A = Option Step} None (Some step) → ⊥
       none_some step p = cc
-  over_by (Over end) e calls none some = (end, e)
+  over_by (Need.Over end) e calls none some = (end, e)
 
-  pub ran : JobsEnd → need_of job ≢ Local → next_of job ≡ None → (need_of job ≡ Call → HasNext job) → Gains (IsRun observers n x) a b
+  pub ran : JobsEnd → need_of job ≢ Need.Local → next_of job ≡ None → (need_of job ≡ Need.Call → HasNext job) → Gains (IsRun observers n x) a b
   ran law calls none some =
       let over = over_by (need_of job) refl calls none some in
       gains_as a b (λ said h. let whole = law (watch_of n along.o (row_of x)) said job over.0 h over.1 in record {

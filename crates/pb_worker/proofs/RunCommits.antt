@@ -5,9 +5,9 @@ use Rattle.pb_base.specs.declared.names.Row.{Row}
 use Rattle.pb_base.specs.declared.names.Ts.{Ts}
 use Rattle.pb_base.specs.declared.refusal.Refusal.{Refusal}
 use Rattle.pb_base.specs.Cell.{row_of}
-use Rattle.pb_steps.specs.declared.step.Work.TheVariants as works
-use Rattle.pb_steps.specs.declared.step.Step.TheVariants.{Begin, CommitPrimary, NextMark}
-use Rattle.pb_steps.specs.declared.step.Answer.TheVariants.{At, Marked, NoMark}
+use Rattle.pb_steps.specs.declared.step.Work.{Work}
+use Rattle.pb_steps.specs.declared.step.Step.{Step}
+use Rattle.pb_steps.specs.declared.step.Answer.{Answer}
 use Rattle.pb_verify.specs.Observers.{ObserverOf}
 use Rattle.pb_history.specs.declared.entry.Received.{Received}
 use Rattle.pb_history.specs.History.{Has}
@@ -26,7 +26,7 @@ use Rattle.pb_history.proofs.Updates.{has_before as has_left, has_right, has_whi
 pub record HasBegunRun (said : List Received) (u : Ts) : Type 0 where
   pub o : ℕ
   pub row : Row
-  pub begun : Has said (told (Begin (works.Run o row)) (At u))
+  pub begun : Has said (told (Step.Begin (Work.Run o row)) (Answer.At u))
 
 -- each transaction that was committed is a run's, and began there
 pub record CommitRuns (said : List Received) : Type 0 where
@@ -48,7 +48,7 @@ nothing = record { each = λ u h. absurd h }
 both : (xs ys : List Received) → CommitRuns xs → CommitRuns ys → CommitRuns (xs ++ ys)
 both xs ys h k = record { each = λ u has. elim (has_which xs ys (commit_of u) has) [ inl a ↦ run_left xs ys u (h.each u a) | inr b ↦ run_right xs ys u (k.each u b) ] }
 
-and_first : (r : Received) (rs : List Received) → ((u : Ts) → r.step ≢ CommitPrimary u) → CommitRuns rs → CommitRuns (r ∷ rs)
+and_first : (r : Received) (rs : List Received) → ((u : Ts) → r.step ≢ Step.CommitPrimary u) → CommitRuns rs → CommitRuns (r ∷ rs)
 and_first r rs other more = record { each = by }
   where
     by : (u : Ts) → Has (r ∷ rs) (commit_of u) → HasBegunRun (r ∷ rs) u
@@ -61,20 +61,20 @@ pub heads : (x y : Received) (xs ys : List Received) → x ∷ xs ≡ y ∷ ys �
 heads x y xs ys e = cc
 
 -- the beginning of a run's conversation commits that run alone, which begins first
-of_beginning : (o : ℕ) (row : Row) (s : Ts) (said rest : List Received) → IsOneTransaction (works.Run o row) s (said ++ rest) → CommitRuns said
+of_beginning : (o : ℕ) (row : Row) (s : Ts) (said rest : List Received) → IsOneTransaction (Work.Run o row) s (said ++ rest) → CommitRuns said
 of_beginning o row s [] rest i = nothing
 of_beginning o row s (r ∷ said) rest i = record {
   each = λ u h.
       let own : u ≡ s = i.own.each (commit_of u) (has_left (r ∷ said) rest (commit_of u) h) u refl in
-      let first : r ≡ told (Begin (works.Run o row)) (At s) = heads r (told (Begin (works.Run o row)) (At s)) (said ++ rest) i.rest i.said_is in
-      record { o = o; row = row; begun = inl (first ∙ ap (λ (z : Ts). told (Begin (works.Run o row)) (At z)) (sym own)) };
+      let first : r ≡ told (Step.Begin (Work.Run o row)) (Answer.At s) = heads r (told (Step.Begin (Work.Run o row)) (Answer.At s)) (said ++ rest) i.rest i.said_is in
+      record { o = o; row = row; begun = inl (first ∙ ap (λ (z : Ts). told (Step.Begin (Work.Run o row)) (Answer.At z)) (sym own)) };
 }
 
 -- so a whole run
 run_commits : (observers : List ObserverOf) (n : ℕ) (x : Cell) (said : List Received) → IsRun observers n x said → CommitRuns said
 run_commits observers n x said r =
     let k = of_run (watch_of n r.o (row_of x)) said r.end r.run r.talk in
-    of_beginning n (row_of x) k.0 said [] (subst (IsOneTransaction (works.Run n (row_of x)) k.0) (sym (append_nil said)) k.1)
+    of_beginning n (row_of x) k.0 said [] (subst (IsOneTransaction (Work.Run n (row_of x)) k.0) (sym (append_nil said)) k.1)
 
 -- and one that was left
 run_stopped : (seat : ℕ) (observers : List ObserverOf) (i : ℕ) (x : Cell) (r : Refusal) (said : List Received) → RunStops seat observers i x r said → CommitRuns said
@@ -90,19 +90,19 @@ of_runs observers x n said before_all = nothing
 of_runs observers x m all (runs n said more h r) = both said more (of_runs observers x n said h) (run_commits observers n x more r)
 of_runs observers x m all (passes_by n said h other) = of_runs observers x n said h
 
-with_mark : (after : Option Cell) (x : Cell) (more : List Received) → CommitRuns more → CommitRuns (told (NextMark after) (Marked x) ∷ more)
-with_mark after x more h = and_first (told (NextMark after) (Marked x)) more (λ u e. cc) h
+with_mark : (after : Option Cell) (x : Cell) (more : List Received) → CommitRuns more → CommitRuns (told (Step.NextMark after) (Answer.Marked x) ∷ more)
+with_mark after x more h = and_first (told (Step.NextMark after) (Answer.Marked x)) more (λ u e. cc) h
 
 -- between the marks there are only runs, and to ask for a mark commits nothing
 of_walk : (observers : List ObserverOf) (said : List Received) (last : Option Cell) → IsWalk observers said last → CommitRuns said
 of_walk observers said last at_beginning = nothing
 of_walk observers all last (found said after x more h r) =
-    both said (told (NextMark after) (Marked x) ∷ more) (of_walk observers said after h) (with_mark after x more (of_runs observers x _ more r))
+    both said (told (Step.NextMark after) (Answer.Marked x) ∷ more) (of_walk observers said after h) (with_mark after x more (of_runs observers x _ more r))
 
 of_pass : (observers : List ObserverOf) (last : Option Cell) (said : List Received) → IsPass observers last said → CommitRuns said
 of_pass observers last said p =
-    let end = and_first (told (NextMark last) NoMark) [] (λ u e. cc) nothing in
-    subst CommitRuns (sym p.said_is) (both p.before (told (NextMark last) NoMark ∷ []) (of_walk observers p.before last p.walk) end)
+    let end = and_first (told (Step.NextMark last) Answer.NoMark) [] (λ u e. cc) nothing in
+    subst CommitRuns (sym p.said_is) (both p.before (told (Step.NextMark last) Answer.NoMark ∷ []) (of_walk observers p.before last p.walk) end)
 
 of_passes : (observers : List ObserverOf) (n : ℕ) (said : List Received) → ArePasses observers n said → CommitRuns said
 of_passes observers n said at_first = nothing
@@ -122,7 +122,7 @@ of_runs_stop seat observers x r said s =
 of_pass_stop : (seat : ℕ) (observers : List ObserverOf) (r : Refusal) (said : List Received) → PassStops seat observers r said → CommitRuns said
 of_pass_stop seat observers r said (at_a_mark said' after walk stop) = of_walk observers said after walk
 of_pass_stop seat observers r all (in_runs said after x part walk stops) =
-    both said (told (NextMark after) (Marked x) ∷ part) (of_walk observers said after walk) (with_mark after x part (of_runs_stop seat observers x r part stops))
+    both said (told (Step.NextMark after) (Answer.Marked x) ∷ part) (of_walk observers said after walk) (with_mark after x part (of_runs_stop seat observers x r part stops))
 
 pub of_drain_stop : (seat : ℕ) (observers : List ObserverOf) (r : Refusal) (said : List Received) → DrainStops seat observers r said → CommitRuns said
 of_drain_stop seat observers r said s =

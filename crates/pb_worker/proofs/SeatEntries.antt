@@ -1,13 +1,11 @@
 -- A seat's list and the journal: what stands in one stands in the other, and each transaction begins once.
-use Rattle.std.proofs.Common.{◌≡◌, ℕ, ◌<◌, Bool, true, false, cond, not, nat_lt, ◌||◌, List, [], ◌∷◌, filter, Option, Some, None, inl, inr, refl, sym, ap, subst, ◌∙◌, eq-eqb}
-use Rattle.std.specs.Prelude.{◌==◌}
+use Rattle.std.proofs.Common.{◌≡◌, ℕ, ◌<◌, Bool, true, false, cond, not, nat_lt, ◌||◌, List, [], ◌∷◌, filter, Option, Some, None, inl, inr, refl, sym, ap, subst, ◌∙◌, eq-eqb, ◌==◌}
 use Rattle.std.specs.List.{list_any}
 use Rattle.std.proofs.lemmas.Bool.{eqb-true, ltb-true}
 use Rattle.pb_base.specs.declared.names.Ts.{Ts}
 use Rattle.pb_base.specs.declared.refusal.Reason.{Reason}
-use Rattle.pb_base.specs.declared.refusal.Reason.TheVariants.{OutOfTimestamps, NotOfSeat}
-use Rattle.pb_steps.specs.declared.step.Step.TheVariants.{Begin}
-use Rattle.pb_steps.specs.declared.step.Answer.TheVariants.{At}
+use Rattle.pb_steps.specs.declared.step.Step.{Step}
+use Rattle.pb_steps.specs.declared.step.Answer.{Answer}
 use Rattle.pb_steps.specs.declared.step.Work.{Work}
 use Rattle.pb_steps.specs.Reasons.{is_out}
 use Rattle.pb_steps.specs.State.{StateOf}
@@ -120,7 +118,7 @@ not_again (x ∷ es) e once is (inr t) = none_later es e once.1 is (twice_has es
 
 module _ (journal : List Entry) (state : StateOf) (tells : TellsTransactions journal state) (u : Ts) where
   abbrev begin_by : ℕ → Work → Entry
-  begin_by seat work = record { seat = seat; step = Begin work; answer = At u }
+  begin_by seat work = record { seat = seat; step = Step.Begin work; answer = Answer.At u }
 
   abbrev names : Entry → Bool
   names e = names_start u.0 e.step e.answer
@@ -129,15 +127,15 @@ module _ (journal : List Entry) (state : StateOf) (tells : TellsTransactions jou
   named = eq-eqb u.0 u.0 refl
 
   -- what began with one start was of one seat, and for one work
-  pub same_begin : (j k : ℕ) (v w : Work) → IsEntry journal j (Begin v) (At u) → IsEntry journal k (Begin w) (At u) → (j ≡ k) × (v ≡ w)
+  pub same_begin : (j k : ℕ) (v w : Work) → IsEntry journal j (Step.Begin v) (Answer.At u) → IsEntry journal k (Step.Begin w) (Answer.At u) → (j ≡ k) × (v ≡ w)
   same_begin j k v w h i =
       let e : begin_by j v ≡ begin_by k w = one_begin (entries_naming u.0 journal) (begin_by j v) (begin_by k w) (tells.begins u.0) refl refl (has_filtered names journal (begin_by j v) named h) (has_filtered names journal (begin_by k w) named i) in
-      let step : Begin v ≡ Begin w = ap (λ (z : Entry). z.step) e in
+      let step : Step.Begin v ≡ Step.Begin w = ap (λ (z : Entry). z.step) e in
       (ap (λ (z : Entry). z.seat) e, cc)
 
-  pub begun_once : (seat : ℕ) (work : Work) → HasTwice (entries_of seat journal) (told (Begin work) (At u)) → ⊥
+  pub begun_once : (seat : ℕ) (work : Work) → HasTwice (entries_of seat journal) (told (Step.Begin work) (Answer.At u)) → ⊥
   begun_once seat work t =
-      not_again (entries_naming u.0 journal) (begin_by seat work) (tells.begins u.0) refl (twice_filtered names journal (begin_by seat work) named (twice_in_journal seat journal (told (Begin work) (At u)) t))
+      not_again (entries_naming u.0 journal) (begin_by seat work) (tells.begins u.0) refl (twice_filtered names journal (begin_by seat work) named (twice_in_journal seat journal (told (Step.Begin work) (Answer.At u)) t))
 
 -- ---- a transaction is of one of the table's seats
 
@@ -147,8 +145,8 @@ second_reason true b p q rest e = cc
 second_reason false true p q rest e = refl
 second_reason false false p q rest e = cc
 
-has_seat : (state : StateOf) (seat : ℕ) (work : Work) → step_reason state seat (Begin work) ≡ None → seat < state.seats
-has_seat state seat work e = ltb-true seat state.seats (second_reason (is_out state) (nat_lt seat state.seats) OutOfTimestamps NotOfSeat _ e)
+has_seat : (state : StateOf) (seat : ℕ) (work : Work) → step_reason state seat (Step.Begin work) ≡ None → seat < state.seats
+has_seat state seat work e = ltb-true seat state.seats (second_reason (is_out state) (nat_lt seat state.seats) Reason.OutOfTimestamps Reason.NotOfSeat _ e)
 
 -- no step changes how many seats there are
 seats_stay : (old : StateOf) (es : List Entry) (new : StateOf) → JournalLeads old es new → new.seats ≡ old.seats
@@ -156,10 +154,10 @@ seats_stay old [] new r = ap (λ (z : StateOf). z.seats) r
 seats_stay old (e ∷ es) new r = seats_stay r.0 es new r.2 ∙ machine_seats old e.seat e.step e.answer r.0 r.1
 
 -- who began a transaction is a seat of the table
-pub begun_by_seat : (old : StateOf) (es : List Entry) (new : StateOf) (seat : ℕ) (work : Work) (u : Ts) → JournalLeads old es new → IsEntry es seat (Begin work) (At u) → seat < new.seats
+pub begun_by_seat : (old : StateOf) (es : List Entry) (new : StateOf) (seat : ℕ) (work : Work) (u : Ts) → JournalLeads old es new → IsEntry es seat (Step.Begin work) (Answer.At u) → seat < new.seats
 begun_by_seat old [] new seat work u r h = absurd h
 begun_by_seat old (e ∷ es) new seat work u r (inl is) =
-    let allowed : step_reason old seat (Begin work) ≡ None = subst (λ (z : Entry). step_reason old z.seat z.step ≡ None) is r.1.allowed in
+    let allowed : step_reason old seat (Step.Begin work) ≡ None = subst (λ (z : Entry). step_reason old z.seat z.step ≡ None) is r.1.allowed in
     let all : new.seats ≡ old.seats = seats_stay old (e ∷ es) new r in
     subst (λ n. seat < n) (sym all) (has_seat old seat work allowed)
 begun_by_seat old (e ∷ es) new seat work u r (inr h) = begun_by_seat r.0 es new seat work u r.2 h

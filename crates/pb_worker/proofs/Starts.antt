@@ -1,13 +1,12 @@
 -- Of each change of a worker that was committed, the worker's list tells one start.
-use Rattle.std.proofs.Common.{◌≡◌, ℕ, zero, suc, ◌+◌, ◌*◌, ◌<◌, ◌⊎◌, Bool, true, false, cond, eqb, List, [], ◌∷◌, ◌++◌, length, Option, Some, None, inl, inr, refl, sym, ap, subst, ◌∙◌, arith}
-use Rattle.std.specs.Prelude.{slice_get, slice_index_or}
+use Rattle.std.proofs.Common.{◌≡◌, ℕ, zero, suc, ◌+◌, ◌*◌, ◌<◌, ◌⊎◌, Bool, true, false, cond, eqb, List, [], ◌∷◌, ◌++◌, length, Option, Some, None, inl, inr, refl, sym, ap, subst, ◌∙◌, arith, slice_get, slice_index_or}
 use Rattle.std.proofs.lemmas.Bool.{eq-eqb, ne_eqb}
 use Rattle.pb_base.specs.declared.names.Ts.{Ts}
 use Rattle.pb_base.specs.declared.refusal.Refusal.{Refusal}
 use Rattle.pb_base.specs.Batch.{Writes}
-use Rattle.pb_steps.specs.declared.step.Step.TheVariants.{Begin}
-use Rattle.pb_steps.specs.declared.step.Answer.TheVariants.{At}
-use Rattle.pb_steps.specs.declared.step.Work.TheVariants as works
+use Rattle.pb_steps.specs.declared.step.Step.{Step}
+use Rattle.pb_steps.specs.declared.step.Answer.{Answer}
+use Rattle.pb_steps.specs.declared.step.Work.{Work}
 use Rattle.pb_verify.specs.Observers.{ObserverOf}
 use Rattle.pb_history.specs.declared.entry.Received.{Received}
 use Rattle.pb_history.specs.History.{Has}
@@ -81,7 +80,7 @@ pub record IsStart (done : List Bool) (start : ℕ → Ts) (u : Ts) : Type 0 whe
 pub record AreStarts (batches : List Writes) (n first : ℕ) (done : List Bool) (said : List Received) (start : ℕ → Ts) : Type 0 where
   pub made : (j : ℕ) → slice_index_or done j false ≡ true → HasMade batches n first j said (start j)
   pub only : (u : Ts) → Has said (commit_of u) → IsStart done start u ⊎ HasBegunRun said u
-  pub apart : (i j : ℕ) → i < j → slice_index_or done i false ≡ true → slice_index_or done j false ≡ true → start i ≡ start j → HasTwice said (told (Begin works.Script) (At (start i)))
+  pub apart : (i j : ℕ) → i < j → slice_index_or done i false ≡ true → slice_index_or done j false ≡ true → start i ≡ start j → HasTwice said (told (Step.Begin Work.Script) (Answer.At (start i)))
 
 module _ (batches : List Writes) (n first : ℕ) where
   made_left : (j : ℕ) (said more : List Received) (start : Ts) → HasMade batches n first j said start → HasMade batches n first j (said ++ more) start
@@ -147,7 +146,7 @@ module _ (batches : List Writes) (n first : ℕ) where
     ]
 
     abbrev begin_of : Ts → Received
-    begin_of s = told (Begin works.Script) (At s)
+    begin_of s = told (Step.Begin Work.Script) (Answer.At s)
 
     its_apart : (i j : ℕ) → i < j → slice_index_or (done ++ is ∷ []) i false ≡ true → slice_index_or (done ++ is ∷ []) j false ≡ true → start' i ≡ start' j → HasTwice (said ++ more) (begin_of (start' i))
     its_apart i j lt e f same = elim (which_flag done is i e) [

@@ -3,10 +3,9 @@ use Rattle.std.proofs.Common.{◌≡◌, ◌≢◌, ℕ, ◌<◌, Bool, false, �
 use Rattle.pb_base.specs.declared.refusal.Refusal.{Refusal}
 use Rattle.pb_base.specs.Batch.{Writes}
 use Rattle.pb_steps.specs.declared.step.Step.{Step}
-use Rattle.pb_steps.specs.declared.step.Step.TheVariants.{Begin}
-use Rattle.pb_steps.specs.declared.step.Work.TheVariants as works
+use Rattle.pb_steps.specs.declared.step.Work.{Work}
 use Rattle.pb_steps.specs.declared.step.Answer.{Answer}
-use Rattle.pb_steps.specs.declared.step.Declared.TheVariants as declared
+use Rattle.pb_steps.specs.declared.step.Declared.{Declared}
 use Rattle.pb_steps.specs.Answers.{CanAnswer}
 use Rattle.pb_history.specs.declared.entry.Received.{Received}
 use Rattle.pb_core.specs.Calls.{SeatOf}
@@ -42,9 +41,6 @@ converse_on : (p : ChangeOf) (said : List Received) (q : ChangeOf) (step : Step)
 converse_on p [] q step a t e can = (ap next_of (sym t) ∙ e, can, ap (λ (z : ChangeOf). answered z a) t)
 converse_on p (r ∷ rs) q step a t e can = (t.0, t.1, converse_on (answered p r.answer) rs q step a t.2 e can)
 
-pub some_cells : (batch : Writes) (n : ℕ) → n ≡ length batch → 0 < n → batch ≢ []
-some_cells batch n is some e = let none : length batch ≡ 0 = ap length e in omega (arith, is, some, none)
-
 -- before its first step nothing was said, and nothing is committed
 pub first : (batch : Writes) (a : SeatOf) (job : ChangeOf) → job ≡ new_change batch → IsAlong batch a a job false
 first batch a job is = gains_none a (record { converses = is; told = refl })
@@ -78,7 +74,7 @@ ended_by (w ∷ ws) r rest q some stop end t e b =
     let batch : Writes = w ∷ ws in
     let plan : q.plan ≡ Some b.plan = ap (λ (z : ChangeOf). z.plan) b.q_is in
     let none : plans.next_of b.plan ≡ None = ap next_of (sym b.q_is) ∙ e in
-    let over = stop b.s (declared.Script batch) w.0 _ rest b.plan refl b.said none in
+    let over = stop b.s (Declared.Script batch) w.0 _ rest b.plan refl b.said none in
     record {
       start = record { 0 = b.plan.start };
       outcome = over.0;
@@ -88,7 +84,7 @@ ended_by (w ∷ ws) r rest q some stop end t e b =
 
 -- at its end a change is a whole try, which committed where its outcome says so
 pub ended : (batch : Writes) (said : List Received) (q : ChangeOf) → batch ≢ [] → PlansStop → ChangesEnd → Converses (new_change batch) said q → next_of q ≡ None → IsTry batch (committed_in (outcome_of q)) said
-ended batch [] q some stop end t e = absurd (no_step (Begin works.Script) (ap next_of (sym t) ∙ e))
+ended batch [] q some stop end t e = absurd (no_step (Step.Begin Work.Script) (ap next_of (sym t) ∙ e))
 ended batch (r ∷ rest) q some stop end t e = ended_by batch r rest q some stop end t e (has_begun batch r rest q t)
 
 pub has_ended : (batch : Writes) (a b : SeatOf) (job : ChangeOf) (committed : Bool) → IsAlong batch a b job committed → batch ≢ [] → PlansStop → ChangesEnd → next_of job ≡ None → Gains (IsTry batch (committed_in (outcome_of job))) a b

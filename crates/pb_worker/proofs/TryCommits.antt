@@ -4,9 +4,9 @@ use Rattle.pb_base.specs.declared.cell.Cell.{Cell}
 use Rattle.pb_base.specs.declared.names.Ts.{Ts}
 use Rattle.pb_base.specs.declared.refusal.Refusal.{Refusal}
 use Rattle.pb_base.specs.Batch.{Writes}
-use Rattle.pb_steps.specs.declared.step.Step.TheVariants.{Declare, Stamp}
-use Rattle.pb_steps.specs.declared.step.Answer.TheVariants.{At, Done}
-use Rattle.pb_steps.specs.declared.step.Declared.TheVariants as declared
+use Rattle.pb_steps.specs.declared.step.Step.{Step}
+use Rattle.pb_steps.specs.declared.step.Answer.{Answer}
+use Rattle.pb_steps.specs.declared.step.Declared.{Declared}
 use Rattle.pb_history.specs.declared.entry.Received.{Received}
 use Rattle.pb_history.specs.History.{Has}
 use Rattle.pb_txn.specs.declared.place.Outcome.{Outcome}
@@ -37,7 +37,7 @@ has_none said u none h = not_both (has_commit said) (has_committed said u h) non
 -- in a try in vain none was said
 try_in_vain : (batch : Writes) (said : List Received) → IsTry batch false said → has_commit said ≡ false
 try_in_vain batch said t =
-    let rest : has_commit t.whole.rest ≡ false = uncommitted t.start (declared.Script batch) (declared_cells (declared.Script batch)) t.whole.rest t.outcome t.ended t.whole.whole in
+    let rest : has_commit t.whole.rest ≡ false = uncommitted t.start (Declared.Script batch) (declared_cells (Declared.Script batch)) t.whole.rest t.outcome t.ended t.whole.whole in
     ap has_commit t.whole.said_is ∙ rest
 
 -- nor in several
@@ -48,13 +48,13 @@ tries_in_vain batch m all (one_more n said more before t) = commit_in said more 
 -- ---- a committed try
 
 -- of the forms of a conversation only one commits, and it says all that a commit takes
-by_form : (batch : Writes) (start : Ts) (cells : List Cell) (rest : List Received) (o : Outcome) → is_committed o ≡ true → IsWhole start (declared.Script batch) cells rest o
-    → (c : Ts) × Has rest (told (Declare start (declared.Script batch)) Done) × Has rest (told (Stamp start) (At c)) × Has rest (commit_of start)
+by_form : (batch : Writes) (start : Ts) (cells : List Cell) (rest : List Received) (o : Outcome) → is_committed o ≡ true → IsWhole start (Declared.Script batch) cells rest o
+    → (c : Ts) × Has rest (told (Step.Declare start (Declared.Script batch)) Answer.Done) × Has rest (told (Step.Stamp start) (Answer.At c)) × Has rest (commit_of start)
 by_form batch start cells rest o is (committed x others c) = (
   c,
   inl refl,
-  inr (has_right (prewrites start (x ∷ others)) (told (Stamp start) (At c) ∷ commit_of start ∷ secondaries start others) (told (Stamp start) (At c)) (inl refl)),
-  inr (has_right (prewrites start (x ∷ others)) (told (Stamp start) (At c) ∷ commit_of start ∷ secondaries start others) (commit_of start) (inr (inl refl))),
+  inr (has_right (prewrites start (x ∷ others)) (told (Step.Stamp start) (Answer.At c) ∷ commit_of start ∷ secondaries start others) (told (Step.Stamp start) (Answer.At c)) (inl refl)),
+  inr (has_right (prewrites start (x ∷ others)) (told (Step.Stamp start) (Answer.At c) ∷ commit_of start ∷ secondaries start others) (commit_of start) (inr (inl refl))),
 )
 by_form batch start cells rest o is (conflicted_first x after) = cc
 by_form batch start cells rest o is (conflicted_later x y before after a cs can cleared) = cc
@@ -62,7 +62,7 @@ by_form batch start cells rest o is (lost x others c cs cleared) = cc
 
 by_change : (batch : Writes) (start : Ts) (said : List Received) (o : Outcome) → is_committed o ≡ true → IsWholeChange batch start said o → HasCommitted batch start said
 by_change batch start said o is w =
-    let f = by_form batch start (declared_cells (declared.Script batch)) w.rest o is w.whole in
+    let f = by_form batch start (declared_cells (Declared.Script batch)) w.rest o is w.whole in
     subst (HasCommitted batch start) (sym w.said_is) (record { commit = f.0; begun = inl refl; declared = inr f.1; stamped = inr f.2; committed = inr f.3 })
 
 -- ---- all tries of a change

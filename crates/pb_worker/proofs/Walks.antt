@@ -1,6 +1,5 @@
 -- The walk along a journal and a seat's list.
-use Rattle.std.proofs.Common.{◌≡◌, ◌≢◌, ◌↔◌, ℕ, ◌+◌, ◌-◌, ◌<◌, ◌≤◌, suc, List, [], ◌∷◌, length, get_or, drop, Some, refl, sym, ◌∙◌, ap, arith, add-one, drop-cons, eq-eqb, ne_eqb, length-drop}
-use Rattle.std.specs.Prelude.{slice_get}
+use Rattle.std.proofs.Common.{◌≡◌, ◌≢◌, ◌↔◌, ℕ, ◌+◌, ◌-◌, ◌<◌, ◌≤◌, suc, List, [], ◌∷◌, length, get_or, drop, Some, refl, sym, ◌∙◌, ap, arith, add-one, drop-cons, eq-eqb, ne_eqb, length-drop, slice_get}
 use Rattle.std.proofs.lemmas.List.{drop_more}
 use Rattle.std.proofs.lemmas.Option.{slice_get_within, slice_get-get_or, get_or_from_slice_get}
 use Rattle.std.proofs.Math.ListN.{drop_of_length-le}

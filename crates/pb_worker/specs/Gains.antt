@@ -2,7 +2,6 @@
 -- come to depends on all seats.
 use Rattle.std.specs.Prelude.{◌≡◌, ℕ, ◌⊎◌, List, [], ◌∷◌, ◌++◌, Option, Some}
 use Rattle.pb_base.specs.declared.refusal.Reason.{Reason}
-use Rattle.pb_base.specs.declared.refusal.Reason.TheVariants.{NoMemory}
 use Rattle.pb_base.specs.declared.refusal.Refusal.{Refusal}
 use Rattle.pb_base.specs.Reasons.{refusal_by}
 use Rattle.pb_steps.specs.declared.step.Step.{Step}
@@ -34,7 +33,7 @@ pub record IsRefused (seat : ℕ) (step : Step) (r : Refusal) : Type 0 where
 
 -- memory was refused
 abbrev pub IsWant : Refusal → Type 0
-IsWant r = r ≡ refusal_by NoMemory
+IsWant r = r ≡ refusal_by Reason.NoMemory
 
 -- a call was refused: for want of memory, or by the table
 abbrev pub MayRefuse : ℕ → Step → Refusal → Type 0

@@ -2,7 +2,7 @@
 use Rattle.std.specs.Prelude.{◌≡◌, ℕ, ◌+◌, ◌-◌, ◌%◌, ◌<◌, List, [], length, Option, Some, slice_get}
 use Rattle.pb_base.specs.declared.refusal.Refusal.{Refusal}
 use Rattle.pb_base.specs.Batch.{Writes}
-use Rattle.pb_steps.specs.declared.step.Work.TheVariants as works
+use Rattle.pb_steps.specs.declared.step.Work.{Work}
 use Rattle.pb_verify.specs.Observers.{ObserverOf}
 use Rattle.pb_history.specs.History.{Has, Member, InHistory}
 use Rattle.pb_core.specs.Calls.{SharedOf, SeatOf, AreSeats}
@@ -15,7 +15,7 @@ use Rattle.pb_worker.specs.Work.{WorkedOn}
 pub record IsMade (table : SharedOf) (n i : ℕ) (batch : Writes) (m : Member) : Type 0 where
   pub there : InHistory table.state.observers table.journal m
   pub seat : m.seat ≡ i % n + 1
-  pub work : m.work ≡ works.Script
+  pub work : m.work ≡ Work.Script
   pub writes : m.writes ≡ batch
 
 -- the change of this number has this batch, and isn't named as unfinished
@@ -28,7 +28,7 @@ pub record IsFinished (batches : List Writes) (unfinished : List ℕ) (i : ℕ) 
 pub record MakesChanges (table : SharedOf) (n : ℕ) (batches : List Writes) (unfinished : List ℕ) : Type 0 where
   pub start : ℕ → ℕ
   pub made : (i : ℕ) (batch : Writes) → IsFinished batches unfinished i batch → (m : Member) × IsMade table n i batch m × (m.start ≡ start i)
-  pub only : (m : Member) → InHistory table.state.observers table.journal m → m.work ≡ works.Script → (i : ℕ) × (batch : Writes) × IsFinished batches unfinished i batch × (m.start ≡ start i)
+  pub only : (m : Member) → InHistory table.state.observers table.journal m → m.work ≡ Work.Script → (i : ℕ) × (batch : Writes) × IsFinished batches unfinished i batch × (m.start ≡ start i)
   pub once : (i j : ℕ) (a b : Writes) → IsFinished batches unfinished i a → IsFinished batches unfinished j b → start i ≡ start j → i ≡ j
 
 -- where the seats agree with the journal after a run of workers on a fresh table

@@ -4,13 +4,13 @@ use Rattle.std.specs.Prelude.{◌≡◌, ◌≢◌, ℕ, ◌+◌, ◌<◌, ◌�
 use Rattle.pb_base.specs.declared.cell.Cell.{Cell}
 use Rattle.pb_base.specs.Cell.{row_of, column_of}
 use Rattle.pb_vm.specs.Finished.{Meant}
-use Rattle.pb_steps.specs.declared.step.Step.TheVariants.{NextMark}
-use Rattle.pb_steps.specs.declared.step.Answer.TheVariants.{Marked, NoMark}
+use Rattle.pb_steps.specs.declared.step.Step.{Step}
+use Rattle.pb_steps.specs.declared.step.Answer.{Answer}
 use Rattle.pb_verify.specs.Observers.{ObserverOf}
 use Rattle.pb_history.specs.declared.entry.Received.{Received}
 use Rattle.pb_txn.specs.Conversations.{told}
 use Rattle.pb_notify.specs.declared.need.JobEnd.{JobEnd}
-use Rattle.pb_notify.specs.declared.need.Need.TheVariants.{Local, Over}
+use Rattle.pb_notify.specs.declared.need.Need.{Need}
 use Rattle.pb_notify.specs.Runs.{RunOf, watch_of, fresh, need_of}
 use Rattle.pb_notify.specs.Conversations.{Reaches}
 use Rattle.pb_notify.specs.Forms.{IsRunConversation, WasMeant}
@@ -38,7 +38,7 @@ pub record IsJobOn (observers : List ObserverOf) (n : ℕ) (x : Cell) (job : Run
 -- it goes on by its machine's instructions alone, and isn't at one
 pub record IsComputed (j k : RunOf) : Type 0 where
   pub reaches : (first : RunOf) (said : List Received) → Reaches first said j → Reaches first said k
-  pub calls : need_of k ≢ Local
+  pub calls : need_of k ≢ Need.Local
 
 -- what it declared, if it did, is what its program means, and this is a whole conversation of its run on the cell
 pub record IsRun (observers : List ObserverOf) (n : ℕ) (x : Cell) (said : List Received) : Type 0 where
@@ -47,7 +47,7 @@ pub record IsRun (observers : List ObserverOf) (n : ℕ) (x : Cell) (said : List
   pub job : RunOf
   pub reaches : Reaches (job_on n o x) said job
   pub end : JobEnd
-  pub over : need_of job ≡ Over end
+  pub over : need_of job ≡ Need.Over end
   pub run : Option Meant
   pub talk : IsRunConversation (watch_of n o (row_of x)) said end run
   pub meant : WasMeant run
@@ -72,13 +72,13 @@ AreAllRuns observers x said = AreRuns observers x (length observers) said
 pub data IsWalk (observers : List ObserverOf) : List Received → Option Cell → Type 0 where
   at_beginning : IsWalk observers [] None
   found : (said : List Received) (after : Option Cell) (x : Cell) (more : List Received) → IsWalk observers said after → AreRuns observers x (length observers) more
-      → IsWalk observers (said ++ told (NextMark after) (Marked x) ∷ more) (Some x)
+      → IsWalk observers (said ++ told (Step.NextMark after) (Answer.Marked x) ∷ more) (Some x)
 
 -- one pass on to where there is no mark; it ends so after the last cell that it found, if any
 pub record IsPass (observers : List ObserverOf) (last : Option Cell) (said : List Received) : Type 0 where
   pub before : List Received
   pub walk : IsWalk observers before last
-  pub said_is : said ≡ before ++ told (NextMark last) NoMark ∷ []
+  pub said_is : said ≡ before ++ told (Step.NextMark last) Answer.NoMark ∷ []
 
 -- one that found a mark, or none
 abbrev pub IsPassThat : List ObserverOf → Bool → List Received → Type 0

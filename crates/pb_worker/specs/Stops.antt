@@ -7,8 +7,8 @@ use Rattle.pb_base.specs.declared.refusal.Refusal.{Refusal}
 use Rattle.pb_base.specs.Batch.{Writes}
 use Rattle.pb_base.specs.Cell.{row_of}
 use Rattle.pb_vm.specs.Finished.{Meant}
-use Rattle.pb_steps.specs.declared.step.Step.TheVariants.{NextMark}
-use Rattle.pb_steps.specs.declared.step.Answer.TheVariants.{Marked}
+use Rattle.pb_steps.specs.declared.step.Step.{Step}
+use Rattle.pb_steps.specs.declared.step.Answer.{Answer}
 use Rattle.pb_verify.specs.Observers.{ObserverOf}
 use Rattle.pb_history.specs.declared.entry.Received.{Received}
 use Rattle.pb_txn.specs.declared.place.Outcome.{Outcome}
@@ -77,9 +77,9 @@ pub record RunsStop (seat : ℕ) (observers : List ObserverOf) (x : Cell) (r : R
 
 -- in a pass: at the next mark, or in the runs on the cell that was found
 pub data PassStops (seat : ℕ) (observers : List ObserverOf) (r : Refusal) : List Received → Type 0 where
-  at_a_mark : (said : List Received) (after : Option Cell) → IsWalk observers said after → IsStop seat (Some (NextMark after)) r → PassStops seat observers r said
+  at_a_mark : (said : List Received) (after : Option Cell) → IsWalk observers said after → IsStop seat (Some (Step.NextMark after)) r → PassStops seat observers r said
   in_runs : (said : List Received) (after : Option Cell) (x : Cell) (part : List Received) → IsWalk observers said after → RunsStop seat observers x r part
-      → PassStops seat observers r (said ++ told (NextMark after) (Marked x) ∷ part)
+      → PassStops seat observers r (said ++ told (Step.NextMark after) (Answer.Marked x) ∷ part)
 
 -- after so many passes, in the next
 pub record DrainStops (seat : ℕ) (observers : List ObserverOf) (r : Refusal) (said : List Received) : Type 0 where

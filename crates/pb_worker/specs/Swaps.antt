@@ -1,6 +1,5 @@
 -- Spare tablets, swapped in one after another.
-use Rattle.std.specs.Prelude.{◌≡◌, ℕ, true, List, ◌∷◌, ◌++◌, map, Option, Some, None}
-use Rattle.std.specs.List.{All}
+use Rattle.std.specs.Prelude.{◌≡◌, ℕ, true, List, ◌∷◌, ◌++◌, map, Option, Some, None, All}
 use Rattle.pb_base.specs.declared.refusal.Refusal.{Refusal}
 use Rattle.pb_store.specs.Contents.{Contents, is_nothing}
 use Rattle.pb_store.specs.Tiles.{TellsSwapReason}

@@ -3,16 +3,14 @@ use Rattle.std.specs.Prelude.{◌≡◌, ℕ, ◌+◌, ◌*◌, ◌<◌, ◌≤�
 use Rattle.pb_base.specs.declared.names.Ts.{Ts}
 use Rattle.pb_base.specs.Batch.{Writes}
 use Rattle.pb_steps.specs.declared.step.Answer.{Answer}
-use Rattle.pb_steps.specs.declared.step.Answer.TheVariants as answers
 use Rattle.pb_history.specs.declared.entry.Received.{Received}
 use Rattle.pb_txn.specs.declared.place.Outcome.{Outcome}
-use Rattle.pb_txn.specs.declared.place.Outcome.TheVariants.{Committed}
 use Rattle.pb_txn.specs.Changes.{IsWholeChange}
 use Rattle.pb_worker.specs.declared.tries.TheConstants.{MAX_TRIES}
 
 -- the outcome of a committed transaction, at whatever timestamp
 abbrev pub is_committed : Outcome → Bool
-is_committed (Committed c) = true
+is_committed (Outcome.Committed c) = true
 is_committed _ = false
 
 -- one that isn't over isn't told as committed
@@ -22,7 +20,7 @@ committed_in (Some o) = is_committed o
 
 -- the transaction was committed
 abbrev pub is_commit : Answer → Bool
-is_commit answers.Committed = true
+is_commit Answer.Committed = true
 is_commit _ = false
 
 -- the transaction was committed by then, whether its other cells were or not

@@ -101,7 +101,7 @@ fn look_through(batches: &[Batch])
     ensures { AreFilled batches.now }
 {
     for batch in batches {
-        let _ = batch.len();
+        batch.known();
     }
 }
 

@@ -87,7 +87,7 @@ fn try_once<R: Wait, C: Callee, G: Gate>(
 {
     // For the proof: a batch has some cells; and what a change has asked is a beginning of its conversation, and at
     // its end a whole one.
-    let _ = batch.len();
+    batch.known();
     plans_converse();
     changes_converse();
     let mut committed = false;
@@ -192,7 +192,7 @@ pub(crate) fn change_all<R: Wait, C: Callee, G: Gate>(
     let mut next = first;
     while next < batches.len() {
         // For the proof: a batch has some cells.
-        let _ = batches[next].len();
+        batches[next].known();
         make_room(done)?;
         match try_all(rt, alloc, shared, seat, &batches[next], gate) {
             Ok(committed) => {

@@ -11,7 +11,6 @@ use Rattle.pb_parse.specs.declared.event.Job.{Job}
 use Rattle.pb_world.specs.declared.actor.Actor.{Actor}
 use Rattle.pb_world.specs.declared.job.ActorJob.{ActorJob}
 use Rattle.pb_world.specs.declared.note.Note.{Note}
-use Rattle.pb_world.specs.declared.note.Note.TheVariants.{Launched, Called, Refused}
 use Rattle.pb_world.specs.Jobs.{IsReady}
 use Rattle.pb_world.specs.Actors.{ActorSteps, NoneApplies, ActorMayWant, launched, crashed, crash_note}
 use Rattle.pb_world.specs.Events.{WorldOf, IsWorld, with_actor, actor_of, job_for, no_launch, no_actor, Launches, StepsActor, CrashesActor, OwnAnswers, OwnCalls, StepMayWant, OwnMayWant}
@@ -42,11 +41,11 @@ launch_within w k made None is h = absurd (some_none _ h)
 
 module _ (w u : WorldOf) (u-is : w ≡ u) where
   pub launches : (k : ℕ) (job : Job) (seat : SeatOf) (b : Actor) (made : ActorJob) → IsWorld w → no_launch (actor_of u k) (job_for u job) ≡ None → seat ≡ get_or w.seats k seat → job_for u job ≡ Some made → IsReady made
-      → b ≡ launched (length seat.received) made → Launches u k job Launched (with_actor w k b)
+      → b ≡ launched (length seat.received) made → Launches u k job Note.Launched (with_actor w k b)
   launches k job seat b made i can at is ready b-is =
       let lt : k < length w.actors = launch_within w k (job_for w job) (actor_of w k) refl (subst (λ x. no_launch (actor_of x k) (job_for x job) ≡ None) (sym u-is) can) in
       let lt' : k < length w.seats = subst (λ n. k < n) i.seated lt in
-      let did : Launches w k job Launched (with_actor w k b) = record {
+      let did : Launches w k job Note.Launched (with_actor w k b) = record {
         seat = seat;
         made = made;
         its_seat = here w.seats k seat lt' at;
@@ -55,15 +54,15 @@ module _ (w u : WorldOf) (u-is : w ≡ u) where
         note = refl;
         after = ap (λ x. with_actor w k x) b-is;
       } in
-      subst (λ x. Launches x k job Launched (with_actor w k b)) u-is did
+      subst (λ x. Launches x k job Note.Launched (with_actor w k b)) u-is did
 
   pub own_answers : (seat told : SeatOf) (t : SharedOf) (step : Step) (a : Answer) → 1 ≤ length w.seats → seat ≡ get_or w.seats 0 seat → call_reason w.shared seat.number step ≡ None → Calls w.shared seat step a t told
-      → OwnCalls u step (Called a) (record w { shared = t; seats = slice_set w.seats 0 told })
+      → OwnCalls u step (Note.Called a) (record w { shared = t; seats = slice_set w.seats 0 told })
   own_answers seat told t step a some at none calls =
       let v : WorldOf = record w { shared = t; seats = slice_set w.seats 0 told } in
-      let did : OwnAnswers w seat step (Called a) v = record { answer = a; told = told; note = refl; calls = calls; after = refl } in
-      let own : OwnCalls w step (Called a) v = record { seat = seat; its_seat = here w.seats 0 seat some at; calls = subst (λ r. MatchOption r (OwnAnswers w seat step (Called a) v) (λ why. (Called a ≡ Refused (reason_code why)) × (v ≡ w))) (sym none) did } in
-      subst (λ x. OwnCalls x step (Called a) v) u-is own
+      let did : OwnAnswers w seat step (Note.Called a) v = record { answer = a; told = told; note = refl; calls = calls; after = refl } in
+      let own : OwnCalls w step (Note.Called a) v = record { seat = seat; its_seat = here w.seats 0 seat some at; calls = subst (λ r. MatchOption r (OwnAnswers w seat step (Note.Called a) v) (λ why. (Note.Called a ≡ Note.Refused (reason_code why)) × (v ≡ w))) (sym none) did } in
+      subst (λ x. OwnCalls x step (Note.Called a) v) u-is own
 
   pub own_same : (seat told : SeatOf) (t : SharedOf) → seat ≡ get_or w.seats 0 seat → t ≡ w.shared → told ≡ seat → record w { shared = t; seats = slice_set w.seats 0 told } ≡ u
   own_same seat told t at t-is told-is = ap (λ x. record w { shared = t; seats = x }) (same_list w.seats 0 seat told at told-is) ∙ (ap (λ x. record w { shared = x }) t-is ∙ u-is)
@@ -81,12 +80,12 @@ module _ (w u : WorldOf) (u-is : w ≡ u) where
       subst (λ x. StepMayWant x k) u-is did
 
   pub own_refused : (seat told : SeatOf) (t : SharedOf) (step : Step) (code : ℕ) → 1 ≤ length w.seats → seat ≡ get_or w.seats 0 seat → (why : Reason) × (call_reason w.shared seat.number step ≡ Some why) × (code ≡ reason_code why)
-      → t ≡ w.shared → told ≡ seat → OwnCalls u step (Refused code) (record w { shared = t; seats = slice_set w.seats 0 told })
+      → t ≡ w.shared → told ≡ seat → OwnCalls u step (Note.Refused code) (record w { shared = t; seats = slice_set w.seats 0 told })
   own_refused seat told t step code some at why t-is told-is =
       let v : WorldOf = record w { shared = t; seats = slice_set w.seats 0 told } in
       let same : v ≡ w = own_same seat told t at t-is told-is ∙ sym u-is in
-      let own : OwnCalls w step (Refused code) v = record { seat = seat; its_seat = here w.seats 0 seat some at; calls = subst (λ r. MatchOption r (OwnAnswers w seat step (Refused code) v) (λ y. (Refused code ≡ Refused (reason_code y)) × (v ≡ w))) (sym (why.1)) (ap (λ n. Refused n) (why.2), same) } in
-      subst (λ x. OwnCalls x step (Refused code) v) u-is own
+      let own : OwnCalls w step (Note.Refused code) v = record { seat = seat; its_seat = here w.seats 0 seat some at; calls = subst (λ r. MatchOption r (OwnAnswers w seat step (Note.Refused code) v) (λ y. (Note.Refused code ≡ Note.Refused (reason_code y)) × (v ≡ w))) (sym (why.1)) (ap (λ n. Note.Refused n) (why.2), same) } in
+      subst (λ x. OwnCalls x step (Note.Refused code) v) u-is own
 
   pub steps : (k : ℕ) (seat told : SeatOf) (a b : Actor) (n : Note) (t : SharedOf) → IsWorld w → no_actor (actor_of u k) ≡ None → seat ≡ get_or w.seats k seat → a ≡ get_or w.actors k a → ActorSteps w.shared seat a n t told b
       → StepsActor u k n (record w { shared = t; seats = slice_set w.seats k told; actors = slice_set w.actors k b })

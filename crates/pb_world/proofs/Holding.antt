@@ -14,7 +14,6 @@ use Rattle.pb_notify.specs.Runs.{RunOf}
 use Rattle.pb_notify.specs.Forms.{JobsConverse}
 use Rattle.pb_notify.specs.Led.{MachinesAreLed, AsksAreOpen, EndedRunsMean}
 use Rattle.pb_world.specs.declared.job.ActorJob.{ActorJob}
-use Rattle.pb_world.specs.declared.job.ActorJob.TheVariants.{Change, Run}
 use Rattle.pb_world.specs.Jobs.{RulesAccept}
 use Rattle.pb_world.specs.Events.{WorldOf}
 use Rattle.pb_world.specs.Sound.{ChangeCame, RunCame, Came, IsTied, IsSoundWorld}
@@ -37,12 +36,12 @@ never_stuck : AcceptedAreNeverStuck → (v : Position) → RulesAccept v.judged 
 never_stuck law v ok size led = record {
   at = λ a p.
       let here = led a p in
-      let sound = law v.judged ok.program ok.accepts a v.bytes v.began v.talk v.taken _ (record { place = p; size = size }) here.1 in
+      let sound = law v.judged ok.program ok.accepts a v.bytes v.start v.talk v.taken _ (record { place = p; size = size }) here.1 in
       (here.0, here.1, sound.not_stuck);
   few =
       let p = some_placement (length v.bytes) (let most = ok.size in omega (arith, size, most)) in
       let here = led p.0 p.1 in
-      let sound = law v.judged ok.program ok.accepts p.0 v.bytes v.began v.talk v.taken _ (record { place = p.1; size = size }) here.1 in
+      let sound = law v.judged ok.program ok.accepts p.0 v.bytes v.start v.talk v.taken _ (record { place = p.1; size = size }) here.1 in
       omega (arith, sound.few);
 }
 
@@ -71,8 +70,8 @@ of_run stuck converses led waits ended w r said m =
     }
 
 of_job : AcceptedAreNeverStuck → JobsConverse → MachinesAreLed → AsksAreOpen → EndedRunsMean → ChangesConverse → (w : WorldOf) (j : ActorJob) (said : List Received) → Came w j said → HoldsOfJob w j said
-of_job stuck converses led waits ended changes w (Change c) said m = of_change changes w c said m
-of_job stuck converses led waits ended changes w (Run r) said m = of_run stuck converses led waits ended w r said m
+of_job stuck converses led waits ended changes w (ActorJob.Change c) said m = of_change changes w c said m
+of_job stuck converses led waits ended changes w (ActorJob.Run r) said m = of_run stuck converses led waits ended w r said m
 
 -- of an actor in a sound world the headline holds
 pub of_actor : AcceptedAreNeverStuck → JobsConverse → MachinesAreLed → AsksAreOpen → EndedRunsMean → ChangesConverse → (w : WorldOf) (k n : ℕ) (seat : SeatOf) (j : ActorJob) → IsSoundWorld w → slice_get w.seats k ≡ Some seat → IsTied w seat n j → HoldsOfActor w k n seat j

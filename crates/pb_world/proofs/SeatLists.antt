@@ -1,6 +1,5 @@
 -- All seats of a table are still all its seats after a call of one of them.
-use Rattle.std.proofs.Common.{◌≡◌, ◌≢◌, ℕ, zero, suc, ◌+◌, ◌<◌, Bool, true, false, cond, List, [], ◌∷◌, ◌++◌, slice_get, slice_set, Some, refl, sym, ap, subst, ◌∙◌, arith, eq-eqb, ne_eqb, length-set}
-use Rattle.std.specs.Prelude.{◌==◌}
+use Rattle.std.proofs.Common.{◌≡◌, ◌≢◌, ℕ, zero, suc, ◌+◌, ◌<◌, Bool, true, false, cond, List, [], ◌∷◌, ◌++◌, slice_get, slice_set, Some, refl, sym, ap, subst, ◌∙◌, arith, eq-eqb, ne_eqb, length-set, ◌==◌}
 use Rattle.pb_steps.specs.declared.step.Step.{Step}
 use Rattle.pb_steps.specs.declared.step.Answer.{Answer}
 use Rattle.pb_history.specs.declared.entry.Entry.{Entry}

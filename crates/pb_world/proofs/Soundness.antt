@@ -1,7 +1,5 @@
 -- Whatever events happen, a world stays sound.
-use Rattle.std.proofs.Common.{◌≡◌, ◌≢◌, ℕ, ◌<◌, Bool, true, false, eqb, List, [], ◌∷◌, ◌++◌, length, get_or, slice_set, refl, sym, ◌∙◌, ap, subst, arith, Option, Some, None, slice_get, MatchBool, MatchOption, get_or-set_same, get_or-set_other, length-set}
-use Rattle.std.specs.Prelude.{◌==◌, if◌then◌else◌}
-use Rattle.std.specs.Option.{option_map}
+use Rattle.std.proofs.Common.{◌≡◌, ◌≢◌, ℕ, ◌<◌, Bool, true, false, eqb, List, [], ◌∷◌, ◌++◌, length, get_or, slice_set, refl, sym, ◌∙◌, ap, subst, arith, Option, Some, None, slice_get, MatchBool, MatchOption, get_or-set_same, get_or-set_other, length-set, ◌==◌, if◌then◌else◌, option_map}
 use Rattle.std.proofs.lemmas.Bool.{eqb-false, eqb-true}
 use Rattle.std.proofs.lemmas.List.{set-get_or}
 use Rattle.std.proofs.lemmas.Option.{slice_get_within, slice_get-get_or, get_or_from_slice_get}
@@ -10,7 +8,6 @@ use Rattle.pb_base.specs.Reasons.{reason_code}
 use Rattle.pb_base.specs.Batch.{Writes, is_batch}
 use Rattle.pb_base.specs.declared.names.Row.{Row}
 use Rattle.pb_steps.specs.declared.step.Step.{Step}
-use Rattle.pb_steps.specs.declared.step.Step.TheVariants as step
 use Rattle.pb_steps.specs.declared.step.Answer.{Answer}
 use Rattle.pb_steps.specs.Answers.{CanAnswer}
 use Rattle.pb_steps.specs.State.{opening}
@@ -23,19 +20,14 @@ use Rattle.pb_core.specs.Histories.{IsLegalTable}
 use Rattle.pb_txn.specs.Changes.{ChangeOf, new_change, Converses}
 use Rattle.pb_txn.specs.Changes as changes
 use Rattle.pb_notify.specs.declared.need.Need.{Need}
-use Rattle.pb_notify.specs.declared.need.Need.TheVariants.{Local, Call, Over}
 use Rattle.pb_notify.specs.Runs.{Watch, RunOf, watch_of, fresh, need_of}
 use Rattle.pb_notify.specs.Conversations.{Reaches, took, computed}
 use Rattle.pb_notify.specs.Conversations as conversations
 use Rattle.pb_parse.specs.declared.event.Event.{Event}
-use Rattle.pb_parse.specs.declared.event.Event.TheVariants as events
 use Rattle.pb_parse.specs.declared.event.Job.{Job}
-use Rattle.pb_parse.specs.declared.event.Job.TheVariants as jobs
 use Rattle.pb_world.specs.declared.actor.Actor.{Actor}
 use Rattle.pb_world.specs.declared.job.ActorJob.{ActorJob}
-use Rattle.pb_world.specs.declared.job.ActorJob.TheVariants.{Change, Run}
 use Rattle.pb_world.specs.declared.note.Note.{Note}
-use Rattle.pb_world.specs.declared.note.Note.TheVariants.{Refused}
 use Rattle.pb_world.specs.Jobs.{next_of, is_local, is_local_need, is_over, Takes, Computes, RulesAccept, IsReady}
 use Rattle.pb_world.specs.Actors.{Stepped, AnswersJob, RefusesJob, CallSteps, Instructs, IsIdle, JobSteps, StepsTo, launched, crashed}
 use Rattle.pb_world.specs.Events.{WorldOf, change_of, job_for, with_actor, actor_of, no_actor, no_launch, fault_of, Launches, StepsActor, CrashesActor, OwnAnswers, OwnCalls, Does}
@@ -101,24 +93,24 @@ run_goes_on w r l said more same m reaches = record {
 
 -- a job that took an answer has come on by it
 came_on : (w : WorldOf) (j k : ActorJob) (said : List Received) (st : Step) (a : Answer) → Came w j said → next_of j ≡ Some st → CanAnswer st a → Takes j a k → Came w k (said ++ record { step = st; answer = a } ∷ [])
-came_on w (Change c) k said st a m next can takes =
+came_on w (ActorJob.Change c) k said st a m next can takes =
     let more : ChangeCame w (changes.answered c a) (said ++ record { step = st; answer = a } ∷ []) = record { number = m.number; there = m.there; is = m.is; converses = converses_push (new_change c.batch) said c st a m.converses next can } in
     subst (λ x. Came w x (said ++ record { step = st; answer = a } ∷ [])) (sym takes) more
-came_on w (Run r) k said st a m next can takes =
+came_on w (ActorJob.Run r) k said st a m next can takes =
     let l = takes.0 in
     let same : l.watch ≡ r.watch = ap (λ (x : RunOf). x.watch) takes.2 in
     let reaches = took said r (record { step = st; answer = a }) l m.reaches next can takes.2 takes.3 in
     subst (λ x. Came w x (said ++ record { step = st; answer = a } ∷ [])) (sym takes.1) (run_goes_on w r l said (said ++ record { step = st; answer = a } ∷ []) same m reaches)
 
-local_by : (n : Need) → is_local_need n ≡ true → n ≡ Local
-local_by Local e = refl
-local_by Call e = cc
-local_by (Over end) e = cc
+local_by : (n : Need) → is_local_need n ≡ true → n ≡ Need.Local
+local_by Need.Local e = refl
+local_by Need.Call e = cc
+local_by (Need.Over end) e = cc
 
 -- an instruction leaves what it was told
 came_by : (w : WorldOf) (j k : ActorJob) (said : List Received) → Came w j said → is_local j ≡ true → Computes j k → Came w k said
-came_by w (Change c) k said m local did = absurd did
-came_by w (Run r) k said m local did =
+came_by w (ActorJob.Change c) k said m local did = absurd did
+came_by w (ActorJob.Run r) k said m local did =
     let l = did.0 in
     let same : l.watch ≡ r.watch = ap (λ (x : RunOf). x.watch) did.2.same in
     let reaches = computed said r l m.reaches (local_by (need_of r) local) did.2 in
@@ -126,8 +118,8 @@ came_by w (Run r) k said m local did =
 
 -- what a job came by depends on the observers and the changes alone
 came_in : (w v : WorldOf) (j : ActorJob) (said : List Received) → v.shared.state.observers ≡ w.shared.state.observers → v.batches ≡ w.batches → Came w j said → Came v j said
-came_in w v (Change c) said os bs m = record { number = m.number; there = subst (λ x. change_of x m.number ≡ Some c.batch) (sym bs) m.there; is = m.is; converses = m.converses }
-came_in w v (Run r) said os bs m = record { its = record { observer = m.its.observer; there = subst (λ x. slice_get x r.watch.observer ≡ Some m.its.observer) (sym os) m.its.there; program = m.its.program; column = m.its.column }; accepted = m.accepted; reaches = m.reaches }
+came_in w v (ActorJob.Change c) said os bs m = record { number = m.number; there = subst (λ x. change_of x m.number ≡ Some c.batch) (sym bs) m.there; is = m.is; converses = m.converses }
+came_in w v (ActorJob.Run r) said os bs m = record { its = record { observer = m.its.observer; there = subst (λ x. slice_get x r.watch.observer ≡ Some m.its.observer) (sym os) m.its.there; program = m.its.program; column = m.its.column }; accepted = m.accepted; reaches = m.reaches }
 
 -- a job stays tied while the observers and the changes stay
 tied_in : (w v : WorldOf) (seat : SeatOf) (n : ℕ) (j : ActorJob) → v.shared.state.observers ≡ w.shared.state.observers → v.batches ≡ w.batches → IsTied w seat n j → IsTied v seat n j
@@ -280,26 +272,26 @@ crashed_sound : (w v : WorldOf) (k : ℕ) (n : Note) → 0 < k → IsSoundWorld 
 crashed_sound w v k n some s d = subst (λ x. IsSoundWorld x) (sym d.after) (with_sound w k (crashed d.actor) some s (λ seat j is job. absurd (some_none j job)))
 
 -- a job that is made has come there without a word
-change_made : (w : WorldOf) (k : ℕ) (o : Option Writes) (made : ActorJob) → change_of w.batches k ≡ o → option_map (λ batch. Change (new_change batch)) o ≡ Some made → IsReady made → Came w made []
+change_made : (w : WorldOf) (k : ℕ) (o : Option Writes) (made : ActorJob) → change_of w.batches k ≡ o → option_map (λ batch. ActorJob.Change (new_change batch)) o ≡ Some made → IsReady made → Came w made []
 change_made w k None made is e ready = absurd (some_none made e)
 change_made w k (Some batch) made is e ready =
-    let same : Change (new_change batch) ≡ made = some_same (Change (new_change batch)) made e in
+    let same : ActorJob.Change (new_change batch) ≡ made = some_same (ActorJob.Change (new_change batch)) made e in
     let fits : is_batch batch ≡ true = subst (λ x. IsReady x) (sym same) ready in
     let here : ChangeCame w (new_change batch) [] = record { number = k; there = is; is = fits; converses = refl } in
     subst (λ x. Came w x []) same here
 
-run_made : (w : WorldOf) (o : ℕ) (row : Row) (found : Option ObserverOf) (made : ActorJob) → slice_get w.shared.state.observers o ≡ found → option_map (λ (x : ObserverOf). Run (fresh (watch_of o x row))) found ≡ Some made → IsReady made → Came w made []
+run_made : (w : WorldOf) (o : ℕ) (row : Row) (found : Option ObserverOf) (made : ActorJob) → slice_get w.shared.state.observers o ≡ found → option_map (λ (x : ObserverOf). ActorJob.Run (fresh (watch_of o x row))) found ≡ Some made → IsReady made → Came w made []
 run_made w o row None made is e ready = absurd (some_none made e)
 run_made w o row (Some x) made is e ready =
-    let same : Run (fresh (watch_of o x row)) ≡ made = some_same (Run (fresh (watch_of o x row))) made e in
+    let same : ActorJob.Run (fresh (watch_of o x row)) ≡ made = some_same (ActorJob.Run (fresh (watch_of o x row))) made e in
     let fits = subst (λ y. IsReady y) (sym same) ready in
     let here : RunCame w (fresh (watch_of o x row)) [] = record { its = record { observer = x; there = is; program = refl; column = refl }; accepted = fits; reaches = conversations.made } in
     subst (λ y. Came w y []) same here
 
 -- a job that was just made has said nothing
 came_first : (w : WorldOf) (job : Job) (made : ActorJob) → job_for w job ≡ Some made → IsReady made → Came w made []
-came_first w (jobs.Change k) made is ready = change_made w k (change_of w.batches k) made refl is ready
-came_first w (jobs.Run o row) made is ready = run_made w o row (slice_get w.shared.state.observers o) made refl is ready
+came_first w (Job.Change k) made is ready = change_made w k (change_of w.batches k) made refl is ready
+came_first w (Job.Run o row) made is ready = run_made w o row (slice_get w.shared.state.observers o) made refl is ready
 
 -- its conversation begins at the end of its seat's list
 launched_sound : (w v : WorldOf) (k : ℕ) (job : Job) (n : Note) → 0 < k → IsSoundWorld w → Launches w k job n v → IsSoundWorld v
@@ -336,7 +328,7 @@ own_moved w v seat told s its m after = subst (λ x. IsSoundWorld x) (sym after)
 own_sound : (w v : WorldOf) (st : Step) (n : Note) → IsSoundWorld w → OwnCalls w st n v → IsSoundWorld v
 own_sound w v st n s d = by (call_reason w.shared d.seat.number st) d.calls
   where
-    by : (r : Option Reason) → MatchOption r (OwnAnswers w d.seat st n v) (λ why. (n ≡ Refused (reason_code why)) × (v ≡ w)) → IsSoundWorld v
+    by : (r : Option Reason) → MatchOption r (OwnAnswers w d.seat st n v) (λ why. (n ≡ Note.Refused (reason_code why)) × (v ≡ w)) → IsSoundWorld v
     by None c = own_moved w v d.seat c.told s d.its_seat (calls st c.answer c.calls) c.after
     by (Some y) c = subst (λ x. IsSoundWorld x) (sym c.1) s
 
@@ -355,12 +347,12 @@ not_own_launch w k made (Some a) is h = read_some w k a (k == 0) refl is
 
 -- so any event keeps a world sound
 does_sound : (w : WorldOf) (e : Event) (n : Note) (v : WorldOf) → IsSoundWorld w → fault_of w e ≡ None → Does w e n v → IsSoundWorld v
-does_sound w (events.Launch k job) n v s can d = launched_sound w v k job n (not_own_launch w k (job_for w job) (actor_of w k) refl can) s d
-does_sound w (events.Step k) n v s can d = stepped w v k n (not_own w k (actor_of w k) refl can) s d
-does_sound w (events.Crash k) n v s can d = crashed_sound w v k n (not_own w k (actor_of w k) refl can) s d
-does_sound w (events.Settle x) n v s can d = own_sound w v (step.Settle x) n s d
-does_sound w (events.Clear x) n v s can d = own_sound w v (step.Clear x) n s d
-does_sound w (events.Sweep x) n v s can d = own_sound w v (step.Sweep x) n s d
+does_sound w (Event.Launch k job) n v s can d = launched_sound w v k job n (not_own_launch w k (job_for w job) (actor_of w k) refl can) s d
+does_sound w (Event.Step k) n v s can d = stepped w v k n (not_own w k (actor_of w k) refl can) s d
+does_sound w (Event.Crash k) n v s can d = crashed_sound w v k n (not_own w k (actor_of w k) refl can) s d
+does_sound w (Event.Settle x) n v s can d = own_sound w v (Step.Settle x) n s d
+does_sound w (Event.Clear x) n v s can d = own_sound w v (Step.Clear x) n s d
+does_sound w (Event.Sweep x) n v s can d = own_sound w v (Step.Sweep x) n s d
 
 -- and any list of events
 pub events_keep_sound : EventsKeepSound

@@ -2,7 +2,6 @@
 -- of the table is one.
 use Rattle.std.specs.Prelude.{◌≡◌, ℕ, MatchBool, Option, Some, None, MatchOption, Result, MatchResult}
 use Rattle.pb_base.specs.declared.refusal.Reason.{Reason}
-use Rattle.pb_base.specs.declared.refusal.Reason.TheVariants.{NoMemory}
 use Rattle.pb_base.specs.Reasons.{reason_code}
 use Rattle.pb_steps.specs.declared.step.Step.{Step}
 use Rattle.pb_steps.specs.declared.step.Answer.{Answer}
@@ -10,20 +9,18 @@ use Rattle.pb_steps.specs.Answers.{CanAnswer}
 use Rattle.pb_core.specs.Calls.{SharedOf, SeatOf, Calls, call_reason}
 use Rattle.pb_world.specs.declared.actor.Actor.{Actor}
 use Rattle.pb_world.specs.declared.actor.NotCalled.{NotCalled}
-use Rattle.pb_world.specs.declared.actor.NotCalled.TheVariants as causes
 use Rattle.pb_world.specs.declared.job.ActorJob.{ActorJob}
 use Rattle.pb_world.specs.declared.note.Note.{Note}
-use Rattle.pb_world.specs.declared.note.Note.TheVariants.{Called, Refused, Instruction, Crashed, Idle}
 use Rattle.pb_world.specs.Jobs.{next_of, Takes, is_local, Computes, GrowsNext, kept}
 
 -- no number of a refusal applies
 abbrev pub NoneApplies : Option Reason → Type 0
-NoneApplies o = (why : Reason) → o ≡ Some why → reason_code why ≡ reason_code NoMemory
+NoneApplies o = (why : Reason) → o ≡ Some why → reason_code why ≡ reason_code Reason.NoMemory
 
 -- the number is that of the reason for which the step is refused, and want of memory is told where there is none
 abbrev pub IsRefusedBy : SharedOf → ℕ → Step → NotCalled → Type 0
-IsRefusedBy s seat step (causes.Refused code) = (why : Reason) × (call_reason s seat step ≡ Some why) × (code ≡ reason_code why)
-IsRefusedBy s seat step causes.NoMemory = NoneApplies (call_reason s seat step)
+IsRefusedBy s seat step (NotCalled.Refused code) = (why : Reason) × (call_reason s seat step ≡ Some why) × (code ≡ reason_code why)
+IsRefusedBy s seat step NotCalled.NoMemory = NoneApplies (call_reason s seat step)
 
 -- what holds with a note, and what where memory was refused
 abbrev pub OnNote : {E : Type 0} → Result Note E → (Note → Type 0) → Type 0 → Type 0
@@ -65,7 +62,7 @@ pub record IsNotAnswered (s : SharedOf) (seat : SeatOf) (j : ActorJob) (t : Shar
 pub record AnswersJob (s : SharedOf) (seat : SeatOf) (j : ActorJob) (step : Step) (to : Stepped) : Type 0 where
   pub answer : Answer
   pub after : ActorJob
-  pub note : to.note ≡ Called answer
+  pub note : to.note ≡ Note.Called answer
   pub can : CanAnswer step answer
   pub calls : Calls s seat step answer to.table to.seat
   pub takes : Takes j answer after
@@ -73,7 +70,7 @@ pub record AnswersJob (s : SharedOf) (seat : SeatOf) (j : ActorJob) (step : Step
 
 -- the table refuses the step, which ends the job
 pub record RefusesJob (s : SharedOf) (seat : SeatOf) (why : Reason) (to : Stepped) : Type 0 where
-  pub note : to.note ≡ Refused (reason_code why)
+  pub note : to.note ≡ Note.Refused (reason_code why)
   pub same : ChangesJobAlone s seat to.table to.seat
   pub left : to.job ≡ None
 
@@ -84,14 +81,14 @@ CallSteps s seat j step to = MatchOption (call_reason s seat.number step) (Answe
 -- one instruction of its machine
 pub record Instructs (s : SharedOf) (seat : SeatOf) (j : ActorJob) (to : Stepped) : Type 0 where
   pub after : ActorJob
-  pub note : to.note ≡ Instruction
+  pub note : to.note ≡ Note.Instruction
   pub same : ChangesJobAlone s seat to.table to.seat
   pub computes : Computes j after
   pub left : to.job ≡ Some after
 
 -- there was nothing to do
 pub record IsIdle (s : SharedOf) (seat : SeatOf) (to : Stepped) : Type 0 where
-  pub note : to.note ≡ Idle
+  pub note : to.note ≡ Note.Idle
   pub same : ChangesJobAlone s seat to.table to.seat
   pub left : to.job ≡ None
 
@@ -126,5 +123,5 @@ crashed a = record { launched = a.launched; job = None }
 
 -- an actor without job has nothing to lose
 abbrev pub crash_note : Option ActorJob → Note
-crash_note None = Idle
-crash_note (Some j) = Crashed
+crash_note None = Note.Idle
+crash_note (Some j) = Note.Crashed

@@ -1,28 +1,21 @@
 -- Worlds, and runs of a list of events. The contracts of `World` cite them, and the laws of this crate and of
 -- `law_worlds` speak of `RunsTo`.
-use Rattle.std.specs.Prelude.{◌≡◌, ℕ, ◌-◌, ◌≤◌, ◌==◌, if◌then◌else◌, List, [], ◌∷◌, length, take, replicate, Option, Some, None, MatchOption, slice_get, slice_set, ◌⊎◌}
-use Rattle.std.specs.Option.{option_map, option_and_then}
+use Rattle.std.specs.Prelude.{◌≡◌, ℕ, ◌-◌, ◌≤◌, ◌==◌, if◌then◌else◌, List, [], ◌∷◌, length, take, replicate, Option, Some, None, MatchOption, slice_get, slice_set, ◌⊎◌, option_map, option_and_then}
 use Rattle.pb_base.specs.Batch.{Writes}
 use Rattle.pb_base.specs.Reasons.{reason_code}
 use Rattle.pb_base.specs.declared.names.Row.{Row}
 use Rattle.pb_steps.specs.declared.step.Step.{Step}
-use Rattle.pb_steps.specs.declared.step.Step.TheVariants as steps
 use Rattle.pb_steps.specs.declared.step.Answer.{Answer}
 use Rattle.pb_verify.specs.Observers.{ObserverOf}
 use Rattle.pb_core.specs.Calls.{SharedOf, SeatOf, Calls, call_reason}
 use Rattle.pb_txn.specs.Changes.{new_change}
 use Rattle.pb_notify.specs.Runs.{watch_of, fresh}
 use Rattle.pb_parse.specs.declared.event.Event.{Event}
-use Rattle.pb_parse.specs.declared.event.Event.TheVariants as events
 use Rattle.pb_parse.specs.declared.event.Job.{Job}
-use Rattle.pb_parse.specs.declared.event.Job.TheVariants as jobs
 use Rattle.pb_world.specs.declared.actor.Actor.{Actor}
 use Rattle.pb_world.specs.declared.fault.EventFault.{EventFault}
-use Rattle.pb_world.specs.declared.fault.EventFault.TheVariants as faults
 use Rattle.pb_world.specs.declared.job.ActorJob.{ActorJob}
-use Rattle.pb_world.specs.declared.job.ActorJob.TheVariants as actors
 use Rattle.pb_world.specs.declared.note.Note.{Note}
-use Rattle.pb_world.specs.declared.note.Note.TheVariants.{Launched, Called, Refused}
 use Rattle.pb_world.specs.Faults.{fault_code}
 use Rattle.pb_world.specs.Jobs.{IsReady}
 use Rattle.pb_world.specs.Actors.{ActorSteps, NoneApplies, ActorMayWant, launched, crashed, crash_note}
@@ -52,12 +45,12 @@ change_of batches k = if k == 0 then None else slice_get batches (k - 1)
 
 -- a run of the observer of this number on the cell of this row and of its column
 abbrev pub run_of : List ObserverOf → ℕ → Row → Option ActorJob
-run_of observers o row = option_map (λ (x : ObserverOf). actors.Run (fresh (watch_of o x row))) (slice_get observers o)
+run_of observers o row = option_map (λ (x : ObserverOf). ActorJob.Run (fresh (watch_of o x row))) (slice_get observers o)
 
 -- the job that a launch gives, before its first step; none where there is no such change or observer
 abbrev pub job_for : WorldOf → Job → Option ActorJob
-job_for w (jobs.Change k) = option_map (λ batch. actors.Change (new_change batch)) (change_of w.batches k)
-job_for w (jobs.Run o row) = run_of w.shared.state.observers o row
+job_for w (Job.Change k) = option_map (λ batch. ActorJob.Change (new_change batch)) (change_of w.batches k)
+job_for w (Job.Run o row) = run_of w.shared.state.observers o row
 
 -- ---- faults
 
@@ -71,29 +64,29 @@ held_job w k = option_and_then (λ (a : Actor). a.job) (actor_of w k)
 
 -- 63, where there is no such change or observer
 abbrev pub no_job : Option ActorJob → Option EventFault
-no_job None = Some faults.NoSuchJob
+no_job None = Some EventFault.NoSuchJob
 no_job (Some j) = None
 
 -- 61, where the actor has a job, also where 63 would apply
 abbrev pub no_launch_by : Option ActorJob → Option ActorJob → Option EventFault
-no_launch_by (Some j) made = Some faults.Busy
+no_launch_by (Some j) made = Some EventFault.Busy
 no_launch_by None made = no_job made
 
 -- why a launch can't happen, the lowest number first
 abbrev pub no_launch : Option Actor → Option ActorJob → Option EventFault
-no_launch None made = Some faults.NoSuchActor
+no_launch None made = Some EventFault.NoSuchActor
 no_launch (Some a) made = no_launch_by a.job made
 
 -- 60, where there is no such actor
 abbrev pub no_actor : Option Actor → Option EventFault
-no_actor None = Some faults.NoSuchActor
+no_actor None = Some EventFault.NoSuchActor
 no_actor (Some a) = None
 
 -- why an event can't happen, if it can't
 abbrev pub fault_of : WorldOf → Event → Option EventFault
-fault_of w (events.Launch k job) = no_launch (actor_of w k) (job_for w job)
-fault_of w (events.Step k) = no_actor (actor_of w k)
-fault_of w (events.Crash k) = no_actor (actor_of w k)
+fault_of w (Event.Launch k job) = no_launch (actor_of w k) (job_for w job)
+fault_of w (Event.Step k) = no_actor (actor_of w k)
+fault_of w (Event.Crash k) = no_actor (actor_of w k)
 fault_of w _ = None
 
 -- ---- what events do
@@ -109,7 +102,7 @@ pub record Launches (w : WorldOf) (k : ℕ) (job : Job) (n : Note) (v : WorldOf)
   pub its_seat : slice_get w.seats k ≡ Some seat
   pub made_is : job_for w job ≡ Some made
   pub ready : IsReady made
-  pub note : n ≡ Launched
+  pub note : n ≡ Note.Launched
   pub after : v ≡ with_actor w k (launched (length seat.received) made)
 
 -- a step of the actor, by the seat of its number: no other actor and no other seat is changed
@@ -134,7 +127,7 @@ pub record CrashesActor (w : WorldOf) (k : ℕ) (n : Note) (v : WorldOf) : Type 
 pub record OwnAnswers (w : WorldOf) (seat : SeatOf) (step : Step) (n : Note) (v : WorldOf) : Type 0 where
   pub answer : Answer
   pub told : SeatOf
-  pub note : n ≡ Called answer
+  pub note : n ≡ Note.Called answer
   pub calls : Calls w.shared seat step answer v.shared told
   pub after : v ≡ record w { shared = v.shared; seats = slice_set w.seats 0 told }
 
@@ -142,16 +135,16 @@ pub record OwnAnswers (w : WorldOf) (seat : SeatOf) (step : Step) (n : Note) (v 
 pub record OwnCalls (w : WorldOf) (step : Step) (n : Note) (v : WorldOf) : Type 0 where
   pub seat : SeatOf
   pub its_seat : slice_get w.seats 0 ≡ Some seat
-  pub calls : MatchOption (call_reason w.shared seat.number step) (OwnAnswers w seat step n v) (λ why. (n ≡ Refused (reason_code why)) × (v ≡ w))
+  pub calls : MatchOption (call_reason w.shared seat.number step) (OwnAnswers w seat step n v) (λ why. (n ≡ Note.Refused (reason_code why)) × (v ≡ w))
 
 -- what each kind of event does, with its note
 abbrev pub Does : WorldOf → Event → Note → WorldOf → Type 0
-Does w (events.Launch k job) n v = Launches w k job n v
-Does w (events.Step k) n v = StepsActor w k n v
-Does w (events.Crash k) n v = CrashesActor w k n v
-Does w (events.Settle x) n v = OwnCalls w (steps.Settle x) n v
-Does w (events.Clear x) n v = OwnCalls w (steps.Clear x) n v
-Does w (events.Sweep x) n v = OwnCalls w (steps.Sweep x) n v
+Does w (Event.Launch k job) n v = Launches w k job n v
+Does w (Event.Step k) n v = StepsActor w k n v
+Does w (Event.Crash k) n v = CrashesActor w k n v
+Does w (Event.Settle x) n v = OwnCalls w (Step.Settle x) n v
+Does w (Event.Clear x) n v = OwnCalls w (Step.Clear x) n v
+Does w (Event.Sweep x) n v = OwnCalls w (Step.Sweep x) n v
 
 -- one event that is not at fault
 pub record Happens (w : WorldOf) (e : Event) (n : Note) (v : WorldOf) : Type 0 where
@@ -176,12 +169,12 @@ pub record OwnMayWant (w : WorldOf) (step : Step) : Type 0 where
 
 -- a crash and a step of an idle actor take none, and a call that is refused neither
 abbrev pub MayWant : WorldOf → Event → Type 0
-MayWant w (events.Launch k job) = Unit {0}
-MayWant w (events.Step k) = StepMayWant w k
-MayWant w (events.Crash k) = ⊥
-MayWant w (events.Settle x) = OwnMayWant w (steps.Settle x)
-MayWant w (events.Clear x) = OwnMayWant w (steps.Clear x)
-MayWant w (events.Sweep x) = OwnMayWant w (steps.Sweep x)
+MayWant w (Event.Launch k job) = Unit {0}
+MayWant w (Event.Step k) = StepMayWant w k
+MayWant w (Event.Crash k) = ⊥
+MayWant w (Event.Settle x) = OwnMayWant w (Step.Settle x)
+MayWant w (Event.Clear x) = OwnMayWant w (Step.Clear x)
+MayWant w (Event.Sweep x) = OwnMayWant w (Step.Sweep x)
 
 -- the event isn't at fault, and what it does may want memory
 pub record Wants (w : WorldOf) (e : Event) : Type 0 where
@@ -201,4 +194,4 @@ pub record StopsAtEvent (w : WorldOf) (es : List Event) (at code : ℕ) (v : Wor
   pub notes : List Note
   pub within : at ≤ length es
   pub before : RunsTo w (take at es) notes v
-  pub why : ((code ≡ fault_code faults.NoMemory) × ((at ≡ 0) ⊎ ((event : Event) × (slice_get es at ≡ Some event) × Wants v event))) ⊎ ((event : Event) × (fault : EventFault) × (slice_get es at ≡ Some event) × (fault_of v event ≡ Some fault) × (code ≡ fault_code fault))
+  pub why : ((code ≡ fault_code EventFault.NoMemory) × ((at ≡ 0) ⊎ ((event : Event) × (slice_get es at ≡ Some event) × Wants v event))) ⊎ ((event : Event) × (fault : EventFault) × (slice_get es at ≡ Some event) × (fault_of v event ≡ Some fault) × (code ≡ fault_code fault))

@@ -2,14 +2,10 @@
 use Rattle.std.specs.Prelude.{◌≡◌, ℕ, false, List, ◌∷◌, ◌++◌, Some, None, slice_get, ◌⊎◌}
 use Rattle.pb_history.specs.History.{Has}
 use Rattle.pb_parse.specs.declared.event.Event.{Event}
-use Rattle.pb_parse.specs.declared.event.Event.TheVariants as events
 use Rattle.pb_parse.specs.declared.event.Job.{Job}
-use Rattle.pb_parse.specs.declared.event.Job.TheVariants as jobs
 use Rattle.pb_world.specs.declared.actor.Actor.{Actor}
 use Rattle.pb_world.specs.declared.job.ActorJob.{ActorJob}
-use Rattle.pb_world.specs.declared.job.ActorJob.TheVariants.{Change, Run}
 use Rattle.pb_world.specs.declared.note.Note.{Note}
-use Rattle.pb_world.specs.declared.note.Note.TheVariants.{Refused}
 use Rattle.pb_world.specs.Jobs.{is_over}
 use Rattle.pb_world.specs.Events.{WorldOf, change_of, actor_of, Happens, RunsTo, StopsAtEvent}
 use Rattle.pb_world.specs.Sound.{HasObserver}
@@ -17,21 +13,21 @@ use Rattle.pb_world.specs.Headline.{IsOpened}
 
 -- the event launches or crashes this actor
 abbrev pub Renews : ℕ → Event → Type 0
-Renews k (events.Launch i job) = i ≡ k
-Renews k (events.Crash i) = i ≡ k
+Renews k (Event.Launch i job) = i ≡ k
+Renews k (Event.Crash i) = i ≡ k
 Renews k e = ⊥
 
 -- the last of these events that launches or crashes this actor launches it for this
 pub record IsLastLaunch (es : List Event) (k : ℕ) (job : Job) : Type 0 where
   pub before : List Event
   pub after : List Event
-  pub es_is : es ≡ before ++ events.Launch k job ∷ after
+  pub es_is : es ≡ before ++ Event.Launch k job ∷ after
   pub last : (e : Event) → Has after e → Renews k e → ⊥
 
 -- the change of this number, or a run of this observer on the cell of this row
 abbrev pub IsOf : WorldOf → Job → ActorJob → Type 0
-IsOf w (jobs.Change k) (Change c) = change_of w.batches k ≡ Some c.batch
-IsOf w (jobs.Run o row) (Run r) = (r.watch.observer ≡ o) × (r.watch.row ≡ row) × HasObserver w r.watch
+IsOf w (Job.Change k) (ActorJob.Change c) = change_of w.batches k ≡ Some c.batch
+IsOf w (Job.Run o row) (ActorJob.Run r) = (r.watch.observer ≡ o) × (r.watch.row ≡ row) × HasObserver w r.watch
 IsOf w job j = ⊥
 
 -- the actor's last launch among these events was for this job, which isn't at its end
@@ -49,14 +45,14 @@ JobsAreGiven = (w : WorldOf) (es : List Event) (ns : List Note) (v : WorldOf) �
 -- an actor with a job isn't launched
 abbrev pub BusyActorsAreLeft : Type 0
 BusyActorsAreLeft = (w : WorldOf) (k : ℕ) (a : Actor) (j : ActorJob) (job : Job) (es : List Event) (ns : List Note) (v : WorldOf)
-    → actor_of w k ≡ Some a → a.job ≡ Some j → RunsTo w (events.Launch k job ∷ es) ns v → ⊥
+    → actor_of w k ≡ Some a → a.job ≡ Some j → RunsTo w (Event.Launch k job ∷ es) ns v → ⊥
 
 -- events that begin so stop there, at 61, or at 1 for want of room, and the world is as it was
 abbrev pub BusyActorsAreTold : Type 0
 BusyActorsAreTold = (w : WorldOf) (k : ℕ) (a : Actor) (j : ActorJob) (job : Job) (es : List Event) (at code : ℕ) (v : WorldOf)
-    → actor_of w k ≡ Some a → a.job ≡ Some j → StopsAtEvent w (events.Launch k job ∷ es) at code v
+    → actor_of w k ≡ Some a → a.job ≡ Some j → StopsAtEvent w (Event.Launch k job ∷ es) at code v
     → (at ≡ 0) × (v ≡ w) × ((code ≡ 61) ⊎ (code ≡ 1))
 
 -- an actor whose step was refused has no job
 abbrev pub RefusedJobsEnd : Type 0
-RefusedJobsEnd = (w : WorldOf) (k code : ℕ) (v : WorldOf) (a : Actor) → Happens w (events.Step k) (Refused code) v → slice_get v.actors k ≡ Some a → a.job ≡ None
+RefusedJobsEnd = (w : WorldOf) (k code : ℕ) (v : WorldOf) (a : Actor) → Happens w (Event.Step k) (Note.Refused code) v → slice_get v.actors k ≡ Some a → a.job ≡ None

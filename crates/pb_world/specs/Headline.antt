@@ -20,7 +20,6 @@ use Rattle.pb_notify.specs.Led.{MachineStandsAt, IsMachineOf, IsAskingAt, HasEnd
 use Rattle.pb_parse.specs.declared.event.Event.{Event}
 use Rattle.pb_world.specs.declared.actor.Actor.{Actor}
 use Rattle.pb_world.specs.declared.job.ActorJob.{ActorJob}
-use Rattle.pb_world.specs.declared.job.ActorJob.TheVariants.{Change, Run}
 use Rattle.pb_world.specs.declared.note.Note.{Note}
 use Rattle.pb_world.specs.Events.{WorldOf, change_of, idle_actors, RunsTo}
 use Rattle.pb_world.specs.Sound.{HasObserver}
@@ -57,8 +56,8 @@ pub record HoldsOfRun (w : WorldOf) (r : RunOf) (said : List Received) : Type 0 
 
 -- what is promised of a job and what was said for it
 abbrev pub HoldsOfJob : WorldOf → ActorJob → List Received → Type 0
-HoldsOfJob w (Change c) said = HoldsOfChange w c said
-HoldsOfJob w (Run r) said = HoldsOfRun w r said
+HoldsOfJob w (ActorJob.Change c) said = HoldsOfChange w c said
+HoldsOfJob w (ActorJob.Run r) said = HoldsOfRun w r said
 
 -- its conversation is what its seat was told since the launch, and the seat's list is the journal's entries of that
 -- seat

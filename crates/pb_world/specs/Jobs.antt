@@ -1,6 +1,5 @@
 -- The job of an actor, as the table meets it: a change or a run, with the words that both have.
-use Rattle.std.specs.Prelude.{◌≡◌, ℕ, Bool, true, false, if◌then◌else◌, Option, Some, None, ◌≤◌}
-use Rattle.std.specs.Option.{is_some}
+use Rattle.std.specs.Prelude.{◌≡◌, ℕ, Bool, true, false, if◌then◌else◌, Option, Some, None, ◌≤◌, is_some}
 use Rattle.pb_base.specs.Batch.{is_batch}
 use Rattle.pb_isa.specs.declared.limits.TheConstants.{MAX_RECORD_BYTES}
 use Rattle.pb_isa.specs.Programs.{JudgedOf, IsProgram}
@@ -10,16 +9,14 @@ use Rattle.pb_steps.specs.declared.step.Answer.{Answer}
 use Rattle.pb_txn.specs.Plans as plans
 use Rattle.pb_txn.specs.Changes as changes
 use Rattle.pb_notify.specs.declared.need.Need.{Need}
-use Rattle.pb_notify.specs.declared.need.Need.TheVariants.{Local, Over}
 use Rattle.pb_notify.specs.Runs.{RunOf}
 use Rattle.pb_notify.specs.Runs as runs
 use Rattle.pb_world.specs.declared.job.ActorJob.{ActorJob}
-use Rattle.pb_world.specs.declared.job.ActorJob.TheVariants.{Change, Run}
 
 -- the step that it asks next, if it asks one
 abbrev pub next_of : ActorJob → Option Step
-next_of (Change c) = changes.next_of c
-next_of (Run r) = runs.next_of r
+next_of (ActorJob.Change c) = changes.next_of c
+next_of (ActorJob.Run r) = runs.next_of r
 
 -- the answer is one that this step can have
 abbrev pub CanTake : ActorJob → Answer → Type 0
@@ -27,43 +24,43 @@ CanTake j a = plans.CanTake (next_of j) a
 
 -- after its next step was answered
 abbrev pub Takes : ActorJob → Answer → ActorJob → Type 0
-Takes (Change c) a k = k ≡ Change (changes.answered c a)
-Takes (Run r) a k = (l : RunOf) × (k ≡ Run l) × (l ≡ runs.answered r a) × runs.HearsLook r a l
+Takes (ActorJob.Change c) a k = k ≡ ActorJob.Change (changes.answered c a)
+Takes (ActorJob.Run r) a k = (l : RunOf) × (k ≡ ActorJob.Run l) × (l ≡ runs.answered r a) × runs.HearsLook r a l
 
 -- one instruction is next
 abbrev pub is_local_need : Need → Bool
-is_local_need Local = true
+is_local_need Need.Local = true
 is_local_need _ = false
 
 -- nothing is next
 abbrev pub is_over_need : Need → Bool
-is_over_need (Over end) = true
+is_over_need (Need.Over end) = true
 is_over_need _ = false
 
 -- its machine's next instruction is next
 abbrev pub is_local : ActorJob → Bool
-is_local (Change c) = false
-is_local (Run r) = is_local_need (runs.need_of r)
+is_local (ActorJob.Change c) = false
+is_local (ActorJob.Run r) = is_local_need (runs.need_of r)
 
 -- the slot of that instruction
 abbrev pub IsSlotOf : ActorJob → Option ℕ → Type 0
-IsSlotOf (Change c) slot = slot ≡ None
-IsSlotOf (Run r) slot = runs.IsSlotOf r slot
+IsSlotOf (ActorJob.Change c) slot = slot ≡ None
+IsSlotOf (ActorJob.Run r) slot = runs.IsSlotOf r slot
 
 -- after one instruction of its machine
 abbrev pub Computes : ActorJob → ActorJob → Type 0
-Computes (Change c) k = ⊥
-Computes (Run r) k = (l : RunOf) × (k ≡ Run l) × runs.Computes r l
+Computes (ActorJob.Change c) k = ⊥
+Computes (ActorJob.Run r) k = (l : RunOf) × (k ≡ ActorJob.Run l) × runs.Computes r l
 
 -- its machine's next instruction takes memory
 abbrev pub GrowsNext : ActorJob → Type 0
-GrowsNext (Change c) = ⊥
-GrowsNext (Run r) = runs.GrowsNext r
+GrowsNext (ActorJob.Change c) = ⊥
+GrowsNext (ActorJob.Run r) = runs.GrowsNext r
 
 -- it has come to its end
 abbrev pub is_over : ActorJob → Bool
-is_over (Change c) = is_some (changes.outcome_of c)
-is_over (Run r) = is_over_need (runs.need_of r)
+is_over (ActorJob.Change c) = is_some (changes.outcome_of c)
+is_over (ActorJob.Run r) = is_over_need (runs.need_of r)
 
 -- a job that is over is gone
 abbrev pub kept : ActorJob → Option ActorJob
@@ -79,5 +76,5 @@ pub record RulesAccept (j : JudgedOf) : Type 0 where
 
 -- a change of some cells, each named once, or a run of an accepted program
 abbrev pub IsReady : ActorJob → Type 0
-IsReady (Change c) = is_batch c.batch ≡ true
-IsReady (Run r) = RulesAccept r.watch.judged
+IsReady (ActorJob.Change c) = is_batch c.batch ≡ true
+IsReady (ActorJob.Run r) = RulesAccept r.watch.judged

@@ -11,7 +11,6 @@ use Rattle.pb_notify.specs.Runs.{Watch, RunOf, fresh}
 use Rattle.pb_notify.specs.Conversations.{Reaches}
 use Rattle.pb_world.specs.declared.actor.Actor.{Actor}
 use Rattle.pb_world.specs.declared.job.ActorJob.{ActorJob}
-use Rattle.pb_world.specs.declared.job.ActorJob.TheVariants.{Change, Run}
 use Rattle.pb_world.specs.declared.note.Note.{Note}
 use Rattle.pb_world.specs.Jobs.{RulesAccept}
 use Rattle.pb_parse.specs.declared.event.Event.{Event}
@@ -39,8 +38,8 @@ pub record RunCame (w : WorldOf) (r : RunOf) (said : List Received) : Type 0 whe
 
 -- the job was led to where it stands by what was said
 abbrev pub Came : WorldOf → ActorJob → List Received → Type 0
-Came w (Change c) said = ChangeCame w c said
-Came w (Run r) said = RunCame w r said
+Came w (ActorJob.Change c) said = ChangeCame w c said
+Came w (ActorJob.Run r) said = RunCame w r said
 
 -- what a seat was told since the launch led the job to where it stands
 pub record IsTied (w : WorldOf) (seat : SeatOf) (launched : ℕ) (j : ActorJob) : Type 0 where

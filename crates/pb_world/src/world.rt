@@ -233,7 +233,7 @@ impl<T: Tablet> World<T> {
                 // A copy, since the same change may be launched again.
                 let batch = batch.copy()?;
                 // For the proof: a batch has some cells, each named once.
-                let _ = batch.len();
+                batch.known();
                 match ChangeJob::new(alloc, batch) {
                     Ok(job) => Ok(ActorJob::Change(job)),
                     Err(_) => Err(NoMemory),
@@ -243,8 +243,7 @@ impl<T: Tablet> World<T> {
                 let observer = &self.shared.observers()[number.number() as usize];
                 let program = Arc::try_clone(&observer.program)?;
                 // For the proof: the rules accept it.
-                let _ = program.slots();
-                let _ = program.program().slots();
+                program.known();
                 let job = ObserverJob::new(*number, program, *row, observer.column);
                 Ok(ActorJob::Run(job))
             }

@@ -1,6 +1,5 @@
 -- Of which sort the tablet at a place is, by whether the number of swaps there is even.
-use Rattle.std.proofs.Common.{◌≡◌, ℕ, ◌%◌, zero, suc, Bool, true, false, refl, arith, ◌∙◌}
-use Rattle.std.specs.Prelude.{◌==◌, not}
+use Rattle.std.proofs.Common.{◌≡◌, ℕ, ◌%◌, zero, suc, Bool, true, false, refl, arith, ◌∙◌, ◌==◌, not}
 use Rattle.percobpf.specs.Places.{is_slab}
 
 -- a tablet that is replaced twice is of its first sort again

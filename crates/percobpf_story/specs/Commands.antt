@@ -1,7 +1,6 @@
 -- What a command of the story program leaves: its status, its output and the line of its fault. No path is written.
 use Rattle.std.specs.Prelude.{ℕ, Result}
 use Rattle.pb_texts.specs.declared.words.choice.StoryOptions.{StoryOptions}
-use Rattle.pb_texts.specs.declared.words.choice.StoryOptions.TheVariants as options
 use Rattle.pb_command.specs.declared.answer.Verdict.{Verdict}
 use Rattle.pb_command.specs.declared.fault.Fault.{Fault}
 use Rattle.pb_base.specs.Taking.{Taking}
@@ -13,8 +12,8 @@ use Rattle.percobpf_story.specs.Replays.{TellsTexts}
 
 -- What is left on the output where a command ended so. What is known before a slot is the same for every version.
 abbrev pub StoryLeaves : StoryOptions → Held → Taking → Result Verdict Fault → Type 0
-StoryLeaves (options.Frames program) before out outcome = AnswerLeaves (TellsProgram frames_text program.profile) (before program.file.now) program.file.now out outcome
-StoryLeaves (options.Replay files) before out outcome = ReplayLeaves TellsTexts before files out outcome
+StoryLeaves (StoryOptions.Frames program) before out outcome = AnswerLeaves (TellsProgram frames_text program.profile) (before program.file.now) program.file.now out outcome
+StoryLeaves (StoryOptions.Replay files) before out outcome = ReplayLeaves TellsTexts before files out outcome
 
 -- how a command ended, as its status and the line of its fault tell it
 pub record StoryCommands (options : StoryOptions) (files : Filing) (out err : Taking) (status : ℕ) : Type 0 where

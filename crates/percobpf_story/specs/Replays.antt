@@ -4,19 +4,17 @@ use Rattle.std.specs.Prelude.{◌⊎◌, ℕ, List, Result, Ok, Err}
 use Rattle.pb_parse.specs.declared.event.Event.{Event}
 use Rattle.pb_world.specs.Events.{WorldOf}
 use Rattle.pb_driver.specs.declared.fault.RunFault.{RunFault}
-use Rattle.pb_driver.specs.declared.fault.RunFault.TheVariants as faults
 use Rattle.pb_driver.specs.Texts.{IsReplayUnread}
 use Rattle.pb_driver.specs.Replays.{OpensReplay}
 use Rattle.pb_base.specs.Taking.{Taking, TookNothing}
 use Rattle.pb_story.specs.declared.fault.StoryFault.{StoryFault}
-use Rattle.pb_story.specs.declared.fault.StoryFault.TheVariants as ends
 use Rattle.pb_story.specs.Stories.{StoryEnds}
 
 -- the fault of a story as one of a replay
 abbrev pub of_story : StoryFault → RunFault
-of_story (ends.Event f) = faults.Event f
-of_story ends.Output = faults.Output
-of_story ends.NoMemory = faults.NoMemory
+of_story (StoryFault.Event f) = RunFault.Event f
+of_story StoryFault.Output = RunFault.Output
+of_story StoryFault.NoMemory = RunFault.NoMemory
 
 -- the story of the schedule's events ended so in the world that the three texts open
 pub record ToldOn (last : ℕ) (manifest script schedule : List ℕ) (out : Taking) (result : Result (Unit {0}) StoryFault) : Type 0 where
@@ -30,7 +28,7 @@ pub record ToldOn (last : ℕ) (manifest script schedule : List ℕ) (out : Taki
 -- written.
 abbrev pub TellsTexts : ℕ → List ℕ → List ℕ → List ℕ → Taking → Result (Unit {0}) RunFault → Type 0
 TellsTexts last manifest script schedule out (Ok u) = ToldOn last manifest script schedule out (Ok u)
-TellsTexts last manifest script schedule out (Err faults.NoMemory) = ToldOn last manifest script schedule out (Err ends.NoMemory) ⊎ TookNothing out
-TellsTexts last manifest script schedule out (Err faults.Output) = ToldOn last manifest script schedule out (Err ends.Output)
-TellsTexts last manifest script schedule out (Err (faults.Event f)) = ToldOn last manifest script schedule out (Err (ends.Event f))
+TellsTexts last manifest script schedule out (Err RunFault.NoMemory) = ToldOn last manifest script schedule out (Err StoryFault.NoMemory) ⊎ TookNothing out
+TellsTexts last manifest script schedule out (Err RunFault.Output) = ToldOn last manifest script schedule out (Err StoryFault.Output)
+TellsTexts last manifest script schedule out (Err (RunFault.Event f)) = ToldOn last manifest script schedule out (Err (StoryFault.Event f))
 TellsTexts last manifest script schedule out (Err f) = IsReplayUnread manifest script schedule f × TookNothing out

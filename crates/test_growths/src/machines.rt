@@ -117,7 +117,7 @@ pub fn file_runs(
         return Ok(false);
     };
     match finished(vm) {
-        Some((finished, taken)) => Ok(finished.run() == Ts(3) && taken == count),
+        Some((finished, taken)) => Ok(finished.start() == Ts(3) && taken == count),
         None => Ok(false),
     }
 }

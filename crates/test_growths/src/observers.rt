@@ -116,7 +116,7 @@ pub fn machines_start(alloc: Global, refusals: &mut Refusals) -> Result<bool, No
     let cell = Cell::Data(Row(7), column()?);
     match finished(alloc, &program, &cell, refusals) {
         Some(finished) => Ok(
-            finished.is_of(&program) && finished.run() == Ts(3) && finished.result() == 0,
+            finished.is_of(&program) && finished.start() == Ts(3) && finished.result() == 0,
         ),
         None => Ok(false),
     }

@@ -34,7 +34,7 @@ pub fn add_left(alloc: Global, text: &mut String, finished: &Finished) -> Result
     writeln!(
         text,
         "run {} result {}",
-        finished.run().0,
+        finished.start().0,
         finished.result()
     )?;
     for said in finished.talk() {

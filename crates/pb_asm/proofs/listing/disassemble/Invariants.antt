@@ -1,5 +1,4 @@
-use Rattle.std.proofs.Common.{◌≡◌, take}
-use Rattle.std.specs.Prelude.{string_bytes}
+use Rattle.std.proofs.Common.{◌≡◌, take, string_bytes}
 use Rattle.pb_asm.specs.Listing.{listing}
 use Rattle.pb_asm.proofs.listing.disassemble.Given as goal
 

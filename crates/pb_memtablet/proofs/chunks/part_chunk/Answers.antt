@@ -1,9 +1,6 @@
-use Rattle.std.proofs.Common.{◌≡◌, ◌<◌, ◌+◌, suc, set, drop, length, arith, sym, ap, ◌∙◌, subst}
+use Rattle.std.proofs.Common.{◌≡◌, ◌<◌, ◌+◌, suc, set, drop, length, arith, sym, ap, ◌∙◌, subst, All, insert, IfSome, is_ok}
 use Rattle.std.proofs.lemmas.List.{take-append-drop}
 use Rattle.std.proofs.lemmas.List.Elements.{All-pop, All-set}
-use Rattle.std.specs.List.{All, insert}
-use Rattle.std.specs.Option.{IfSome}
-use Rattle.std.specs.Result.{is_ok}
 use Rattle.pb_memtablet.specs.declared.chunks.TheConstants.{HALF}
 use Rattle.pb_memtablet.specs.Chunks.{chunk_entries, IsChunk, IsSpare}
 use Rattle.pb_memtablet.proofs.Homes.{made}

@@ -1,5 +1,4 @@
-use Rattle.std.proofs.Common.{◌≡◌, ◌-◌, get_or, ◌<◌, ◌+◌, cond, length, set, arith, sym, ap, ◌∙◌, subst, T, vec_len}
-use Rattle.std.specs.List.{All}
+use Rattle.std.proofs.Common.{◌≡◌, ◌-◌, get_or, ◌<◌, ◌+◌, cond, length, set, arith, sym, ap, ◌∙◌, subst, T, vec_len, All}
 use Rattle.std.specs.FinMap.{is_sorted}
 use Rattle.std.specs.FinMap.Entries.{is_sorted-where_key}
 use Rattle.std.proofs.lemmas.List.Elements.{All-set}

@@ -1,6 +1,4 @@
-use Rattle.std.proofs.Common.{◌≡◌, ◌++◌, [], length, subst, sym, ap, rules}
-use Rattle.std.specs.Result.{is_ok}
-use Rattle.std.specs.List.{All}
+use Rattle.std.proofs.Common.{◌≡◌, ◌++◌, [], length, subst, sym, ap, rules, is_ok, All}
 use Rattle.std.proofs.lemmas.List.{append-nil}
 use Rattle.std.proofs.lemmas.List.Elements.{All-drop}
 use Rattle.pb_memtablet.specs.Chunks.{IsChunk}

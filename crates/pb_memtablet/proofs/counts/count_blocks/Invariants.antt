@@ -1,5 +1,4 @@
-use Rattle.std.proofs.Common.{◌≤◌, ◌+◌, ◌++◌, ℕ, List, length, vec_len, vec_capacity}
-use Rattle.std.specs.List.{All}
+use Rattle.std.proofs.Common.{◌≤◌, ◌+◌, ◌++◌, ℕ, List, length, vec_len, vec_capacity, All}
 use Rattle.pb_memtablet.specs.Chunks.{IsChunk}
 use Rattle.pb_memtablet.specs.BlockCounts.{AreCounts}
 use Rattle.pb_memtablet.proofs.counts.count_blocks.Given as goal

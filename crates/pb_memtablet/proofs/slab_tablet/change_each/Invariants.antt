@@ -1,5 +1,4 @@
-use Rattle.std.proofs.Common.{◌≡◌, ◌≤◌, drop}
-use Rattle.std.specs.List.{count_by}
+use Rattle.std.proofs.Common.{◌≡◌, ◌≤◌, drop, count_by}
 use Rattle.slab.specs.Slab.{HasRoomFor}
 use Rattle.pb_store.specs.Contents.{after_edits, AllPutOfSort}
 use Rattle.pb_memtablet.specs.Listed.{contents_of, is_put, is_mark}

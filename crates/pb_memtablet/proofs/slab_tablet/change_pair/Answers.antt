@@ -2,7 +2,7 @@ use Rattle.std.proofs.Common.{◌≡◌, ◌∙◌, ap, subst, refl, drop, ◌�
 use Rattle.std.specs.FinMap.{put}
 use Rattle.pb_store.specs.Contents.{AllPutOfSort}
 use Rattle.pb_store.specs.Slot.{slot_cmp}
-use Rattle.pb_store.specs.declared.slot.Edit.TheVariants.{Put, Erase}
+use Rattle.pb_store.specs.declared.slot.Edit.{Edit}
 use Rattle.pb_memtablet.specs.Listed.{EntryList}
 use Rattle.pb_memtablet.specs.Stored.{seen}
 use Rattle.pb_memtablet.proofs.Homes.{without}
@@ -23,16 +23,16 @@ fs c = seen c.renew_entry.new.items.slots c.renew_entry.new.keys.entries
 abbrev without_gone : After-renew_entry → EntryList
 without_gone c = without slot_cmp c.in-Erase-Put.gone (es c)
 
-edits_are : (c : After-renew_entry) → c.args.edits.now ≡ Erase c.in-Erase-Put.gone ∷ Put c.in-Erase-Put.slot c.in-Erase-Put.item ∷ drop 2 c.args.edits.now
+edits_are : (c : After-renew_entry) → c.args.edits.now ≡ Edit.Erase c.in-Erase-Put.gone ∷ Edit.Put c.in-Erase-Put.slot c.in-Erase-Put.item ∷ drop 2 c.args.edits.now
 edits_are c =
     first_two c.args.edits.now c.first-item.result c.second-item.result c.in-len2-up.len_at_least c.first-item.is c.second-item.is
     ∙ ap (λ e. e ∷ c.second-item.result ∷ drop 2 c.args.edits.now) c.in-Erase-Put.is-0
-    ∙ ap (λ e. Erase c.in-Erase-Put.gone ∷ e ∷ drop 2 c.args.edits.now) c.in-Erase-Put.is-1
+    ∙ ap (λ e. Edit.Erase c.in-Erase-Put.gone ∷ e ∷ drop 2 c.args.edits.now) c.in-Erase-Put.is-1
 
-removal : (c : After-renew_entry) → IsDone (without_gone c) c.args.marks.now.entries (Erase c.in-Erase-Put.gone) (es c) c.args.marks.now.entries
+removal : (c : After-renew_entry) → IsDone (without_gone c) c.args.marks.now.entries (Edit.Erase c.in-Erase-Put.gone) (es c) c.args.marks.now.entries
 removal c = erase_done (es c) c.args.marks.now.entries c.requires.kept.lists (without_gone c) c.in-Erase-Put.gone refl
 
-put_after : (c : After-renew_entry) → fs c ≡ put slot_cmp c.in-Erase-Put.slot c.in-Erase-Put.item (without_gone c) → IsDone (fs c) c.args.marks.now.entries (Put c.in-Erase-Put.slot c.in-Erase-Put.item) (without_gone c) c.args.marks.now.entries
+put_after : (c : After-renew_entry) → fs c ≡ put slot_cmp c.in-Erase-Put.slot c.in-Erase-Put.item (without_gone c) → IsDone (fs c) c.args.marks.now.entries (Edit.Put c.in-Erase-Put.slot c.in-Erase-Put.item) (without_gone c) c.args.marks.now.entries
 put_after c e = put_done (without_gone c) c.args.marks.now.entries (removal c).lists (fs c) c.in-Erase-Put.slot c.in-Erase-Put.item e (subst AllPutOfSort (edits_are c) c.requires.of_sort).1.0
 
 pub returns-then-renew_entry-clause-kept : goal.returns-then-renew_entry-clause-kept
@@ -54,16 +54,16 @@ listed_after c = seen c.put_both.new.items.slots c.put_both.new.keys.entries
 abbrev put_once : After-put_both → EntryList
 put_once c = put slot_cmp c.in-Put-Put.slot c.in-Put-Put.item (listed c)
 
-puts_are : (c : After-put_both) → c.args.edits.now ≡ Put c.in-Put-Put.slot c.in-Put-Put.item ∷ Put c.in-Put-Put.next c.in-Put-Put.next_item ∷ drop 2 c.args.edits.now
+puts_are : (c : After-put_both) → c.args.edits.now ≡ Edit.Put c.in-Put-Put.slot c.in-Put-Put.item ∷ Edit.Put c.in-Put-Put.next c.in-Put-Put.next_item ∷ drop 2 c.args.edits.now
 puts_are c =
     first_two c.args.edits.now c.first-item.result c.second-item.result c.in-len2-up.len_at_least c.first-item.is c.second-item.is
     ∙ ap (λ e. e ∷ c.second-item.result ∷ drop 2 c.args.edits.now) c.in-Put-Put.is-0
-    ∙ ap (λ e. Put c.in-Put-Put.slot c.in-Put-Put.item ∷ e ∷ drop 2 c.args.edits.now) c.in-Put-Put.is-1
+    ∙ ap (λ e. Edit.Put c.in-Put-Put.slot c.in-Put-Put.item ∷ e ∷ drop 2 c.args.edits.now) c.in-Put-Put.is-1
 
-first_put : (c : After-put_both) → IsDone (put_once c) c.args.marks.now.entries (Put c.in-Put-Put.slot c.in-Put-Put.item) (listed c) c.args.marks.now.entries
+first_put : (c : After-put_both) → IsDone (put_once c) c.args.marks.now.entries (Edit.Put c.in-Put-Put.slot c.in-Put-Put.item) (listed c) c.args.marks.now.entries
 first_put c = put_done (listed c) c.args.marks.now.entries c.requires.kept.lists (put_once c) c.in-Put-Put.slot c.in-Put-Put.item refl (subst AllPutOfSort (puts_are c) c.requires.of_sort).0
 
-second_put : (c : After-put_both) → IsDone (listed_after c) c.args.marks.now.entries (Put c.in-Put-Put.next c.in-Put-Put.next_item) (put_once c) c.args.marks.now.entries
+second_put : (c : After-put_both) → IsDone (listed_after c) c.args.marks.now.entries (Edit.Put c.in-Put-Put.next c.in-Put-Put.next_item) (put_once c) c.args.marks.now.entries
 second_put c = put_done (put_once c) c.args.marks.now.entries (first_put c).lists (listed_after c) c.in-Put-Put.next c.in-Put-Put.next_item c.put_both.ensures.seen (subst AllPutOfSort (puts_are c) c.requires.of_sort).1.0
 
 pub put_both-requires-clause-sorted : goal.put_both-requires-clause-sorted

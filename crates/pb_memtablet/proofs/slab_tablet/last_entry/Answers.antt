@@ -1,5 +1,4 @@
-use Rattle.std.proofs.Common.{None, ap, ◌∙◌, subst, sym, IfSome}
-use Rattle.std.specs.Option.{option_map}
+use Rattle.std.proofs.Common.{None, ap, ◌∙◌, subst, sym, IfSome, option_map}
 use Rattle.pb_memtablet.specs.Stored.{HasItem}
 use Rattle.pb_memtablet.proofs.Kept.{as_entry, last-seen, last_stored}
 use Rattle.pb_memtablet.proofs.slab_tablet.last_entry.Goals as goal

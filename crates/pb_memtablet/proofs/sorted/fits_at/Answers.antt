@@ -1,5 +1,4 @@
-use Rattle.std.proofs.Common.{◌≡◌, ◌+◌, subst, arith, suc, get_or}
-use Rattle.std.specs.declared.cmp.Ordering.TheVariants.{Less}
+use Rattle.std.proofs.Common.{◌≡◌, ◌+◌, subst, arith, suc, get_or, Less}
 use Rattle.pb_memtablet.proofs.Spots.{holds, is_less, as_read, gap_in_place}
 use Rattle.pb_memtablet.proofs.sorted.fits_at.Goals as goal
 

@@ -1,5 +1,4 @@
-use Rattle.std.proofs.Common.{sym, ◌∙◌, arith, add-one}
-use Rattle.std.specs.declared.cmp.Ordering.TheVariants.{Less}
+use Rattle.std.proofs.Common.{sym, ◌∙◌, arith, add-one, Less}
 use Rattle.pb_memtablet.proofs.Spots.{is_less, is_greater, as_read, gap_behind}
 use Rattle.pb_memtablet.proofs.sorted.fits_behind.Goals as goal
 

@@ -1,5 +1,4 @@
-use Rattle.std.proofs.Common.{◌-◌, arith}
-use Rattle.std.specs.declared.cmp.Ordering.TheVariants.{Greater}
+use Rattle.std.proofs.Common.{◌-◌, arith, Greater}
 use Rattle.pb_memtablet.proofs.Spots.{is_greater, as_read}
 use Rattle.pb_memtablet.proofs.sorted.is_above_previous.Goals as goal
 

@@ -1,5 +1,4 @@
-use Rattle.std.proofs.Common.{◌+◌, subst}
-use Rattle.std.specs.List.{insert}
+use Rattle.std.proofs.Common.{◌+◌, subst, insert}
 use Rattle.pb_memtablet.specs.Places.{IsGap}
 use Rattle.pb_memtablet.proofs.Spots.{put-both}
 use Rattle.pb_memtablet.proofs.sorted.put_both_in.Goals as goal

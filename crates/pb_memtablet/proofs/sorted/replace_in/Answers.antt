@@ -1,5 +1,4 @@
-use Rattle.std.proofs.Common.{subst, refl, length, ◌<◌}
-use Rattle.std.specs.List.{remove}
+use Rattle.std.proofs.Common.{subst, refl, length, ◌<◌, remove}
 use Rattle.pb_memtablet.specs.Places.{IsFound, IsGap}
 use Rattle.pb_memtablet.proofs.Spots.{holds, replaced}
 use Rattle.pb_memtablet.proofs.sorted.replace_in.Goals as goal

@@ -1,5 +1,4 @@
-use Rattle.std.proofs.Common.{◌≡◌, subst, arith, get_or}
-use Rattle.std.specs.declared.cmp.Ordering.TheVariants.{Less, Equal}
+use Rattle.std.proofs.Common.{◌≡◌, subst, arith, get_or, Less, Equal}
 use Rattle.pb_memtablet.proofs.Spots.{holds, as_read, found_at, gap_between}
 use Rattle.pb_memtablet.proofs.sorted.search_from.Goals as goal
 use Rattle.pb_base.proofs.Logic.{turned}

@@ -1,5 +1,4 @@
-use Rattle.std.proofs.Common.{◌≤◌, ◌-◌, max, vec_len}
-use Rattle.std.specs.List.{All}
+use Rattle.std.proofs.Common.{◌≤◌, ◌-◌, max, vec_len, All}
 use Rattle.pb_memtablet.specs.Chunks.{IsSpare}
 use Rattle.pb_memtablet.proofs.sorted_list.stock_spares.Given as goal
 

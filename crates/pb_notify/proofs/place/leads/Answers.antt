@@ -1,6 +1,6 @@
 use Rattle.std.proofs.Common.{rules, sym, subst}
 use Rattle.pb_txn.specs.Plans.{PlanOf}
-use Rattle.pb_notify.specs.declared.place.RunPlace.TheVariants.{Planning}
+use Rattle.pb_notify.specs.declared.place.RunPlace.{RunPlace}
 use Rattle.pb_notify.specs.Places.{Comes, goes, waits, declares}
 use Rattle.pb_notify.specs.Steps.{MovesOn, IsAtExit}
 use Rattle.pb_notify.proofs.place.leads.Goals as goal
@@ -19,7 +19,7 @@ pub returns-in_ok-end-in-Ended-clause-ok : goal.returns-in_ok-end-in-Ended-claus
 returns-in_ok-end-in-Ended-clause-ok c v m =
     let did = subst (λ x. MovesOn v x c.args.machine) c.in-Ended.is m in
     let end = c.in_ok-end-in-Ended in
-    subst (λ (p : PlanOf). Comes c.args.observer c.args.start v (Planning end.end p)) (sym c.new.ensures) (declares end.end end.what (end.ensures.ok v c.in-Ended.field-0 did))
+    subst (λ (p : PlanOf). Comes c.args.observer c.args.start v (RunPlace.Planning end.end p)) (sym c.new.ensures) (declares end.end end.what (end.ensures.ok v c.in-Ended.field-0 did))
 
 pub returns-in_err-end-in-Ended-clause-same : goal.returns-in_err-end-in-Ended-clause-same
 returns-in_err-end-in-Ended-clause-same c v m =

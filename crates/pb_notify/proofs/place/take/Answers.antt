@@ -3,13 +3,12 @@ use Rattle.pb_steps.specs.declared.step.Answer.{Answer}
 use Rattle.pb_txn.specs.declared.place.Outcome.{Outcome}
 use Rattle.pb_txn.specs.Plans.{PlanOf, answered, outcome_of}
 use Rattle.pb_notify.specs.declared.place.RunPlace.{RunPlace}
-use Rattle.pb_notify.specs.declared.place.RunPlace.TheVariants.{Planning}
 use Rattle.pb_notify.specs.Places.{by_outcome, place_after}
 use Rattle.pb_notify.proofs.place.take.Goals as goal
 
 -- a plan that is over with an answer leads where its outcome does
 ended_at : (second : Bool) (locked : ℕ) (old : RunPlace) (r : ℕ) (p : PlanOf) (a : Answer) (o : Outcome) (place : RunPlace)
-    → old ≡ Planning r p → outcome_of (answered p a) ≡ Some o → ((q : PlanOf) → place ≡ by_outcome r q (Some o)) → place ≡ place_after second locked old a
+    → old ≡ RunPlace.Planning r p → outcome_of (answered p a) ≡ Some o → ((q : PlanOf) → place ≡ by_outcome r q (Some o)) → place ≡ place_after second locked old a
 ended_at second locked old r p a o place is ends leads = leads (answered p a) ∙ sym (ap (λ q. place_after second locked q a) is ∙ ap (by_outcome r (answered p a)) ends)
 
 pub returns-in-Some-clause-place : goal.returns-in-Some-clause-place

@@ -1,5 +1,4 @@
-use Rattle.std.proofs.Common.{rules, ◌≡◌, ◌≤◌, pos, true, false, Some, None, sym, ◌∙◌, arith, is_some}
-use Rattle.std.specs.Prelude.{option_map}
+use Rattle.std.proofs.Common.{rules, ◌≡◌, ◌≤◌, pos, true, false, Some, None, sym, ◌∙◌, arith, is_some, option_map}
 use Rattle.pb_isa.specs.Helpers.{helper_of, declared_helper}
 use Rattle.pb_helpers.specs.Table.{with_helper}
 use Rattle.pb_registry.proofs.HelperElements.{number_of, beyond, twice, no_helper, more}

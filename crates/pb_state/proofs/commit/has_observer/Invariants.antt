@@ -1,5 +1,4 @@
-use Rattle.std.proofs.Common.{◌≡◌, drop}
-use Rattle.std.specs.Prelude.{◌==◌}
+use Rattle.std.proofs.Common.{◌≡◌, drop, ◌==◌}
 use Rattle.std.specs.List.{list_any}
 use Rattle.pb_state.proofs.commit.has_observer.Given as goal
 

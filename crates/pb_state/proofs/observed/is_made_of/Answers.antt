@@ -1,5 +1,4 @@
-use Rattle.std.proofs.Common.{sym, ap, ◌∙◌}
-use Rattle.std.specs.Prelude.{◌==◌}
+use Rattle.std.proofs.Common.{sym, ap, ◌∙◌, ◌==◌}
 use Rattle.pb_state.proofs.SameRuns.{other_program, other_record, by_start}
 use Rattle.pb_state.proofs.observed.is_made_of.Goals as goal
 
@@ -15,4 +14,4 @@ pub returns : goal.returns
 returns c =
     let of = c.is_of.ensures.0 c.if-not-is_of.false in
     let on = sym c.record.ensures ∙ c.is_same.ensures.0 c.if-not-is_same.false in
-    by_start c.args.finished.now c.args.program.now c.args.change.now c.args.start.0 of on c.eq.result (c.eq.ensures ∙ ap (λ n. n == c.args.start.0) c.run.ensures)
+    by_start c.args.finished.now c.args.program.now c.args.change.now c.args.start.0 of on c.eq.result (c.eq.ensures ∙ ap (λ n. n == c.args.start.0) c.start.ensures)

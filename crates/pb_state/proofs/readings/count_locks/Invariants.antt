@@ -1,5 +1,4 @@
-use Rattle.std.proofs.Common.{◌≡◌, ◌+◌, length}
-use Rattle.std.specs.Prelude.{count_by}
+use Rattle.std.proofs.Common.{◌≡◌, ◌+◌, length, count_by}
 use Rattle.std.specs.FinMap as map
 use Rattle.pb_store.specs.Contents.{entries_after}
 use Rattle.pb_steps.specs.Readings.{is_lock}

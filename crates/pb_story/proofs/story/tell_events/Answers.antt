@@ -1,5 +1,4 @@
-use Rattle.std.proofs.Common.{rules, ◌≡◌, ◌<◌, Some, Err, length, subst, refl, sym}
-use Rattle.std.specs.Prelude.{slice_get}
+use Rattle.std.proofs.Common.{rules, ◌≡◌, ◌<◌, Some, Err, length, subst, refl, sym, slice_get}
 use Rattle.std.proofs.lemmas.Option.{slice_get_read}
 use Rattle.pb_base.specs.Taking.{taking}
 use Rattle.pb_story.specs.Stories.{LinesEnd}

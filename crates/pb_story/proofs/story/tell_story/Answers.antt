@@ -1,6 +1,5 @@
 use Rattle.std.proofs.Common.{Ok, Err, subst}
 use Rattle.pb_script.specs.declared.fault.ReportFault.{ReportFault}
-use Rattle.pb_script.specs.declared.fault.ReportFault.TheVariants as ends
 use Rattle.pb_base.specs.Taking.{taking}
 use Rattle.pb_script.specs.TableReports.{Reports}
 use Rattle.pb_story.proofs.Retelling.{reported, report_cut, report_unmade}
@@ -17,11 +16,11 @@ returns-in-Err-Output g c =
     let out = taking g.S.Sink.taken g.S.Sink.failed c.tell_events.new.sink c.report.new.sink in
     let began = subst (λ (f : ReportFault). Reports c.shared.result.now out (Err f)) c.in-Err-Output.field-0-is c.in-Err-Output.ensures in
     report_cut c.args.world.now c.args.events.now c.tell_events.new.world (g.S.Sink.taken c.args.sink.now) out.before out.after (g.S.Sink.failed c.tell_events.new.sink) out.failed c.in_ok-tell_events.ensures
-    (subst (λ s. Reports s out (Err ends.Output)) c.shared.ensures began)
+    (subst (λ s. Reports s out (Err ReportFault.Output)) c.shared.ensures began)
 
 pub returns-in-Err-NoMemory : goal.returns-in-Err-NoMemory
 returns-in-Err-NoMemory g c =
     let out = taking g.S.Sink.taken g.S.Sink.failed c.tell_events.new.sink c.report.new.sink in
     let unmade = subst (λ (f : ReportFault). Reports c.shared.result.now out (Err f)) c.in-Err-NoMemory.field-0-is c.in-Err-NoMemory.ensures in
     report_unmade c.args.world.now c.args.events.now c.tell_events.new.world (g.S.Sink.taken c.args.sink.now) out.before out.after (g.S.Sink.failed c.tell_events.new.sink) out.failed c.in_ok-tell_events.ensures
-    (subst (λ s. Reports s out (Err ends.NoMemory)) c.shared.ensures unmade)
+    (subst (λ s. Reports s out (Err ReportFault.NoMemory)) c.shared.ensures unmade)

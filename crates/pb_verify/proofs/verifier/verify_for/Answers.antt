@@ -1,7 +1,5 @@
-use Rattle.std.proofs.Common.{◌≡◌, ℕ, subst, ◌<◌, ◌≤◌, ◌+◌, ◌*◌, ◌++◌, take, drop, [], ◌∷◌, Some, None, nat_eq, refl, length, sym, ap, ◌∙◌, arith, rules, below_more, add-one}
+use Rattle.std.proofs.Common.{◌≡◌, ℕ, subst, ◌<◌, ◌≤◌, ◌+◌, ◌*◌, ◌++◌, take, drop, [], ◌∷◌, Some, None, nat_eq, refl, length, sym, ap, ◌∙◌, arith, rules, below_more, add-one, slice_index_or, option_map, if◌then◌else◌, box_value}
 use Rattle.std.proofs.lemmas.List.{take_at}
-use Rattle.std.specs.Prelude.{slice_index_or, option_map, if◌then◌else◌}
-use Rattle.std.specs.Box.{box_value}
 use Rattle.pb_verify.specs.Versions.{judged_by}
 use Rattle.pb_isa.specs.Slots.{slots, insn_at}
 use Rattle.pb_verify.specs.Arriving.{merge, if_leads, outs, in_at, frame_before, frame_after, faults}

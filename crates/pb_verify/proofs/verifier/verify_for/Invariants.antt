@@ -1,6 +1,4 @@
-use Rattle.std.proofs.Common.{◌≡◌, ℕ, ◌<◌, ◌≤◌, ◌+◌, ◌*◌, [], Some, None, length, vec_len, vec_capacity}
-use Rattle.std.specs.Prelude.{slice_index_or, option_map, if◌then◌else◌, nat_eq}
-use Rattle.std.specs.Box.{box_value}
+use Rattle.std.proofs.Common.{◌≡◌, ℕ, ◌<◌, ◌≤◌, ◌+◌, ◌*◌, [], Some, None, length, vec_len, vec_capacity, slice_index_or, option_map, if◌then◌else◌, nat_eq, box_value}
 use Rattle.pb_isa.specs.Slots.{slots, insn_at}
 use Rattle.pb_verify.specs.Versions.{judged_by}
 use Rattle.pb_verify.specs.Arriving.{merge, outs, frame_before, faults}

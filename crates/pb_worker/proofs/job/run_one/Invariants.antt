@@ -1,5 +1,5 @@
 use Rattle.std.proofs.Common.{◌≢◌}
-use Rattle.pb_notify.specs.declared.need.Need.TheVariants.{Local}
+use Rattle.pb_notify.specs.declared.need.Need.{Need}
 use Rattle.pb_notify.specs.Runs.{need_of}
 use Rattle.pb_worker.proofs.RunAlong.{IsAlong}
 use Rattle.pb_worker.proofs.job.run_one.Given as goal
@@ -7,5 +7,5 @@ use Rattle.pb_worker.proofs.job.run_one.Given as goal
 abbrev pub invariant-loop-turn : goal.invariant-loop-turn
 invariant-loop-turn g l = record {
   along : IsAlong l.fn.observers l.fn.number l.fn.cell l.fn.seat l.seat l.job;
-  calls : need_of l.job ≢ Local;
+  calls : need_of l.job ≢ Need.Local;
 }

@@ -1,8 +1,7 @@
 use Rattle.std.proofs.Common.{◌≡◌, subst}
 use Rattle.std.proofs.lemmas.Result.{err_from_is_err_and}
-use Rattle.pb_steps.specs.declared.step.Step.TheVariants.{NextMark}
+use Rattle.pb_steps.specs.declared.step.Step.{Step}
 use Rattle.pb_steps.specs.declared.step.Answer.{Answer}
-use Rattle.pb_steps.specs.declared.step.Answer.TheVariants.{NoMark}
 use Rattle.pb_worker.specs.Gains.{Told}
 use Rattle.pb_worker.proofs.PassAlong.{no_walk, walk_on, walk_stops, walk_stops_at, walk_ends, no_mark}
 use Rattle.pb_worker.proofs.passes.pass.Goals as goal
@@ -17,17 +16,17 @@ returns-in_err-next-clause-err g c =
 
 pub returns-in_default-clause-ok : goal.returns-in_default-clause-ok
 returns-in_default-clause-ok g c =
-    let none : c.in_ok-next.next ≡ NoMark = no_mark c.loop-turn.last c.in_ok-next.next c.in_ok-next.ensures.can c.in_default.not-Marked in
-    let told = subst (λ (a : Answer). Told c.loop-turn.seat (NextMark c.loop-turn.last) a c.ask.new.seat) none c.in_ok-next.ensures.told in
+    let none : c.in_ok-next.next ≡ Answer.NoMark = no_mark c.loop-turn.last c.in_ok-next.next c.in_ok-next.ensures.can c.in_default.not-Marked in
+    let told = subst (λ (a : Answer). Told c.loop-turn.seat (Step.NextMark c.loop-turn.last) a c.ask.new.seat) none c.in_ok-next.ensures.told in
     rw c.is_some.ensures (walk_ends c.args.observers.now c.loop-turn.last c.args.seat.now c.loop-turn.seat c.loop-turn.invariant c.ask.new.seat told)
 
 pub returns-in_err-run_all-clause-err : goal.returns-in_err-run_all-clause-err
 returns-in_err-run_all-clause-err g c =
     let p = err_from_is_err_and c.from_residual-in_err-run_all.result c.from_residual-in_err-run_all.ensures.1 in
-    let told = subst (λ (a : Answer). Told c.loop-turn.seat (NextMark c.loop-turn.last) a c.ask.new.seat) c.in-Marked.is c.in_ok-next.ensures.told in
+    let told = subst (λ (a : Answer). Told c.loop-turn.seat (Step.NextMark c.loop-turn.last) a c.ask.new.seat) c.in-Marked.is c.in_ok-next.ensures.told in
     rw (p.1, p.2) (walk_stops_at c.args.observers.now c.loop-turn.last c.args.seat.now c.loop-turn.seat c.loop-turn.invariant c.ask.new.seat c.in-Marked.cell told c.run_all.new.seat c.in_err-run_all.field-0.0 c.in_err-run_all.ensures.err)
 
 pub loop-turn-preserved : goal.loop-turn-preserved
 loop-turn-preserved g c =
-    let told = subst (λ (a : Answer). Told c.loop-turn.seat (NextMark c.loop-turn.last) a c.ask.new.seat) c.in-Marked.is c.in_ok-next.ensures.told in
+    let told = subst (λ (a : Answer). Told c.loop-turn.seat (Step.NextMark c.loop-turn.last) a c.ask.new.seat) c.in-Marked.is c.in_ok-next.ensures.told in
     walk_on c.args.observers.now c.loop-turn.last c.args.seat.now c.loop-turn.seat c.loop-turn.invariant c.ask.new.seat c.in-Marked.cell told c.run_all.new.seat c.in_ok-run_all.ensures.ok

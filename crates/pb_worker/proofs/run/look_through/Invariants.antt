@@ -1,5 +1,4 @@
-use Rattle.std.proofs.Common.{◌≡◌, ◌≢◌, ℕ, ◌<◌, [], Some}
-use Rattle.std.specs.Prelude.{slice_get}
+use Rattle.std.proofs.Common.{◌≡◌, ◌≢◌, ℕ, ◌<◌, [], Some, slice_get}
 use Rattle.pb_base.specs.Batch.{Writes}
 use Rattle.pb_worker.proofs.run.look_through.Given as goal
 

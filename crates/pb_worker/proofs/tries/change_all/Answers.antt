@@ -1,11 +1,9 @@
-use Rattle.std.proofs.Common.{◌≡◌, arith, ◌≤◌, ◌+◌, ◌*◌, Bool, List, [], ◌∷◌, ◌++◌, Some, length, inl, refl, sym, subst, ◌∙◌, ap}
-use Rattle.std.specs.Prelude.{slice_get}
+use Rattle.std.proofs.Common.{◌≡◌, arith, ◌≤◌, ◌+◌, ◌*◌, Bool, List, [], ◌∷◌, ◌++◌, Some, length, inl, refl, sym, subst, ◌∙◌, ap, slice_get}
 use Rattle.std.proofs.lemmas.Option.{slice_get_read}
 use Rattle.std.proofs.lemmas.Result.{err_from_is_err_and}
 use Rattle.pb_worker.specs.Gains.{Gains}
 use Rattle.pb_worker.specs.Stops.{ChangesStop}
 use Rattle.pb_worker.specs.Tries.{AreTried}
-use Rattle.pb_worker.proofs.TryAlong.{some_cells}
 use Rattle.pb_worker.proofs.ChangesAlong.{no_changes, first_number, next_number, one_change, changes_stop, no_room, all_changes}
 use Rattle.pb_worker.proofs.tries.change_all.Goals as goal
 
@@ -23,7 +21,7 @@ returns-in_err-make_room-clause-err g c =
     let at : slice_get c.args.batches.now (c.args.first + length l.done.items * c.args.count) ≡ Some c.index-batches-next.result = ap (slice_get c.args.batches.now) (sym l.invariant.number) ∙ here in
     rw (p.1, p.2) (subst (λ (fs : List Bool). Gains (ChangesStop c.args.seat.now.number c.args.batches.now c.args.count c.args.first fs c.in_err-make_room.field-0.0) c.args.seat.now l.seat) (sym c.in_err-make_room.ensures.items)
     (no_room c.args.batches.now c.args.count c.args.first l.done.items c.args.seat.now l.seat l.invariant.tried c.index-batches-next.result at
-    c.changes_converse.ensures.converses (some_cells c.index-batches-next.result c.len.result c.len.ensures.count c.len.ensures.some) c.in_err-make_room.field-0.0 c.in_err-make_room.ensures.want))
+    c.changes_converse.ensures.converses c.known.ensures.some c.in_err-make_room.field-0.0 c.in_err-make_room.ensures.want))
 
 pub returns-in-Err-clause-err : goal.returns-in-Err-clause-err
 returns-in-Err-clause-err g c =

@@ -1,19 +1,19 @@
 use Rattle.std.proofs.Common.{refl, subst, sym, false}
 use Rattle.pb_worker.specs.Gains.{Gains}
 use Rattle.pb_worker.specs.Tries.{IsTry}
-use Rattle.pb_worker.proofs.TryAlong.{some_cells, first, wants, next, refused, has_ended}
+use Rattle.pb_worker.proofs.TryAlong.{first, wants, next, refused, has_ended}
 use Rattle.pb_worker.proofs.tries.try_once.Goals as goal
 
 pub returns-in_default-next-clause-ok : goal.returns-in_default-next-clause-ok
 returns-in_default-next-clause-ok g c =
     subst (λ b. Gains (IsTry c.args.batch.now b) c.args.seat.now c.loop-turn.seat) (sym c.has_committed.ensures)
-    (has_ended c.args.batch.now c.args.seat.now c.loop-turn.seat c.loop-turn.job c.loop-turn.committed c.loop-turn.invariant (some_cells c.args.batch.now c.len.result c.len.ensures.count c.len.ensures.some)
+    (has_ended c.args.batch.now c.args.seat.now c.loop-turn.seat c.loop-turn.job c.loop-turn.committed c.loop-turn.invariant c.known.ensures.some
     c.plans_converse.ensures.stops c.changes_converse.ensures.ends c.in_default-next.ensures)
 
 pub returns-in_default-clause-err : goal.returns-in_default-clause-err
 returns-in_default-clause-err g c =
     wants c.args.batch.now c.args.seat.now c.args.seat.now _ false (first c.args.batch.now c.args.seat.now _ refl)
-    c.changes_converse.ensures.converses (some_cells c.args.batch.now c.len.result c.len.ensures.count c.len.ensures.some) c.refusal.result c.refusal.ensures
+    c.changes_converse.ensures.converses c.known.ensures.some c.refusal.result c.refusal.ensures
 
 pub loop-turn-preserved : goal.loop-turn-preserved
 loop-turn-preserved g c =
@@ -23,4 +23,4 @@ loop-turn-preserved g c =
 pub returns-in-Err-clause-err : goal.returns-in-Err-clause-err
 returns-in-Err-clause-err g c =
     rw c.in-Err.ensures.seat (refused c.args.batch.now c.args.seat.now c.loop-turn.seat c.loop-turn.job c.loop-turn.committed c.loop-turn.invariant
-    c.changes_converse.ensures.converses (some_cells c.args.batch.now c.len.result c.len.ensures.count c.len.ensures.some) c.in-Some-next.step.now c.in-Some-next.ensures c.in-Err.refusal c.in-Err.ensures.refused)
+    c.changes_converse.ensures.converses c.known.ensures.some c.in-Some-next.step.now c.in-Some-next.ensures c.in-Err.refusal c.in-Err.ensures.refused)

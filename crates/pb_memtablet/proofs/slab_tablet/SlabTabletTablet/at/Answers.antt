@@ -1,6 +1,5 @@
-use Rattle.std.proofs.Common.{◌≡◌, sym, ap, ◌∙◌, subst, IfSome, slice_get}
+use Rattle.std.proofs.Common.{◌≡◌, sym, ap, ◌∙◌, subst, IfSome, slice_get, option_map}
 use Rattle.std.specs.FinMap as map
-use Rattle.std.specs.Option.{option_map}
 use Rattle.pb_store.specs.Contents.{Contents, IsOfSort}
 use Rattle.pb_memtablet.specs.Stored.{seen, HasItem}
 use Rattle.pb_memtablet.proofs.Answered.{entries-listed, of_sort_there}

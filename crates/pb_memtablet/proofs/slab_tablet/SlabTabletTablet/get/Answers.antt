@@ -1,7 +1,6 @@
-use Rattle.std.proofs.Common.{◌≡◌, sym, ap, ◌∙◌, subst, IfSome, Option, ℕ}
-use Rattle.std.specs.FinMap as map
+use Rattle.std.proofs.Common.{◌≡◌, sym, ap, ◌∙◌, subst, IfSome, Option, ℕ, option_map}
 use Rattle.std.specs.FinMap.{find}
-use Rattle.std.specs.Option.{option_map}
+use Rattle.std.specs.FinMap as map
 use Rattle.pb_store.specs.declared.slot.Item.{Item}
 use Rattle.pb_store.specs.Slot.{slot_cmp}
 use Rattle.pb_store.specs.Contents.{Contents, IsOfSort}

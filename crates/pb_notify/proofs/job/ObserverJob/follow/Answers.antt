@@ -4,9 +4,8 @@ use Rattle.pb_base.specs.declared.names.Ts.{Ts}
 use Rattle.pb_isa.specs.Programs.{JudgedOf}
 use Rattle.pb_vm.specs.Position.{Position}
 use Rattle.pb_steps.specs.declared.seen.Seen.{Seen}
-use Rattle.pb_notify.specs.declared.need.Need.TheVariants.{Local}
+use Rattle.pb_notify.specs.declared.need.Need.{Need}
 use Rattle.pb_notify.specs.declared.place.RunPlace.{RunPlace}
-use Rattle.pb_notify.specs.declared.place.RunPlace.TheVariants.{Starting, Computing}
 use Rattle.pb_notify.specs.Places.{Comes, goes, waits, declares, ComesFrom, GrowsAt, AtPlace}
 use Rattle.pb_notify.specs.Runs.{RunOf, need_at, IsJob, ComputesOn, at_first, one_more}
 use Rattle.pb_notify.specs.Steps.{Proceeds}
@@ -20,9 +19,9 @@ abbrev job_at : RunOf → RunPlace → RunOf
 job_at j p = record j { place = p }
 
 -- its machine's instructions are as many of the job's
-on_computing : (j : RunOf) (s : Ts) (v w : Position) → Proceeds v w → ComputesOn (job_at j (Computing s v)) (job_at j (Computing s w))
+on_computing : (j : RunOf) (s : Ts) (v w : Position) → Proceeds v w → ComputesOn (job_at j (RunPlace.Computing s v)) (job_at j (RunPlace.Computing s w))
 on_computing j s v w steps.at_first = at_first
-on_computing j s v w (steps.one_more u x on went) = one_more (job_at j (Computing s u)) (job_at j (Computing s x)) (on_computing j s v u on) refl (record { comes = goes x went; same = refl })
+on_computing j s v w (steps.one_more u x on went) = one_more (job_at j (RunPlace.Computing s u)) (job_at j (RunPlace.Computing s x)) (on_computing j s v u on) refl (record { comes = goes x went; same = refl })
 
 -- some instructions after others are instructions of one job
 joined : (j k l : RunOf) → ComputesOn j k → ComputesOn k l → ComputesOn j l
@@ -30,26 +29,26 @@ joined j k l on at_first = on
 joined j k l on (one_more m n to is_next last) = one_more m n (joined j k m on to) is_next last
 
 -- from a job that came so far, and is this one with its machine here, the machine's instructions lead on
-goes_on : (k m j : RunOf) (place : RunPlace) (s : Ts) (v w : Position) → ComputesOn k m → job_at j place ≡ m → place ≡ Computing s v → Proceeds v w → ComputesOn k (job_at j (Computing s w))
+goes_on : (k m j : RunOf) (place : RunPlace) (s : Ts) (v w : Position) → ComputesOn k m → job_at j place ≡ m → place ≡ RunPlace.Computing s v → Proceeds v w → ComputesOn k (job_at j (RunPlace.Computing s w))
 goes_on k m j place s v w so_far is at p =
     let here : ComputesOn k (job_at j place) = subst (λ (i : RunOf). ComputesOn k i) (sym is) so_far in
     joined k _ _ (subst (λ q. ComputesOn k (job_at j q)) at here) (on_computing j s v w p)
 
 -- where another instruction is next, a machine was left that goes on
-went_local : (o : ℕ) (s : Ts) (v : Position) (place : RunPlace) → Comes o s v place → need_at place ≡ Local → (t : Ts) × (w : Position) × (place ≡ Computing t w)
+went_local : (o : ℕ) (s : Ts) (v : Position) (place : RunPlace) → Comes o s v place → need_at place ≡ Need.Local → (t : Ts) × (w : Position) × (place ≡ RunPlace.Computing t w)
 went_local o s v place (goes w st) e = (s, w, refl)
 went_local o s v place (waits w q st) e = absurd cc
 went_local o s v place (declares r what st) e = absurd cc
 
-came_local : (o : ℕ) (judged : JudgedOf) (x : Cell) (before after : RunPlace) → ComesFrom o judged x before after → need_at after ≡ Local → (t : Ts) × (w : Position) × (after ≡ Computing t w)
-came_local o judged x (Starting s seen) after c e = went_local o s _ after c.comes e
-came_local o judged x (Computing s v) after c e = went_local o s v after c e
+came_local : (o : ℕ) (judged : JudgedOf) (x : Cell) (before after : RunPlace) → ComesFrom o judged x before after → need_at after ≡ Need.Local → (t : Ts) × (w : Position) × (after ≡ RunPlace.Computing t w)
+came_local o judged x (RunPlace.Starting s seen) after c e = went_local o s _ after c.comes e
+came_local o judged x (RunPlace.Computing s v) after c e = went_local o s v after c e
 came_local o judged x _ after c e = absurd c
 
 -- and where it is started
-started_local : (place : RunPlace) → ((s : Ts) (seen : Seen) → place ≡ Starting s seen → ⊥) → need_at place ≡ Local → (t : Ts) × (w : Position) × (place ≡ Computing t w)
-started_local (Starting s seen) isnt e = absurd (isnt s seen refl)
-started_local (Computing s v) isnt e = (s, v, refl)
+started_local : (place : RunPlace) → ((s : Ts) (seen : Seen) → place ≡ RunPlace.Starting s seen → ⊥) → need_at place ≡ Need.Local → (t : Ts) × (w : Position) × (place ≡ RunPlace.Computing t w)
+started_local (RunPlace.Starting s seen) isnt e = absurd (isnt s seen refl)
+started_local (RunPlace.Computing s v) isnt e = (s, v, refl)
 started_local _ isnt e = absurd cc
 
 pub returns-in_err-local-clause-on : goal.returns-in_err-local-clause-on
@@ -60,8 +59,8 @@ invariant_of-self c =
     let i = c.self-2.inside in
     let f = c.follow-moved.ensures in
     let back = c.in_err-leave.ensures.same c.in-Computing.field-0 f.last (c.follow-moved.new.self, refl, f.moves) in
-    let kept : IsJob i.observer i.row i.column i.locked (Computing c.in-Computing.field-0 c.in-Computing.machine) i.next = subst (λ p. IsJob i.observer i.row i.column i.locked p i.next) c.in-Computing.is c.self-2.invariant in
-    let here : IsJob i.observer i.row i.column i.locked (Computing c.in-Computing.field-0 f.last) i.next = record { stored = kept.stored; at = (kept.at.0, f.moves.going) } in
+    let kept : IsJob i.observer i.row i.column i.locked (RunPlace.Computing c.in-Computing.field-0 c.in-Computing.machine) i.next = subst (λ p. IsJob i.observer i.row i.column i.locked p i.next) c.in-Computing.is c.self-2.invariant in
+    let here : IsJob i.observer i.row i.column i.locked (RunPlace.Computing c.in-Computing.field-0 f.last) i.next = record { stored = kept.stored; at = (kept.at.0, f.moves.going) } in
     subst (λ p. IsJob i.observer i.row i.column i.locked p i.next) (sym back.0) here
 
 pub returns-in_err-leave-clause-on : goal.returns-in_err-leave-clause-on
@@ -103,7 +102,7 @@ returns-in_ok-leave-clause-on c =
     let j : RunOf = record { watch = record { observer = i.observer; judged = i.accepted.value; row = i.row; column = i.column }; locked = i.locked; place = i.place } in
     let here = goes_on c.args.self.now _ j i.place c.in-Computing.field-0 c.in-Computing.machine f.last so_far c.self-2.view_is c.in-Computing.is f.proceeds in
     let comes = c.in_ok-leave.ensures.ok c.in-Computing.field-0 f.last (c.follow-moved.new.self, refl, f.moves) in
-    one_more (job_at j (Computing c.in-Computing.field-0 f.last)) (job_at j c.leave.new.place) here refl (record { comes = comes; same = refl })
+    one_more (job_at j (RunPlace.Computing c.in-Computing.field-0 f.last)) (job_at j c.leave.new.place) here refl (record { comes = comes; same = refl })
 
 pub returns-in_default-place : goal.returns-in_default-place
 returns-in_default-place c =
@@ -117,11 +116,11 @@ returns-in_default-place c =
         | in-Starting+in_ok-local w ↦
             let is = ap (λ (j : RunOf). j.place) (c.self-2.view_is ∙ w.self-is) in
             let did = w.in_ok-local.ensures.ok in
-            let here = came_local c.args.self.now.watch.observer c.args.self.now.watch.judged _ c.args.self.now.place w.local.new.self.place did.comes (subst (λ p. need_at p ≡ Local) is need) in
+            let here = came_local c.args.self.now.watch.observer c.args.self.now.watch.judged _ c.args.self.now.place w.local.new.self.place did.comes (subst (λ p. need_at p ≡ Need.Local) is need) in
             c.in_default-place.not-Computing here.0 here.1 (is ∙ here.2)
         | in_default w ↦
             let is = ap (λ (j : RunOf). j.place) (c.self-2.view_is ∙ w.self-is ∙ sym c.self.view_is) in
-            let here = started_local c.self.inside.place w.in_default.not-Starting (subst (λ p. need_at p ≡ Local) is need) in
+            let here = started_local c.self.inside.place w.in_default.not-Starting (subst (λ p. need_at p ≡ Need.Local) is need) in
             c.in_default-place.not-Computing here.0 here.1 (is ∙ here.2)
       ];
       err = tt;

@@ -1,7 +1,6 @@
 use Rattle.std.proofs.Common.{◌≡◌, refl, sym, subst, ◌∙◌, rules}
-use Rattle.pb_base.specs.declared.cell.Cell.TheVariants.{Data}
+use Rattle.pb_base.specs.declared.cell.Cell.{Cell}
 use Rattle.pb_notify.specs.declared.place.RunPlace.{RunPlace}
-use Rattle.pb_notify.specs.declared.place.RunPlace.TheVariants.{Computing}
 use Rattle.pb_notify.specs.Places.{goes, ComesFrom, GrowsAt, AtPlace}
 use Rattle.pb_notify.specs.Runs.{RunOf, IsJob, Computes}
 use Rattle.pb_notify.specs.Steps.{MovesOn}
@@ -12,11 +11,11 @@ use Rattle.pb_notify.proofs.job.ObserverJob.local.Goals.{in-Computing+in_default
 pub returns-in-Went-clause-ok : goal.returns-in-Went-clause-ok
 returns-in-Went-clause-ok c =
     let i = c.self.inside in
-    let place : RunPlace = Computing c.in-Computing.field-0 c.local.new.self in
+    let place : RunPlace = RunPlace.Computing c.in-Computing.field-0 c.local.new.self in
     let k : RunOf = record { watch = record { observer = i.observer; judged = i.accepted.value; row = i.row; column = i.column }; locked = i.locked; place = place } in
     let did = subst (λ m. MovesOn c.in-Computing.machine m c.local.new.self) c.in-Went.is c.local.ensures in
     subst (λ (j : RunOf). Computes j k) c.self.view_is
-    (record { comes = subst (λ p. ComesFrom i.observer i.accepted.value (Data i.row i.column) p place) (sym c.in-Computing.is) (goes c.local.new.self (record { went = did.moves; most = did.most })); same = refl })
+    (record { comes = subst (λ p. ComesFrom i.observer i.accepted.value (Cell.Data i.row i.column) p place) (sym c.in-Computing.is) (goes c.local.new.self (record { went = did.moves; most = did.most })); same = refl })
 
 pub invariant_of-self-in_err-leave-in_default-local : goal.invariant_of-self-in_err-leave-in_default-local
 invariant_of-self-in_err-leave-in_default-local c =
@@ -43,6 +42,6 @@ invariant_of-self-2 c = record {
         rw w.self-inside-is (at_come i.locked i.observer w.in-Computing.field-0 w.in-Computing.machine w.leave.new.place comes few)
     | in_default+in_ok-begin-in_default w ↦
         let i = c.self.inside in
-        rw w.self-inside-is (at_computed i.locked i.observer i.accepted.value (Data i.row i.column) i.place w.begin.new.place w.in_ok-begin-in_default.ensures.ok c.self.invariant.at)
+        rw w.self-inside-is (at_computed i.locked i.observer i.accepted.value (Cell.Data i.row i.column) i.place w.begin.new.place w.in_ok-begin-in_default.ensures.ok c.self.invariant.at)
   ];
 }

@@ -4,8 +4,7 @@ use Rattle.pb_isa.specs.Slots.{slots}
 use Rattle.pb_vm.specs.Position.{Position}
 use Rattle.pb_vm.specs.Moves.{Moves, IsStop, Advances}
 use Rattle.pb_vm.specs.declared.moved.Moved.{Moved}
-use Rattle.pb_vm.specs.declared.moved.Moved.TheVariants as moved
-use Rattle.pb_vm.specs.declared.moved.MachinePhase.TheVariants.{Going}
+use Rattle.pb_vm.specs.declared.moved.MachinePhase.{MachinePhase}
 use Rattle.pb_notify.specs.Steps.{WentOn, Proceeds, at_first, one_more, FollowsOn}
 use Rattle.pb_notify.proofs.machine.Machine.follow.Goals as goal
 use Rattle.pb_notify.proofs.machine.Machine.follow.Goals.{in-Running, in-Exited}
@@ -24,9 +23,9 @@ record IsLater (v w : Position) : Type 0 where
 
 -- an ask or the exit takes no instruction back
 stop_later : (v : Position) (m : Moved) (w : Position) → IsStop m → Moves v m w → IsLater v w
-stop_later v moved.Went w stop h = absurd stop
-stop_later v (moved.Asks q) w stop h = record { taken = omega (arith, h.taken); same = same_slots v w h.given.judged }
-stop_later v (moved.Ended r) w stop h = record { taken = omega (arith, h.taken); same = same_slots v w h.given.judged }
+stop_later v Moved.Went w stop h = absurd stop
+stop_later v (Moved.Asks q) w stop h = record { taken = omega (arith, h.taken); same = same_slots v w h.given.judged }
+stop_later v (Moved.Ended r) w stop h = record { taken = omega (arith, h.taken); same = same_slots v w h.given.judged }
 
 -- nor do all that lead there
 later : (n : ℕ) (v : Position) (m : Moved) (w : Position) → Advances n v m w → IsLater v w
@@ -38,7 +37,7 @@ later (suc n) v m w (inr on) =
     record { taken = omega (arith, rest.taken, one); same = rest.same ∙ same_slots v on.0 on.1.given.judged }
 
 -- all that lead to an ask or the exit
-follows : (n : ℕ) (v u : Position) (m : Moved) (w : Position) → Proceeds v u → u.phase ≡ Going → IsStop m → Advances n u m w → w.taken ≤ slots_of w → FollowsOn v m w
+follows : (n : ℕ) (v u : Position) (m : Moved) (w : Position) → Proceeds v u → u.phase ≡ MachinePhase.Going → IsStop m → Advances n u m w → w.taken ≤ slots_of w → FollowsOn v m w
 follows zero v u m w on going stops h most = absurd (subst IsStop h.0 stops)
 follows (suc n) v u m w on going stops (inl stop) most = record { last = u; proceeds = on; stops = stop.0; moves = record { going = going; moves = stop.1; most = most } }
 follows (suc n) v u m w on going stops (inr more) most =

@@ -1,5 +1,4 @@
-use Rattle.std.proofs.Common.{◌≡◌, inl, inr, refl, sym, ap, subst, ◌∙◌}
-use Rattle.std.specs.Prelude.{is_some, Some}
+use Rattle.std.proofs.Common.{◌≡◌, inl, inr, refl, sym, ap, subst, ◌∙◌, is_some, Some}
 use Rattle.pb_steps.specs.State.{StateOf}
 use Rattle.pb_steps.specs.Readings.{NoLock, IsLockOn, lock_at, write_at}
 use Rattle.pb_steps.specs.Commits.{commit_lock, erase_lock}

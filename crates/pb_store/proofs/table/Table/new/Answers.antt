@@ -1,5 +1,5 @@
 use Rattle.std.proofs.Common.{◌≡◌, ◌<◌, sym, ap, ◌∙◌, subst, arith, vec_len, Some}
-use Rattle.pb_base.specs.declared.refusal.Reason.TheVariants.{RowsDontRise}
+use Rattle.pb_base.specs.declared.refusal.Reason.{Reason}
 use Rattle.pb_base.specs.Reasons.{TellsReason}
 use Rattle.pb_store.specs.Tiles.{tiles_of, rise_from_zero, all_nothing, table_reason}
 use Rattle.pb_store.proofs.Routing.{length-tiles_of}
@@ -10,7 +10,7 @@ use Rattle.pb_base.proofs.Logic.{positive}
 pub returns-then-not-rises-clause-refused : goal.returns-then-not-rises-clause-refused
 returns-then-not-rises-clause-refused g c =
     let some : 0 < vec_len c.args.parts = positive (vec_len c.args.parts) (sym c.if-is_empty.ensures) in
-    subst (λ o. TellsReason o c.refusal-then-not-rises.result) (sym (subst (λ ps. table_reason (tiles_of g.T.Tablet.contents ps) ≡ Some RowsDontRise) c.deref.ensures.value
+    subst (λ o. TellsReason o c.refusal-then-not-rises.result) (sym (subst (λ ps. table_reason (tiles_of g.T.Tablet.contents ps) ≡ Some Reason.RowsDontRise) c.deref.ensures.value
     (refused_unrisen (tiles_of g.T.Tablet.contents c.deref.result.now)
     (omega (arith, some, c.deref.ensures.len, length-tiles_of g.T.Tablet.contents c.deref.result.now))
     (sym c.if-not-rises.ensures)))) c.refusal-then-not-rises.ensures

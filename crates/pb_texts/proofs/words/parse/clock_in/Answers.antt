@@ -1,9 +1,8 @@
-use Rattle.std.proofs.Common.{◌∙◌, Some, Ok, Err, ap}
+use Rattle.std.proofs.Common.{◌∙◌, Some, Ok, Err, ap, codes}
 use Rattle.clap.specs.Words.{found_of}
 use Rattle.clap.proofs.WalkLemmas.{one_text-rows}
 use Rattle.pb_texts.proofs.Clocks.{clock_read}
 use Rattle.pb_texts.specs.CommandLines.{clock_of}
-use Rattle.std.specs.Prelude.{codes}
 use Rattle.pb_texts.proofs.words.parse.clock_in.Goals as goal
 
 pub returns-in-Ok : goal.returns-in-Ok

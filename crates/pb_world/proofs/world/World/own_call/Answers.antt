@@ -1,5 +1,5 @@
 use Rattle.std.proofs.Common.{rules, ◌≡◌, subst}
-use Rattle.pb_world.specs.declared.actor.NotCalled.TheVariants as causes
+use Rattle.pb_world.specs.declared.actor.NotCalled.{NotCalled}
 use Rattle.pb_world.specs.Actors.{IsRefusedBy}
 use Rattle.pb_world.specs.Events.{WorldOf}
 use Rattle.pb_world.proofs.Happenings.{own_answers, own_refused, own_same, own_wants}
@@ -15,11 +15,11 @@ returns g c =
     elim c.match-call.branch [
       | in-Ok z ↦ rw z.result-is (own_answers w c.args.self.now c.self.view_is seat c.call.new.seat c.call.new.shared c.args.step.now z.in-Ok.answer c.self.invariant.some at z.in-Ok.ensures.allowed z.in-Ok.ensures.ok)
       | in-Err-Refused z ↦
-          let is : z.in-Err-Refused.field-0 ≡ causes.Refused z.in-Err-Refused.code = search rules in
+          let is : z.in-Err-Refused.field-0 ≡ NotCalled.Refused z.in-Err-Refused.code = search rules in
           let refused = subst (λ y. IsRefusedBy w.shared seat.number c.args.step.now y) is z.in-Err-Refused.ensures.refused in
           rw z.result-is (own_refused w c.args.self.now c.self.view_is seat c.call.new.seat c.call.new.shared c.args.step.now z.in-Err-Refused.code c.self.invariant.some at refused z.in-Err-Refused.ensures.table z.in-Err-Refused.ensures.seat)
       | in-Err-NoMemory z ↦
-          let is : z.in-Err-NoMemory.field-0 ≡ causes.NoMemory = search rules in
+          let is : z.in-Err-NoMemory.field-0 ≡ NotCalled.NoMemory = search rules in
           let none = subst (λ y. IsRefusedBy w.shared seat.number c.args.step.now y) is z.in-Err-NoMemory.ensures.refused in
           rw z.result-is (own_same w c.args.self.now c.self.view_is seat c.call.new.seat c.call.new.shared at z.in-Err-NoMemory.ensures.table z.in-Err-NoMemory.ensures.seat, own_wants w c.args.self.now c.self.view_is seat c.args.step.now c.self.invariant.some at none)
     ]
