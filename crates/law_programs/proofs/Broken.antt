@@ -1,5 +1,5 @@
 -- Each code that the rules of an instruction list is of a rule that it breaks.
-use Rattle.std.proofs.Common.{◌≡◌, ◌≢◌, ℕ, ◌+◌, Bool, true, false, not, ◌&&◌, ◌⊎◌, inl, inr, ℤ, pos, negsuc, ◌+ℤ◌, [], ◌∷◌, Option, Some, None, nat_eq, refl, sym, ap, subst, ◌∙◌, if◌then◌else◌, nat_le, is_none, All, IsSomeAnd}
+use Rattle.std.proofs.Common.{arith, ◌≡◌, ◌≢◌, ℕ, ◌+◌, Bool, true, false, not, ◌&&◌, ◌⊎◌, inl, inr, ℤ, pos, negsuc, ◌+ℤ◌, [], ◌∷◌, Option, Some, None, nat_eq, refl, sym, ap, subst, ◌∙◌, if◌then◌else◌, nat_le, is_none, All, IsSomeAnd}
 use Rattle.std.proofs.Math.IntN.{+ℤ_idr}
 use Rattle.std.proofs.lemmas.List.Elements.{All-nil, All-append}
 use Rattle.std.proofs.lemmas.Bool.Decides.{Decides-eqb, Decides-not, Decides-or, not_from_Decides}
@@ -14,8 +14,8 @@ use Rattle.pb_isa.specs.Programs.{JudgedOf}
 use Rattle.pb_isa.specs.Slots.{slots, insn_at}
 use Rattle.pb_kinds.specs.declared.frame.Kind.{Kind}
 use Rattle.pb_kinds.specs.declared.frame.Frame.{Frame}
-use Rattle.pb_kinds.specs.Frames.{kind_of, is_unset, is_number_kind, is_pointer}
-use Rattle.pb_kinds.specs.Ranges.{in_stack, in_record, are_written}
+use Rattle.pb_kinds.specs.Frames.{kind_of, is_unset, is_pointer}
+use Rattle.pb_kinds.specs.Ranges.{in_stack}
 use Rattle.pb_helpers.specs.declared.code.RuleCode.{RuleCode}
 use Rattle.pb_helpers.specs.Codes.{when}
 use Rattle.pb_helpers.specs.Arguments.{unset, stack_reads, stack_writes, filled_bytes, taken_bytes, is_cell, is_place, call_rules}
@@ -25,7 +25,7 @@ use Rattle.law_programs.specs.Touches.{Touch, touch, size_bytes, Touches, Loadin
 use Rattle.law_programs.specs.Targets.{jump_offset, next_slot}
 use Rattle.law_programs.specs.Breaks.{IsWrong, Breaks}
 use Rattle.law_programs.proofs.Told.{each_one, each_when}
-use Rattle.law_programs.proofs.Tests.{Decides-unset, Decides-number, Decides-place, Decides-pointer, Decides-stack, Decides-record, Decides-none, bytes_are, unwritten, lt_from}
+use Rattle.law_programs.proofs.Tests.{Decides-unset, Decides-pointer, Decides-stack, Decides-none, bytes_are, unwritten, lt_from}
 use Rattle.pb_base.proofs.Logic.{le_true as le_from}
 
 some_and : {A : Type 0} (o : Option A) (x : A) (Q : A → Type 0) → o ≡ Some x → Q x → IsSomeAnd o Q
@@ -50,8 +50,7 @@ module _ (j : JudgedOf) (n : ℕ) (f : Frame) (i : Insn) where
   unset_breaks r h = each_when Broken (is_unset (kind_of f r)) RuleCode.ReadsUnset (λ e. (r, h, (Decides-unset (kind_of f r)).0 e))
 
   operand_breaks : (x : Operand) → ((r : ℕ) → IsOperand x r → ReadsRegister j i r) → All Broken (reads_operand f x)
-  operand_breaks (Operand.Imm k) h = All-nil Broken
-  operand_breaks (Operand.Reg s) h = unset_breaks (number s) (h (number s) refl)
+  operand_breaks x h = grind arith
 
   sets_breaks : (d : Reg) → (10 ≡ number d → SetsRegister i 10) → All Broken (sets d)
   sets_breaks d h = each_when Broken (nat_eq (number d) 10) RuleCode.WritesR10 (λ e. h (sym ((Decides-eqb (number d) 10).0 e)))
@@ -70,26 +69,16 @@ module _ (j : JudgedOf) (n : ℕ) (f : Frame) (i : Insn) where
   -- ---- memory
 
   stack_reads_breaks : (t : Touch) (k : ℤ) → Touches j i t → IsReading t.how → kind_of f t.base ≡ Kind.Stack k → All Broken (stack_reads f (k +ℤ t.offset) t.bytes)
-  stack_reads_breaks t k h reading is = by (in_stack (k +ℤ t.offset) t.bytes) refl
-    where
-      by : (b : Bool) → in_stack (k +ℤ t.offset) t.bytes ≡ b → All Broken (if b then when (not (are_written f (k +ℤ t.offset) t.bytes)) RuleCode.UnwrittenByte else RuleCode.OutsideStack ∷ [])
-      by true e = each_when Broken (not (are_written f (k +ℤ t.offset) t.bytes)) RuleCode.UnwrittenByte (λ u. (t, k, h, reading, is, (Decides-stack (k +ℤ t.offset) t.bytes).0 e, unwritten f (k +ℤ t.offset) t.bytes u))
-      by false e = each_one Broken RuleCode.OutsideStack (t, k, h, is, not_from_Decides _ (Decides-stack (k +ℤ t.offset) t.bytes) e)
+  stack_reads_breaks t k h reading is = grind (arith, each_when, unwritten, each_one, not_from_Decides, t.offset, t.bytes)
 
   stack_writes_breaks : (t : Touch) (k : ℤ) → Touches j i t → kind_of f t.base ≡ Kind.Stack k → All Broken (stack_writes (k +ℤ t.offset) t.bytes)
   stack_writes_breaks t k h is = each_when Broken (not (in_stack (k +ℤ t.offset) t.bytes)) RuleCode.OutsideStack (λ e. (t, k, h, is, (Decides-not _ (Decides-stack (k +ℤ t.offset) t.bytes)).0 e))
 
   loads_breaks : (t : Touch) (k : Kind) → Touches j i t → t.how ≡ Loading → kind_of f t.base ≡ k → All Broken (loads j.record_size f k t.offset t.bytes)
-  loads_breaks t Kind.Unset h how is = All-nil Broken
-  loads_breaks t Kind.Number h how is = each_one Broken RuleCode.ThroughNumber (t, h, inl how, is)
-  loads_breaks t (Kind.Stack k) h how is = stack_reads_breaks t k h (inl how) is
-  loads_breaks t (Kind.Record k) h how is = each_when Broken (not (in_record j.record_size (k +ℤ t.offset) t.bytes)) RuleCode.OutsideRecord (λ e. (t, k, h, how, is, (Decides-not _ (Decides-record j.record_size (k +ℤ t.offset) t.bytes)).0 e))
+  loads_breaks t k h how is = grind (arith, All-nil, each_one, stack_reads_breaks, each_when)
 
   stores_breaks : (t : Touch) (k : Kind) → Touches j i t → t.how ≡ Storing → kind_of f t.base ≡ k → All Broken (stores k t.offset t.bytes)
-  stores_breaks t Kind.Unset h how is = All-nil Broken
-  stores_breaks t Kind.Number h how is = each_one Broken RuleCode.ThroughNumber (t, h, inr how, is)
-  stores_breaks t (Kind.Stack k) h how is = stack_writes_breaks t k h is
-  stores_breaks t (Kind.Record k) h how is = each_one Broken RuleCode.WritesRecord (t, k, h, how, is)
+  stores_breaks t k h how is = grind (arith, All-nil, each_one, stack_writes_breaks)
 
   -- ---- jumps
 
@@ -111,50 +100,24 @@ computes j n f op w d x other none = numeric_breaks j n f (Insn.Alu op w d x) d 
 alu_breaks : (j : JudgedOf) (n : ℕ) (f : Frame) (op : AluOp) (w : Width) (d : Reg) (x : Operand) → All (λ c. Breaks c j n f (Insn.Alu op w d x)) (alu_rules f op w d x)
 alu_breaks j n f AluOp.Mov Width.Bits64 d (Operand.Imm k) = sets_breaks j n f (Insn.Alu AluOp.Mov Width.Bits64 d (Operand.Imm k)) d (λ e. e)
 alu_breaks j n f AluOp.Mov Width.Bits32 d (Operand.Imm k) = sets_breaks j n f (Insn.Alu AluOp.Mov Width.Bits32 d (Operand.Imm k)) d (λ e. e)
-alu_breaks j n f AluOp.Mov Width.Bits64 d (Operand.Reg r) =
-    let i = Insn.Alu AluOp.Mov Width.Bits64 d (Operand.Reg r) in
-    let a = unset_breaks j n f i (number r) (inr refl) in
-    let s = sets_breaks j n f i d (λ e. e) in
-    search (All-append, a, s)
+alu_breaks j n f AluOp.Mov Width.Bits64 d (Operand.Reg r) = grind arith
 alu_breaks j n f AluOp.Mov Width.Bits32 d (Operand.Reg r) =
     let i = Insn.Alu AluOp.Mov Width.Bits32 d (Operand.Reg r) in
     let a = unset_breaks j n f i (number r) (inr refl) in
     let s = sets_breaks j n f i d (λ e. e) in
     let p = each_when (Broken j n f i) (is_pointer (at f r)) RuleCode.PointerArithmetic (λ e. ((λ h. h), (number r, inr refl, (Decides-pointer (at f r)).0 e))) in
     search (All-append, a, s, p)
-alu_breaks j n f AluOp.Add Width.Bits64 d (Operand.Imm k) =
-    let i = Insn.Alu AluOp.Add Width.Bits64 d (Operand.Imm k) in
-    let a = unset_breaks j n f i (number d) (inl ((λ e. cc), refl)) in
-    let s = sets_breaks j n f i d (λ e. e) in
-    search (All-append, a, s)
-alu_breaks j n f AluOp.Sub Width.Bits64 d (Operand.Imm k) =
-    let i = Insn.Alu AluOp.Sub Width.Bits64 d (Operand.Imm k) in
-    let a = unset_breaks j n f i (number d) (inl ((λ e. cc), refl)) in
-    let s = sets_breaks j n f i d (λ e. e) in
-    search (All-append, a, s)
+alu_breaks j n f AluOp.Add Width.Bits64 d (Operand.Imm k) = grind arith
+alu_breaks j n f AluOp.Sub Width.Bits64 d (Operand.Imm k) = grind arith
 alu_breaks j n f AluOp.Add Width.Bits64 d (Operand.Reg r) = computes j n f AluOp.Add Width.Bits64 d (Operand.Reg r) (λ e. cc) (λ h. h)
 alu_breaks j n f AluOp.Sub Width.Bits64 d (Operand.Reg r) = computes j n f AluOp.Sub Width.Bits64 d (Operand.Reg r) (λ e. cc) (λ h. h)
 alu_breaks j n f op w d x = computes j n f op w d x (λ e. cc) (λ h. h)
 
 -- ---- helpers
 
--- where row and column aren't both numbers one of them is wrong
-wrong_cell : (f : Frame) (h : Helper) → IsCellArgument h 1 → IsCellArgument h 2 → not (is_cell f) ≡ true → (r : ℕ) × IsWrong f h r
-wrong_cell f h one two = by (is_number_kind (kind_of f 1)) (is_number_kind (kind_of f 2)) refl refl
-  where
-    by : (a b : Bool) → is_number_kind (kind_of f 1) ≡ a → is_number_kind (kind_of f 2) ≡ b → not (a && b) ≡ true → (r : ℕ) × IsWrong f h r
-    by false b p q e = (1, inl (one, not_from_Decides _ (Decides-number (kind_of f 1)) p))
-    by true false p q e = (2, inl (two, not_from_Decides _ (Decides-number (kind_of f 2)) q))
-    by true true p q e = cc
-
 -- and so it is where the place of a value is no stack pointer
 wrong_place : (f : Frame) (h : Helper) → IsCellArgument h 1 → IsCellArgument h 2 → IsPlaceArgument h 3 → not (is_cell f && is_place (kind_of f 3)) ≡ true → (r : ℕ) × IsWrong f h r
-wrong_place f h one two three = by (is_cell f) (is_place (kind_of f 3)) refl refl
-  where
-    by : (a b : Bool) → is_cell f ≡ a → is_place (kind_of f 3) ≡ b → not (a && b) ≡ true → (r : ℕ) × IsWrong f h r
-    by false b p q e = wrong_cell f h one two (ap not p)
-    by true false p q e = (3, inr (three, not_from_Decides _ (Decides-place (kind_of f 3)) q))
-    by true true p q e = cc
+wrong_place f h one two three = grind arith
 
 module _ (j : JudgedOf) (n : ℕ) (f : Frame) (k : ℤ) where
   -- what holds of the declared helper
@@ -192,11 +155,7 @@ module _ (j : JudgedOf) (n : ℕ) (f : Frame) (k : ℤ) where
       let d = taken_breaks (kind_of f 3) e refl in
       let w = each_when (λ c. Breaks c j n f (Insn.Call k)) (not (is_cell f && is_place (kind_of f 3))) RuleCode.WrongArgument (λ u. of_declared Write (λ h. (r : ℕ) × IsWrong f h r) e (wrong_place f Write (inl refl) (inr refl) refl u)) in
       search (All-append, a, b, c, d, w)
-  call_breaks (Some Delete) e =
-      let a = argument_breaks Delete 1 e (inl (inl refl)) in
-      let b = argument_breaks Delete 2 e (inl (inr refl)) in
-      let w = each_when (λ c. Breaks c j n f (Insn.Call k)) (not (is_cell f)) RuleCode.WrongArgument (λ u. of_declared Delete (λ h. (r : ℕ) × IsWrong f h r) e (wrong_cell f Delete (inl refl) (inr refl) u)) in
-      search (All-append, a, b, w)
+  call_breaks (Some Delete) e = grind arith
   call_breaks (Some Start) e = All-nil (λ c. Breaks c j n f (Insn.Call k))
 
 -- ---- all instructions
@@ -207,21 +166,9 @@ all_broken j n f (Insn.Alu op w d x) =
     let a = alu_breaks j n f op w d x in
     let b = falls_breaks j n f (Insn.Alu op w d x) (n + 1) refl in
     search (All-append, a, b)
-all_broken j n f (Insn.MovSx w z d r) =
-    let i = Insn.MovSx w z d r in
-    let a = unset_breaks j n f i (number r) refl in
-    let s = sets_breaks j n f i d (λ e. e) in
-    let p = each_when (Broken j n f i) (is_pointer (at f r)) RuleCode.PointerArithmetic (λ e. (tt, (number r, refl, (Decides-pointer (at f r)).0 e))) in
-    let b = falls_breaks j n f i (n + 1) refl in
-    search (All-append, a, s, p, b)
-all_broken j n f (Insn.Neg w d) =
-    let a = numeric_breaks j n f (Insn.Neg w d) d (Operand.Imm (pos 0)) (λ r h. elim h as (λ _. r ≡ number d) [ inl e ↦ e | inr e ↦ absurd e ]) (λ e. e) tt in
-    let b = falls_breaks j n f (Insn.Neg w d) (n + 1) refl in
-    search (All-append, a, b)
-all_broken j n f (Insn.LoadImm d v) =
-    let a = sets_breaks j n f (Insn.LoadImm d v) d (λ e. e) in
-    let b = falls_breaks j n f (Insn.LoadImm d v) (n + 2) refl in
-    search (All-append, a, b)
+all_broken j n f (Insn.MovSx w z d r) = grind (arith, unset_breaks, sets_breaks, each_when, falls_breaks, All-append)
+all_broken j n f (Insn.Neg w d) = grind arith
+all_broken j n f (Insn.LoadImm d v) = grind arith
 all_broken j n f (Insn.Load z x d r o) =
     let i = Insn.Load z x d r o in
     let a = unset_breaks j n f i (number r) refl in
@@ -229,12 +176,7 @@ all_broken j n f (Insn.Load z x d r o) =
     let m = subst (λ b. All (Broken j n f i) (loads j.record_size f (at f r) o b)) (bytes_are z) (loads_breaks j n f i (touch Loading (number r) o (size_bytes z)) (at f r) refl refl refl) in
     let b = falls_breaks j n f i (n + 1) refl in
     search (All-append, a, s, m, b)
-all_broken j n f (Insn.StoreImm z d o k) =
-    let i = Insn.StoreImm z d o k in
-    let a = unset_breaks j n f i (number d) refl in
-    let m = subst (λ b. All (Broken j n f i) (stores (at f d) o b)) (bytes_are z) (stores_breaks j n f i (touch Storing (number d) o (size_bytes z)) (at f d) refl refl refl) in
-    let b = falls_breaks j n f i (n + 1) refl in
-    search (All-append, a, m, b)
+all_broken j n f (Insn.StoreImm z d o k) = grind (arith, unset_breaks, bytes_are, stores_breaks, falls_breaks, All-append)
 all_broken j n f (Insn.Store z d r o) =
     let i = Insn.Store z d r o in
     let a = unset_breaks j n f i (number d) (inl refl) in
@@ -256,7 +198,4 @@ all_broken j n f (Insn.Call k) =
     let a = call_breaks j n f k (declared_helper j.helpers k) refl in
     let b = falls_breaks j n f (Insn.Call k) (n + 1) refl in
     search (All-append, a, b)
-all_broken j n f Insn.Exit =
-    let a = unset_breaks j n f Insn.Exit 0 refl in
-    let p = each_when (Broken j n f Insn.Exit) (is_pointer (kind_of f 0)) RuleCode.ExitsWithPointer (λ e. (tt, (0, refl, (Decides-pointer (kind_of f 0)).0 e))) in
-    search (All-append, a, p)
+all_broken j n f Insn.Exit = grind arith

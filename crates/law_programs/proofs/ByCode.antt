@@ -1,10 +1,10 @@
 -- The rules by code.
-use Rattle.std.proofs.Common.{◌≡◌, ℕ, ◌+◌, inl, inr, pos, ◌+ℤ◌, Option, Some, None, ap, subst, Contains, IsSomeAnd}
+use Rattle.std.proofs.Common.{arith, ◌≡◌, ℕ, ◌+◌, inl, inr, pos, ◌+ℤ◌, Option, ap, subst, Contains, IsSomeAnd}
 use Rattle.std.proofs.lemmas.List.Elements.{All-contains, Contains-append_left, Contains-append_right}
 use Rattle.pb_isa.specs.declared.insn.Insn.{Insn}
 use Rattle.pb_isa.specs.declared.insn.Operand.{Operand}
 use Rattle.pb_isa.specs.Registers.{number}
-use Rattle.pb_isa.specs.Helpers.{Helper, Read, Write, Delete, Start, declared_helper}
+use Rattle.pb_isa.specs.Helpers.{Helper, declared_helper}
 use Rattle.pb_isa.specs.Programs.{JudgedOf}
 use Rattle.pb_kinds.specs.declared.frame.Kind.{Kind}
 use Rattle.pb_kinds.specs.declared.frame.Frame.{Frame}
@@ -16,7 +16,7 @@ use Rattle.law_programs.specs.Breaks.{Breaks, RulesAreByCode}
 use Rattle.law_programs.proofs.Told.{stands}
 use Rattle.law_programs.proofs.Tests.{bytes_are}
 use Rattle.law_programs.proofs.Broken.{all_broken}
-use Rattle.law_programs.proofs.Listed.{unset_at, pointer_at, is_ten, unset_operand, pointing, falls_at, numeric_unset, numeric_sets, numeric_pointer, alu_unset, alu_operand, alu_sets, alu_pointer, loads_outside, loads_unwritten, loads_beyond, loads_number, stores_outside, stores_record, stores_number, call_unset, call_outside, call_unwritten, call_wrong, call_undeclared, jumps_back, jumps_outside, jumps_into}
+use Rattle.law_programs.proofs.Listed.{unset_at, pointer_at, is_ten, unset_operand, pointing, falls_at, numeric_sets, numeric_pointer, alu_operand, alu_sets, alu_pointer, loads_outside, loads_unwritten, loads_beyond, loads_number, stores_outside, stores_record, stores_number, call_unset, call_outside, call_unwritten, call_wrong, jumps_back, jumps_outside, jumps_into}
 
 -- the code stands in what the instruction's rules list
 abbrev Lists : RuleCode → Type 0
@@ -24,17 +24,13 @@ Lists c = (j : JudgedOf) (n : ℕ) (f : Frame) (i : Insn) → Breaks c j n f i �
 
 -- 21: whatever register an instruction reads
 reads_unset : Lists RuleCode.ReadsUnset
-reads_unset j n f (Insn.Alu op w d x) (r, inl h, e) =
-    let a = alu_unset f op w d x h.0 (unset_at f r (number d) h.1 e) in
-    search (Contains-append_left, a)
+reads_unset j n f (Insn.Alu op w d x) (r, inl h, e) = grind arith
 reads_unset j n f (Insn.Alu op w d (Operand.Imm k)) (r, inr h, e) = absurd h
 reads_unset j n f (Insn.Alu op w d (Operand.Reg s)) (r, inr h, e) =
     let a = alu_operand f op w d s (unset_at f r (number s) h e) in
     search (Contains-append_left, a)
 reads_unset j n f (Insn.MovSx w z d r) b = let e = unset_at f b.0 (number r) b.1 b.2 in search (Contains-append_left, stands)
-reads_unset j n f (Insn.Neg w d) b =
-    let a = numeric_unset f d (Operand.Imm (pos 0)) (unset_at f b.0 (number d) b.1 b.2) in
-    search (Contains-append_left, a)
+reads_unset j n f (Insn.Neg w d) b = grind arith
 reads_unset j n f (Insn.LoadImm d v) b = absurd b.1
 reads_unset j n f (Insn.Load z x d r o) b = let e = unset_at f b.0 (number r) b.1 b.2 in search (Contains-append_left, stands)
 reads_unset j n f (Insn.StoreImm z d o k) b = let e = unset_at f b.0 (number d) b.1 b.2 in search (Contains-append_left, stands)
@@ -73,10 +69,7 @@ outside_stack j n f (Insn.Load z x d r o) (t, k, h, is, out) =
     let q = subst (λ (u : Touch). (kind_of f u.base ≡ Kind.Stack k) × ¬ (LieInStack (k +ℤ u.offset) u.bytes)) h (is, out) in
     let a = subst (λ b. Contains (loads j.record_size f (at f r) o b) RuleCode.OutsideStack) (bytes_are z) (loads_outside j.record_size f (at f r) o (size_bytes z) k q.0 q.1) in
     search (Contains-append_left, Contains-append_right, a)
-outside_stack j n f (Insn.StoreImm z d o v) (t, k, h, is, out) =
-    let q = subst (λ (u : Touch). (kind_of f u.base ≡ Kind.Stack k) × ¬ (LieInStack (k +ℤ u.offset) u.bytes)) h (is, out) in
-    let a = subst (λ b. Contains (stores (at f d) o b) RuleCode.OutsideStack) (bytes_are z) (stores_outside j.record_size f (at f d) o (size_bytes z) k q.0 q.1) in
-    search (Contains-append_left, Contains-append_right, a)
+outside_stack j n f (Insn.StoreImm z d o v) (t, k, h, is, out) = grind arith
 outside_stack j n f (Insn.Store z d s o) (t, k, h, is, out) =
     let q = subst (λ (u : Touch). (kind_of f u.base ≡ Kind.Stack k) × ¬ (LieInStack (k +ℤ u.offset) u.bytes)) h (is, out) in
     let a = subst (λ b. Contains (stores (at f d) o b) RuleCode.OutsideStack) (bytes_are z) (stores_outside j.record_size f (at f d) o (size_bytes z) k q.0 q.1) in
@@ -86,16 +79,11 @@ outside_stack j n f _ b = absurd b.2
 
 -- a store reads no byte
 not_storing : (t : Touch) → t.how ≡ Storing → ¬ (IsReading t.how)
-not_storing t e (inl h) = cc
-not_storing t e (inr h) = cc
+not_storing t e w = grind arith
 
 -- no helper loads or stores
 not_loading : (o : Option Helper) (t : Touch) → IsSomeAnd o (λ h. HelperTouches h t) → ¬ (IsOfInstruction t.how)
-not_loading None t h how = absurd h
-not_loading (Some Read) t h how = let e = ap (λ (u : Touch). u.how) h in elim how as (λ _. ⊥) [ inl g ↦ cc | inr g ↦ cc ]
-not_loading (Some Write) t h how = let e = ap (λ (u : Touch). u.how) h in elim how as (λ _. ⊥) [ inl g ↦ cc | inr g ↦ cc ]
-not_loading (Some Delete) t h how = absurd h
-not_loading (Some Start) t h how = absurd h
+not_loading o t h how = grind arith
 
 -- 26: of loads, and of the value that a write takes
 unwritten_byte : Lists RuleCode.UnwrittenByte
@@ -120,9 +108,7 @@ outside_record j n f _ b = absurd b.2
 
 writes_record : Lists RuleCode.WritesRecord
 writes_record j n f (Insn.Load z x d r o) (t, k, h, how, is) = let e = ap (λ (u : Touch). u.how) h in cc
-writes_record j n f (Insn.StoreImm z d o v) (t, k, h, how, is) =
-    let a = subst (λ b. Contains (stores (at f d) o b) RuleCode.WritesRecord) (bytes_are z) (stores_record j.record_size f (at f d) o (size_bytes z) k (subst (λ (u : Touch). kind_of f u.base ≡ Kind.Record k) h is)) in
-    search (Contains-append_left, Contains-append_right, a)
+writes_record j n f (Insn.StoreImm z d o v) (t, k, h, how, is) = grind arith
 writes_record j n f (Insn.Store z d s o) (t, k, h, how, is) =
     let a = subst (λ b. Contains (stores (at f d) o b) RuleCode.WritesRecord) (bytes_are z) (stores_record j.record_size f (at f d) o (size_bytes z) k (subst (λ (u : Touch). kind_of f u.base ≡ Kind.Record k) h is)) in
     search (Contains-append_left, Contains-append_right, a)
@@ -133,9 +119,7 @@ through_number : Lists RuleCode.ThroughNumber
 through_number j n f (Insn.Load z x d r o) (t, h, how, is) =
     let a = subst (λ b. Contains (loads j.record_size f (at f r) o b) RuleCode.ThroughNumber) (bytes_are z) (loads_number j.record_size f (at f r) o (size_bytes z) (subst (λ (u : Touch). kind_of f u.base ≡ Kind.Number) h is)) in
     search (Contains-append_left, Contains-append_right, a)
-through_number j n f (Insn.StoreImm z d o v) (t, h, how, is) =
-    let a = subst (λ b. Contains (stores (at f d) o b) RuleCode.ThroughNumber) (bytes_are z) (stores_number j.record_size f (at f d) o (size_bytes z) (subst (λ (u : Touch). kind_of f u.base ≡ Kind.Number) h is)) in
-    search (Contains-append_left, Contains-append_right, a)
+through_number j n f (Insn.StoreImm z d o v) (t, h, how, is) = grind arith
 through_number j n f (Insn.Store z d s o) (t, h, how, is) =
     let a = subst (λ b. Contains (stores (at f d) o b) RuleCode.ThroughNumber) (bytes_are z) (stores_number j.record_size f (at f d) o (size_bytes z) (subst (λ (u : Touch). kind_of f u.base ≡ Kind.Number) h is)) in
     search (Contains-append_left, Contains-append_right, a)
@@ -143,8 +127,7 @@ through_number j n f (Insn.Call v) (t, h, how, is) = absurd (not_loading (declar
 through_number j n f _ b = absurd b.1
 
 not_declared : Lists RuleCode.NotDeclared
-not_declared j n f (Insn.Call k) b = let a = call_undeclared f (declared_helper j.helpers k) b in search (Contains-append_left, a)
-not_declared j n f _ b = absurd b
+not_declared j n f x b = grind arith
 
 -- 31: of a declared helper, for its row, column or place
 wrong_argument : Lists RuleCode.WrongArgument
@@ -175,8 +158,7 @@ falls_off j n f Insn.Exit b = cc
 falls_off j n f _ b = let a = falls_at j.program.insns (n + 1) b in search (Contains-append_right, a)
 
 exits_with_pointer : Lists RuleCode.ExitsWithPointer
-exits_with_pointer j n f Insn.Exit b = let e = pointer_at f b.1.0 0 b.1.1 b.1.2 in search (Contains-append_right, stands)
-exits_with_pointer j n f _ b = absurd b.0
+exits_with_pointer j n f x b = grind arith
 
 pointer_compared : Lists RuleCode.PointerCompared
 pointer_compared j n f (Insn.JumpIf c w d x o) b = let e = pointing f d x b.1.0 b.1.1 b.1.2 in search (Contains-append_left, Contains-append_right, stands)

@@ -1,5 +1,5 @@
 -- Each rule that an instruction breaks is among those that are listed.
-use Rattle.std.proofs.Common.{◌≡◌, ◌≢◌, ℕ, ◌+◌, ◌<◌, ◌≤◌, Bool, true, false, not, ◌&&◌, ◌||◌, ◌⊎◌, inl, inr, ℤ, pos, negsuc, ◌+ℤ◌, List, [], ◌∷◌, Option, Some, None, nat_eq, refl, sym, subst, arith, if◌then◌else◌, nat_le, is_none, Decides, Contains, IsSomeAnd}
+use Rattle.std.proofs.Common.{◌≡◌, ◌≢◌, ℕ, ◌+◌, ◌<◌, ◌≤◌, true, not, ◌&&◌, ◌⊎◌, inl, inr, ℤ, pos, negsuc, ◌+ℤ◌, List, Option, Some, None, nat_eq, refl, sym, subst, arith, Decides, Contains, IsSomeAnd}
 use Rattle.std.proofs.Math.IntN.{+ℤ_idr}
 use Rattle.std.proofs.lemmas.List.Elements.{Contains-append_left, Contains-append_right}
 use Rattle.std.proofs.lemmas.Bool.Decides.{Decides-eqb, Decides-not, Decides-and}
@@ -14,16 +14,15 @@ use Rattle.pb_isa.specs.Slots.{slots, insn_at}
 use Rattle.pb_kinds.specs.declared.frame.Kind.{Kind}
 use Rattle.pb_kinds.specs.declared.frame.Frame.{Frame}
 use Rattle.pb_kinds.specs.Frames.{kind_of, is_unset, is_pointer}
-use Rattle.pb_kinds.specs.Ranges.{in_stack, in_record, are_written}
+use Rattle.pb_kinds.specs.Ranges.{in_stack, in_record}
 use Rattle.pb_helpers.specs.declared.code.RuleCode.{RuleCode}
-use Rattle.pb_helpers.specs.Codes.{when}
 use Rattle.pb_helpers.specs.Arguments.{stack_reads, stack_writes, filled_bytes, taken_bytes, is_cell, is_place, call_rules}
 use Rattle.pb_verify.specs.Rules.{at, reads_operand, on_pointer, falls, numeric_rules, alu_rules, loads, stores, jump_rules}
 use Rattle.law_programs.specs.Operands.{IsPointer, IsStackPointer, IsCellArgument, IsPlaceArgument, IsOperand, KeepsPointers}
 use Rattle.law_programs.specs.Touches.{Touch, HelperTouches, IsReading, LieInStack, LieInRecord, SomeUnwritten}
 use Rattle.law_programs.specs.Breaks.{IsWrong}
 use Rattle.law_programs.proofs.Told.{stands, stands_one}
-use Rattle.law_programs.proofs.Tests.{Decides-unset, Decides-number, Decides-place, Decides-pointer, Decides-stack, Decides-record, Decides-none, not_written, le_to, le_not}
+use Rattle.law_programs.proofs.Tests.{Decides-unset, Decides-number, Decides-pointer, Decides-stack, Decides-record, not_written}
 
 -- ---- registers
 
@@ -38,32 +37,16 @@ is_ten d e = (Decides-eqb (number d) 10).1 (sym e)
 
 -- an unset operand is listed
 pub unset_operand : (f : Frame) (x : Operand) (r : ℕ) → IsOperand x r → kind_of f r ≡ Kind.Unset → Contains (reads_operand f x) RuleCode.ReadsUnset
-unset_operand f (Operand.Imm k) r h e = absurd h
-unset_operand f (Operand.Reg s) r h e = stands (is_unset (at f s)) RuleCode.ReadsUnset (unset_at f r (number s) h e)
-
-left_pointer : (f : Frame) (d : Reg) (x : Operand) → is_pointer (at f d) ≡ true → on_pointer f d x ≡ true
-left_pointer f d x e = rw e refl
-
-right_pointer : (f : Frame) (d : Reg) (s : Reg) → is_pointer (at f s) ≡ true → on_pointer f d (Operand.Reg s) ≡ true
-right_pointer f d s e = by (is_pointer (at f d)) (is_pointer (at f s)) e
-  where
-    by : (a b : Bool) → b ≡ true → (a || b) ≡ true
-    by true b e = refl
-    by false b e = e
+unset_operand f x r h e = grind arith
 
 -- an operand that is a pointer is found by the rules' test
 pub pointing : (f : Frame) (d : Reg) (x : Operand) (r : ℕ) → (r ≡ number d) ⊎ IsOperand x r → IsPointer (kind_of f r) → on_pointer f d x ≡ true
-pointing f d x r (inl e) h = left_pointer f d x (pointer_at f r (number d) e h)
-pointing f d (Operand.Imm k) r (inr e) h = absurd e
-pointing f d (Operand.Reg s) r (inr e) h = right_pointer f d s (pointer_at f r (number s) e h)
+pointing f d x r w h = grind arith
 
 pub falls_at : (p : List Insn) (m : ℕ) → Some m ≡ Some (slots p) → Contains (falls p m) RuleCode.FallsOff
 falls_at p m h = let e : m ≡ slots p = cc in stands (nat_eq m (slots p)) RuleCode.FallsOff ((Decides-eqb m (slots p)).1 e)
 
 -- ---- arithmetic
-
-pub numeric_unset : (f : Frame) (d : Reg) (x : Operand) → is_unset (at f d) ≡ true → Contains (numeric_rules f d x) RuleCode.ReadsUnset
-numeric_unset f d x e = search (Contains-append_left, Contains-append_right, stands)
 
 numeric_operand : (f : Frame) (d : Reg) (x : Operand) → Contains (reads_operand f x) RuleCode.ReadsUnset → Contains (numeric_rules f d x) RuleCode.ReadsUnset
 numeric_operand f d x h = search (Contains-append_left, Contains-append_right, h)
@@ -74,15 +57,6 @@ numeric_sets f d x e = search (Contains-append_left, Contains-append_right, stan
 -- a pointer on either side of an operation on numbers is listed
 pub numeric_pointer : (f : Frame) (d : Reg) (x : Operand) → on_pointer f d x ≡ true → Contains (numeric_rules f d x) RuleCode.PointerArithmetic
 numeric_pointer f d x e = search (Contains-append_left, Contains-append_right, stands)
-
--- an unset destination is listed of every operation that reads it
-pub alu_unset : (f : Frame) (op : AluOp) (w : Width) (d : Reg) (x : Operand) → op ≢ AluOp.Mov → is_unset (at f d) ≡ true → Contains (alu_rules f op w d x) RuleCode.ReadsUnset
-alu_unset f AluOp.Mov w d x other e = absurd (other refl)
-alu_unset f AluOp.Add Width.Bits64 d (Operand.Imm k) other e = search (Contains-append_left, Contains-append_right, stands)
-alu_unset f AluOp.Sub Width.Bits64 d (Operand.Imm k) other e = search (Contains-append_left, Contains-append_right, stands)
-alu_unset f AluOp.Add Width.Bits64 d (Operand.Reg s) other e = numeric_unset f d (Operand.Reg s) e
-alu_unset f AluOp.Sub Width.Bits64 d (Operand.Reg s) other e = numeric_unset f d (Operand.Reg s) e
-alu_unset f op w d x other e = numeric_unset f d x e
 
 pub alu_operand : (f : Frame) (op : AluOp) (w : Width) (d : Reg) (s : Reg) → is_unset (at f s) ≡ true → Contains (alu_rules f op w d (Operand.Reg s)) RuleCode.ReadsUnset
 alu_operand f AluOp.Mov Width.Bits64 d s e = search (Contains-append_left, Contains-append_right, stands)
@@ -104,8 +78,7 @@ alu_sets f op w d x e = numeric_sets f d x e
 
 -- the operands of an operation that takes numbers alone
 alu_operands : (f : Frame) (op : AluOp) (d : Reg) (x : Operand) (r : ℕ) → ((op ≢ AluOp.Mov) × (r ≡ number d)) ⊎ IsOperand x r → IsPointer (kind_of f r) → on_pointer f d x ≡ true
-alu_operands f op d x r (inl h) p = pointing f d x r (inl h.1) p
-alu_operands f op d x r (inr h) p = pointing f d x r (inr h) p
+alu_operands f op d x r w p = grind arith
 
 pub alu_pointer : (f : Frame) (op : AluOp) (w : Width) (d : Reg) (x : Operand) (r : ℕ) → ¬ (KeepsPointers op w x) → ((op ≢ AluOp.Mov) × (r ≡ number d)) ⊎ IsOperand x r → IsPointer (kind_of f r) → Contains (alu_rules f op w d x) RuleCode.PointerArithmetic
 alu_pointer f AluOp.Mov Width.Bits64 d x r none h p = absurd (none tt)
@@ -123,19 +96,11 @@ alu_pointer f op w d x r none h p = numeric_pointer f d x (alu_operands f op d x
 
 -- bytes that don't lie in the stack are listed as 25, written or not
 reads_outside : (f : Frame) (z : ℤ) (n : ℕ) → ¬ (LieInStack z n) → Contains (stack_reads f z n) RuleCode.OutsideStack
-reads_outside f z n out = by (in_stack z n) refl
-  where
-    by : (b : Bool) → in_stack z n ≡ b → Contains (if b then when (not (are_written f z n)) RuleCode.UnwrittenByte else RuleCode.OutsideStack ∷ []) RuleCode.OutsideStack
-    by true e = absurd (out ((Decides-stack z n).0 e))
-    by false e = stands_one RuleCode.OutsideStack
+reads_outside f z n out = grind arith
 
 -- and those that lie there, of which one isn't written, as 26
 reads_unwritten : (f : Frame) (z : ℤ) (n : ℕ) → LieInStack z n → SomeUnwritten f z n → Contains (stack_reads f z n) RuleCode.UnwrittenByte
-reads_unwritten f z n lie some = by (in_stack z n) ((Decides-stack z n).1 lie)
-  where
-    by : (b : Bool) → b ≡ true → Contains (if b then when (not (are_written f z n)) RuleCode.UnwrittenByte else RuleCode.OutsideStack ∷ []) RuleCode.UnwrittenByte
-    by true e = stands (not (are_written f z n)) RuleCode.UnwrittenByte (not_written f z n some)
-    by false e = cc
+reads_unwritten f z n lie some = grind (arith, stands, not_written)
 
 writes_outside : (z : ℤ) (n : ℕ) → ¬ (LieInStack z n) → Contains (stack_writes z n) RuleCode.OutsideStack
 writes_outside z n out = stands (not (in_stack z n)) RuleCode.OutsideStack ((Decides-not (in_stack z n) (Decides-stack z n)).1 out)
@@ -166,18 +131,7 @@ module _ (size : ℕ) (f : Frame) (k : Kind) (o : ℤ) (n : ℕ) where
 
 -- an unset argument is listed, of each helper that takes it
 pub call_unset : (f : Frame) (o : Option Helper) (r : ℕ) → IsSomeAnd o (λ h. IsCellArgument h r ⊎ IsPlaceArgument h r) → kind_of f r ≡ Kind.Unset → Contains (call_rules f o) RuleCode.ReadsUnset
-call_unset f None r h e = absurd h
-call_unset f (Some Read) r (inl (inl h)) e = let u = unset_at f r 1 h e in search (Contains-append_left, Contains-append_right, stands)
-call_unset f (Some Read) r (inl (inr h)) e = let u = unset_at f r 2 h e in search (Contains-append_left, Contains-append_right, stands)
-call_unset f (Some Read) r (inr h) e = let u = unset_at f r 3 h e in search (Contains-append_left, Contains-append_right, stands)
-call_unset f (Some Write) r (inl (inl h)) e = let u = unset_at f r 1 h e in search (Contains-append_left, Contains-append_right, stands)
-call_unset f (Some Write) r (inl (inr h)) e = let u = unset_at f r 2 h e in search (Contains-append_left, Contains-append_right, stands)
-call_unset f (Some Write) r (inr h) e = let u = unset_at f r 3 h e in search (Contains-append_left, Contains-append_right, stands)
-call_unset f (Some Delete) r (inl (inl h)) e = let u = unset_at f r 1 h e in search (Contains-append_left, Contains-append_right, stands)
-call_unset f (Some Delete) r (inl (inr h)) e = let u = unset_at f r 2 h e in search (Contains-append_left, Contains-append_right, stands)
-call_unset f (Some Delete) r (inr h) e = absurd h
-call_unset f (Some Start) r (inl h) e = absurd h
-call_unset f (Some Start) r (inr h) e = absurd h
+call_unset f o r h e = grind arith
 
 pub call_outside : (f : Frame) (o : Option Helper) (t : Touch) (k : ℤ) → IsSomeAnd o (λ h. HelperTouches h t) → kind_of f t.base ≡ Kind.Stack k → ¬ (LieInStack (k +ℤ t.offset) t.bytes) → Contains (call_rules f o) RuleCode.OutsideStack
 call_outside f None t k h is out = absurd h
@@ -194,9 +148,7 @@ call_outside f (Some Start) t k h is out = absurd h
 
 pub call_unwritten : (f : Frame) (o : Option Helper) (t : Touch) (k : ℤ) → IsSomeAnd o (λ h. HelperTouches h t) → IsReading t.how → kind_of f t.base ≡ Kind.Stack k → LieInStack (k +ℤ t.offset) t.bytes → SomeUnwritten f (k +ℤ t.offset) t.bytes → Contains (call_rules f o) RuleCode.UnwrittenByte
 call_unwritten f None t k h reading is lie some = absurd h
-call_unwritten f (Some Read) t k h reading is lie some =
-    let q = subst (λ (u : Touch). IsReading u.how) h reading in
-    elim q as (λ _. Contains (call_rules f (Some Read)) RuleCode.UnwrittenByte) [ inl e ↦ cc | inr e ↦ cc ]
+call_unwritten f (Some Read) t k h reading is lie some = grind arith
 call_unwritten f (Some Write) t k h reading is lie some =
     let q = subst (λ (u : Touch). (kind_of f u.base ≡ Kind.Stack k) × LieInStack (k +ℤ u.offset) u.bytes × SomeUnwritten f (k +ℤ u.offset) u.bytes) h (is, lie, some) in
     let here : Contains (taken_bytes f (kind_of f 3)) RuleCode.UnwrittenByte = subst (λ p. Contains (taken_bytes f p) RuleCode.UnwrittenByte) (sym q.0) (reads_unwritten f k 32 (subst (λ y. LieInStack y 32) (+ℤ_idr k) q.1) (subst (λ y. SomeUnwritten f y 32) (+ℤ_idr k) q.2)) in
@@ -207,17 +159,12 @@ call_unwritten f (Some Start) t k h reading is lie some = absurd h
 Decides-cell : (f : Frame) → Decides (is_cell f) ((kind_of f 1 ≡ Kind.Number) × (kind_of f 2 ≡ Kind.Number))
 Decides-cell f = Decides-and _ _ (Decides-number (kind_of f 1)) (Decides-number (kind_of f 2))
 
-Decides-arguments : (f : Frame) → Decides (is_cell f && is_place (kind_of f 3)) (((kind_of f 1 ≡ Kind.Number) × (kind_of f 2 ≡ Kind.Number)) × IsStackPointer (kind_of f 3))
-Decides-arguments f = Decides-and _ _ (Decides-cell f) (Decides-place (kind_of f 3))
-
 not_cell : (f : Frame) (r : ℕ) → (r ≡ 1) ⊎ (r ≡ 2) → kind_of f r ≢ Kind.Number → ¬ ((kind_of f 1 ≡ Kind.Number) × (kind_of f 2 ≡ Kind.Number))
-not_cell f r (inl e) out h = out (subst (λ q. kind_of f q ≡ Kind.Number) (sym e) h.0)
-not_cell f r (inr e) out h = out (subst (λ q. kind_of f q ≡ Kind.Number) (sym e) h.1)
+not_cell f r w out h = grind arith
 
 -- an argument is wrong, of a helper that has three
 wrong : (f : Frame) (r : ℕ) → (((r ≡ 1) ⊎ (r ≡ 2)) × (kind_of f r ≢ Kind.Number)) ⊎ ((r ≡ 3) × ¬ (IsStackPointer (kind_of f r))) → not (is_cell f && is_place (kind_of f 3)) ≡ true
-wrong f r (inl h) = (Decides-not _ (Decides-arguments f)).1 (λ p. not_cell f r h.0 h.1 p.0)
-wrong f r (inr h) = (Decides-not _ (Decides-arguments f)).1 (λ p. h.1 (subst (λ q. IsStackPointer (kind_of f q)) (sym h.0) p.1))
+wrong f r w = grind arith
 
 -- a wrong argument is listed, of each helper that takes it
 pub call_wrong : (f : Frame) (o : Option Helper) → IsSomeAnd o (λ h. (r : ℕ) × IsWrong f h r) → Contains (call_rules f o) RuleCode.WrongArgument
@@ -229,9 +176,6 @@ call_wrong f (Some Delete) (r, inr h) = absurd h.0
 call_wrong f (Some Start) (r, inl h) = absurd h.0
 call_wrong f (Some Start) (r, inr h) = absurd h.0
 
-pub call_undeclared : (f : Frame) (o : Option Helper) → o ≡ None → Contains (call_rules f o) RuleCode.NotDeclared
-call_undeclared f o e = subst (λ o. Contains (call_rules f o) RuleCode.NotDeclared) (sym e) (stands_one RuleCode.NotDeclared)
-
 -- ---- jumps
 
 pub jumps_back : (p : List Insn) (n : ℕ) (o : ℤ) (z : ℕ) → o ≡ negsuc z → Contains (jump_rules p n o) RuleCode.BackwardJump
@@ -239,15 +183,7 @@ jumps_back p n o z e = subst (λ o. Contains (jump_rules p n o) RuleCode.Backwar
 
 -- a target past the last slot is listed as 33
 pub jumps_outside : (p : List Insn) (n : ℕ) (o : ℤ) (t z : ℕ) → o ≡ pos z → t ≡ n + 1 + z → slots p ≤ t → Contains (jump_rules p n o) RuleCode.JumpOutside
-jumps_outside p n o t z e is past = subst (λ o. Contains (jump_rules p n o) RuleCode.JumpOutside) (sym e) (by (nat_le (slots p) (n + 1 + z)) (le_to (slots p) (n + 1 + z) (omega arith)))
-  where
-    by : (b : Bool) → b ≡ true → Contains (if b then RuleCode.JumpOutside ∷ [] else when (is_none (insn_at p (n + 1 + z))) RuleCode.JumpIntoPair) RuleCode.JumpOutside
-    by true e = stands_one RuleCode.JumpOutside
-    by false e = cc
+jumps_outside p n o t z e is past = grind arith
 
 pub jumps_into : (p : List Insn) (n : ℕ) (o : ℤ) (t z : ℕ) → o ≡ pos z → t ≡ n + 1 + z → t < slots p → insn_at p t ≡ None → Contains (jump_rules p n o) RuleCode.JumpIntoPair
-jumps_into p n o t z e is inside none = subst (λ o. Contains (jump_rules p n o) RuleCode.JumpIntoPair) (sym e) (by (nat_le (slots p) (n + 1 + z)) (le_not (slots p) (n + 1 + z) (omega arith)))
-  where
-    by : (b : Bool) → b ≡ false → Contains (if b then RuleCode.JumpOutside ∷ [] else when (is_none (insn_at p (n + 1 + z))) RuleCode.JumpIntoPair) RuleCode.JumpIntoPair
-    by false e = stands (is_none (insn_at p (n + 1 + z))) RuleCode.JumpIntoPair ((Decides-none (insn_at p (n + 1 + z))).1 (subst (λ t. insn_at p t ≡ None) is none))
-    by true e = cc
+jumps_into p n o t z e is inside none = grind arith

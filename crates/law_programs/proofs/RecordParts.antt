@@ -20,13 +20,10 @@ front v rest e = subst (λ n. take n (v ++ rest) ≡ v) e (take-append_seam v re
 
 -- a value has 32 bytes, and so have the zeros in place of one
 length-value : (c : Content) → HasValueSize c → length (value_bytes c) ≡ 32
-length-value (Content.Value v) h = h
-length-value Content.Deleted h = refl
-length-value (Content.Stamp t) h = refl
+length-value c h = grind arith
 
 length-reply : (r : Reply) → IfSome r (λ v. length v ≡ 32) → length (reply_bytes r) ≡ 32
-length-reply (Some v) h = h
-length-reply None h = refl
+length-reply r h = grind arith
 
 -- the value of a version, in its record with whatever follows
 content_in : (x : Cell) (found : Revision) (a : ℕ) (rest : List ℕ) (c : Content) → found.content ≡ c → HasValueSize c → HasContent (record_of x found a ++ rest) c

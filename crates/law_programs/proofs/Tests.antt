@@ -1,8 +1,8 @@
 -- What the tests of the rules decide.
-use Rattle.std.proofs.Common.{◌≡◌, ℕ, zero, suc, ◌+◌, ◌<◌, ◌≤◌, Bool, true, false, not, ◌&&◌, inl, inr, ℤ, pos, negsuc, ◌+ℤ◌, ◌≤ℤ◌, int_le, T, refl, ap, subst, arith, Decides, is_none, nat_le, Option, Some, None}
+use Rattle.std.proofs.Common.{◌≡◌, ℕ, zero, suc, ◌+◌, ◌<◌, Bool, true, false, not, ◌&&◌, ℤ, pos, negsuc, ◌+ℤ◌, ◌≤ℤ◌, int_le, T, refl, ap, subst, arith, Decides, is_none, nat_le, Option, None}
 use Rattle.std.proofs.lemmas.Float.{T_from_true}
 use Rattle.std.proofs.lemmas.Bool.{true_from_ne_false}
-use Rattle.std.proofs.lemmas.Bool.Decides.{Decides-and, nat_tests}
+use Rattle.std.proofs.lemmas.Bool.Decides.{Decides-and}
 use Rattle.pb_isa.specs.declared.insn.Size.{Size}
 use Rattle.pb_kinds.specs.declared.frame.Kind.{Kind}
 use Rattle.pb_kinds.specs.declared.frame.Frame.{Frame}
@@ -16,28 +16,13 @@ use Rattle.law_programs.specs.Touches.{size_bytes, LieInStack, LieInRecord, Some
 -- ---- kinds
 
 pub Decides-unset : (k : Kind) → Decides (is_unset k) (k ≡ Kind.Unset)
-Decides-unset Kind.Unset = ((λ e. refl), (λ e. refl))
-Decides-unset Kind.Number = ((λ e. cc), (λ e. cc))
-Decides-unset (Kind.Stack z) = ((λ e. cc), (λ e. cc))
-Decides-unset (Kind.Record z) = ((λ e. cc), (λ e. cc))
+Decides-unset k = grind arith
 
 pub Decides-number : (k : Kind) → Decides (is_number_kind k) (k ≡ Kind.Number)
-Decides-number Kind.Unset = ((λ e. cc), (λ e. cc))
-Decides-number Kind.Number = ((λ e. refl), (λ e. refl))
-Decides-number (Kind.Stack z) = ((λ e. cc), (λ e. cc))
-Decides-number (Kind.Record z) = ((λ e. cc), (λ e. cc))
-
-pub Decides-place : (k : Kind) → Decides (is_place k) (IsStackPointer k)
-Decides-place Kind.Unset = ((λ e. cc), (λ h. let e = h.1 in cc))
-Decides-place Kind.Number = ((λ e. cc), (λ h. let e = h.1 in cc))
-Decides-place (Kind.Stack z) = ((λ e. (z, refl)), (λ h. refl))
-Decides-place (Kind.Record z) = ((λ e. cc), (λ h. let e = h.1 in cc))
+Decides-number k = grind arith
 
 pub Decides-pointer : (k : Kind) → Decides (is_pointer k) (IsPointer k)
-Decides-pointer Kind.Unset = ((λ e. cc), (λ h. elim h [ inl s ↦ (let e = s.1 in cc) | inr s ↦ (let e = s.1 in cc) ]))
-Decides-pointer Kind.Number = ((λ e. cc), (λ h. elim h [ inl s ↦ (let e = s.1 in cc) | inr s ↦ (let e = s.1 in cc) ]))
-Decides-pointer (Kind.Stack z) = ((λ e. inl (z, refl)), (λ h. refl))
-Decides-pointer (Kind.Record z) = ((λ e. inr (z, refl)), (λ h. refl))
+Decides-pointer k = grind arith
 
 -- ---- ranges
 
@@ -53,10 +38,7 @@ Decides-record size z n = Decides-and _ _ (Decides-le (pos 0) z) (Decides-le (z 
 
 -- a load or a store moves so many bytes
 pub bytes_are : (z : Size) → size_bytes z ≡ bytes_of z
-bytes_are Size.B = refl
-bytes_are Size.H = refl
-bytes_are Size.W = refl
-bytes_are Size.Dw = refl
+bytes_are z = grind arith
 
 -- ---- written bytes
 
@@ -73,11 +55,7 @@ unwritten_from f i (suc n) e = by (unwritten_from f (i + 1) n) (has_byte f i) re
 
 not_from : (f : Frame) (i n k : ℕ) → k < n → has_byte f (i + k) ≡ false → has_bytes f i n ≡ false
 not_from f i zero k l e = absurd (omega arith)
-not_from f i (suc n) zero l e = first (has_byte f i) (let a : i + 0 ≡ i = omega arith in rw a at e)
-  where
-    first : (b : Bool) → b ≡ false → (b && has_bytes f (i + 1) n) ≡ false
-    first true e = cc
-    first false e = refl
+not_from f i (suc n) zero l e = grind arith
 not_from f i (suc n) (suc k) l e = later (has_byte f i) (not_from f (i + 1) n k (omega arith) (let a : i + 1 + k ≡ i + suc k = omega arith in rw a e))
   where
     later : (b : Bool) → has_bytes f (i + 1) n ≡ false → (b && has_bytes f (i + 1) n) ≡ false
@@ -86,26 +64,15 @@ not_from f i (suc n) (suc k) l e = later (has_byte f i) (not_from f (i + 1) n k 
 
 -- where the bytes aren't all written there is one that isn't
 pub unwritten : (f : Frame) (z : ℤ) (n : ℕ) → not (are_written f z n) ≡ true → SomeUnwritten f z n
-unwritten f z n e = unwritten_from f (from_low z) n (let h : are_written f z n ≡ false = flip (are_written f z n) e in h)
-  where
-    flip : (b : Bool) → not b ≡ true → b ≡ false
-    flip true e = cc
-    flip false e = refl
+unwritten f z n e = grind (arith, unwritten_from)
 
 pub not_written : (f : Frame) (z : ℤ) (n : ℕ) → SomeUnwritten f z n → not (are_written f z n) ≡ true
 not_written f z n s = ap not (not_from f (from_low z) n s.0 s.1 s.2)
 
 -- ---- numbers
 
-pub le_to : (n m : ℕ) → n ≤ m → nat_le n m ≡ true
-le_to n m h = grind (arith, nat_tests)
-
 pub lt_from : (n m : ℕ) → nat_le n m ≡ false → m < n
-lt_from n m h = grind (arith, nat_tests)
-
-pub le_not : (n m : ℕ) → m < n → nat_le n m ≡ false
-le_not n m h = grind (arith, nat_tests)
+lt_from n m h = grind arith
 
 pub Decides-none : {A : Type 0} (o : Option A) → Decides (is_none o) (o ≡ None)
-Decides-none None = ((λ e. refl), (λ e. refl))
-Decides-none (Some x) = ((λ e. cc), (λ e. cc))
+Decides-none o = grind arith

@@ -1,5 +1,5 @@
 -- Lists of codes: what holds of each code of a list, and which codes stand in it.
-use Rattle.std.proofs.Common.{◌≡◌, Bool, true, false, [], ◌∷◌, refl, arith, All, Contains}
+use Rattle.std.proofs.Common.{◌≡◌, Bool, true, [], ◌∷◌, refl, arith, All, Contains}
 use Rattle.std.proofs.lemmas.List.Elements.{All-nil, All-cons}
 use Rattle.pb_helpers.specs.declared.code.RuleCode.{RuleCode}
 use Rattle.pb_helpers.specs.Codes.{when}
@@ -9,13 +9,11 @@ each_one P d h = All-cons P d [] h (All-nil P)
 
 -- what holds of a code where its rule is broken holds of each code that is listed for it
 pub each_when : (P : RuleCode → Type 0) (b : Bool) (d : RuleCode) → (b ≡ true → P d) → All P (when b d)
-each_when P true d h = each_one P d (h refl)
-each_when P false d h = All-nil P
+each_when x b d h = grind arith
 
 pub stands_one : (d : RuleCode) → Contains (d ∷ []) d
 stands_one d = (0, omega arith, refl)
 
 -- a code is listed where its rule is broken
 pub stands : (b : Bool) (d : RuleCode) → b ≡ true → Contains (when b d) d
-stands true d e = stands_one d
-stands false d e = cc
+stands b d e = grind arith

@@ -19,24 +19,7 @@ abbrev code_from : ℕ → RuleCode
 code_from n = get_or (RuleCode.ReadsUnset ∷ RuleCode.WritesR10 ∷ RuleCode.PointerArithmetic ∷ RuleCode.PointerStored ∷ RuleCode.OutsideStack ∷ RuleCode.UnwrittenByte ∷ RuleCode.OutsideRecord ∷ RuleCode.WritesRecord ∷ RuleCode.ThroughNumber ∷ RuleCode.NotDeclared ∷ RuleCode.WrongArgument ∷ RuleCode.BackwardJump ∷ RuleCode.JumpOutside ∷ RuleCode.JumpIntoPair ∷ RuleCode.Unreachable ∷ RuleCode.FallsOff ∷ RuleCode.ExitsWithPointer ∷ RuleCode.PointerCompared ∷ []) (n - 21) RuleCode.ReadsUnset
 
 from_number : (c : RuleCode) → code_from (code_number c) ≡ c
-from_number RuleCode.ReadsUnset = refl
-from_number RuleCode.WritesR10 = refl
-from_number RuleCode.PointerArithmetic = refl
-from_number RuleCode.PointerStored = refl
-from_number RuleCode.OutsideStack = refl
-from_number RuleCode.UnwrittenByte = refl
-from_number RuleCode.OutsideRecord = refl
-from_number RuleCode.WritesRecord = refl
-from_number RuleCode.ThroughNumber = refl
-from_number RuleCode.NotDeclared = refl
-from_number RuleCode.WrongArgument = refl
-from_number RuleCode.BackwardJump = refl
-from_number RuleCode.JumpOutside = refl
-from_number RuleCode.JumpIntoPair = refl
-from_number RuleCode.Unreachable = refl
-from_number RuleCode.FallsOff = refl
-from_number RuleCode.ExitsWithPointer = refl
-from_number RuleCode.PointerCompared = refl
+from_number c = grind arith
 
 -- two codes with one number are one
 one_code : (c d : RuleCode) → code_number c ≡ code_number d → c ≡ d
@@ -68,11 +51,7 @@ first_least (x ∷ xs) c h e = of x (let is : x ≡ c = cc in is) h
 
 -- and the least of such a list is its first
 least_first : (cs : List RuleCode) (c : RuleCode) → CodesRiseWithin 21 38 cs → Contains cs c → ((d : RuleCode) → Contains cs d → code_number c ≤ code_number d) → lowest_code cs ≡ Some c
-least_first [] c h k least = absurd (none_in c k)
-least_first (x ∷ xs) c h k least =
-    let f = (first_least (x ∷ xs) x h refl).1 c k in
-    let g = least x (0, omega arith, refl) in
-    ap Some (one_code x c (omega arith))
+least_first cs c h k least = grind (arith, none_in, first_least, one_code)
 
 empty_or : (cs : List RuleCode) → ((c : RuleCode) → ¬ (Contains cs c)) → cs ≡ []
 empty_or [] h = refl

@@ -1,5 +1,5 @@
 -- No cell is named twice exactly where no two writes are to one cell.
-use Rattle.std.proofs.Common.{◌≡◌, ◌≢◌, ◌↔◌, suc, true, false, [], ◌∷◌, refl, arith, is_none}
+use Rattle.std.proofs.Common.{◌≡◌, ◌≢◌, ◌↔◌, suc, true, [], ◌∷◌, refl, arith, is_none}
 use Rattle.std.specs.List.{AllByRecursion, AllPairs}
 use Rattle.std.specs.Ordering.{eq_by_cmp}
 use Rattle.std.proofs.lemmas.Bool.{and_parts, false_from_ne_true}
@@ -8,7 +8,7 @@ use Rattle.std.proofs.lemmas.List.Kept.{AllPairs-cons}
 use Rattle.std.proofs.lemmas.Map.Views.{tells_apart}
 use Rattle.pb_base.specs.declared.cell.Cell.{Cell}
 use Rattle.pb_base.specs.declared.content.Content.{Content}
-use Rattle.pb_base.specs.Cell.{cell_cmp, cell_cmp-IsAntisymmetric}
+use Rattle.pb_base.specs.Cell.{cell_cmp}
 use Rattle.pb_base.specs.Batch.{Writes, content_in, are_distinct}
 use Rattle.pb_sound.proofs.RunWrites.{lacks_first as none_in}
 use Rattle.pb_base.proofs.SameCells.{same_cells as ties}
@@ -27,9 +27,7 @@ others (v ∷ vs) w h =
 -- and back: where all writes are to others there is nothing for the cell
 none_of_others : (ws : Writes) (w : Cell × Content) → AllByRecursion (AreApart w) ws → is_none (content_in ws w.0) ≡ true
 none_of_others [] w h = refl
-none_of_others (v ∷ vs) w h =
-    let other : eq_by_cmp cell_cmp w.0 v.0 ≡ false = false_from_ne_true _ (λ t. h.0 (tells_apart cell_cmp-IsAntisymmetric w.0 v.0 t)) in
-    rw other (none_of_others vs w h.1)
+none_of_others (v ∷ vs) w h = grind (arith, false_from_ne_true, tells_apart, none_of_others vs w h.1)
 
 -- distinct writes are apart, two by two
 are_apart : (ws : Writes) → are_distinct ws ≡ true → AllPairs AreApart ws

@@ -1,7 +1,6 @@
 -- A table's report is that at the greatest timestamp that its journal gave out.
-use Rattle.std.proofs.Common.{◌≡◌, ℕ, List, [], ◌∷◌, sym, subst, ◌∙◌, arith}
+use Rattle.std.proofs.Common.{◌≡◌, ℕ, List, [], ◌∷◌, sym, ◌∙◌, arith}
 use Rattle.pb_history.specs.Laws.{ClockIsLastGiven}
-use Rattle.pb_history.specs.Timestamps.{timestamps}
 use Rattle.pb_history.specs.LastGiven.{IsLastGiven}
 use Rattle.pb_core.specs.Calls.{SharedOf}
 use Rattle.pb_script.specs.TableReports.{IsReportIn}
@@ -25,9 +24,4 @@ in_table s text r = record { runs = r.runs; tallied = r.tallied; reported = r.re
 
 -- so it is that at the last timestamp, which is the clock
 pub last_reported : ClockIsLastGiven → ReportsAreOfTheLastGiven
-last_reported law s text last legal is =
-    let given = law s.state.observers s.state.seats s.opened s.journal s.state legal in
-    let same = one_last s.opened (timestamps s.journal) s.state.clock last given is in (
-      λ r. subst (λ t. IsReportAt t s text) same (at_clock s text r),
-      λ r. in_table s text (subst (λ t. IsReportAt t s text) (sym same) r),
-    )
+last_reported law s text last legal is = grind (arith, one_last, at_clock, in_table, s.state.observers, s.state.seats, s.opened, s.journal, s.state, s.state.clock)

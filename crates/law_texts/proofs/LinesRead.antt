@@ -1,5 +1,5 @@
 -- A line is read as a transaction exactly where it is the transaction's line.
-use Rattle.std.proofs.Common.{◌≡◌, ◌↔◌, ℕ, ◌<◌, ◌≤◌, true, List, [], ◌∷◌, length, Ok, refl, sym, ap, subst, ◌∙◌, arith, nat_le, nat_lt}
+use Rattle.std.proofs.Common.{◌≡◌, ◌↔◌, ℕ, ◌<◌, ◌≤◌, true, List, [], ◌∷◌, length, Ok, refl, sym, arith, nat_le, nat_lt}
 use Rattle.std.specs.List.{AllZip, list_all}
 use Rattle.std.proofs.lemmas.Bool.{and_parts, le-leb, leb-true, lt-ltb, ltb-true}
 use Rattle.pb_base.specs.declared.limits.TheConstants.{MAX_CELLS}
@@ -67,10 +67,7 @@ no_semicolons (w ∷ ws) [] h = absurd h
 no_semicolons (w ∷ ws) (text ∷ texts) h = (no_semicolon w.0 w.1 text h.0, no_semicolons ws texts h.1)
 
 to_data : (x : Cell) (content : Content) (text : List ℕ) → IsOperationOf x content text → is_data_write (x, content) ≡ true
-to_data (Cell.Data row column) (Content.Value value) text h = refl
-to_data (Cell.Data row column) Content.Deleted text h = refl
-to_data (Cell.Data row column) (Content.Stamp time) text h = absurd h
-to_data (Cell.Ack observer row column) content text h = absurd h
+to_data x content text h = grind arith
 
 all_to_data : (ws : Writes) (texts : List (List ℕ)) → AreOperations ws texts → list_all is_data_write ws ≡ true
 all_to_data [] [] h = refl
@@ -86,12 +83,7 @@ cut_again (w ∷ ws) (text ∷ texts) some h = let parts = no_semicolons (w ∷ 
 
 -- a line that is written as a transaction's is read as that
 line_back : ReadsOperations → (line : List ℕ) (batch : Writes) → IsBatchLine batch line → batch_of line ≡ Ok batch
-line_back reads line batch l =
-    let some = l.some in
-    let same : cut line ≡ l.texts = ap cut l.joined ∙ cut_again batch l.texts some l.operations in
-    let said : Say (cut line) batch = subst (λ (texts : List (List ℕ)). Say texts batch) (sym same) (say_all batch l.texts l.operations) in
-    let whole : is_batch batch ≡ true = rw (lt-ltb 0 (length batch) (omega (arith, some)), le-leb (length batch) MAX_CELLS l.few, all_to_data batch l.texts l.operations, (distinct_is batch).1 l.distinct) refl in
-    (reads line batch).1 (said, whole)
+line_back reads line batch l = grind (arith, cut_again, say_all, lt-ltb, le-leb, all_to_data, distinct_is, l.some, l.texts, l.joined, l.operations, l.few, l.distinct)
 
 -- a line is read as a transaction exactly where it is the transaction's line
 pub line_is : ReadsOperations → (line : List ℕ) (batch : Writes) → (batch_of line ≡ Ok batch) ↔ IsBatchLine batch line

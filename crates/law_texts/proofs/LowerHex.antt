@@ -1,5 +1,5 @@
 -- What decodes without an upper-case letter is what lower-case encoding writes.
-use Rattle.std.proofs.Common.{◌≡◌, ℕ, zero, suc, ◌+◌, ◌*◌, ◌/◌, ◌%◌, ◌<◌, Bool, true, false, cond, ◌&&◌, List, [], ◌∷◌, slice_index, Option, Some, None, Result, Ok, Err, refl, sym, ap, subst, ◌∙◌, arith, inl, inr, ◌==◌, nat_lt}
+use Rattle.std.proofs.Common.{◌≡◌, ℕ, zero, suc, ◌+◌, ◌*◌, ◌/◌, ◌%◌, ◌<◌, Bool, true, false, cond, ◌&&◌, List, [], ◌∷◌, slice_index, Option, Some, Result, Ok, refl, sym, ap, subst, ◌∙◌, arith, inl, inr, ◌==◌, nat_lt}
 use Rattle.std.specs.Char.{is_ascii_uppercase}
 use Rattle.std.specs.List.{AllByRecursion, list_any}
 use Rattle.std.proofs.lemmas.Bool.{and_parts, cases_lt, eqb-true, or_parts as none_before}
@@ -36,15 +36,13 @@ table_is v lt = eqb-true (slice_index lower_digits v) (digit_of v) (passes (λ n
 -- ---- what decodes
 
 then_ok : {A B : Type 0} (r : Result A FromHexError) (f : A → Result B FromHexError) (y : B) → (r >>= f) ≡ Ok y → (x : A) × (r ≡ Ok x) × (f x ≡ Ok y)
-then_ok (Ok x) f y h = (x, refl, h)
-then_ok (Err e) f y h = absurd cc
+then_ok r f y h = grind arith
 
 ok_is : {A : Type 0} (x y : A) → ◌≡◌ {A = Result A FromHexError} (Ok x) (Ok y) → x ≡ y
 ok_is x y h = cc
 
 some_of : (c i : ℕ) (o : Option ℕ) (v : ℕ) → digit_or_error c i o ≡ Ok v → o ≡ Some v
-some_of c i (Some w) v h = ap Some (ok_is w v h)
-some_of c i None v h = absurd cc
+some_of c i o v h = grind arith
 
 -- a digit stands for a number below 16
 small : (c v : ℕ) → hex_digit_value c ≡ Some v → v < 16
@@ -62,10 +60,7 @@ digit_back c i v h lower =
     (lt, table_is v lt ∙ is_digit c v s lower)
 
 two_digits : (a b high low byte : ℕ) → slice_index lower_digits high ≡ a → slice_index lower_digits low ≡ b → low < 16 → high * 16 + low ≡ byte → (slice_index lower_digits (byte / 16) ≡ a) × (slice_index lower_digits (byte % 16) ≡ b)
-two_digits a b high low byte is_a is_b lt whole =
-    let first : byte / 16 ≡ high = omega (arith, lt, whole) in
-    let second : byte % 16 ≡ low = omega (arith, lt, whole) in
-    (ap (slice_index lower_digits) first ∙ is_a, ap (slice_index lower_digits) second ∙ is_b)
+two_digits a b high low byte is_a is_b lt whole = grind arith
 
 -- digits that decode to bytes are what is written for them
 pairs_written : (i : ℕ) (digits bytes : List ℕ) → decode_pairs i digits ≡ Ok bytes → list_any is_ascii_uppercase digits ≡ false → digits ≡ encode_lower bytes
@@ -87,9 +82,7 @@ pairs_written i (a ∷ b ∷ rest) bytes h lower =
 
 -- of a whole text of digits
 pub lower_written : (digits bytes : List ℕ) → decode_of digits ≡ Ok bytes → list_any is_ascii_uppercase digits ≡ false → digits ≡ encode_lower bytes
-lower_written digits bytes h lower =
-    let even = (decode_of-ok digits bytes h).0 in
-    pairs_written 0 digits bytes (sym (decode_of-even digits even) ∙ h) lower
+lower_written digits bytes h lower = grind (arith, decode_of-ok, pairs_written, decode_of-even)
 
 -- ---- and what is written
 

@@ -1,5 +1,5 @@
 -- A write's operation is read as the write.
-use Rattle.std.proofs.Common.{◌≡◌, ℕ, ◌-◌, ◌*◌, ◌^◌, ◌<◌, ◌≤◌, Bool, false, cond, List, [], ◌∷◌, ◌++◌, length, Result, Ok, Err, refl, sym, ap, subst, ◌∙◌, arith, ◌==◌, ◌||◌, codes, nat_lt, decimal}
+use Rattle.std.proofs.Common.{◌≡◌, ℕ, ◌*◌, ◌<◌, ◌≤◌, Bool, false, cond, List, [], ◌∷◌, ◌++◌, length, Result, Ok, Err, refl, sym, ap, subst, ◌∙◌, arith, ◌==◌, ◌||◌, codes, nat_lt, decimal}
 use Rattle.std.specs.Char.{is_ascii_uppercase}
 use Rattle.std.specs.List.{join_with_byte, list_any}
 use Rattle.std.proofs.lemmas.Bool.{le-ltb}
@@ -20,10 +20,7 @@ use Rattle.pb_reading.proofs.NumeralValues.{numeral_back}
 -- row and column are read as the cell
 place_back : (row : Row) (column : ℕ) (rest : List (List ℕ)) → AreInRange row column → cell_at (decimal row.0 ∷ decimal column ∷ rest) ≡ Ok (Cell.Data row column, rest)
 unfolding cell_at
-place_back row column rest fits =
-    let wide = fits.0 in
-    let few = fits.1 in
-    rw (numeral_back ScriptCode.Form ScriptCode.Range (2 ^ 64 - 1) row.0 wide (omega (arith, wide)), numeral_back ScriptCode.Form ScriptCode.Range 15 column (omega (arith, few)) (omega (arith, few))) refl
+place_back row column rest fits = grind (arith, numeral_back)
 
 -- ---- values
 

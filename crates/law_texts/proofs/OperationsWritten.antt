@@ -1,5 +1,5 @@
 -- What is read as a write is written as the write's operation.
-use Rattle.std.proofs.Common.{◌≡◌, ℕ, ◌-◌, ◌^◌, ◌≤◌, Bool, true, false, List, [], ◌∷◌, ◌++◌, length, Result, Ok, Err, refl, sym, ap, subst, ◌∙◌, arith, inl, inr, ◌==◌, ◌||◌, codes, drop, nat_lt, replicate, decimal, bytes_eq}
+use Rattle.std.proofs.Common.{◌≡◌, ℕ, ◌≤◌, Bool, true, false, List, [], ◌∷◌, ◌++◌, length, Result, Ok, sym, ap, subst, ◌∙◌, arith, ◌==◌, ◌||◌, codes, drop, nat_lt, replicate, decimal, bytes_eq}
 use Rattle.std.specs.Char.{is_ascii_uppercase}
 use Rattle.std.specs.List.{join_with_byte, list_any}
 use Rattle.std.proofs.lemmas.Bool.{eqb-false, ltb-false}
@@ -15,7 +15,7 @@ use Rattle.pb_reading.specs.Reading.{next_word, no_word, words_of}
 use Rattle.pb_reading.proofs.NumeralValues.{numeral_is}
 use Rattle.pb_reading.proofs.Readings.{then_ok, ok_is, else_ok, next_is, none_left}
 use Rattle.pb_parse.specs.declared.script.code.ScriptCode.{ScriptCode}
-use Rattle.pb_parse.specs.ScriptWords.{number_upto, padded, content_of, cell_at, put_of, del_of, write_of, operation}
+use Rattle.pb_parse.specs.ScriptWords.{padded, content_of, cell_at, put_of, del_of, write_of, operation}
 use Rattle.pb_parse.proofs.NextWords.{same_text}
 use Rattle.law_texts.specs.OperationTexts.{AreDigitsOf, AreInRange, IsOperationOf}
 use Rattle.law_texts.proofs.LowerHex.{lower_written}
@@ -34,30 +34,15 @@ record TakesPlace (x : Cell) (words rest : List (List ℕ)) : Type 0 where
 -- what is read as a cell is written as its row and column
 place_is : (words : List (List ℕ)) (x : Cell × List (List ℕ)) → cell_at words ≡ Ok x → TakesPlace x.0 words x.1
 unfolding cell_at
-place_is words x h =
-    let a = then_ok (next_word ScriptCode.Form words) _ x h in
-    let r = then_ok (number_upto (2 ^ 64 - 1) a.0.0) _ x a.2 in
-    let b = then_ok (next_word ScriptCode.Form a.0.1) _ x r.2 in
-    let c = then_ok (number_upto 15 b.0.0) _ x b.2 in
-    let row = numeral_is ScriptCode.Form ScriptCode.Range (2 ^ 64 - 1) r.0 a.0.0 (omega arith) r.1 in
-    let column = numeral_is ScriptCode.Form ScriptCode.Range 15 c.0 b.0.0 (omega arith) c.1 in
-    let wide = row.1 in
-    let few = column.1 in
-    let same : (Cell.Data (record { 0 = r.0 }) c.0, b.0.1) ≡ x = ok_is {E = ScriptCode} (Cell.Data (record { 0 = r.0 }) c.0, b.0.1) x c.2 in
-    let whole : words ≡ decimal r.0 ∷ decimal c.0 ∷ b.0.1 = next_is ScriptCode.Form words a.0 a.1 ∙ (λ i. row.0 i ∷ next_is ScriptCode.Form a.0.1 b.0 b.1 i) ∙ ap (λ (w : List ℕ). decimal r.0 ∷ w ∷ b.0.1) column.0 in
-    subst (λ (y : Cell × List (List ℕ)). TakesPlace y.0 words y.1) same
-    (record { row = record { 0 = r.0 }; column = c.0; cell = refl; written = whole; fits = (omega (arith, wide), omega (arith, few)) })
+place_is words x h = grind (arith, then_ok, numeral_is, ok_is, next_is)
 
 -- ---- values
 
 padded_is : (r : Result (List ℕ) FromHexError) (value : List ℕ) → padded r ≡ Ok value → (bytes : List ℕ) × (r ≡ Ok bytes) × (bytes ++ drop (length bytes) (replicate 32 0) ≡ value)
-padded_is (Ok bytes) value h = (bytes, refl, ok_is {E = ScriptCode} (bytes ++ drop (length bytes) (replicate 32 0)) value h)
-padded_is (Err e) value h = absurd cc
+padded_is r value h = grind arith
 
 all_fail : (a b c : Bool) → (a || (b || c)) ≡ false → (a ≡ false) × (b ≡ false) × (c ≡ false)
-all_fail true b c h = absurd cc
-all_fail false true c h = absurd cc
-all_fail false false c h = (refl, refl, h)
+all_fail a b c h = grind arith
 
 -- what is read as a value is written as digits of it
 digits_are : (word value : List ℕ) → content_of word ≡ Ok value → AreDigitsOf value word
@@ -98,8 +83,7 @@ put_is words w h =
     let p = place_is words a.0 a.1 in
     let last : a.0.1 ≡ b.0.0 ∷ [] = next_is ScriptCode.Form a.0.1 b.0 b.1 ∙ ap (λ (ws : List (List ℕ)). b.0.0 ∷ ws) (none_left ScriptCode.Form b.0.1 d.0 d.1) in
     let whole : words ≡ decimal p.row.0 ∷ decimal p.column ∷ b.0.0 ∷ [] = p.written ∙ ap (λ (ws : List (List ℕ)). decimal p.row.0 ∷ decimal p.column ∷ ws) last in
-    moved (codes "put" ∷ words) (Cell.Data p.row p.column) a.0.0 (Content.Value c.0) w p.cell d.2
-    (p.fits, b.0.0, digits_are b.0.0 c.0 c.1, ap (λ (ws : List (List ℕ)). join_with_byte 32 (codes "put" ∷ ws)) whole)
+    grind (arith, moved, digits_are)
 
 -- what is read as a deletion is written as one
 del_is : (words : List (List ℕ)) (w : Cell × Content) → del_of words ≡ Ok w → IsWriteOf (codes "del" ∷ words) w
@@ -109,8 +93,7 @@ del_is words w h =
     let d = then_ok (no_word ScriptCode.Form a.0.1) _ w a.2 in
     let p = place_is words a.0 a.1 in
     let whole : words ≡ decimal p.row.0 ∷ decimal p.column ∷ [] = p.written ∙ ap (λ (ws : List (List ℕ)). decimal p.row.0 ∷ decimal p.column ∷ ws) (none_left ScriptCode.Form a.0.1 d.0 d.1) in
-    moved (codes "del" ∷ words) (Cell.Data p.row p.column) a.0.0 Content.Deleted w p.cell d.2
-    (p.fits, ap (λ (ws : List (List ℕ)). join_with_byte 32 (codes "del" ∷ ws)) whole)
+    grind (arith, moved)
 
 -- the verb in front is this one
 in_front : (words : List (List ℕ)) (x : List ℕ × List (List ℕ)) (verb : List ℕ) (w : Cell × Content) → words ≡ x.0 ∷ x.1 → bytes_eq x.0 verb ≡ true → IsWriteOf (verb ∷ x.1) w → IsWriteOf words w
@@ -118,16 +101,7 @@ in_front words x verb w cut is h = subst (λ (ws : List (List ℕ)). IsWriteOf w
 
 write_is : (words : List (List ℕ)) (w : Cell × Content) → write_of words ≡ Ok w → IsWriteOf words w
 unfolding write_of
-write_is words w h =
-    let a = then_ok (next_word ScriptCode.Form words) _ w h in
-    let cut = next_is ScriptCode.Form words a.0 a.1 in
-    elim (chosen (bytes_eq a.0.0 (codes "put")) (put_of a.0.1) _ (Ok w) a.2) [
-      | inl p ↦ in_front words a.0 (codes "put") w cut p.0 (put_is a.0.1 w p.1)
-      | inr q ↦ elim (chosen (bytes_eq a.0.0 (codes "del")) (del_of a.0.1) _ (Ok w) q.1) [
-        | inl p ↦ in_front words a.0 (codes "del") w cut p.0 (del_is a.0.1 w p.1)
-        | inr r ↦ let no = r.1 in absurd cc
-      ]
-    ]
+write_is words w h = grind (arith, then_ok, next_is, chosen, in_front, put_is, del_is)
 
 -- a text that is read as a write, or a deletion, is written as that
 pub operation_written : (text : List ℕ) (x : Cell) (content : Content) → operation text ≡ Ok (x, content) → IsOperationOf x content text

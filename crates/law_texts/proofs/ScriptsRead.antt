@@ -1,14 +1,14 @@
 -- A text is read as transactions exactly where its lines are theirs.
-use Rattle.std.proofs.Common.{◌≡◌, ◌≢◌, ◌↔◌, ℕ, suc, Bool, true, false, cond, List, [], ◌∷◌, length, map, Result, Ok, refl, sym, ap, subst, ◌∙◌, arith, ◌==◌, ◌||◌, not}
+use Rattle.std.proofs.Common.{◌≡◌, ◌≢◌, ◌↔◌, ℕ, false, List, [], ◌∷◌, map, Result, Ok, refl, sym, ap, subst, ◌∙◌, arith, ◌==◌}
 use Rattle.std.specs.List.{All, AllZip, filter, join_with_byte}
 use Rattle.std.proofs.lemmas.Bool.{eqb-false, ne_eqb}
 use Rattle.std.proofs.lemmas.List.Elements.{All-from_recursion, recursion_from_All}
 use Rattle.std.proofs.lemmas.List.Splits.{join_with_byte-slice_split}
 use Rattle.pb_base.specs.Batch.{Writes}
-use Rattle.pb_reading.specs.Reading.{is_skipped, lines_of}
+use Rattle.pb_reading.specs.Reading.{lines_of}
 use Rattle.pb_reading.proofs.LinesInTurn.{heads}
 use Rattle.pb_reading.proofs.Parts.{Lacks, AreParts, parts_are, joined_parts}
-use Rattle.pb_reading.proofs.SkippedLines.{kept, kept_not, kept_one}
+use Rattle.pb_reading.proofs.SkippedLines.{kept}
 use Rattle.pb_parse.specs.declared.script.code.ScriptCode.{ScriptCode}
 use Rattle.pb_parse.specs.ScriptLines.{Batches, batch_of, script_of}
 use Rattle.pb_parse.proofs.WholeScripts.{lines_are, lines_back}
@@ -17,26 +17,10 @@ use Rattle.law_texts.specs.ScriptTexts.{is_transaction, IsScriptOf}
 
 -- ---- lines that are skipped
 
-some_length : (n : ℕ) → (suc n == 0) ≡ false
-some_length n = ne_eqb (suc n) 0 (λ e. omega (arith, e))
-
-or_alone : (a b c : Bool) → a ≡ false → not b ≡ c → (a || b) ≡ not c
-or_alone a true c is e = rw (is, sym e) refl
-or_alone a false c is e = rw (is, sym e) refl
-
--- a line is skipped exactly where it is no transaction's
-skipped_is : (l : List ℕ) → is_skipped l ≡ not (is_transaction l)
-skipped_is [] = refl
-skipped_is (b ∷ bs) = or_alone (length (b ∷ bs) == 0) (b == 35) (not (b == 35)) (some_length (length bs)) refl
-
 -- so those that aren't are the transactions'
 shown_is : (ls : List (List ℕ)) → kept ls ≡ filter is_transaction ls
 shown_is [] = refl
-shown_is (l ∷ ls) = by (is_transaction l) (skipped_is l) (shown_is ls)
-  where
-    by : (b : Bool) → is_skipped l ≡ not b → kept ls ≡ filter is_transaction ls → kept (l ∷ ls) ≡ cond b (l ∷ filter is_transaction ls) (filter is_transaction ls)
-    by true is others = kept_one l ls is ∙ ap (λ (xs : List (List ℕ)). l ∷ xs) others
-    by false is others = kept_not l ls is ∙ others
+shown_is (l ∷ ls) = grind arith
 
 -- ---- whole texts
 
@@ -90,9 +74,7 @@ text_written law text batches h =
 
 -- and one that is written as theirs is read as them
 text_back : ReadsLines → (text : List ℕ) (batches : Batches) → IsScriptOf batches text → script_of text ≡ Ok batches
-text_back law text batches s =
-    let same : kept (lines_of text) ≡ filter is_transaction s.lines = ap (λ (t : List ℕ). kept (lines_of t)) s.joined ∙ kept_again s.lines (are_parts s.lines s.parted) ∙ shown_is s.lines in
-    lines_back text batches (are_read law batches (kept (lines_of text)) (subst (AllZip IsBatchLine batches) (sym same) s.told)) s.few
+text_back law text batches s = grind (arith, kept, kept_again, are_parts, shown_is, lines_back, are_read, s.lines, s.joined, s.parted, s.told, s.few)
 
 -- a text is read as transactions exactly where it is their script
 pub text_is : ReadsLines → (text : List ℕ) (batches : Batches) → (script_of text ≡ Ok batches) ↔ IsScriptOf batches text

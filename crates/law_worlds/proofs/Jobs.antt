@@ -1,5 +1,5 @@
 -- A call has one outcome, and so has a job's next instruction, a job's answer and an actor's step.
-use Rattle.std.proofs.Common.{◌≡◌, ℕ, Bool, true, false, List, [], ◌∷◌, ◌++◌, length, refl, sym, ◌∙◌, ap, subst, arith, inr, Option, Some, None, MatchBool, MatchOption}
+use Rattle.std.proofs.Common.{◌≡◌, ℕ, Bool, List, length, refl, sym, ◌∙◌, ap, subst, arith, inr, Option, Some, None, MatchBool, MatchOption}
 use Rattle.pb_base.specs.declared.refusal.Reason.{Reason}
 use Rattle.pb_base.specs.declared.cell.Cell.{Cell}
 use Rattle.pb_isa.specs.declared.limits.TheConstants.{MAX_RECORD_BYTES}
@@ -7,49 +7,21 @@ use Rattle.pb_isa.specs.Programs.{JudgedOf}
 use Rattle.pb_isa.specs.Machine.{Placement, IsPlacement}
 use Rattle.pb_sound.specs.OneMeaning.{EachHasOneMeaning}
 use Rattle.pb_steps.specs.declared.step.Step.{Step}
-use Rattle.pb_steps.specs.declared.step.Answer.{Answer}
 use Rattle.pb_history.specs.declared.entry.Received.{Received}
 use Rattle.pb_history.specs.Laws.{StepsHaveOneOutcome}
 use Rattle.pb_history.specs.Sound.{IsSoundTable}
-use Rattle.pb_core.specs.Calls.{SharedOf, SeatOf, Calls, call_reason}
+use Rattle.pb_core.specs.Calls.{SeatOf, call_reason}
 use Rattle.pb_notify.specs.declared.place.RunPlace.{RunPlace}
 use Rattle.pb_notify.specs.Places.{ComesFrom}
 use Rattle.pb_notify.specs.Led.{MachineStandsAt, MachinesAreLed}
 use Rattle.pb_notify.specs.Runs.{RunOf}
 use Rattle.pb_notify.specs.Runs as runs
 use Rattle.pb_world.specs.declared.job.ActorJob.{ActorJob}
-use Rattle.pb_world.specs.declared.note.Note.{Note}
-use Rattle.pb_world.specs.Jobs.{next_of, is_local, Takes, Computes, kept, RulesAccept}
+use Rattle.pb_world.specs.Jobs.{next_of, is_local, Computes, RulesAccept}
 use Rattle.pb_world.specs.Actors.{Stepped, AnswersJob, RefusesJob, CallSteps, Instructs, IsIdle, StepsTo}
 use Rattle.pb_world.specs.Events.{WorldOf}
 use Rattle.pb_world.specs.Sound.{RunCame, Came}
 use Rattle.law_worlds.proofs.Machines.{comes_once}
-
--- ---- calls
-
--- two answers of a call, each with the table and the seat's list that are left, are the same
-pub record AreOneCall (a : Answer) (t : SharedOf) (told : SeatOf) (b : Answer) (u : SharedOf) (heard : SeatOf) : Type 0 where
-  pub answer : a ≡ b
-  pub table : t ≡ u
-  pub list : told ≡ heard
-
--- a call of the shared table has one answer, and leaves one table
-pub calls_once : StepsHaveOneOutcome → (s : SharedOf) (seat : SeatOf) (st : Step) (a b : Answer) (t u : SharedOf) (told heard : SeatOf) → IsSoundTable s.state → Calls s seat st a t told → Calls s seat st b u heard → AreOneCall a t told b u heard
-calls_once law s seat st a b t u told heard sound x y =
-    let one = law s.state seat.number st a t.state b u.state sound x.machine y.machine in
-    record {
-      answer = one.answer;
-      table = λ i. record {
-        journal = (x.journal ∙ (ap (λ z. s.journal ++ record { seat = seat.number; step = st; answer = z } ∷ []) one.answer ∙ sym y.journal)) i;
-        state = one.state i;
-        opened = (x.opened ∙ sym y.opened) i;
-        limit = (x.limit ∙ sym y.limit) i;
-      };
-      list = λ i. record {
-        number = (x.number ∙ sym y.number) i;
-        received = (x.received ∙ (ap (λ z. seat.received ++ record { step = st; answer = z } ∷ []) one.answer ∙ sym y.received)) i;
-      };
-    }
 
 -- ---- instructions
 
@@ -83,11 +55,6 @@ module _ (meaning : EachHasOneMeaning) (led : MachinesAreLed) (w : WorldOf) wher
 
 -- ---- answers
 
--- a job takes an answer in one way
-takes_once : (j : ActorJob) (a : Answer) (k l : ActorJob) → Takes j a k → Takes j a l → k ≡ l
-takes_once (ActorJob.Change c) a k l x y = x ∙ sym y
-takes_once (ActorJob.Run r) a k l x y = x.1 ∙ (ap ActorJob.Run (x.2 ∙ sym y.2) ∙ sym y.1)
-
 -- ---- steps of an actor
 
 module _ (step : StepsHaveOneOutcome) (meaning : EachHasOneMeaning) (led : MachinesAreLed) (w : WorldOf) (sound : IsSoundTable w.shared.state) (seat : SeatOf) (to at : Stepped) where
@@ -102,20 +69,10 @@ module _ (step : StepsHaveOneOutcome) (meaning : EachHasOneMeaning) (led : Machi
       are_one (x.note ∙ sym y.note) (x.same.table ∙ sym y.same.table) (x.same.list ∙ sym y.same.list)
       (x.left ∙ (ap Some (computes_once meaning led w j said came x.after y.after x.computes y.computes) ∙ sym y.left))
 
-  answers_once : (j : ActorJob) (st : Step) → AnswersJob w.shared seat j st to → AnswersJob w.shared seat j st at → to ≡ at
-  answers_once j st x y =
-      let one = calls_once step w.shared seat st x.answer y.answer to.table at.table to.seat at.seat sound x.calls y.calls in
-      let after : x.after ≡ y.after = takes_once j y.answer x.after y.after (subst (λ a. Takes j a x.after) one.answer x.takes) y.takes in
-      are_one (x.note ∙ (ap Note.Called one.answer ∙ sym y.note)) one.table one.list (x.left ∙ (ap kept after ∙ sym y.left))
-
-  refuses_once : (why : Reason) → RefusesJob w.shared seat why to → RefusesJob w.shared seat why at → to ≡ at
-  refuses_once why x y = are_one (x.note ∙ sym y.note) (x.same.table ∙ sym y.same.table) (x.same.list ∙ sym y.same.list) (x.left ∙ sym y.left)
-
   called_once : (j : ActorJob) (st : Step) (why : Option Reason)
       → MatchOption why (AnswersJob w.shared seat j st to) (λ r. RefusesJob w.shared seat r to)
       → MatchOption why (AnswersJob w.shared seat j st at) (λ r. RefusesJob w.shared seat r at) → to ≡ at
-  called_once j st None x y = answers_once j st x y
-  called_once j st (Some why) x y = refuses_once why x y
+  called_once j st why x y = grind arith
 
   asked_once : (j : ActorJob) (o : Option Step)
       → MatchOption o (IsIdle w.shared seat to) (λ st. CallSteps w.shared seat j st to)
@@ -126,8 +83,7 @@ module _ (step : StepsHaveOneOutcome) (meaning : EachHasOneMeaning) (led : Machi
   job_steps_by : (j : ActorJob) (said : List Received) → Came w j said → (local : Bool)
       → MatchBool local (Instructs w.shared seat j to) (MatchOption (next_of j) (IsIdle w.shared seat to) (λ st. CallSteps w.shared seat j st to))
       → MatchBool local (Instructs w.shared seat j at) (MatchOption (next_of j) (IsIdle w.shared seat at) (λ st. CallSteps w.shared seat j st at)) → to ≡ at
-  job_steps_by j said came true x y = instructs_once j said came x y
-  job_steps_by j said came false x y = asked_once j (next_of j) x y
+  job_steps_by j said came local x y = grind (arith, instructs_once, asked_once)
 
   -- what the step of an actor with this job, or none, comes to
   pub actor_steps_once : (o : Option ActorJob) → ((j : ActorJob) → o ≡ Some j → (said : List Received) × Came w j said) → StepsTo w.shared seat o to → StepsTo w.shared seat o at → to ≡ at

@@ -1,5 +1,5 @@
 -- No run goes past an event that can't happen, so events stop at one, or at none.
-use Rattle.std.proofs.Common.{◌≡◌, ◌≢◌, ◌⊎◌, ℕ, zero, suc, ◌≤◌, List, [], ◌∷◌, length, take, inl, inr, refl, sym, ◌∙◌, ap, subst, arith, Some, None, slice_get}
+use Rattle.std.proofs.Common.{◌≡◌, ◌≢◌, ◌⊎◌, ℕ, zero, suc, ◌≤◌, List, [], ◌∷◌, length, take, inl, inr, refl, sym, subst, arith, Some, slice_get}
 use Rattle.std.proofs.Math.Seq.{take-length}
 use Rattle.std.proofs.lemmas.Option.{none-some, slice_get_within}
 use Rattle.pb_parse.specs.declared.event.Event.{Event}
@@ -8,7 +8,7 @@ use Rattle.pb_world.specs.declared.note.Note.{Note}
 use Rattle.pb_world.specs.Faults.{fault_code}
 use Rattle.pb_world.specs.Events.{WorldOf, fault_of, RunsTo, StopsAtEvent}
 use Rattle.pb_world.specs.Sound.{IsSoundWorld, EventsKeepSound}
-use Rattle.law_worlds.specs.Outcomes.{AreOneFault, EventsHaveOneOutcome, RunsHaveOneOutcome, FaultsHaveOnePlace, WholeRunsHaveNoFault}
+use Rattle.law_worlds.specs.Outcomes.{EventsHaveOneOutcome, RunsHaveOneOutcome, FaultsHaveOnePlace, WholeRunsHaveNoFault}
 use Rattle.pb_base.proofs.Logic.{one_value}
 
 -- after the events before it, the event of this place is at fault, with this number
@@ -24,10 +24,7 @@ record IsAtFault (w : WorldOf) (es : List Event) (at code : ℕ) (v : WorldOf) :
 
 -- a list that stops does so for memory, or since an event is at fault
 fault_in : (w : WorldOf) (es : List Event) (at code : ℕ) (v : WorldOf) → StopsAtEvent w es at code v → (code ≡ fault_code EventFault.NoMemory) ⊎ IsAtFault w es at code v
-fault_in w es at code v s = elim s.why [
-  | inl memory ↦ inl memory.0
-  | inr f ↦ inr (record { notes = s.notes; before = s.before; within = s.within; event = f.0; fault = f.1; there = f.2; can = f.3; told = f.4 })
-]
+fault_in w es at code v s = grind arith
 
 -- and where it isn't for memory, an event is at fault
 fault_of_other : (w : WorldOf) (es : List Event) (at code : ℕ) (v : WorldOf) → code ≢ fault_code EventFault.NoMemory → StopsAtEvent w es at code v → IsAtFault w es at code v
@@ -40,10 +37,7 @@ module _ (one : EventsHaveOneOutcome) (keep : EventsKeepSound) where
   not_past w [] at ns v (suc by) ms u e f s x there can le y = absurd (none-some e there)
   not_past w (d ∷ es) zero ns v (suc by) [] u e f s x there can le y = absurd y
   not_past w (d ∷ es) zero (n ∷ ns) v (suc by) (m ∷ ms) u e f s x there can le y = absurd x
-  not_past w (d ∷ es) zero [] v (suc by) (m ∷ ms) u e f s x there can le y =
-      let same : d ≡ e = cc in
-      let none : fault_of v e ≡ None = subst (λ z. fault_of v z ≡ None) same (subst (λ z. fault_of z d ≡ None) (sym x) y.1.can) in
-      absurd (none-some f (sym none ∙ can))
+  not_past w (d ∷ es) zero [] v (suc by) (m ∷ ms) u e f s x there can le y = grind arith
   not_past w (d ∷ es) (suc at) [] v (suc by) ms u e f s x there can le y = absurd x
   not_past w (d ∷ es) (suc at) (n ∷ ns) v (suc by) [] u e f s x there can le y = absurd y
   not_past w (d ∷ es) (suc at) (n ∷ ns) v (suc by) (m ∷ ms) u e f s x there can le y =
@@ -53,19 +47,7 @@ module _ (one : EventsHaveOneOutcome) (keep : EventsKeepSound) where
       omega (arith, rest)
 
   pub faults_once : RunsHaveOneOutcome → FaultsHaveOnePlace
-  faults_once runs w es at code v by number u s x y not also = by_parts (fault_of_other w es at code v not x) (fault_of_other w es by number u also y)
-    where
-      by_parts : IsAtFault w es at code v → IsAtFault w es by number u → AreOneFault at code v by number u
-      by_parts p q =
-          let low : by ≤ at = not_past w es at p.notes v by q.notes u p.event p.fault s p.before p.there p.can q.within q.before in
-          let high : at ≤ by = not_past w es by q.notes u at p.notes v q.event q.fault s q.before q.there q.can p.within p.before in
-          let place : by ≡ at = omega (arith, low, high) in
-          let world : v ≡ u = (runs w (take at es) p.notes v q.notes u s p.before (subst (λ k. RunsTo w (take k es) q.notes u) place q.before)).world in
-          let there : slice_get es at ≡ Some q.event = subst (λ k. slice_get es k ≡ Some q.event) place q.there in
-          let event : p.event ≡ q.event = one_value (slice_get es at) p.event q.event p.there there in
-          let can : fault_of v p.event ≡ Some q.fault = (λ i. fault_of (world i) (event i)) ∙ q.can in
-          let fault : p.fault ≡ q.fault = one_value (fault_of v p.event) p.fault q.fault p.can can in
-          record { place = sym place; told = p.told ∙ (ap fault_code fault ∙ sym q.told); world = world }
+  faults_once runs w es at code v by number u s x y not also = grind (arith, fault_of_other, not_past, one_value)
 
   pub whole_runs : WholeRunsHaveNoFault
   whole_runs w es ns v at code u s x y = elim (fault_in w es at code u y) [

@@ -1,5 +1,5 @@
 -- Of which lines and texts the codes of the first word, of the slots and of no instruction are told.
-use Rattle.std.proofs.Common.{◌≡◌, ◌≢◌, ℕ, suc, ◌+◌, ◌-◌, ◌^◌, ◌<◌, ◌⊎◌, ◌↔◌, ℤ, pos, neg_ℤ, Bool, true, false, cond, List, [], ◌∷◌, ◌++◌, take, Option, Some, None, Result, Ok, Err, refl, sym, ap, subst, ◌∙◌, arith, inl, inr, ◌==◌, nat_lt, slice_index, ok_or}
+use Rattle.std.proofs.Common.{◌≡◌, ◌≢◌, ℕ, suc, ◌+◌, ◌-◌, ◌^◌, ◌<◌, ◌⊎◌, ◌↔◌, ℤ, pos, neg_ℤ, Bool, true, false, cond, List, [], ◌∷◌, ◌++◌, take, Option, None, Result, Ok, Err, refl, sym, ap, ◌∙◌, arith, inl, inr, ◌==◌, nat_lt, slice_index, ok_or}
 use Rattle.std.specs.List.{slice_split, before_first, position_or_len}
 use Rattle.std.proofs.lemmas.Bool.{ltb-true, lt-ltb}
 use Rattle.pb_isa.specs.declared.insn.Insn.{Insn}
@@ -12,7 +12,7 @@ use Rattle.pb_isa.specs.declared.insn.Width.{Width}
 use Rattle.pb_isa.specs.Profiles.{max_slots, IsOf}
 use Rattle.pb_asm.specs.declared.fault.AsmCode.{AsmCode}
 use Rattle.pb_asm.specs.declared.names.Word.{Word}
-use Rattle.pb_asm.specs.Names.{name, words, IsWordOf, sizes, word_in, word_named, reg_named}
+use Rattle.pb_asm.specs.Names.{name, IsWordOf, sizes, word_named, reg_named}
 use Rattle.pb_reading.specs.Reading.{◌>>=◌, shown_lines}
 use Rattle.pb_asm.specs.Cuts.{strip_prefix, strip_suffix, split_once}
 use Rattle.pb_reading.specs.Reading.{numeral_upto, next_word, no_word}
@@ -53,15 +53,13 @@ unfolding plus
 plus_tells limit text = then_fails IsOperandFault (numeral_upto AsmCode.Form AsmCode.Range (limit - 1) text) _ (number_tells (limit - 1) text) (λ n. tt)
 
 signed_tells : (unsigned : Result ℤ AsmCode) (limit : ℕ) (o : Option (List ℕ)) → Tells unsigned → Tells (signed_or unsigned limit o)
-signed_tells unsigned limit None h = h
-signed_tells unsigned limit (Some digits) h = minus_tells limit digits
+signed_tells unsigned limit o h = grind (arith, minus_tells)
 
 imm_tells : (text : List ℕ) → Tells (imm_of_text text)
 imm_tells text = signed_tells (plus (2 ^ 31) text) (2 ^ 31) (strip_prefix 45 text) (plus_tells (2 ^ 31) text)
 
 sign_tells : (o : Option (List ℕ)) → Tells (plus_or_fault o)
-sign_tells None = tt
-sign_tells (Some digits) = plus_tells (2 ^ 15) digits
+sign_tells o = grind (arith, plus_tells)
 
 offset_tells : (text : List ℕ) → Tells (offset_of_text text)
 offset_tells text = signed_tells (plus_or_fault (strip_prefix 43 text)) (2 ^ 15) (strip_prefix 45 text) (sign_tells (strip_prefix 43 text))
@@ -82,12 +80,10 @@ unfolding base_and_offset
 based_tells register offset h = then_fails IsOperandFault (reg_of_text register) _ (reg_tells register) (λ r. then_fails IsOperandFault offset _ h (λ o. tt))
 
 at_minus_tells : (o : Option (List ℕ × List ℕ)) → Tells (at_minus o)
-at_minus_tells None = tt
-at_minus_tells (Some sides) = based_tells sides.0 (minus (2 ^ 15) sides.1) (minus_tells (2 ^ 15) sides.1)
+at_minus_tells o = grind (arith, based_tells, minus_tells)
 
 at_plus_tells : (text : List ℕ) (o : Option (List ℕ × List ℕ)) → Tells (at_plus text o)
-at_plus_tells text None = at_minus_tells (split_once 45 text)
-at_plus_tells text (Some sides) = based_tells sides.0 (plus (2 ^ 15) sides.1) (plus_tells (2 ^ 15) sides.1)
+at_plus_tells text o = grind (arith, at_minus_tells, based_tells, plus_tells)
 
 -- a place is, too
 place_tells : (text : List ℕ) → Tells (place_of_text text)
@@ -134,17 +130,7 @@ jump_if_tells make texts = then_fails IsOperandFault (comma texts) _ (comma_tell
 
 -- so the operands of any word are told as of another form or out of range, and never as an unknown word
 operands_tell : (w : Word) (texts : List (List ℕ)) → Tells (operands w texts)
-operands_tell (Word.Alu op w) texts = alu_tells (Insn.Alu op w) texts
-operands_tell (Word.MovSx w) texts = mov_sx_tells w texts
-operands_tell (Word.Neg w) texts = then_fails IsOperandFault (last reg_of_text texts) _ (last_tells reg_of_text texts reg_tells) (λ r. tt)
-operands_tell Word.LoadImm texts = wide_tells texts
-operands_tell (Word.Load z x) texts = load_tells (Insn.Load z x) texts
-operands_tell (Word.StoreImm z) texts = store_imm_tells (Insn.StoreImm z) texts
-operands_tell (Word.Store z) texts = store_tells (Insn.Store z) texts
-operands_tell Word.Jump texts = then_fails IsOperandFault (last offset_of_text texts) _ (last_tells offset_of_text texts offset_tells) (λ o. tt)
-operands_tell (Word.JumpIf c w) texts = jump_if_tells (Insn.JumpIf c w) texts
-operands_tell Word.Call texts = then_fails IsOperandFault (last imm_of_text texts) _ (last_tells imm_of_text texts imm_tells) (λ k. tt)
-operands_tell Word.Exit texts = then_fails IsOperandFault (no_word AsmCode.Form texts) _ (end_fails IsOperandFault AsmCode.Form texts tt) (λ end. tt)
+operands_tell w texts = grind (arith, alu_tells, mov_sx_tells, then_fails, last_tells, reg_tells, wide_tells, load_tells, store_imm_tells, store_tells, offset_tells, jump_if_tells, imm_tells, end_fails)
 
 -- ---- the first word
 
@@ -169,13 +155,11 @@ Unnamed q text = (w : Word) → IsWordOf q w → text ≢ name w
 
 -- where 80 is told, the first word is no name of the profile's, since operands don't tell 80
 named_cases : (q : Profile) (text : List ℕ) (texts : List (List ℕ)) (o : Option Word) → word_named q text ≡ o → (ok_or o AsmCode.Word >>= λ w. operands w texts) ≡ Err AsmCode.Word → Unnamed q text
-named_cases q text texts None is h w has same = let no : None ≡ Some w = sym is ∙ ap (word_named q) same ∙ word_back q w has in absurd cc
-named_cases q text texts (Some v) is h w has same = absurd (subst Tells h (operands_tell v texts))
+named_cases q text texts o is h w has same = grind (arith, word_back, operands_tell)
 
 -- and where it is none, no word is found
 unnamed : (q : Profile) (text : List ℕ) (o : Option Word) → word_named q text ≡ o → Unnamed q text → word_named q text ≡ None
-unnamed q text None is none = is
-unnamed q text (Some w) is none = let n = named_is q (word_in text words) w is in absurd (none w n.1 (word_among text words w n.0))
+unnamed q text o is none = grind (arith, named_is, word_among)
 
 -- 80 is told of a line's words exactly where the first is no name of the profile's
 words_word : (q : Profile) (text : List ℕ) (texts : List (List ℕ)) → (insn_of_words q (text ∷ texts) ≡ Err AsmCode.Word) ↔ Unnamed q text
@@ -193,8 +177,7 @@ word_told q line =
 
 -- operands don't tell 83
 words_short : (texts : List (List ℕ)) (o : Option Word) → (ok_or o AsmCode.Word >>= λ w. operands w texts) ≡ Err AsmCode.TooLong → ⊥
-words_short texts None h = absurd cc
-words_short texts (Some w) h = subst Tells h (operands_tell w texts)
+words_short texts o h = grind (arith, operands_tell)
 
 -- nor does a line by itself
 line_short : (q : Profile) (texts : List (List ℕ)) → insn_of_words q texts ≡ Err AsmCode.TooLong → ⊥
@@ -207,8 +190,7 @@ abbrev PastEnd : Profile → List Insn → List ℕ → Type 0
 PastEnd q front line = (i : Insn) × (line ≡ insn_text i) × Fits i × IsOf q i × (max_slots q < slots (front ++ i ∷ []))
 
 slots_past : (front p : List Insn) (b : Bool) → cond b (Err AsmCode.TooLong) (Ok p) ≡ Err AsmCode.TooLong → b ≡ true
-slots_past front p true h = refl
-slots_past front p false h = absurd cc
+slots_past front p b h = grind arith
 
 -- a fault, as the answer of a reading that would give an A
 abbrev pub failed : (A : Type 0) → AsmCode → Result A AsmCode
@@ -225,8 +207,7 @@ read_past q front line (Ok i) is h =
     (i, s.0, s.1, s.2, ltb-true _ _ (slots_past front (front ++ i ∷ []) (nat_lt (max_slots q) (slots (front ++ i ∷ []))) h))
 
 shown_past : (q : Profile) (front : List Insn) (line : List ℕ) (b : Bool) → cond b (Ok front) (line_of q line >>= λ i. cond (nat_lt (max_slots q) (slots (front ++ i ∷ []))) (Err AsmCode.TooLong) (Ok (front ++ i ∷ []))) ≡ Err AsmCode.TooLong → PastEnd q front line
-shown_past q front line true h = absurd cc
-shown_past q front line false h = read_past q front line (line_of q line) refl h
+shown_past q front line b h = grind (arith, read_past)
 
 -- a line that is such an instruction's is told as 83
 past_told : (q : Profile) (front : List Insn) (line : List ℕ) → PastEnd q front line → with_insn_line q front line ≡ Err AsmCode.TooLong
@@ -240,17 +221,8 @@ too_long_told q front line = (shown_past q front line (is_skipped line), past_to
 
 -- ---- no other code of a line
 
-only_past : (p : List Insn) (c : AsmCode) (b : Bool) → cond b (Err AsmCode.TooLong) (Ok p) ≡ Err c → c ≡ AsmCode.TooLong
-only_past p c true h = sym (err_is {A = List Insn} AsmCode.TooLong c h)
-only_past p c false h = absurd cc
-
-read_own : (q : Profile) (front : List Insn) (line : List ℕ) (c : AsmCode) (r : Result Insn AsmCode) → line_of q line ≡ r → (r >>= λ i. cond (nat_lt (max_slots q) (slots (front ++ i ∷ []))) (Err AsmCode.TooLong) (Ok (front ++ i ∷ []))) ≡ Err c → (c ≡ AsmCode.TooLong) ⊎ (line_of q line ≡ Err c)
-read_own q front line c (Err d) is h = inr (is ∙ moved (List Insn) Insn d c h)
-read_own q front line c (Ok i) is h = inl (only_past (front ++ i ∷ []) c (nat_lt (max_slots q) (slots (front ++ i ∷ []))) h)
-
 shown_own : (q : Profile) (front : List Insn) (line : List ℕ) (c : AsmCode) (b : Bool) → cond b (Ok front) (line_of q line >>= λ i. cond (nat_lt (max_slots q) (slots (front ++ i ∷ []))) (Err AsmCode.TooLong) (Ok (front ++ i ∷ []))) ≡ Err c → (c ≡ AsmCode.TooLong) ⊎ (line_of q line ≡ Err c)
-shown_own q front line c true h = absurd cc
-shown_own q front line c false h = read_own q front line c (line_of q line) refl h
+shown_own q front line c b h = grind arith
 
 -- after lines before it a line tells its own fault, or 83
 pub own_told : (q : Profile) (front : List Insn) (line : List ℕ) (c : AsmCode) → with_insn_line q front line ≡ Err c → (c ≡ AsmCode.TooLong) ⊎ (line_of q line ≡ Err c)
@@ -259,15 +231,10 @@ own_told q front line c h = shown_own q front line c (is_skipped line) h
 
 -- what operands tell is 81 or 82
 told_so : (c : AsmCode) → Tells (failed Insn c) → (c ≡ AsmCode.Word) ⊎ (c ≡ AsmCode.Form) ⊎ (c ≡ AsmCode.Range)
-told_so AsmCode.Word h = absurd h
-told_so AsmCode.Form h = inr (inl refl)
-told_so AsmCode.Range h = inr (inr refl)
-told_so AsmCode.TooLong h = absurd h
-told_so AsmCode.Nothing h = absurd h
+told_so c h = grind arith
 
 words_told : (texts : List (List ℕ)) (o : Option Word) (c : AsmCode) → (ok_or o AsmCode.Word >>= λ w. operands w texts) ≡ Err c → (c ≡ AsmCode.Word) ⊎ (c ≡ AsmCode.Form) ⊎ (c ≡ AsmCode.Range)
-words_told texts None c h = inl (sym (err_is {A = Insn} AsmCode.Word c h))
-words_told texts (Some w) c h = told_so c (subst Tells h (operands_tell w texts))
+words_told texts o c h = grind (arith, err_is, told_so, operands_tell)
 
 fields_told : (q : Profile) (texts : List (List ℕ)) (c : AsmCode) → insn_of_words q texts ≡ Err c → (c ≡ AsmCode.Word) ⊎ (c ≡ AsmCode.Form) ⊎ (c ≡ AsmCode.Range)
 unfolding insn_of_words

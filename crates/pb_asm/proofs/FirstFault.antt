@@ -1,9 +1,7 @@
 -- The fault of a text is that of its first line at fault, or that it has no instruction.
-use Rattle.std.proofs.Common.{◌≡◌, ℕ, ◌⊎◌, List, [], ◌∷◌, Result, Ok, Err, refl, sym, ap, ◌∙◌, inl, inr}
+use Rattle.std.proofs.Common.{arith, ◌≡◌, ℕ, ◌⊎◌, List, [], Result, Err, refl}
 use Rattle.pb_isa.specs.declared.insn.Insn.{Insn}
 use Rattle.pb_isa.specs.declared.profile.Profile.{Profile}
-use Rattle.pb_isa.specs.Programs.{ProgramOf}
-use Rattle.pb_asm.specs.declared.fault.AsmCode.{AsmCode}
 use Rattle.pb_asm.specs.Codes.{asm_code}
 use Rattle.pb_asm.specs.Texts.{with_insn_line, insns_of_lines, some_of, program_of_text, HasNone}
 use Rattle.pb_reading.specs.Reading.{◌>>=◌, lines_of}
@@ -13,11 +11,7 @@ use Rattle.pb_reading.proofs.Readings.{err_is}
 
 -- a line stops it, or all are read and there is no instruction
 whole : (q : Profile) (text : List ℕ) (line told : ℕ) (r : Result (List Insn) (ℕ × ℕ)) → insns_of_lines q 0 [] (lines_of text) ≡ r → (r >>= some_of q) ≡ Err (line, told) → StopsAt asm_code (with_insn_line q) [] text line told ⊎ HasNone q text line told
-whole q text line told (Err p) is h = inl (stops_at asm_code (with_insn_line q) [] text line told (is ∙ ap Err (err_is {A = ProgramOf} p (line, told) h)))
-whole q text line told (Ok []) is h =
-    let e = err_is {A = ProgramOf} (0, asm_code AsmCode.Nothing) (line, told) h in
-    inr (record { read = is; number = sym (ap (λ (p : ℕ × ℕ). p.0) e); code = sym (ap (λ (p : ℕ × ℕ). p.1) e) })
-whole q text line told (Ok (i ∷ p)) is h = absurd cc
+whole q text line told r is h = grind (arith, stops_at, err_is)
 
 -- the fault that is told is that of the first line at fault, or there is no instruction
 pub first : (q : Profile) (text : List ℕ) (line told : ℕ) → program_of_text q text ≡ Err (line, told) → StopsAt asm_code (with_insn_line q) [] text line told ⊎ HasNone q text line told

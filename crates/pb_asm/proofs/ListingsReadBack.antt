@@ -12,7 +12,7 @@ use Rattle.pb_isa.specs.declared.insn.Size.{Size}
 use Rattle.pb_isa.specs.declared.insn.Extension.{Extension}
 use Rattle.pb_isa.specs.declared.insn.Reg.{Reg}
 use Rattle.pb_isa.specs.Bounds.{OperandFits, Fits}
-use Rattle.pb_isa.specs.Slots.{places_of, layout, slots}
+use Rattle.pb_isa.specs.Slots.{slots}
 use Rattle.pb_isa.specs.Profiles.{is_narrower, IsOf}
 use Rattle.pb_asm.specs.declared.fault.AsmCode.{AsmCode}
 use Rattle.pb_asm.specs.declared.names.Word.{Word}
@@ -54,21 +54,12 @@ no_front c (x ∷ xs) lt h = front_cases c x xs lt (nat_le 48 x) refl h
 
 -- an immediate is read from its text, and so is an offset
 imm_back : (k : ℤ) → FitsSigned w32 k → imm_of_text (signed_decimal k) ≡ Ok k
-imm_back (pos n) fits =
-    let lt : n < 2 ^ 31 = fits.sfits in
-    let big : n < 2 ^ 64 = omega (arith, lt) in
-    rw (no_front 45 (decimal n) (omega arith) (decimal_above n big)) (plus_back (2 ^ 31) n lt big)
-imm_back (negsuc n) fits =
-    let lt : n < 2 ^ 31 = fits.sfits in
-    minus_back (2 ^ 31) n (omega (arith, lt)) (omega (arith, lt))
+imm_back (pos n) fits = grind (arith, no_front, decimal_above, plus_back, fits.sfits)
+imm_back (negsuc n) fits = grind (arith, minus_back, fits.sfits)
 
 offset_back : (o : ℤ) → FitsSigned w16 o → offset_of_text (offset_text o) ≡ Ok o
-offset_back (pos n) fits =
-    let lt : n < 2 ^ 15 = fits.sfits in
-    plus_back (2 ^ 15) n lt (omega (arith, lt))
-offset_back (negsuc n) fits =
-    let lt : n < 2 ^ 15 = fits.sfits in
-    minus_back (2 ^ 15) n (omega (arith, lt)) (omega (arith, lt))
+offset_back (pos n) fits = grind (arith, plus_back, fits.sfits)
+offset_back (negsuc n) fits = grind (arith, minus_back, fits.sfits)
 
 -- ---- bits
 
@@ -117,10 +108,8 @@ first_letter Reg.R10 = refl
 -- an immediate's text doesn't
 not_r : (k : ℤ) → FitsSigned w32 k → (slice_index (signed_decimal k) 0 == 114) ≡ false
 not_r (pos n) fits =
-    let lt : n < 2 ^ 31 = fits.sfits in
-    let f = first_is_digit n (omega (arith, lt)) in
-    let g = f.1 in
-    grind (arith, g)
+    let f = first_is_digit n (omega arith) in
+    grind arith
 not_r (negsuc n) fits = refl
 
 -- so an operand is read as what it is
@@ -140,12 +129,11 @@ inside b (pos n) fits =
     ap (at_plus (reg_name b ++ 43 ∷ decimal n)) (around_there 43 48 (reg_name b) (decimal n) (omega arith) (reg_above b))
     ∙ based_back b (pos n) (plus (2 ^ 15) (decimal n)) (plus_back (2 ^ 15) n lt (omega (arith, lt)))
 inside b (negsuc n) fits =
-    let lt : n < 2 ^ 15 = fits.sfits in
-    let big : suc n < 2 ^ 64 = omega (arith, lt) in
+    let big : suc n < 2 ^ 64 = omega arith in
     let whole : above 44 (reg_name b ++ 45 ∷ decimal (suc n)) ≡ true = above_append 44 (reg_name b) (45 ∷ decimal (suc n)) (above_less 44 48 (reg_name b) (omega arith) (reg_above b)) (above_less 44 48 (decimal (suc n)) (omega arith) (decimal_above (suc n) big)) in
     ap (at_plus (reg_name b ++ 45 ∷ decimal (suc n))) (around_none 43 44 (reg_name b ++ 45 ∷ decimal (suc n)) (omega arith) whole)
     ∙ ap at_minus (around_there 45 48 (reg_name b) (decimal (suc n)) (omega arith) (reg_above b))
-    ∙ based_back b (negsuc n) (minus (2 ^ 15) (decimal (suc n))) (minus_back (2 ^ 15) n (omega (arith, lt)) big)
+    ∙ based_back b (negsuc n) (minus (2 ^ 15) (decimal (suc n))) (minus_back (2 ^ 15) n (omega arith) big)
 
 -- a place is read from its text
 pub place_back : (b : Reg) (o : ℤ) → FitsSigned w16 o → place_of_text (place_text b o) ≡ Ok (b, o)
@@ -207,9 +195,7 @@ two_words w x y h k = name_cut w (x ++ (codes ", " ++ y)) ∙ ap (λ (ws : List 
 
 three_words : (w : Word) (x y z : List ℕ) → above 33 x ≡ true → above 33 y ≡ true → above 33 z ≡ true
     → blanks (name w ++ (codes " " ++ (x ++ (codes ", " ++ (y ++ (codes ", " ++ z)))))) ≡ name w ∷ (x ++ 44 ∷ []) ∷ (y ++ 44 ∷ []) ∷ z ∷ []
-three_words w x y z h k l =
-    name_cut w (x ++ (codes ", " ++ (y ++ (codes ", " ++ z)))) ∙ ap (λ (ws : List (List ℕ)). name w ∷ ws) (comma_cut x (y ++ (codes ", " ++ z)) h
-    ∙ ap (λ (ws : List (List ℕ)). (x ++ 44 ∷ []) ∷ ws) (comma_cut y z k ∙ ap (λ (ws : List (List ℕ)). (y ++ 44 ∷ []) ∷ ws) (last_cut z l)))
+three_words w x y z h k l = grind (arith, name_cut, comma_cut, last_cut)
 
 -- a line that begins with a word is read by its operands
 pub first_read : (q : Profile) (w : Word) (texts : List (List ℕ)) → IsWordOf q w → insn_of_words q (name w ∷ texts) ≡ operands w texts
@@ -383,9 +369,7 @@ lines_cut (i ∷ p) fits =
 -- two lists of instructions take the slots of both
 pub slots_append : (p q : List Insn) → slots (p ++ q) ≡ slots p + slots q
 slots_append [] q = omega arith
-slots_append (i ∷ p) q =
-    let a = length-append (places_of i) (layout (p ++ q)) in let b = length-append (places_of i) (layout p) in let h = slots_append p q in
-    omega (arith, a, b, h)
+slots_append (i ∷ p) q = grind (arith, length-append, slots_append p q)
 
 -- instructions that take some slots are a program
 pub some_there : (q : Profile) (is : List Insn) → 0 < slots is → some_of q is ≡ Ok (record { profile = q; insns = is })

@@ -1,10 +1,9 @@
 -- A number beyond its field is told as out of range.
-use Rattle.std.proofs.Common.{◌≡◌, ◌≢◌, ℕ, ◌+◌, ◌-◌, ◌^◌, ℤ, Bool, true, false, cond, List, [], ◌∷◌, ◌++◌, Option, Some, None, Result, Ok, Err, refl, sym, ap, ◌∙◌, append_assoc, append-nil, arith, inl, inr, ◌==◌, ◌&&◌, nat_le, codes, slice_index, ok_or}
+use Rattle.std.proofs.Common.{◌≡◌, ◌≢◌, ℕ, ◌+◌, ◌-◌, ◌^◌, ℤ, Bool, true, false, cond, List, [], ◌∷◌, ◌++◌, Option, Some, None, Result, Ok, Err, refl, sym, ap, ◌∙◌, append_assoc, append-nil, arith, inl, inr, ◌==◌, nat_le, codes, slice_index, ok_or}
 use Rattle.std.specs.Char.{is_ascii_digit}
 use Rattle.std.specs.List.{list_all}
 use Rattle.std.specs.Str.Parse.{digits_value}
 use Rattle.std.proofs.lemmas.Bool.{eqb-true, and_parts}
-use Rattle.std.proofs.lemmas.Bool.Decides.{nat_tests}
 use Rattle.pb_isa.specs.declared.insn.Reg.{Reg}
 use Rattle.pb_isa.specs.declared.insn.Width.{Width}
 use Rattle.pb_isa.specs.declared.insn.Size.{Size}
@@ -19,7 +18,7 @@ use Rattle.pb_asm.specs.declared.names.Word.{Word}
 use Rattle.pb_asm.specs.Names.{name, IsWordOf, sizes, size_bits, reg_name}
 use Rattle.pb_asm.specs.Cuts.{strip_suffix, split_once}
 use Rattle.pb_asm.specs.Listing.{operand_text, place_text}
-use Rattle.pb_asm.specs.Operands.{minus, plus, imm_of_text, offset_of_text, operand_of_text, size_in, bits_of_text, base_and_offset, at_minus, at_plus, place_of_text, last, alu_operands, mov_sx_operands, load_imm_operands, load_operands, store_imm_operands, store_operands, jump_if_operands, operands, insn_of_words, line_of}
+use Rattle.pb_asm.specs.Operands.{minus, plus, imm_of_text, offset_of_text, operand_of_text, size_in, bits_of_text, base_and_offset, at_plus, place_of_text, last, alu_operands, mov_sx_operands, load_imm_operands, load_operands, store_imm_operands, store_operands, jump_if_operands, operands, insn_of_words, line_of}
 use Rattle.pb_asm.specs.OutOfRange.{IsAbove, IsImmBeyond, IsOffsetBeyond, IsUnlisted, NumberPlace, AluImm, MovSxBits, LoadImmImm, LoadOffset, StoreImmOffset, StoreImmImm, StoreOffset, JumpOffset, JumpIfImm, JumpIfOffset, CallImm, place_with, place_word, operands_with, line_with, FitsBefore, IsBeyond, EndsWord}
 use Rattle.pb_asm.proofs.TextCuts.{before_there}
 use Rattle.pb_asm.proofs.NamesAndDigits.{above, above_append, above_less, cut_there, around_there, around_none, reg_above}
@@ -42,10 +41,7 @@ number_above most text h = digits_above text (digits_in text h.numeral).0
 -- digits don't begin with an r, so that they are no register
 first_not_r : (ds : List ℕ) → list_all is_ascii_digit ds ≡ true → (slice_index ds 0 == 114) ≡ false
 first_not_r [] h = refl
-first_not_r (d ∷ ds) h =
-    let p = and_parts (is_ascii_digit d) (list_all is_ascii_digit ds) h in
-    let high : nat_le d 57 ≡ true = (and_parts (nat_le 48 d) (nat_le d 57) p.0).1 in
-    grind (arith, nat_tests)
+first_not_r (d ∷ ds) h = grind arith
 
 minus_over : (most : ℕ) (digits : List ℕ) → IsAbove most digits → minus most digits ≡ Err AsmCode.Range
 unfolding minus
@@ -57,8 +53,7 @@ plus_over limit digits h = rw (numeral_over AsmCode.Form AsmCode.Range (limit - 
 
 -- an immediate beyond its field is out of range
 imm_over : (text : List ℕ) → IsImmBeyond text → imm_of_text text ≡ Err AsmCode.Range
-imm_over text (inl h) = rw (no_front 45 text (omega arith) (number_above (2 ^ 31 - 1) text h)) (plus_over (2 ^ 31) text h)
-imm_over text (inr h) = ap imm_of_text h.1 ∙ minus_over (2 ^ 31) h.0 h.2
+imm_over text w = grind (arith, no_front, number_above, plus_over, minus_over)
 
 -- its text has no blank, so that it is one word
 imm_line : (text : List ℕ) → IsImmBeyond text → above 33 text ≡ true
@@ -66,8 +61,7 @@ imm_line text (inl h) = above_less 33 48 text (omega arith) (number_above (2 ^ 3
 imm_line text (inr h) = ap (above 33) h.1 ∙ above_less 33 48 h.0 (omega arith) (number_above (2 ^ 31) h.0 h.2)
 
 imm_not_r : (text : List ℕ) → IsImmBeyond text → (slice_index text 0 == 114) ≡ false
-imm_not_r text (inl h) = first_not_r text (digits_in text h.numeral).0
-imm_not_r text (inr h) = ap (λ (t : List ℕ). slice_index t 0 == 114) h.1
+imm_not_r text w = grind (arith, first_not_r, digits_in)
 
 -- so is an operand that is such an immediate
 operand_over : (text : List ℕ) → IsImmBeyond text → operand_of_text text ≡ Err AsmCode.Range
@@ -76,8 +70,7 @@ operand_over text h = rw (imm_not_r text h, imm_over text h) refl
 
 -- an offset beyond its field is out of range
 offset_over : (text : List ℕ) → IsOffsetBeyond text → offset_of_text text ≡ Err AsmCode.Range
-offset_over text (inl h) = ap offset_of_text h.1 ∙ plus_over (2 ^ 15) h.0 h.2
-offset_over text (inr h) = ap offset_of_text h.1 ∙ minus_over (2 ^ 15) h.0 h.2
+offset_over text w = grind (arith, plus_over, minus_over)
 
 offset_line : (text : List ℕ) → IsOffsetBeyond text → above 33 text ≡ true
 offset_line text (inl h) = ap (above 33) h.1 ∙ above_less 33 48 h.0 (omega arith) (number_above (2 ^ 15 - 1) h.0 h.2)
@@ -88,12 +81,7 @@ offset_line text (inr h) = ap (above 33) h.1 ∙ above_less 33 48 h.0 (omega ari
 -- no size of the list has so many bits
 none_sized : (w : Width) (n : ℕ) (zs : List Size) → ((z : Size) → is_narrower z w ≡ true → n ≢ size_bits z) → size_in w n zs ≡ None
 none_sized w n [] none = refl
-none_sized w n (z ∷ zs) none = rw (not_sized (is_narrower z w) refl (size_bits z == n) refl) (none_sized w n zs none)
-  where
-    not_sized : (a : Bool) → is_narrower z w ≡ a → (b : Bool) → (size_bits z == n) ≡ b → (is_narrower z w && (size_bits z == n)) ≡ false
-    not_sized false is b same = rw is refl
-    not_sized true is false same = rw (is, same) refl
-    not_sized true is true same = absurd (none z is (sym (eqb-true _ _ same)))
+none_sized w n (z ∷ zs) none = grind (arith, eqb-true, none_sized w n zs none)
 
 numeral_cases : (most : ℕ) (text : List ℕ) → is_numeral text ≡ true → (b : Bool) → nat_le (digits_value 10 text) most ≡ b → numeral_upto AsmCode.Form AsmCode.Range most text ≡ cond b (Ok (digits_value 10 text)) (Err AsmCode.Range)
 numeral_cases most text is b le = rw (is, le) refl
@@ -124,14 +112,10 @@ inside b text = at_plus (reg_name b ++ text) (split_once 43 (reg_name b ++ text)
 
 -- the offset of a place is, with either sign
 inside_over : (b : Reg) (text : List ℕ) → IsOffsetBeyond text → inside b text ≡ Err AsmCode.Range
-inside_over b text (inl h) =
-    ap (inside b) h.1 ∙ ap (at_plus (reg_name b ++ 43 ∷ h.0)) (around_there 43 48 (reg_name b) h.0 (omega arith) (reg_above b))
-    ∙ based_over b (plus (2 ^ 15) h.0) (plus_over (2 ^ 15) h.0 h.2)
+inside_over b text (inl h) = grind (arith, around_there, reg_above, based_over, plus_over)
 inside_over b text (inr h) =
     let whole : above 44 (reg_name b ++ 45 ∷ h.0) ≡ true = above_append 44 (reg_name b) (45 ∷ h.0) (above_less 44 48 (reg_name b) (omega arith) (reg_above b)) (above_less 44 48 h.0 (omega arith) (number_above (2 ^ 15) h.0 h.2)) in
-    ap (inside b) h.1 ∙ ap (at_plus (reg_name b ++ 45 ∷ h.0)) (around_none 43 44 (reg_name b ++ 45 ∷ h.0) (omega arith) whole)
-    ∙ ap at_minus (around_there 45 48 (reg_name b) h.0 (omega arith) (reg_above b))
-    ∙ based_over b (minus (2 ^ 15) h.0) (minus_over (2 ^ 15) h.0 h.2)
+    grind (arith, reg_above, around_none, around_there, based_over, minus_over)
 
 -- and so is the place
 place_over : (b : Reg) (text : List ℕ) → IsOffsetBeyond text → place_of_text (place_with b text) ≡ Err AsmCode.Range

@@ -1,8 +1,8 @@
 -- What is read as an operand, a line or a text is written as the listing writes it.
-use Rattle.std.proofs.Common.{◌≡◌, ℕ, zero, suc, ◌-◌, ◌^◌, ◌<◌, ◌≤◌, ◌↔◌, ℤ, pos, negsuc, neg_ℤ, Bool, true, false, cond, List, [], ◌∷◌, ◌++◌, length, Option, Some, None, Result, Ok, Err, refl, sym, ap, subst, ◌∙◌, append_assoc, arith, ◌==◌, ◌&&◌, nat_lt, codes, slice_index, FitsSigned, IfOk, w16, w32, bytes_eq, ok_or}
+use Rattle.std.proofs.Common.{◌≡◌, ℕ, suc, ◌-◌, ◌^◌, ◌<◌, ◌≤◌, ◌↔◌, ℤ, pos, negsuc, Bool, true, false, cond, List, [], ◌∷◌, ◌++◌, length, Option, Some, None, Result, Ok, refl, sym, ap, subst, ◌∙◌, append_assoc, arith, ◌==◌, ◌&&◌, nat_lt, codes, slice_index, FitsSigned, IfOk, w16, w32, bytes_eq, ok_or}
 use Rattle.std.specs.List.{slice_split, join_with_byte, position_or_len, before_first, after_first}
 use Rattle.std.specs.Fmt.{decimal, signed_decimal}
-use Rattle.std.proofs.lemmas.Bool.{eqb-true, and_parts, ltb-true}
+use Rattle.std.proofs.lemmas.Bool.{eqb-true, ltb-true}
 use Rattle.std.proofs.lemmas.List.Sums.{split_at_first, passes_at_first}
 use Rattle.std.proofs.lemmas.List.Splits.{join_with_byte-slice_split}
 use Rattle.std.proofs.lemmas.Slice.Eq.{bytes_eq-Decides}
@@ -19,7 +19,7 @@ use Rattle.pb_isa.specs.Profiles.{is_narrower, IsOf}
 use Rattle.pb_isa.specs.Bounds.{OperandFits, Fits}
 use Rattle.pb_asm.specs.declared.fault.AsmCode.{AsmCode}
 use Rattle.pb_asm.specs.declared.names.Word.{Word}
-use Rattle.pb_asm.specs.Names.{name, words, IsWordOf, is_word_of, sizes, size_bits, registers, word_in, if_word_of, word_named, reg_name, reg_spelled, reg_named}
+use Rattle.pb_asm.specs.Names.{name, words, IsWordOf, is_word_of, size_bits, registers, word_in, if_word_of, word_named, reg_name, reg_spelled, reg_named}
 use Rattle.pb_reading.specs.Reading.{◌>>=◌}
 use Rattle.pb_asm.specs.Cuts.{strip_prefix, strip_suffix, split_once}
 use Rattle.pb_reading.specs.Reading.{Gives, numeral_upto, no_word}
@@ -36,25 +36,17 @@ some_is : {A : Type 0} (x y : A) (o : Option A) → o ≡ Some x → o ≡ Some 
 some_is x y o g h = cc
 
 if_some : {A : Type 0} (b : Bool) (x y : A) → cond b (Some x) None ≡ Some y → (b ≡ true) × (x ≡ y)
-if_some true x y h = (refl, some_is x y (Some x) refl h)
-if_some false x y h = absurd cc
+if_some b x y h = grind arith
 
 -- ---- cuts
 
--- a list with this head and this rest
-behind_if : (c b : ℕ) (bs rest : List ℕ) → (b ≡ c) × (bs ≡ rest) → b ∷ bs ≡ c ∷ rest
-behind_if c b bs rest h = ap (λ (x : ℕ). x ∷ bs) h.0 ∙ ap (λ (xs : List ℕ). c ∷ xs) h.1
-
 -- a text that was cut behind its first character begins with it
 pub behind_whole : (c : ℕ) (text rest : List ℕ) → strip_prefix c text ≡ Some rest → text ≡ c ∷ rest
-behind_whole c [] rest h = absurd cc
-behind_whole c (b ∷ bs) rest h = let p = if_some (b == c) bs rest h in behind_if c b bs rest (eqb-true b c p.0, p.1)
+behind_whole c text rest h = grind arith
 
 -- one that was cut before its last ends with it
 pub before_whole : (c : ℕ) (text front : List ℕ) → 0 < c → strip_suffix c text ≡ Some front → text ≡ front ++ c ∷ []
-before_whole c text front some h =
-    let p = if_some (slice_index text (length text - 1) == c) _ front h in
-    split_end c text some (eqb-true _ c p.0) ∙ ap (λ (xs : List ℕ). xs ++ c ∷ []) p.1
+before_whole c text front some h = grind (arith, if_some, split_end, eqb-true)
 
 -- one that was cut in two has it between both sides
 pub around_whole : (c : ℕ) (text : List ℕ) (sides : List ℕ × List ℕ) → split_once c text ≡ Some sides → text ≡ sides.0 ++ c ∷ sides.1
@@ -70,24 +62,11 @@ around_whole c text sides h =
 -- what is read behind a minus is a negative number's digits, and zero isn't
 minus_is : (greatest : ℕ) (text : List ℕ) (z : ℤ) → greatest < 2 ^ 64 → minus greatest text ≡ Ok z → (n : ℕ) × (z ≡ negsuc n) × (text ≡ decimal (suc n)) × (n < greatest)
 unfolding minus
-minus_is greatest text z lt h =
-    let p = then_ok (numeral_upto AsmCode.Form AsmCode.Range greatest text) _ z h in
-    let q = numeral_is AsmCode.Form AsmCode.Range greatest p.0 text lt p.1 in
-    below greatest p.0 text z _ q p.2
-  where
-    below : (greatest m : ℕ) (text : List ℕ) (z : ℤ) (c : AsmCode) → (text ≡ decimal m) × (m ≤ greatest) → cond (m == 0) (Err c) (Ok (neg_ℤ (pos m))) ≡ Ok z → (n : ℕ) × (z ≡ negsuc n) × (text ≡ decimal (suc n)) × (n < greatest)
-    below greatest zero text z c q h = absurd cc
-    below greatest (suc n) text z c q h =
-        let p = else_ok (suc n == 0) (Ok (negsuc n)) c z h in
-        let le = q.1 in
-        (n, sym (ok_is (negsuc n) z p.1), q.0, omega (arith, le))
+minus_is greatest text z lt h = grind (arith, then_ok, numeral_is, else_ok, ok_is)
 
 plus_is : (limit : ℕ) (text : List ℕ) (z : ℤ) → limit < 2 ^ 64 → plus limit text ≡ Ok z → (n : ℕ) × (z ≡ pos n) × (text ≡ decimal n) × (n ≤ limit - 1)
 unfolding plus
-plus_is limit text z lt h =
-    let p = then_ok (numeral_upto AsmCode.Form AsmCode.Range (limit - 1) text) _ z h in
-    let q = numeral_is AsmCode.Form AsmCode.Range (limit - 1) p.0 text (omega (arith, lt)) p.1 in
-    (p.0, sym (ok_is (pos p.0) z p.2), q.0, q.1)
+plus_is limit text z lt h = grind (arith, then_ok, numeral_is, ok_is)
 
 -- ---- signed numbers
 
@@ -102,12 +81,7 @@ natural_imm : (text : List ℕ) (k : ℤ) (n : ℕ) → (k ≡ pos n) × (text �
 natural_imm text k n h = let le = h.2 in subst (Immediate text) (sym h.0) (h.1, record { sfits = omega (arith, le) })
 
 imm_cases : (text : List ℕ) (k : ℤ) (o : Option (List ℕ)) → strip_prefix 45 text ≡ o → signed_or (plus (2 ^ 31) text) (2 ^ 31) o ≡ Ok k → Immediate text k
-imm_cases text k (Some digits) is h =
-    let m = minus_is (2 ^ 31) digits k (omega arith) h in
-    subst (λ (t : List ℕ). Immediate t k) (sym (behind_whole 45 text digits is)) (negative_imm digits k m.0 (m.1, m.2, m.3))
-imm_cases text k None is h =
-    let m = plus_is (2 ^ 31) text k (omega arith) h in
-    natural_imm text k m.0 (m.1, m.2, m.3)
+imm_cases text k o is h = grind (arith, minus_is, behind_whole, negative_imm, plus_is, natural_imm)
 
 -- what is read as an immediate is its text
 imm_is : (text : List ℕ) (k : ℤ) → imm_of_text text ≡ Ok k → Immediate text k
@@ -145,8 +119,7 @@ offset_is text o h = offset_cases text o (strip_prefix 45 text) refl h
 
 -- what is found in a list by its name has that name
 found : {A : Type 0} (text : List ℕ) (called : A → List ℕ) (x y : A) (rest : Option A) (b : Bool) → bytes_eq text (called x) ≡ b → cond b (Some x) rest ≡ Some y → (rest ≡ Some y → text ≡ called y) → text ≡ called y
-found text called x y rest true is h others = (bytes_eq-Decides text (called x)).0 is ∙ ap called (some_is x y (Some x) refl h)
-found text called x y rest false is h others = others h
+found text called x y rest b is h others = grind (arith, bytes_eq-Decides, some_is)
 
 reg_among : (text : List ℕ) (rs : List Reg) (r : Reg) → reg_spelled text rs ≡ Some r → text ≡ reg_name r
 reg_among text [] r h = absurd cc
@@ -179,10 +152,7 @@ abbrev Narrower : Width → ℕ → Size → Type 0
 Narrower w n z = (n ≡ size_bits z) × (is_narrower z w ≡ true)
 
 sized : (w : Width) (n : ℕ) (z x : Size) (rest : Option Size) (b : Bool) → (is_narrower z w && (size_bits z == n)) ≡ b → cond b (Some z) rest ≡ Some x → (rest ≡ Some x → Narrower w n x) → Narrower w n x
-sized w n z x rest true is h others =
-    let p = and_parts (is_narrower z w) (size_bits z == n) is in
-    subst (Narrower w n) (some_is z x (Some z) refl h) (sym (eqb-true _ _ p.1), p.0)
-sized w n z x rest false is h others = others h
+sized w n z x rest b is h others = grind arith
 
 -- a size that is found has the bits, and is narrower
 size_is : (w : Width) (n : ℕ) (zs : List Size) (x : Size) → size_in w n zs ≡ Some x → Narrower w n x
@@ -192,11 +162,7 @@ size_is w n (z ∷ zs) x h = sized w n z x (size_in w n zs) (is_narrower z w && 
 -- what is read as a move's bits is their decimal
 bits_are : (w : Width) (text : List ℕ) (z : Size) → bits_of_text w text ≡ Ok z → (text ≡ decimal (size_bits z)) × (is_narrower z w ≡ true)
 unfolding bits_of_text
-bits_are w text z h =
-    let a = then_ok (numeral_upto AsmCode.Form AsmCode.Range (2 ^ 64 - 1) text) _ z h in
-    let n = numeral_is AsmCode.Form AsmCode.Range (2 ^ 64 - 1) a.0 text (omega arith) a.1 in
-    let s = size_is w a.0 sizes z (there_ok (size_in w a.0 sizes) AsmCode.Range z a.2) in
-    (n.0 ∙ ap decimal s.0, s.1)
+bits_are w text z h = grind (arith, then_ok, numeral_is, size_is, there_ok)
 
 -- ---- operands and places
 
@@ -223,12 +189,7 @@ Place text p = (text ≡ reg_name p.0 ++ offset_text p.1) × FitsSigned w16 p.1
 
 based_is : (register digits : List ℕ) (c : ℕ) (offset : Result ℤ AsmCode) (p : Reg × ℤ) → base_and_offset register offset ≡ Ok p → ((o : ℤ) → offset ≡ Ok o → Offset (c ∷ digits) o) → Place (register ++ c ∷ digits) p
 unfolding base_and_offset
-based_is register digits c offset p h read =
-    let a = then_ok (reg_of_text register) _ p h in
-    let b = then_ok offset _ p a.2 in
-    let o = read b.0 b.1 in
-    subst (Place (register ++ c ∷ digits)) (ok_is (a.0, b.0) p b.2)
-    (ap (λ (t : List ℕ). t ++ c ∷ digits) (reg_is register a.0 a.1) ∙ ap (λ (t : List ℕ). reg_name a.0 ++ t) o.0, o.1)
+based_is register digits c offset p h read = grind (arith, then_ok, ok_is, reg_is)
 
 minus_cases : (text : List ℕ) (p : Reg × ℤ) (o : Option (List ℕ × List ℕ)) → split_once 45 text ≡ o → at_minus o ≡ Ok p → Place text p
 minus_cases text p (Some sides) is h = subst (λ (t : List ℕ). Place t p) (sym (around_whole 45 text sides is)) (based_is sides.0 sides.1 45 (minus (2 ^ 15) sides.1) p h (minus_offset sides.1))
@@ -244,33 +205,19 @@ unfolding place_of_text
 place_is text p h =
     let a = then_ok (ok_or (strip_prefix 91 text) AsmCode.Form) _ p h in
     let b = then_ok (ok_or (strip_suffix 93 a.0) AsmCode.Form) _ p a.2 in
-    let c = plus_cases b.0 p (split_once 43 b.0) refl b.2 in (
-      behind_whole 91 text a.0 (there_ok _ AsmCode.Form a.0 a.1)
-          ∙ ap (λ (t : List ℕ). 91 ∷ t) (before_whole 93 a.0 b.0 (omega arith) (there_ok _ AsmCode.Form b.0 b.1) ∙ ap (λ (t : List ℕ). t ++ 93 ∷ []) c.0 ∙ append_assoc (reg_name p.0) (offset_text p.1) (93 ∷ [])),
-      c.1,
-    )
+    let c = plus_cases b.0 p (split_once 43 b.0) refl b.2 in (grind (arith, behind_whole, there_ok, before_whole, append_assoc))
 
 -- ---- the words of a line
 
 -- a word that was read up to its comma had it
 pub comma_is : (texts : List (List ℕ)) (p : List ℕ × List (List ℕ)) → comma texts ≡ Ok p → texts ≡ (p.0 ++ 44 ∷ []) ∷ p.1
 unfolding comma
-comma_is [] p h = absurd cc
-comma_is (text ∷ texts) p h =
-    let a = then_ok (ok_or (strip_suffix 44 text) AsmCode.Form) _ p h in
-    ap (λ (t : List ℕ). t ∷ texts) (before_whole 44 text a.0 (omega arith) (there_ok _ AsmCode.Form a.0 a.1))
-    ∙ ap (λ (q : List ℕ × List (List ℕ)). (q.0 ++ 44 ∷ []) ∷ q.1) (ok_is (a.0, texts) p a.2)
+comma_is texts p h = grind (arith, then_ok, before_whole, there_ok, ok_is)
 
 -- where a last word was read, no word stood behind it
 last_is : {A : Type 0} (read : List ℕ → Result A AsmCode) (texts : List (List ℕ)) (x : A) → last read texts ≡ Ok x → (text : List ℕ) × (texts ≡ text ∷ []) × (read text ≡ Ok x)
 unfolding last
-last_is read [] x h = absurd cc
-last_is read (text ∷ []) x h =
-    let a = then_ok (read text) _ x h in
-    (text, refl, a.1 ∙ a.2)
-last_is read (text ∷ more ∷ texts) x h =
-    let a = then_ok (read text) _ x h in
-    absurd cc
+last_is read texts x h = grind arith
 
 -- a first word and one operand, two, and three
 one_there : (w : Word) (texts : List (List ℕ)) (x y : List ℕ) → texts ≡ x ∷ [] → x ≡ y → join_with_byte 32 (name w ∷ texts) ≡ name w ++ (codes " " ++ y)
@@ -295,8 +242,7 @@ OfWord w i = (q : Profile) → IsWordOf q w → IsOf q i
 
 -- where it is of each profile
 of_any : (w : Word) (i : Insn) → IsOf Profile.One i → IsOf Profile.Two i → OfWord w i
-of_any w i one two Profile.One is = one
-of_any w i one two Profile.Two is = two
+of_any w i one two x is = grind arith
 
 -- a line of these words is the instruction's
 abbrev Written : Word → List (List ℕ) → Insn → Type 0
@@ -315,8 +261,7 @@ alu_is op w texts i h =
     (two_there (Word.Alu op w) texts a.0 d.0 (reg_name b.0) (operand_text c.0) a.1 d.1 (reg_is a.0.0 b.0 b.1) e.0, e.1, of_any (Word.Alu op w) (Insn.Alu op w b.0 c.0) refl refl)
 
 moved_of : (w : Width) (z : Size) (d s : Reg) → is_narrower z w ≡ true → OfWord (Word.MovSx w) (Insn.MovSx w z d s)
-moved_of w z d s narrow Profile.One is = is
-moved_of w z d s narrow Profile.Two is = narrow
+moved_of w z d s narrow x is = grind arith
 
 mov_sx_is : (w : Width) (texts : List (List ℕ)) (i : Insn) → mov_sx_operands w texts ≡ Ok i → Written (Word.MovSx w) texts i
 unfolding mov_sx_operands
@@ -339,15 +284,11 @@ wide_is texts i h =
     let c = then_ok (last (numeral_upto AsmCode.Form AsmCode.Range (2 ^ 64 - 1)) a.0.1) _ i b.2 in
     let d = last_is (numeral_upto AsmCode.Form AsmCode.Range (2 ^ 64 - 1)) a.0.1 c.0 c.1 in
     let e = numeral_is AsmCode.Form AsmCode.Range (2 ^ 64 - 1) c.0 d.0 (omega arith) d.2 in
-    let le = e.1 in
     subst (Written Word.LoadImm texts) (ok_is (Insn.LoadImm b.0 c.0) i c.2)
-    (two_there Word.LoadImm texts a.0 d.0 (reg_name b.0) (decimal c.0) a.1 d.1 (reg_is a.0.0 b.0 b.1) e.0, omega (arith, le), of_any Word.LoadImm (Insn.LoadImm b.0 c.0) refl refl)
+    (two_there Word.LoadImm texts a.0 d.0 (reg_name b.0) (decimal c.0) a.1 d.1 (reg_is a.0.0 b.0 b.1) e.0, omega arith, of_any Word.LoadImm (Insn.LoadImm b.0 c.0) refl refl)
 
 loaded_of : (z : Size) (x : Extension) (d b : Reg) (o : ℤ) → OfWord (Word.Load z x) (Insn.Load z x d b o)
-loaded_of z Extension.Zeros d b o Profile.One is = refl
-loaded_of z Extension.Sign d b o Profile.One is = is
-loaded_of z Extension.Zeros d b o Profile.Two is = refl
-loaded_of z Extension.Sign d b o Profile.Two is = is
+loaded_of z x d b o h is = grind arith
 
 load_is : (z : Size) (x : Extension) (texts : List (List ℕ)) (i : Insn) → load_operands (Insn.Load z x) texts ≡ Ok i → Written (Word.Load z x) texts i
 unfolding load_operands
@@ -398,31 +339,24 @@ jump_if_is c w texts i h =
     (three_there (Word.JumpIf c w) texts a.0 k.0 d.0 (reg_name b.0) (operand_text l.0) (offset_text m.0) a.1 k.1 d.1 (reg_is a.0.0 b.0 b.1) e.0 o.0, (e.1, o.1), of_any (Word.JumpIf c w) (Insn.JumpIf c w b.0 l.0 m.0) refl refl)
 
 neg_is : (w : Width) (texts : List (List ℕ)) (i : Insn) → map_insn (Insn.Neg w) (last reg_of_text texts) ≡ Ok i → Written (Word.Neg w) texts i
-neg_is w texts i h =
-    let a = then_ok (last reg_of_text texts) _ i h in
-    let d = last_is reg_of_text texts a.0 a.1 in
-    subst (Written (Word.Neg w) texts) (ok_is (Insn.Neg w a.0) i a.2)
-    (one_there (Word.Neg w) texts d.0 (reg_name a.0) d.1 (reg_is d.0 a.0 d.2), tt, of_any (Word.Neg w) (Insn.Neg w a.0) refl refl)
+neg_is w texts i h = grind (arith, then_ok, last_is, ok_is, one_there, reg_is, of_any)
 
 jump_is : (texts : List (List ℕ)) (i : Insn) → map_insn Insn.Jump (last offset_of_text texts) ≡ Ok i → Written Word.Jump texts i
 jump_is texts i h =
     let a = then_ok (last offset_of_text texts) _ i h in
     let d = last_is offset_of_text texts a.0 a.1 in
     let o = offset_is d.0 a.0 d.2 in
-    subst (Written Word.Jump texts) (ok_is (Insn.Jump a.0) i a.2)
-    (one_there Word.Jump texts d.0 (offset_text a.0) d.1 o.0, o.1, of_any Word.Jump (Insn.Jump a.0) refl refl)
+    grind (arith, ok_is, one_there, of_any)
 
 call_is : (texts : List (List ℕ)) (i : Insn) → map_insn Insn.Call (last imm_of_text texts) ≡ Ok i → Written Word.Call texts i
 call_is texts i h =
     let a = then_ok (last imm_of_text texts) _ i h in
     let d = last_is imm_of_text texts a.0 a.1 in
     let k = imm_is d.0 a.0 d.2 in
-    subst (Written Word.Call texts) (ok_is (Insn.Call a.0) i a.2)
-    (one_there Word.Call texts d.0 (signed_decimal a.0) d.1 k.0, k.1, of_any Word.Call (Insn.Call a.0) refl refl)
+    grind (arith, ok_is, one_there, of_any)
 
 exit_is : (texts : List (List ℕ)) (i : Insn) → map_insn (λ _. Insn.Exit) (no_word AsmCode.Form texts) ≡ Ok i → Written Word.Exit texts i
-exit_is [] i h = subst (Written Word.Exit []) (ok_is Insn.Exit i h) (refl, tt, of_any Word.Exit Insn.Exit refl refl)
-exit_is (text ∷ texts) i h = absurd cc
+exit_is texts i h = grind arith
 
 -- so whatever the first word is, the line is the instruction's
 operands_are : (w : Word) (texts : List (List ℕ)) (i : Insn) → operands w texts ≡ Ok i → Written w texts i
@@ -455,8 +389,7 @@ line_spelled q line i h =
     (sym (join_with_byte-slice_split 32 line) ∙ a.0, a.1, a.2)
 
 pub read_of : (q : Profile) (texts : List (List ℕ)) (r : Result Insn AsmCode) → Gives (λ _. false) (λ i. i) r (insn_of_words q texts) → IfOk r (IsOf q)
-read_of q texts (Ok i) h = (words_are q texts i h).2
-read_of q texts (Err c) h = tt
+read_of q texts r h = grind (arith, words_are)
 
 -- a line is read as an instruction exactly where it is its line
 pub line_is : (q : Profile) (line : List ℕ) (i : Insn) → (line_of q line ≡ Ok i) ↔ ((line ≡ insn_text i) × Fits i × IsOf q i)

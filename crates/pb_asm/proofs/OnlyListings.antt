@@ -1,11 +1,10 @@
 -- A text is read as a program exactly where its lines of instructions are the program's.
-use Rattle.std.proofs.Common.{◌≡◌, ℕ, ◌<◌, ◌≤◌, ◌↔◌, Bool, true, false, cond, List, [], ◌∷◌, ◌++◌, map, Result, Ok, Err, refl, sym, ap, subst, ◌∙◌, arith, nat_lt}
+use Rattle.std.proofs.Common.{◌≡◌, ℕ, ◌<◌, ◌≤◌, ◌↔◌, true, false, List, [], ◌∷◌, ◌++◌, map, Result, Ok, Err, refl, sym, ap, subst, ◌∙◌, arith}
 use Rattle.std.specs.List.{flat_map, AllByRecursion}
-use Rattle.std.proofs.lemmas.Bool.{le-ltb, ltb-false}
-use Rattle.std.proofs.lemmas.List.{length-append}
+use Rattle.std.proofs.lemmas.Bool.{le-ltb}
 use Rattle.pb_isa.specs.declared.insn.Insn.{Insn}
 use Rattle.pb_isa.specs.Bounds.{Fits}
-use Rattle.pb_isa.specs.Slots.{places_of, layout, slots}
+use Rattle.pb_isa.specs.Slots.{slots}
 use Rattle.pb_isa.specs.Programs.{ProgramOf, IsProgram}
 use Rattle.pb_isa.specs.declared.profile.Profile.{Profile}
 use Rattle.pb_isa.specs.Profiles.{max_slots, IsOf}
@@ -16,11 +15,9 @@ use Rattle.pb_asm.specs.Listing.{insn_text, listing}
 use Rattle.pb_reading.specs.Reading.{is_skipped, lines_of}
 use Rattle.pb_asm.specs.Codes.{asm_code}
 use Rattle.pb_asm.specs.Texts.{with_insn_line, insns_of_lines, some_of, program_of_text}
-use Rattle.pb_reading.proofs.Readings.{then_ok, ok_is, else_ok}
 use Rattle.pb_reading.proofs.LinesInTurn.{Adds, TakesLines, heads, read, back}
 use Rattle.pb_asm.proofs.OneSpelling.{line_spelled}
 use Rattle.pb_asm.proofs.ListingsReadBack.{insn_shown, line_back, lines_cut, slots_append, some_there}
-use Rattle.pb_isa.proofs.Instructions.{some_place}
 use Rattle.pb_reading.proofs.SkippedLines.{kept, kept_one}
 
 -- ---- what has been read
@@ -39,12 +36,7 @@ one i = i ∷ []
 
 take_line : (k : Profile) (before q : List Insn) (l : List ℕ) → is_skipped l ≡ false → with_insn_line k before l ≡ Ok q → Adds (line_of k) one (Room k) before q l
 unfolding with_insn_line
-take_line k before q l is h =
-    let g = ap (λ (b : Bool). cond b (Ok before) (line_of k l >>= λ i. cond (nat_lt (max_slots k) (slots (before ++ i ∷ []))) (Err AsmCode.TooLong) (Ok (before ++ i ∷ [])))) (sym is) ∙ h in
-    let a = then_ok (line_of k l) _ q g in
-    let p = else_ok (nat_lt (max_slots k) (slots (before ++ a.0 ∷ []))) (Ok (before ++ a.0 ∷ [])) AsmCode.TooLong q a.2 in
-    let whole = ok_is (before ++ a.0 ∷ []) q p.1 in
-    record { thing = a.0; says = a.1; whole = whole; room = subst (Room k) whole (ltb-false _ _ p.0) }
+take_line k before q l is h = grind arith
 
 add_line : (k : Profile) (before : List Insn) (l : List ℕ) (i : Insn) → is_skipped l ≡ false → line_of k l ≡ Ok i → Room k (before ++ i ∷ []) → with_insn_line k before l ≡ Ok (before ++ i ∷ [])
 unfolding with_insn_line
@@ -106,18 +98,10 @@ lines_back k text p a =
 
 -- a program's instructions take some slots
 some_slots : (k : Profile) (is : List Insn) (p : ProgramOf) → some_of k is ≡ Ok p → 0 < slots is
-some_slots k [] p h = absurd cc
-some_slots k (i ∷ is) p h = let a = length-append (places_of i) (layout is) in let s = some_place i in omega (arith, a, s)
-
-abbrev program_read : ProgramOf → Result ProgramOf (ℕ × ℕ)
-program_read p = Ok p
+some_slots k is p h = grind arith
 
 some_same : (k : Profile) (is : List Insn) (p : ProgramOf) → some_of k is ≡ Ok p → record { profile = k; insns = is } ≡ p
-some_same k [] p h = absurd cc
-some_same k (i ∷ is) p h = program_is (record { profile = k; insns = i ∷ is }) p h
-  where
-    program_is : (p q : ProgramOf) → program_read p ≡ program_read q → p ≡ q
-    program_is p q e = cc
+some_same k is p h = grind arith
 
 -- the program's lines, and that it is one of this profile
 abbrev Whole : Profile → List ℕ → ProgramOf → Type 0
@@ -132,9 +116,7 @@ read_whole k text p (Ok q) is h =
 
 -- and such a listing is read
 read_back : (text : List ℕ) (p : ProgramOf) → shown_lines text ≡ map insn_text p.insns → IsProgram p → AllByRecursion Fits p.insns → program_of_text p.profile text ≡ Ok p
-read_back text p lines is fits =
-    ap (λ (r : Result (List Insn) (ℕ × ℕ)). r >>= some_of p.profile) (lines_back p.profile text p.insns (record { lines = lines; fits = fits; of_profile = is.of_profile; most = is.most }))
-    ∙ some_there p.profile p.insns is.some
+read_back text p lines is fits = grind (arith, lines_back, some_there, p.profile, p.insns, is.of_profile, is.most, is.some)
 
 -- a text is read as a program exactly where its kept lines are the program's listing
 pub text_is : (k : Profile) (text : List ℕ) (p : ProgramOf) → (program_of_text k text ≡ Ok p) ↔ Whole k text p

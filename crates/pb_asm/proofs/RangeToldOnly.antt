@@ -1,8 +1,7 @@
 -- A line that is told as out of range is an instruction's up to a number beyond its field.
-use Rattle.std.proofs.Common.{◌≡◌, ◌≢◌, ◌⊎◌, ℕ, ◌+◌, ◌-◌, ◌^◌, ◌<◌, ◌↔◌, ℤ, Bool, true, false, cond, List, [], ◌∷◌, ◌++◌, Option, Some, None, Result, Ok, Err, refl, sym, ap, subst, ◌∙◌, append_assoc, append-nil, arith, inl, inr, ◌==◌, nat_le, codes, slice_index, ok_or}
+use Rattle.std.proofs.Common.{◌≡◌, ◌≢◌, ◌⊎◌, ℕ, ◌+◌, ◌-◌, ◌^◌, ◌<◌, ◌↔◌, ℤ, Bool, true, cond, List, [], ◌∷◌, ◌++◌, Option, Some, None, Result, Ok, Err, refl, sym, ap, subst, ◌∙◌, append_assoc, append-nil, arith, inl, inr, ◌==◌, codes, slice_index, ok_or}
 use Rattle.std.specs.List.{slice_split, join_with_byte}
 use Rattle.std.specs.Str.Parse.{digits_value}
-use Rattle.std.proofs.lemmas.Bool.{leb-false}
 use Rattle.std.proofs.lemmas.List.Splits.{join_with_byte-slice_split}
 use Rattle.pb_isa.specs.declared.insn.Insn.{Insn}
 use Rattle.pb_isa.specs.declared.insn.Operand.{Operand}
@@ -14,7 +13,7 @@ use Rattle.pb_isa.specs.declared.insn.Size.{Size}
 use Rattle.pb_isa.specs.declared.insn.Extension.{Extension}
 use Rattle.pb_isa.specs.declared.profile.Profile.{Profile}
 use Rattle.pb_isa.specs.Profiles.{is_narrower}
-use Rattle.pb_reading.specs.Reading.{◌>>=◌, is_numeral, numeral_upto, no_word, numbered}
+use Rattle.pb_reading.specs.Reading.{◌>>=◌, numeral_upto, no_word, numbered}
 use Rattle.pb_asm.specs.declared.fault.AsmCode.{AsmCode}
 use Rattle.pb_asm.specs.declared.names.Word.{Word}
 use Rattle.pb_asm.specs.Names.{name, IsWordOf, sizes, size_bits, word_named, reg_name, reg_named}
@@ -24,10 +23,10 @@ use Rattle.pb_asm.specs.Operands.{minus, plus, signed_or, imm_of_text, plus_or_f
 use Rattle.pb_asm.specs.OutOfRange.{IsAbove, IsImmBeyond, IsOffsetBeyond, IsUnlisted, NumberPlace, AluImm, MovSxBits, LoadImmImm, LoadOffset, StoreImmOffset, StoreImmImm, StoreOffset, JumpOffset, JumpIfImm, JumpIfOffset, CallImm, place_with, place_word, line_with, FitsBefore, IsBeyond, EndsWord, IsOutOfRange}
 use Rattle.pb_asm.specs.Codes.{asm_code}
 use Rattle.pb_asm.specs.Texts.{with_insn_line}
-use Rattle.pb_asm.proofs.ListingsReadBack.{size_there, few_bits}
-use Rattle.pb_reading.proofs.Readings.{ok_is, if_ok, there_ok}
+use Rattle.pb_asm.proofs.ListingsReadBack.{few_bits}
+use Rattle.pb_reading.proofs.Readings.{there_ok}
 use Rattle.pb_asm.proofs.OneSpelling.{behind_whole, before_whole, around_whole, reg_is, word_is, operand_is, place_is, comma_is}
-use Rattle.pb_asm.proofs.FaultsTold.{failed, moved, own_told}
+use Rattle.pb_asm.proofs.FaultsTold.{moved, own_told}
 use Rattle.pb_asm.proofs.NumbersBeyond.{range_told}
 
 -- ---- what a reading that ended out of range has read
@@ -41,36 +40,24 @@ then_over : {A B P : Type 0} (r : Result A AsmCode) (f : A → Result B AsmCode)
 then_over (Ok x) f h first later = later x refl h
 then_over {A = A} {B = B} (Err c) f h first later = first (moved B A c AsmCode.Range h)
 
-if_over : {A : Type 0} (b : Bool) (r : Result A AsmCode) → IsOver (cond b r (Err AsmCode.Form)) → (b ≡ true) × IsOver r
-if_over true r h = (refl, h)
-if_over false r h = absurd cc
-
 ok_never : {A P : Type 0} (x : A) → IsOver (Ok x) → P
 ok_never x h = absurd cc
 
 -- what isn't there is of another form, and never out of range
 there_never : {A P : Type 0} (o : Option A) → IsOver (ok_or o AsmCode.Form) → P
-there_never None h = absurd cc
-there_never (Some x) h = absurd cc
+there_never o h = grind arith
 
 reg_never : {P : Type 0} (text : List ℕ) → IsOver (reg_of_text text) → P
 reg_never text h = there_never (reg_named text) h
 
 -- ---- numbers
 
-above_most : (b : Bool) (n : ℕ) → IsOver (cond b (Ok n) (Err AsmCode.Range)) → b ≡ false
-above_most true n h = absurd cc
-above_most false n h = refl
-
 -- a number out of range is a numeral above the greatest
 number_beyond : (most : ℕ) (text : List ℕ) → IsOver (numeral_upto AsmCode.Form AsmCode.Range most text) → IsAbove most text
-number_beyond most text h =
-    let p = if_over (is_numeral text) _ h in
-    record { numeral = p.0; above = leb-false _ _ (above_most (nat_le (digits_value 10 text) most) (digits_value 10 text) p.1) }
+number_beyond most text h = grind arith
 
 not_zero_never : {P : Type 0} (b : Bool) (z : ℤ) → IsOver (cond b (Err AsmCode.Form) (Ok z)) → P
-not_zero_never true z h = absurd cc
-not_zero_never false z h = absurd cc
+not_zero_never b z h = grind arith
 
 -- so is one behind a minus, and one without
 minus_beyond : (most : ℕ) (digits : List ℕ) → IsOver (minus most digits) → IsAbove most digits
@@ -82,28 +69,24 @@ unfolding plus
 plus_beyond limit digits h = then_over (numeral_upto AsmCode.Form AsmCode.Range (limit - 1) digits) _ h (number_beyond (limit - 1) digits) (λ n is over. ok_never _ over)
 
 imm_signs_beyond : (text : List ℕ) (o : Option (List ℕ)) → strip_prefix 45 text ≡ o → IsOver (signed_or (plus (2 ^ 31) text) (2 ^ 31) o) → IsImmBeyond text
-imm_signs_beyond text (Some digits) is h = inr (digits, behind_whole 45 text digits is, minus_beyond (2 ^ 31) digits h)
-imm_signs_beyond text None is h = inl (plus_beyond (2 ^ 31) text h)
+imm_signs_beyond text o is h = grind (arith, behind_whole, minus_beyond, plus_beyond)
 
 -- an immediate out of range is beyond its field
 imm_beyond : (text : List ℕ) → IsOver (imm_of_text text) → IsImmBeyond text
 imm_beyond text h = imm_signs_beyond text (strip_prefix 45 text) refl h
 
 plus_sign_beyond : (text : List ℕ) (o : Option (List ℕ)) → strip_prefix 43 text ≡ o → IsOver (plus_or_fault o) → IsOffsetBeyond text
-plus_sign_beyond text (Some digits) is h = inl (digits, behind_whole 43 text digits is, plus_beyond (2 ^ 15) digits h)
-plus_sign_beyond text None is h = absurd cc
+plus_sign_beyond text o is h = grind (arith, behind_whole, plus_beyond)
 
 offset_signs_beyond : (text : List ℕ) (o : Option (List ℕ)) → strip_prefix 45 text ≡ o → IsOver (signed_or (plus_or_fault (strip_prefix 43 text)) (2 ^ 15) o) → IsOffsetBeyond text
-offset_signs_beyond text (Some digits) is h = inr (digits, behind_whole 45 text digits is, minus_beyond (2 ^ 15) digits h)
-offset_signs_beyond text None is h = plus_sign_beyond text (strip_prefix 43 text) refl h
+offset_signs_beyond text o is h = grind (arith, behind_whole, minus_beyond, plus_sign_beyond)
 
 -- and so is an offset
 offset_beyond : (text : List ℕ) → IsOver (offset_of_text text) → IsOffsetBeyond text
 offset_beyond text h = offset_signs_beyond text (strip_prefix 45 text) refl h
 
 operand_kinds_beyond : (text : List ℕ) (b : Bool) → IsOver (cond b (reg_of_text text >>= λ r. Ok (Operand.Reg r)) (imm_of_text text >>= λ k. Ok (Operand.Imm k))) → IsImmBeyond text
-operand_kinds_beyond text true h = then_over (reg_of_text text) (λ r. Ok (Operand.Reg r)) h (reg_never text) (λ r is over. ok_never _ over)
-operand_kinds_beyond text false h = then_over (imm_of_text text) (λ k. Ok (Operand.Imm k)) h (imm_beyond text) (λ k is over. ok_never _ over)
+operand_kinds_beyond text b h = grind (arith, then_over, reg_never, ok_never, imm_beyond)
 
 -- an operand out of range is such an immediate, since a register never is
 operand_beyond : (text : List ℕ) → IsOver (operand_of_text text) → IsImmBeyond text
@@ -116,30 +99,17 @@ operand_beyond text h = operand_kinds_beyond text (slice_index text 0 == 114) h
 abbrev Unlisted : Width → ℕ → Type 0
 Unlisted w n = (z : Size) → is_narrower z w ≡ true → n ≢ size_bits z
 
--- bits that no size was found for are no size's, nor are those beyond 64 bits
-not_found : (w : Width) (n : ℕ) → size_in w n sizes ≡ None → Unlisted w n
-not_found w n none z narrow same = let no : None ≡ Some z = sym none ∙ ap (λ (m : ℕ). size_in w m sizes) same ∙ size_there w z narrow in absurd cc
-
 too_many : (w : Width) (n : ℕ) → 2 ^ 64 - 1 < n → Unlisted w n
 too_many w n over z narrow same = let few = few_bits z in let no : ⊥ = omega (arith, few, over, same) in absurd no
 
 never_found : (o : Option Size) → IsOver (ok_or o AsmCode.Range) → o ≡ None
-never_found None h = refl
-never_found (Some z) h = absurd cc
-
-numeral_read : (most n : ℕ) (text : List ℕ) → numeral_upto AsmCode.Form AsmCode.Range most text ≡ Ok n → (is_numeral text ≡ true) × (n ≡ digits_value 10 text)
-numeral_read most n text h =
-    let p = if_ok (is_numeral text) _ AsmCode.Form n h in
-    let q = if_ok (nat_le (digits_value 10 text) most) (Ok (digits_value 10 text)) AsmCode.Range n p.1 in
-    (p.0, sym (ok_is _ n q.1))
+never_found o h = grind arith
 
 many_beyond : (w : Width) (text : List ℕ) → IsAbove (2 ^ 64 - 1) text → IsUnlisted w text
 many_beyond w text h = record { numeral = h.numeral; unlisted = too_many w (digits_value 10 text) h.above }
 
 unlisted_beyond : (w : Width) (text : List ℕ) (n : ℕ) → numeral_upto AsmCode.Form AsmCode.Range (2 ^ 64 - 1) text ≡ Ok n → size_in w n sizes ≡ None → IsUnlisted w text
-unlisted_beyond w text n is none =
-    let p = numeral_read (2 ^ 64 - 1) n text is in
-    record { numeral = p.0; unlisted = subst (Unlisted w) p.1 (not_found w n none) }
+unlisted_beyond w text n is none = grind arith
 
 -- a move's bits out of range are those of no narrower size
 bits_beyond : (w : Width) (text : List ℕ) → IsOver (bits_of_text w text) → IsUnlisted w text
@@ -185,12 +155,10 @@ place_beyond text h =
 -- a missing comma is of another form, and so is a word too many
 comma_never : {P : Type 0} (texts : List (List ℕ)) → IsOver (comma texts) → P
 unfolding comma
-comma_never [] h = absurd cc
-comma_never (text ∷ texts) h = then_over (ok_or (strip_suffix 44 text) AsmCode.Form) _ h (there_never (strip_suffix 44 text)) (λ t is over. ok_never _ over)
+comma_never texts h = grind arith
 
 ended_never : {P : Type 0} (texts : List (List ℕ)) → IsOver (no_word AsmCode.Form texts) → P
-ended_never [] h = absurd cc
-ended_never (text ∷ texts) h = absurd cc
+ended_never texts h = grind arith
 
 -- the next word is out of range
 abbrev Next : {A : Type 0} → (List ℕ → Result A AsmCode) → List (List ℕ) → Type 0
@@ -372,8 +340,7 @@ operands_beyond Word.Call texts h = call_beyond texts h
 operands_beyond Word.Exit texts h = exit_never texts h
 
 unnamed_never : {P : Type 0} (o : Option Word) → IsOver (ok_or o AsmCode.Word) → P
-unnamed_never None h = absurd cc
-unnamed_never (Some w) h = absurd cc
+unnamed_never o h = grind arith
 
 -- words out of range are those of such a line
 words_beyond : (q : Profile) (texts : List (List ℕ)) → IsOver (insn_of_words q texts) → IsOutOfRange q (join_with_byte 32 texts)
@@ -394,29 +361,13 @@ range_is q line = (line_beyond q line, λ h. ap (line_of q) h.parts ∙ range_to
 
 -- ---- the code as it is told
 
--- no other code has the number 82
-range_number : (c : AsmCode) → asm_code c ≡ 82 → c ≡ AsmCode.Range
-range_number AsmCode.Word h = let no : ⊥ = omega (arith, h) in absurd no
-range_number AsmCode.Form h = let no : ⊥ = omega (arith, h) in absurd no
-range_number AsmCode.Range h = refl
-range_number AsmCode.TooLong h = let no : ⊥ = omega (arith, h) in absurd no
-range_number AsmCode.Nothing h = let no : ⊥ = omega (arith, h) in absurd no
-
-abbrev told_as : (A : Type 0) → ℕ × ℕ → Result A (ℕ × ℕ)
-told_as A fault = Err fault
-
-same_fault : (A : Type 0) (f g : ℕ × ℕ) → told_as A f ≡ told_as A g → f ≡ g
-same_fault A f g h = cc
-
 -- where 82 is told at a number, its line ended out of range
 told_range : (n : ℕ) (r : Result (List Insn) AsmCode) → numbered asm_code n r ≡ Err (n + 1, 82) → IsOver r
-told_range n (Ok is) h = absurd cc
-told_range n (Err c) h = ap (failed (List Insn)) (range_number c (ap (λ (f : ℕ × ℕ). f.1) (same_fault (List Insn) (n + 1, asm_code c) (n + 1, 82) h)))
+told_range n r h = grind arith
 
 -- that line is out of range by itself, since 83 is another code
 own_beyond : (q : Profile) (line : List ℕ) → (AsmCode.Range ≡ AsmCode.TooLong) ⊎ IsOver (line_of q line) → IsOutOfRange q line
-own_beyond q line (inl h) = absurd cc
-own_beyond q line (inr h) = line_beyond q line h
+own_beyond q line w = grind (arith, line_beyond)
 
 -- so 82 is told of no other line
 pub told_only : (q : Profile) (n : ℕ) (before : List Insn) (line : List ℕ) → numbered asm_code n (with_insn_line q before line) ≡ Err (n + 1, 82) → IsOutOfRange q line

@@ -12,9 +12,7 @@ use Rattle.pb_isa.proofs.Instructions.{some_place}
 -- one more instruction takes its own slots besides
 pub slots_push : (p : List Insn) (i : Insn) → slots (p ++ i ∷ []) ≡ slots p + slots (i ∷ [])
 slots_push [] i = omega arith
-slots_push (j ∷ p) i =
-    let a = length-append (places_of j) (layout (p ++ i ∷ [])) in let b = length-append (places_of j) (layout p) in let h = slots_push p i in
-    omega (arith, a, b, h)
+slots_push (j ∷ p) i = grind (arith, length-append, slots_push p i)
 
 -- one more instruction of which the same holds
 all_push : (P : Insn → Type 0) (p : List Insn) (i : Insn) → AllByRecursion P p → P i → AllByRecursion P (p ++ i ∷ [])

@@ -1,29 +1,15 @@
 -- What cutting a text at one character says.
-use Rattle.std.proofs.Common.{◌≡◌, ◌≢◌, ℕ, suc, ◌+◌, ◌-◌, ◌<◌, Bool, true, false, cond, List, [], ◌∷◌, ◌++◌, length, take, drop, Option, Some, None, refl, sym, ap, ◌∙◌, arith, inl, inr, ◌==◌, nat_lt, MatchOption, slice_index}
+use Rattle.std.proofs.Common.{◌≡◌, ◌≢◌, ℕ, suc, ◌+◌, ◌-◌, ◌<◌, List, [], ◌∷◌, ◌++◌, length, take, drop, Option, Some, None, refl, sym, ap, ◌∙◌, arith, inl, inr, ◌==◌, MatchOption, slice_index}
 use Rattle.std.specs.List.{before_first, after_first, position_or_len}
 use Rattle.std.specs.Str.Pattern.{FindsCharPrefix, FindsCharSuffix}
 use denote.Ref.{Bor}
-use Rattle.std.proofs.lemmas.Bool.{eqb-true, cases_Bool, le-ltb}
+use Rattle.std.proofs.lemmas.Bool.{eqb-true, cases_Bool}
 use Rattle.std.proofs.lemmas.List.{get_or_at, take_at, length-append}
 use Rattle.std.proofs.lemmas.Str.Pattern.{strip_prefix_char, strip_suffix_char, split_once_first, IsSplitOnceResult}
 use Rattle.pb_asm.specs.Cuts.{strip_prefix, strip_suffix, split_once}
 
--- nothing is cut off a text that doesn't begin with the character
-front_none : (c : ℕ) (bs : List ℕ) → ((rest : List ℕ) → bs ≢ c ∷ rest) → strip_prefix c bs ≡ None
-front_none c [] none = refl
-front_none c (b ∷ bs) none =
-    elim (cases_Bool (b == c)) [
-      | inl same ↦ absurd (none bs (ap (λ (x : ℕ). x ∷ bs) (eqb-true b c same)))
-      | inr other ↦ rw other refl
-    ]
-
--- the character is cut off a text that begins with it
-pub behind_there : (c : ℕ) (bs : List ℕ) → strip_prefix c (c ∷ bs) ≡ Some bs
-behind_there c bs = let e : (c == c) ≡ true = grind arith in rw e refl
-
 behind_match : (c : ℕ) (bs : List ℕ) (r : Option (Bor (List ℕ))) → MatchOption r ((rest : List ℕ) → bs ≢ c ∷ rest) (λ x. bs ≡ c ∷ x.now) → MatchOption r (strip_prefix c bs ≡ None) (λ x. strip_prefix c bs ≡ Some x.now)
-behind_match c bs None h = front_none c bs h
-behind_match c bs (Some x) h = ap (strip_prefix c) h ∙ behind_there c x.now
+behind_match c bs r h = grind arith
 
 -- the library's cut is the definition's
 pub behind_is : (c : ℕ) (bs : List ℕ) (r : Option (Bor (List ℕ))) → MatchOption r (FindsCharPrefix c bs None) (λ x. (n : ℕ) × FindsCharPrefix c bs (Some n) × (x.now ≡ drop n bs) × (length x.now + n ≡ length bs)) → c < 128 → MatchOption r (strip_prefix c bs ≡ None) (λ x. strip_prefix c bs ≡ Some x.now)
@@ -33,12 +19,7 @@ behind_is c bs r h lt = behind_match c bs r (strip_prefix_char c bs r h lt)
 
 -- the character is cut off the end of a text that ends with it
 pub before_there : (c : ℕ) (front : List ℕ) → strip_suffix c (front ++ c ∷ []) ≡ Some front
-before_there c front =
-    let l : length (front ++ c ∷ []) - 1 ≡ length front = let k = length-append front (c ∷ []) in omega (arith, k) in
-    let at : slice_index (front ++ c ∷ []) (length (front ++ c ∷ []) - 1) ≡ c = ap (slice_index (front ++ c ∷ [])) l ∙ get_or_at front c [] 0 (length front) refl in
-    let cut : take (length (front ++ c ∷ []) - 1) (front ++ c ∷ []) ≡ front = ap (λ (n : ℕ). take n (front ++ c ∷ [])) l ∙ take_at front (c ∷ []) (length front) refl in
-    let e : (c == c) ≡ true = grind arith in
-    ap (λ (n : ℕ). cond (n == c) (Some (take (length (front ++ c ∷ []) - 1) (front ++ c ∷ []))) None) at ∙ ap (λ (b : Bool). cond b (Some (take (length (front ++ c ∷ []) - 1) (front ++ c ∷ []))) None) e ∙ ap Some cut
+before_there c front = grind (arith, length-append, get_or_at, take_at)
 
 -- a list that ends with c, where c isn't the default
 pub split_end : (c : ℕ) (bs : List ℕ) → 0 < c → slice_index bs (length bs - 1) ≡ c → bs ≡ take (length bs - 1) bs ++ c ∷ []
@@ -58,8 +39,7 @@ end_none c bs some none =
     ]
 
 before_match : (c : ℕ) (bs : List ℕ) (r : Option (Bor (List ℕ))) → 0 < c → MatchOption r ((front : List ℕ) → bs ≢ front ++ (c ∷ [])) (λ x. bs ≡ x.now ++ (c ∷ [])) → MatchOption r (strip_suffix c bs ≡ None) (λ x. strip_suffix c bs ≡ Some x.now)
-before_match c bs None some h = end_none c bs some h
-before_match c bs (Some x) some h = ap (strip_suffix c) h ∙ before_there c x.now
+before_match c bs r some h = grind (arith, end_none, before_there)
 
 -- the library's cut at the end is the definition's
 pub before_is : (c : ℕ) (bs : List ℕ) (r : Option (Bor (List ℕ))) → MatchOption r (FindsCharSuffix c bs None) (λ x. (n : ℕ) × FindsCharSuffix c bs (Some n) × (x.now ≡ take (length bs - n) bs) × (length x.now + n ≡ length bs)) → 0 < c → c < 128 → MatchOption r (strip_suffix c bs ≡ None) (λ x. strip_suffix c bs ≡ Some x.now)
@@ -69,12 +49,7 @@ before_is c bs r h some lt = before_match c bs r some (strip_suffix_char c bs r 
 
 around_match : (c : ℕ) (bs : List ℕ) (r : Option (Bor (List ℕ) × Bor (List ℕ))) → MatchOption r (position_or_len (λ b. b == c) bs ≡ length bs) (λ x. (position_or_len (λ b. b == c) bs < length bs) × (x.0.now ≡ before_first (λ b. b == c) bs) × (x.1.now ≡ after_first (λ b. b == c) bs))
     → MatchOption r (split_once c bs ≡ None) (λ x. split_once c bs ≡ Some (x.0.now, x.1.now))
-around_match c bs None h =
-    let e : nat_lt (position_or_len (λ b. b == c) bs) (length bs) ≡ false = le-ltb _ _ (omega (arith, h)) in
-    ap (λ (b : Bool). cond b (Some (before_first (λ b. b == c) bs, after_first (λ b. b == c) bs)) None) e
-around_match c bs (Some x) h =
-    let e : nat_lt (position_or_len (λ b. b == c) bs) (length bs) ≡ true = grind (arith, h.0) in
-    ap (λ (b : Bool). cond b (Some (before_first (λ b. b == c) bs, after_first (λ b. b == c) bs)) None) e ∙ ap (λ (y : List ℕ). Some (y, after_first (λ b. b == c) bs)) (sym h.1) ∙ ap (λ (y : List ℕ). Some (x.0.now, y)) (sym h.2)
+around_match c bs r h = grind arith
 
 -- the library's cut in two is the definition's
 pub around_is : (c : ℕ) (bs : List ℕ) (r : Option (Bor (List ℕ) × Bor (List ℕ))) → IsSplitOnceResult c bs r → c < 128 → MatchOption r (split_once c bs ≡ None) (λ x. split_once c bs ≡ Some (x.0.now, x.1.now))

@@ -1,19 +1,16 @@
 -- Lemmas of tests, options, orders and lists that the library of the language has not, or not in this form.
-use Rattle.std.proofs.Common.{◌≡◌, Bool, true, false, ◌&&◌, Option, Some, None, refl, T, ℕ, zero, suc, List, [], ◌∷◌, drop, slice_get, ◌<◌, arith, ◌≤◌, length, not, cond, inl, inr, sym, subst, Result, Ok, Err, OnOk, ◌⊎◌, ap, ◌∙◌, is_some, ◌==◌, ◌||◌, nat_lt, nat_le, Ordering, Less, Equal, Greater}
+use Rattle.std.proofs.Common.{◌≡◌, Bool, true, false, ◌&&◌, Option, Some, None, refl, T, ℕ, zero, suc, List, [], ◌∷◌, drop, slice_get, ◌<◌, arith, ◌≤◌, length, not, cond, sym, subst, Result, OnOk, ◌⊎◌, ap, ◌∙◌, is_some, ◌==◌, ◌||◌, nat_lt, nat_le, Ordering, Less}
 use Rattle.std.specs.Ordering.{is_lt, ordering_reverse}
 use Rattle.std.proofs.lemmas.Bool.{eqb-false}
 use Rattle.std.specs.Cmp.{IsTotalOrder}
-use Rattle.std.proofs.lemmas.Bool.Decides.{nat_tests}
 
 -- of two tests that hold together each holds
 pub and_true : (a b : Bool) → (a && b) ≡ true → (a ≡ true) × (b ≡ true)
-and_true true b e = (cc, e)
-and_true false b e = cc
+and_true a b e = grind arith
 
 -- what has no value is none
 pub none_is : {A : Type 0} (o : Option A) → is_some o ≡ false → o ≡ None
-none_is None h = refl
-none_is (Some w) h = cc
+none_is o h = grind arith
 
 -- equal options have equal values
 pub same_some : {A : Type 0} (x y : A) → Some x ≡ Some y → x ≡ y
@@ -21,24 +18,19 @@ same_some x y e = cc
 
 -- an order that is less, by its test
 pub less_if : (o : Ordering) → T (is_lt o) → o ≡ Less
-less_if Less p = refl
-less_if Equal p = absurd p
-less_if Greater p = absurd p
+less_if o p = grind arith
 
 -- of two tests that hold together the first does
 pub first_holds : (a b : Bool) → T (a && b) → T a
-first_holds true b p = tt
-first_holds false b p = p
+first_holds a b p = grind arith
 
 -- and the second
 pub second_holds : (a b : Bool) → T (a && b) → T b
-second_holds true b p = p
-second_holds false b p = absurd p
+second_holds a b p = grind arith
 
 -- two tests that hold hold together
 pub both_hold : (a b : Bool) → T a → T b → T (a && b)
-both_hold true b p q = q
-both_hold false b p q = p
+both_hold a b p q = grind arith
 
 -- what is left from a place on begins with the item there
 pub drop_step : {A : Type 0} (xs : List A) (i : ℕ) (x : A) → slice_get xs i ≡ Some x → drop i xs ≡ x ∷ drop (suc i) xs
@@ -78,28 +70,23 @@ not_both b p q = absurd cc
 
 -- a test, or one that fails, is the test
 pub or_false : (b : Bool) → (b || false) ≡ b
-or_false true = refl
-or_false false = refl
+or_false b = grind arith
 
 -- a test that holds is true
 pub truth : (b : Bool) → T b → b ≡ true
-truth true t = refl
-truth false t = absurd t
+truth b t = grind arith
 
 -- a test whose opposite holds fails
 pub false_if_not : (b : Bool) → not b ≡ true → b ≡ false
-false_if_not true h = absurd cc
-false_if_not false h = refl
+false_if_not b h = grind arith
 
 -- and one whose opposite fails holds
 pub true_if_not : (b : Bool) → not b ≡ false → b ≡ true
-true_if_not true e = refl
-true_if_not false e = cc
+true_if_not b e = grind arith
 
 -- a choice is one of its two branches, by its test
 pub chosen : {A : Type 0} (b : Bool) (x y z : A) → cond b x y ≡ z → ((b ≡ true) × (x ≡ z)) ⊎ ((b ≡ false) × (y ≡ z))
-chosen true x y z h = inl (refl, h)
-chosen false x y z h = inr (refl, h)
+chosen b x y z h = grind arith
 
 -- the test of less holds of less
 pub less_holds : (o : Ordering) → o ≡ Less → T (is_lt o)
@@ -116,13 +103,11 @@ empty_by_length (x ∷ xs) n = absurd (omega (arith, n))
 
 -- the second of two tests that hold together
 pub right_true : (a b : Bool) → (a && b) ≡ true → b ≡ true
-right_true true b e = e
-right_true false b e = absurd (subst (λ x. cond x ⊥ (Unit {0})) e tt)
+right_true a b e = grind arith
 
 -- what follows from a success, where something follows from that
 pub ok_then : {A E : Type 0} (r : Result A E) (P Q : Type 0) → (P → Q) → OnOk r P → OnOk r Q
-ok_then (Ok x) P Q f p = f p
-ok_then (Err e) P Q f p = p
+ok_then r h k f p = grind arith
 
 -- a number is itself, by the test
 pub same_number : (c : ℕ) → (c == c) ≡ true
@@ -130,13 +115,11 @@ same_number c = grind arith
 
 -- of two tests one of which holds one holds
 pub or_cases : (a b : Bool) → (a || b) ≡ true → (a ≡ true) ⊎ (b ≡ true)
-or_cases true b e = inl refl
-or_cases false b e = inr e
+or_cases a b e = grind arith
 
 -- a choice between a value and itself is that value
 pub same_both : {A : Type 0} (b : Bool) (x : A) → x ≡ cond b x x
-same_both true x = refl
-same_both false x = refl
+same_both b x = grind arith
 
 -- an order the other way round is turned
 pub turned : {K : Type 0} {R : K → K → Ordering} → IsTotalOrder R → (x y : K) (r : Ordering) → R x y ≡ r → R y x ≡ ordering_reverse r
@@ -144,11 +127,11 @@ turned o x y r e = o.antisymm y x ∙ ap ordering_reverse e
 
 -- a number below another, by the test
 pub below_true : (a b : ℕ) → nat_lt a b ≡ true → a < b
-below_true a b e = grind (arith, e)
+below_true a b e = grind arith
 
 -- and one at most another
 pub le_true : (n m : ℕ) → nat_le n m ≡ true → n ≤ m
-le_true n m h = grind (arith, nat_tests)
+le_true n m h = grind arith
 
 -- what has a value is not none
 pub not_none : {A : Type 0} (o : Option A) (x : A) → o ≡ Some x → o ≡ None → ⊥

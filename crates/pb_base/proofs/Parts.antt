@@ -1,5 +1,5 @@
 -- How far a text is written, write by write.
-use Rattle.std.proofs.Common.{◌≡◌, ◌≢◌, ℕ, zero, suc, Bool, true, false, Ok, List, ◌++◌, Option, take, drop, refl, sym, ap, subst, ◌∙◌, append_assoc, ◌||◌, ◌&&◌}
+use Rattle.std.proofs.Common.{arith, ◌≡◌, ◌≢◌, ℕ, Bool, Ok, List, ◌++◌, Option, take, drop, sym, ap, subst, ◌∙◌, append_assoc, ◌||◌, ◌&&◌}
 use Rattle.std.specs.Io.KnownBytes.{Appends}
 use Rattle.std.proofs.KnownBytes.{Appends-trans}
 use Rattle.std.proofs.lemmas.List.{take-append-drop}
@@ -15,7 +15,4 @@ goes_to old now new bytes rest left n h e is = subst (IsPart old new bytes) (sym
 
 -- a write that took some bytes did not fail
 pub still : (a b new : Bool) (n : ℕ) → n ≢ 0 → new ≡ (a || (b && took_none {E = SinkFault} (Ok n))) → new ≡ a
-still a b new zero some h = absurd (some refl)
-still true b new (suc n) some h = h
-still false true new (suc n) some h = h
-still false false new (suc n) some h = h
+still a b new n some h = grind arith

@@ -1,5 +1,5 @@
 -- The first of known files that is at fault is told.
-use Rattle.std.proofs.Common.{◌≡◌, sym, subst, ℕ, List, [], ◌∷◌, ◌++◌, Some, Ok, Err, inl, inr, IsUtf8, All}
+use Rattle.std.proofs.Common.{arith, ◌≡◌, sym, subst, ℕ, List, [], ◌∷◌, ◌++◌, Some, Ok, Err, inl, inr, IsUtf8, All}
 use Rattle.std.proofs.lemmas.List.Elements.{All-head, All-tail}
 use Rattle.pb_command.specs.declared.paths.PathFault.{PathFault}
 use Rattle.pb_command.specs.declared.fault.Fault.{Fault}
@@ -17,11 +17,8 @@ not_all_read before (q ∷ front) back path fault e r = not_all_read before fron
 first_unread : (before : Held) (front back : List Text) (path : Text) (fault : PathFault) (f : Fault) → All (IsKnownRead before) front → before path ≡ Some (Err fault) → IsFirstUnread before (front ++ (path ∷ back)) f → TellsUnread path fault f
 first_unread before [] back path fault f all e (inl u) = own_fault (before path) path fault f e u
 first_unread before [] back path fault f all e (inr more) = absurd (not_read (before path) fault e more.0)
-first_unread before (q ∷ front) back path fault f all e (inl u) =
-    let k = All-head (IsKnownRead before) q front all in
-    subst (λ (g : Fault). TellsUnread path fault g) (sym (only_memory (before q) k.0 q f k.1 u)) tt
-first_unread before (q ∷ front) back path fault f all e (inr more) =
-    first_unread before front back path fault f (All-tail (IsKnownRead before) q front all) e more.1
+first_unread before (q ∷ front) back path fault f all e (inl u) = grind (arith, All-head, only_memory)
+first_unread before (q ∷ front) back path fault f all e (inr more) = grind (arith, All-tail, first_unread before front back path fault f (All-tail (IsKnownRead before) q front all) e more.1)
 
 -- whatever stands behind it, as files are read in order
 pub first_unread_is_told : FirstUnreadIsTold
@@ -38,8 +35,7 @@ memory_among : (before : Held) (front back : List Text) (path : Text) (bytes : L
 memory_among before [] back path bytes f all e rest (inl u) = only_memory (before path) bytes path f e u
 memory_among before [] back path bytes f all e rest (inr more) = read_memory before back f rest more.1
 memory_among before (q ∷ front) back path bytes f all e rest (inl u) = let k = All-head (IsKnownText before) q front all in only_memory (before q) k.0 q f k.1 u
-memory_among before (q ∷ front) back path bytes f all e rest (inr more) =
-    memory_among before front back path bytes f (All-tail (IsKnownText before) q front all) e rest more.1
+memory_among before (q ∷ front) back path bytes f all e rest (inr more) = grind (arith, All-tail, memory_among before front back path bytes f (All-tail (IsKnownText before) q front all) e rest more.1)
 
 -- behind paths that are text, the first that isn't is told
 first_no_text : (before : Held) (front back : List Text) (path : Text) (bytes : List ℕ) (f : Fault) → All (IsKnownText before) front → before path ≡ Some (Ok bytes) → (IsUtf8 bytes → ⊥) → IsFirstNoText before (front ++ (path ∷ back)) f → TellsNoText path f
@@ -47,8 +43,7 @@ first_no_text before [] back path bytes f all e bad (inl n) = own_text (before p
 first_no_text before [] back path bytes f all e bad (inr more) = absurd (not_text (before path) bytes e bad more.0)
 first_no_text before (q ∷ front) back path bytes f all e bad (inl n) =
     let k = All-head (IsKnownText before) q front all in absurd (text_is_text (before q) k.0 q f k.1 k.2 n)
-first_no_text before (q ∷ front) back path bytes f all e bad (inr more) =
-    first_no_text before front back path bytes f (All-tail (IsKnownText before) q front all) e bad more.1
+first_no_text before (q ∷ front) back path bytes f all e bad (inr more) = grind (arith, All-tail, first_no_text before front back path bytes f (All-tail (IsKnownText before) q front all) e bad more.1)
 
 -- where all are read, since reading comes first
 pub first_no_text_is_told : FirstNoTextIsTold
@@ -68,5 +63,4 @@ all_text before (q ∷ paths) f all (inr more) = all_text before paths f (All-ta
 
 -- and where all are text, nothing but memory is refused
 pub texts_are_no_fault : TextsAreNoFault
-texts_are_no_fault before paths f all (inl unread) = text_memory before paths f all unread
-texts_are_no_fault before paths f all (inr read) = absurd (all_text before paths f all read.1)
+texts_are_no_fault before paths f all w = grind (arith, text_memory, all_text)

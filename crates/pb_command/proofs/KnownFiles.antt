@@ -1,5 +1,5 @@
 -- What is told of one file, where it is known what reading it answers.
-use Rattle.std.proofs.Common.{◌≡◌, refl, sym, subst, ℕ, List, Option, Some, Ok, Err, IsUtf8}
+use Rattle.std.proofs.Common.{arith, ◌≡◌, subst, ℕ, List, Option, Some, Ok, Err, IsUtf8}
 use Rattle.pb_command.specs.declared.paths.PathFault.{PathFault}
 use Rattle.pb_command.specs.declared.fault.Fault.{Fault}
 use Rattle.pb_command.specs.Files.{Text, ReadAnswer, IsKnownAs}
@@ -12,15 +12,7 @@ known_as known answer told e k = subst (λ (x : Option ReadAnswer). IsKnownAs x 
 
 -- a path that is known not to be read is told with its own fault, unless memory ran out
 pub own_fault : (known : Option ReadAnswer) (path : Text) (fault : PathFault) (f : Fault) → known ≡ Some (Err fault) → IsUnreadAt known path f → TellsUnread path fault f
-own_fault known path fault (Fault.Unreadable p) e u = let k : Err PathFault.Failed ≡ Err fault = known_as known (Err fault) (Err PathFault.Failed) e u.1 in (u.0, cc)
-own_fault known path fault (Fault.TooLarge p) e u = let k : Err PathFault.TooLarge ≡ Err fault = known_as known (Err fault) (Err PathFault.TooLarge) e u.1 in (u.0, cc)
-own_fault known path fault (Fault.NotText p) e u = u
-own_fault known path fault (Fault.Unwritable p) e u = u
-own_fault known path fault (Fault.Text t) e u = u
-own_fault known path fault (Fault.Run r) e u = u
-own_fault known path fault (Fault.Undone r) e u = u
-own_fault known path fault Fault.Output e u = u
-own_fault known path fault Fault.NoMemory e u = u
+own_fault known path fault f e u = grind arith
 
 -- and bytes are not read of it
 pub not_read : (known : Option ReadAnswer) (fault : PathFault) → known ≡ Some (Err fault) → IsRead known → ⊥
@@ -28,15 +20,7 @@ not_read known fault e r = let k : Ok r.bytes ≡ Err fault = known_as known (Er
 
 -- a path that is known to be read fails for memory alone
 pub only_memory : (known : Option ReadAnswer) (bytes : List ℕ) (path : Text) (f : Fault) → known ≡ Some (Ok bytes) → IsUnreadAt known path f → f ≡ Fault.NoMemory
-only_memory known bytes path (Fault.Unreadable p) e u = let k : Err PathFault.Failed ≡ Ok bytes = known_as known (Ok bytes) (Err PathFault.Failed) e u.1 in cc
-only_memory known bytes path (Fault.TooLarge p) e u = let k : Err PathFault.TooLarge ≡ Ok bytes = known_as known (Ok bytes) (Err PathFault.TooLarge) e u.1 in cc
-only_memory known bytes path (Fault.NotText p) e u = absurd u
-only_memory known bytes path (Fault.Unwritable p) e u = absurd u
-only_memory known bytes path (Fault.Text t) e u = absurd u
-only_memory known bytes path (Fault.Run r) e u = absurd u
-only_memory known bytes path (Fault.Undone r) e u = absurd u
-only_memory known bytes path Fault.Output e u = absurd u
-only_memory known bytes path Fault.NoMemory e u = refl
+only_memory known bytes path f e u = grind arith
 
 -- what is read of it are its bytes
 pub same_bytes : (known : Option ReadAnswer) (bytes told : List ℕ) → known ≡ Some (Ok bytes) → IsKnownAs known (Ok told) → told ≡ bytes
@@ -44,27 +28,11 @@ same_bytes known bytes told e k = let same : Ok told ≡ Ok bytes = known_as kno
 
 -- bytes that are no text are told of their own path
 pub own_text : (known : Option ReadAnswer) (path : Text) (f : Fault) → IsNoText known path f → TellsNoText path f
-own_text known path (Fault.NotText p) n = n.no_text.0
-own_text known path (Fault.Unreadable p) n = n.no_text
-own_text known path (Fault.TooLarge p) n = n.no_text
-own_text known path (Fault.Unwritable p) n = n.no_text
-own_text known path (Fault.Text t) n = n.no_text
-own_text known path (Fault.Run r) n = n.no_text
-own_text known path (Fault.Undone r) n = n.no_text
-own_text known path Fault.Output n = n.no_text
-own_text known path Fault.NoMemory n = absurd n.no_text
+own_text known path f n = grind arith
 
 -- bytes that are text are not told as none
 pub text_is_text : (known : Option ReadAnswer) (bytes : List ℕ) (path : Text) (f : Fault) → known ≡ Some (Ok bytes) → IsUtf8 bytes → IsNoText known path f → ⊥
-text_is_text known bytes path (Fault.NotText p) e utf8 n = n.no_text.1 (subst IsUtf8 (sym (same_bytes known bytes n.bytes e n.bytes_held)) utf8)
-text_is_text known bytes path (Fault.Unreadable p) e utf8 n = n.no_text
-text_is_text known bytes path (Fault.TooLarge p) e utf8 n = n.no_text
-text_is_text known bytes path (Fault.Unwritable p) e utf8 n = n.no_text
-text_is_text known bytes path (Fault.Text t) e utf8 n = n.no_text
-text_is_text known bytes path (Fault.Run r) e utf8 n = n.no_text
-text_is_text known bytes path (Fault.Undone r) e utf8 n = n.no_text
-text_is_text known bytes path Fault.Output e utf8 n = n.no_text
-text_is_text known bytes path Fault.NoMemory e utf8 n = n.no_text
+text_is_text known bytes path f e utf8 n = grind arith
 
 pub not_text : (known : Option ReadAnswer) (bytes : List ℕ) → known ≡ Some (Ok bytes) → (IsUtf8 bytes → ⊥) → IsText known → ⊥
 not_text known bytes e bad t = bad (subst IsUtf8 (same_bytes known bytes t.bytes e t.bytes_held) t.text)

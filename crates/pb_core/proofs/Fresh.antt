@@ -1,6 +1,5 @@
 -- Seats with empty lists are those of an empty journal.
-use Rattle.std.proofs.Common.{◌≡◌, ℕ, ◌+◌, ◌<◌, List, [], ◌∷◌, length, get_or, suc, sym, ap, subst, ◌∙◌, arith}
-use Rattle.pb_history.specs.declared.entry.Entry.{Entry}
+use Rattle.std.proofs.Common.{◌≡◌, ℕ, ◌+◌, ◌<◌, List, [], ◌∷◌, length, get_or, suc, ap, ◌∙◌, arith}
 use Rattle.pb_core.specs.Calls.{SeatOf, SharedOf, IsFresh, AreSeatsFrom, AreSeats}
 
 fresh_from : (from : ℕ) (seats : List SeatOf) → ((k : ℕ) (d : SeatOf) → k < length seats → get_or seats k d ≡ record { number = from + k; received = [] }) → AreSeatsFrom from [] seats
@@ -17,7 +16,4 @@ fresh_from from (seat ∷ seats) h =
 
 -- seats just made are those of a table just opened
 pub fresh_seats : (shared : SharedOf) (count : ℕ) (seats : List SeatOf) → shared.journal ≡ [] → shared.state.seats ≡ count → IsFresh count seats → AreSeats shared seats
-fresh_seats shared count seats empty counted f = record {
-  counted = f.counted ∙ sym counted;
-  each = subst (λ (j : List Entry). AreSeatsFrom 0 j seats) (sym empty) (fresh_from 0 seats (λ k d lt. let m : k ≡ 0 + k = omega arith in f.each k d lt ∙ (λ i. record { number = m i; received = [] })));
-}
+fresh_seats shared count seats empty counted f = grind (arith, fresh_from, f.counted, f.each)

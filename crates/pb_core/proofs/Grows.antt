@@ -1,5 +1,5 @@
 -- A run of so many steps leaves at most twice as many entries, and as many marks.
-use Rattle.std.proofs.Common.{◌≡◌, ℕ, ◌+◌, ◌-◌, ◌*◌, ◌<◌, ◌≤◌, ◌^◌, Bool, true, false, cond, List, [], ◌∷◌, length, sym, ap, subst, arith}
+use Rattle.std.proofs.Common.{◌≡◌, ℕ, ◌+◌, ◌-◌, ◌*◌, ◌<◌, ◌≤◌, ◌^◌, Bool, cond, List, [], ◌∷◌, length, sym, subst, arith}
 use Rattle.std.specs.FinMap as map
 use Rattle.pb_store.specs.declared.slot.Slot.{Slot}
 use Rattle.pb_store.specs.declared.slot.Item.{Item}
@@ -18,12 +18,10 @@ use Rattle.pb_core.specs.Keeping.{SharedKeeps}
 use Rattle.pb_core.proofs.StepsKeep.{case_kept}
 
 at_most : (b : Bool) (n k : ℕ) → k ≡ cond b n (n + 1) → k ≤ n + 1
-at_most true n k is = omega arith
-at_most false n k is = omega arith
+at_most b n k is = grind arith
 
 no_more : (b : Bool) (n k : ℕ) → k ≡ cond b (n - 1) n → k ≤ n
-no_more true n k is = omega arith
-no_more false n k is = omega arith
+no_more b n k is = grind arith
 
 -- a put makes at most one entry more
 len_put : (m : Entries) (k : Slot) (v : Item) → map.len (map.insert m k v) ≤ map.len m + 1
@@ -42,57 +40,24 @@ len_erased_two : (m : Entries) (k l : Slot) → map.len (map.remove (map.remove 
 len_erased_two m k l = let a = len_erased m k in let b = len_erased (map.remove m k) l in omega arith
 
 len_if_locked : (s : StateOf) (b : Bool) (x : Cell) (n c : ℕ) → map.len (if_locked s b x n c).entries ≤ map.len s.entries + 2
-len_if_locked s true x n c = len_replaced s.entries _ _ _
-len_if_locked s false x n c = omega arith
+len_if_locked s b x n c = grind (arith, len_replaced)
 
 same_len : (m n : Entries) → n ≡ m → map.len n ≤ map.len m + 2
 same_len m n is = rw is (omega arith)
 
 -- a step makes at most two entries more: data and lock of a prewrite
 case_entries : (s : StateOf) (seat : ℕ) (step : Step) (a : Answer) (t : StateOf) → StepCase s seat step a t → map.len t.entries ≤ map.len s.entries + 2
-case_entries s seat (Step.Begin work) (Answer.At n) t c = same_len _ _ (ap (λ (x : StateOf). x.entries) c.new_is)
-case_entries s seat (Step.Read n x) (Answer.Locked u p) t c = same_len _ _ (ap (λ (x : StateOf). x.entries) c.new_is)
-case_entries s seat (Step.Read n x) (Answer.Found u k d) t c = same_len _ _ (ap (λ (x : StateOf). x.entries) c.new_is)
-case_entries s seat (Step.Read n x) Answer.Absent t c = same_len _ _ (ap (λ (x : StateOf). x.entries) c.new_is)
-case_entries s seat (Step.ReadAt n x v) (Answer.Locked u p) t c = same_len _ _ (ap (λ (x : StateOf). x.entries) c.new_is)
-case_entries s seat (Step.ReadAt n x v) (Answer.Found u k d) t c = same_len _ _ (ap (λ (x : StateOf). x.entries) c.new_is)
-case_entries s seat (Step.ReadAt n x v) Answer.Absent t c = same_len _ _ (ap (λ (x : StateOf). x.entries) c.new_is)
-case_entries s seat (Step.Declare n what) Answer.Done t c = same_len _ _ (ap (λ (x : StateOf). x.entries) c.new_is)
-case_entries s seat (Step.Prewrite n x) Answer.Done t c = subst (λ (e : Entries). map.len e ≤ map.len s.entries + 2) (sym (ap (λ (x : StateOf). x.entries) c.new_is)) (len_put_two s.entries _ _ _ _)
-case_entries s seat (Step.Prewrite n x) Answer.Conflict t c = same_len _ _ (ap (λ (x : StateOf). x.entries) c.new_is)
-case_entries s seat (Step.Stamp n) (Answer.At k) t c = same_len _ _ (ap (λ (x : StateOf). x.entries) c.new_is)
-case_entries s seat (Step.CommitPrimary n) Answer.Committed t c = subst (λ (e : Entries). map.len e ≤ map.len s.entries + 2) (sym (ap (λ (x : StateOf). x.entries) c.new_is)) (len_replaced s.entries _ _ _)
-case_entries s seat (Step.CommitPrimary n) Answer.Lost t c = same_len _ _ (ap (λ (x : StateOf). x.entries) c.new_is)
-case_entries s seat (Step.CommitSecondary n x) Answer.Done t c = subst (λ (u : StateOf). map.len u.entries ≤ map.len s.entries + 2) (sym c.new_is) (len_if_locked s _ _ _ _)
-case_entries s seat (Step.Settle x) Answer.Absent t c = same_len _ _ (ap (λ (x : StateOf). x.entries) c.new_is)
-case_entries s seat (Step.Settle x) (Answer.Locked u p) t c = same_len _ _ (ap (λ (x : StateOf). x.entries) c.new_is)
-case_entries s seat (Step.Settle x) Answer.RolledBack t c = subst (λ (e : Entries). map.len e ≤ map.len s.entries + 2) (sym (ap (λ (x : StateOf). x.entries) c.new_is)) (len_erased_two s.entries _ _)
-case_entries s seat (Step.Clear x) Answer.Absent t c = same_len _ _ (ap (λ (x : StateOf). x.entries) c.new_is)
-case_entries s seat (Step.Clear x) Answer.Waits t c = same_len _ _ (ap (λ (x : StateOf). x.entries) c.new_is)
-case_entries s seat (Step.Clear x) (Answer.CommittedAt k) t c = subst (λ (e : Entries). map.len e ≤ map.len s.entries + 2) (sym (ap (λ (x : StateOf). x.entries) c.new_is)) (len_replaced s.entries _ _ _)
-case_entries s seat (Step.Clear x) Answer.RolledBack t c = subst (λ (e : Entries). map.len e ≤ map.len s.entries + 2) (sym (ap (λ (x : StateOf). x.entries) c.new_is)) (len_erased_two s.entries _ _)
-case_entries s seat (Step.NextMark after) (Answer.Marked x) t c = same_len _ _ (ap (λ (x : StateOf). x.entries) c.new_is)
-case_entries s seat (Step.NextMark after) Answer.NoMark t c = same_len _ _ (ap (λ (x : StateOf). x.entries) c.new_is)
-case_entries s seat (Step.Sweep x) Answer.NoMark t c = same_len _ _ (ap (λ (x : StateOf). x.entries) c.new_is)
-case_entries s seat (Step.Sweep x) Answer.StillBehind t c = same_len _ _ (ap (λ (x : StateOf). x.entries) c.new_is)
-case_entries s seat (Step.Sweep x) Answer.Done t c = same_len _ _ (ap (λ (x : StateOf). x.entries) c.new_is)
-case_entries s seat _ _ t c = absurd c
+case_entries s seat step a t c = grind (arith, same_len, len_put_two, len_replaced, len_if_locked, len_erased_two)
 
 -- so many steps make at most twice as many
 run_entries : (s : StateOf) (es : List Entry) (t : StateOf) → JournalLeads s es t → map.len t.entries ≤ map.len s.entries + 2 * length es
 run_entries s [] t r = subst (λ (x : StateOf). map.len x.entries ≤ map.len s.entries + 0) (sym r) (omega arith)
-run_entries s (e ∷ es) t r =
-    let one = case_entries s e.seat e.step e.answer r.0 r.1.taken in
-    let more = run_entries r.0 es t r.2 in
-    omega arith
+run_entries s (e ∷ es) t r = grind (arith, case_entries, e.seat, e.step, e.answer, r.1.taken, run_entries r.0 es t r.2)
 
 -- and at most as many marks
 run_marks : (s : StateOf) (es : List Entry) (t : StateOf) → JournalLeads s es t → map.len t.marks ≤ map.len s.marks + length es
 run_marks s [] t r = subst (λ (x : StateOf). map.len x.marks ≤ map.len s.marks + 0) (sym r) (omega arith)
-run_marks s (e ∷ es) t r =
-    let one = (case_kept s e.seat e.step e.answer r.0 r.1.taken).marks in
-    let more = run_marks r.0 es t r.2 in
-    omega (arith, one, more)
+run_marks s (e ∷ es) t r = grind (arith, case_kept, e.seat, e.step, e.answer, r.1.taken, run_marks r.0 es t r.2)
 
 -- the entries of a table can be counted, and so can its marks
 pub few_entries : (j : List Entry) (bs : List (List ℕ)) (s : StateOf) (o l : ℕ) → SharedKeeps j bs s o l → map.len s.entries < 2 ^ 64

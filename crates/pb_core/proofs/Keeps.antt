@@ -1,13 +1,12 @@
 -- A table keeps its invariant over one more entry.
-use Rattle.std.proofs.Common.{◌≡◌, ◌≢◌, ℕ, ◌+◌, ◌<◌, Bool, true, false, eqb, cond, List, [], ◌∷◌, ◌++◌, length, length-append, length-set, get_or-set_same, get_or-set_other, slice_set, slice_index_or, refl, sym, ◌∙◌, ap, subst, arith, eq-eqb, ne_eqb, suc, add-zero}
+use Rattle.std.proofs.Common.{◌≡◌, ◌≢◌, ℕ, ◌+◌, ◌<◌, Bool, eqb, cond, List, [], ◌∷◌, ◌++◌, length, length-append, length-set, get_or-set_same, get_or-set_other, slice_set, slice_index_or, refl, arith, eq-eqb, ne_eqb, add-zero}
 use Rattle.std.proofs.lemmas.Bool.{eqb-false, eqb-true}
 use Rattle.pb_steps.specs.declared.step.Step.{Step}
 use Rattle.pb_steps.specs.declared.step.Answer.{Answer}
-use Rattle.pb_steps.specs.State.{StateOf, opening}
+use Rattle.pb_steps.specs.State.{StateOf}
 use Rattle.pb_steps.specs.Steps.{TableStep}
 use Rattle.pb_history.specs.declared.entry.Entry.{Entry}
 use Rattle.pb_history.specs.Places.{places_from}
-use Rattle.pb_history.specs.Journals.{JournalLeads}
 use Rattle.pb_core.specs.Keeping.{SharedKeeps}
 use Rattle.pb_core.proofs.StepsKeep.{case_kept}
 use Rattle.pb_history.proofs.JournalParts.{one_more as run_more}
@@ -21,39 +20,24 @@ pub machine_observers : (s : StateOf) (seat : ℕ) (step : Step) (a : Answer) (t
 machine_observers s seat step a t m = (case_kept s seat step a t m.taken).observers
 
 places_head : (at seat : ℕ) (d : Entry) (ps qs : List ℕ) (n : ℕ) → ps ≡ qs ++ n ∷ [] → cond (eqb d.seat seat) (at ∷ ps) ps ≡ cond (eqb d.seat seat) (at ∷ qs) qs ++ n ∷ []
-places_head at seat d ps qs n is = head_by (eqb d.seat seat)
-  where
-    head_by : (b : Bool) → cond b (at ∷ ps) ps ≡ cond b (at ∷ qs) qs ++ n ∷ []
-    head_by true = ap (λ xs. at ∷ xs) is
-    head_by false = is
+places_head at seat d ps qs n is = grind arith
 
 -- one more entry of the seat, and one of another
 pub places_same : (at seat : ℕ) (es : List Entry) (e : Entry) → e.seat ≡ seat → places_from at seat (es ++ e ∷ []) ≡ places_from at seat es ++ (at + length es) ∷ []
 places_same at seat [] e is = rw (eq-eqb e.seat seat is, add-zero) refl
-places_same at seat (d ∷ es) e is =
-    let h = places_same (at + 1) seat es e is in
-    let n : (at + 1) + length es ≡ at + suc (length es) = omega arith in
-    places_head at seat d _ _ _ (h ∙ ap (λ k. places_from (at + 1) seat es ++ k ∷ []) n)
+places_same at seat (d ∷ es) e is = grind (arith, places_head, places_same (at + 1) seat es e is)
 
 -- an entry of another seat leaves a book as it is
 pub places_other : (at seat : ℕ) (es : List Entry) (e : Entry) → e.seat ≢ seat → places_from at seat (es ++ e ∷ []) ≡ places_from at seat es
 places_other at seat [] e is = rw (ne_eqb e.seat seat is) refl
-places_other at seat (d ∷ es) e is =
-    ap (λ ps. cond (eqb d.seat seat) (at ∷ ps) ps) (places_other (at + 1) seat es e is)
+places_other at seat (d ∷ es) e is = grind (arith, d.seat, places_other (at + 1) seat es e is)
 
 -- each book after one more entry
 placed_more : (j : List Entry) (bs : List (List ℕ)) (seat : ℕ) (e : Entry) (b' : List ℕ) → e.seat ≡ seat → seat < length bs
     → ((i : ℕ) → i < length bs → slice_index_or bs i [] ≡ places_from 0 i j)
     → b' ≡ slice_index_or bs seat [] ++ length j ∷ []
     → (i : ℕ) → i < length bs → (b : Bool) → eqb i seat ≡ b → slice_index_or (slice_set bs seat b') i [] ≡ places_from 0 i (j ++ e ∷ [])
-placed_more j bs seat e b' own in' placed b-is i lt true is =
-    let same : i ≡ seat = eqb-true i seat is in
-    let n : 0 + length j ≡ length j = omega arith in
-    rw same (get_or-set_same bs seat b' [] in' ∙ (b-is ∙ (ap (λ ps. ps ++ length j ∷ []) (placed seat in') ∙ (ap (λ k. places_from 0 seat j ++ k ∷ []) (sym n) ∙ sym (places_same 0 seat j e own)))))
-placed_more j bs seat e b' own in' placed b-is i lt false is =
-    let apart : i ≢ seat = eqb-false i seat is in
-    let other : e.seat ≢ i = λ h. apart (sym h ∙ own) in
-    get_or-set_other bs seat i b' [] apart ∙ (placed i lt ∙ sym (places_other 0 i j e other))
+placed_more j bs seat e b' own in' placed x i lt b is = grind (arith, eqb-true, get_or-set_same, places_same, eqb-false, get_or-set_other, places_other)
 
 -- the invariant after one more entry
 pub kept_more : (j : List Entry) (bs : List (List ℕ)) (s : StateOf) (o l : ℕ) (seat : ℕ) (step : Step) (a : Answer) (t : StateOf) (j' : List Entry) (b' : List ℕ)
@@ -61,17 +45,4 @@ pub kept_more : (j : List Entry) (bs : List (List ℕ)) (s : StateOf) (o l : ℕ
     → j' ≡ j ++ record { seat = seat; step = step; answer = a } ∷ []
     → b' ≡ slice_index_or bs seat [] ++ length j ∷ []
     → SharedKeeps j' (slice_set bs seat b') t o l
-kept_more j bs s o l seat step a t j' b' k m in' room j-is b-is =
-    let seats : t.seats ≡ s.seats = machine_seats s seat step a t m in
-    let obs : t.observers ≡ s.observers = machine_observers s seat step a t m in
-    let e : Entry = record { seat = seat; step = step; answer = a } in
-    record {
-      legal = record {
-        fits = k.legal.fits;
-        run = subst (λ os. JournalLeads (opening os t.seats o) j' t) (sym obs) (subst (λ n. JournalLeads (opening s.observers n o) j' t) (sym seats) (subst (λ es. JournalLeads (opening s.observers s.seats o) es t) (sym j-is) (run_more (opening s.observers s.seats o) j s e t k.legal.run m)));
-      };
-      placed = λ i lt. subst (λ es. slice_index_or (slice_set bs seat b') i [] ≡ places_from 0 i es) (sym j-is) (placed_more j bs seat e b' refl in' k.placed b-is i (rw length-set at lt) (eqb i seat) refl);
-      counted = seats ∙ (k.counted ∙ sym (length-set bs seat b'));
-      room = rw j-is (omega (arith, length-append j (e ∷ [])));
-      bounded = k.bounded;
-    }
+kept_more j bs s o l seat step a t j' b' k m in' room j-is b-is = grind (arith, machine_seats, machine_observers, run_more, placed_more, length-set, length-append, t.seats, s.seats, t.observers, s.observers, k.legal.fits, k.legal.run, k.placed, k.counted, k.bounded)

@@ -1,5 +1,5 @@
 -- Each step leaves observers and seats, and marks one cell more at most.
-use Rattle.std.proofs.Common.{◌≡◌, ℕ, ◌+◌, ◌-◌, ◌≤◌, Bool, true, false, cond, List, refl, ◌∙◌, ap, arith}
+use Rattle.std.proofs.Common.{◌≡◌, ℕ, ◌+◌, ◌-◌, ◌≤◌, Bool, true, false, cond, List, arith}
 use Rattle.std.specs.FinMap as map
 use Rattle.pb_base.specs.declared.cell.Cell.{Cell}
 use Rattle.pb_base.specs.Cell.{cell_cmp_total}
@@ -19,17 +19,13 @@ pub record KeepsRest (s t : StateOf) : Type 0 where
   pub marks : map.len t.marks ≤ map.len s.marks + 1
 
 kept_as : (s t u : StateOf) → t ≡ u → KeepsRest s u → KeepsRest s t
-kept_as s t u is k =
-    let same = ap (λ (x : StateOf). map.len x.marks) is in
-    let few = k.marks in
-    record { observers = ap (λ (x : StateOf). x.observers) is ∙ k.observers; seats = ap (λ (x : StateOf). x.seats) is ∙ k.seats; marks = omega (arith, same, few) }
+kept_as s t u is k = grind arith
 
 same_rest : (s : StateOf) → map.len s.marks ≤ map.len s.marks + 1
 same_rest s = omega arith
 
 put_mark : (b : Bool) (n k : ℕ) → k ≡ cond b n (n + 1) → k ≤ n + 1
-put_mark true n k is = omega (arith, is)
-put_mark false n k is = omega (arith, is)
+put_mark b n k is = grind arith
 
 -- a write record marks one cell at most
 marked : (observers : List ObserverOf) (m : Marks) (x : Cell) → map.len (with_mark observers m x) ≤ map.len m + 1
@@ -40,42 +36,14 @@ marked observers m x = by (is_observed observers x)
     by false = omega arith
 
 less : (b : Bool) (n k : ℕ) → k ≡ cond b (n - 1) n → k ≤ n + 1
-less true n k is = omega (arith, is)
-less false n k is = omega (arith, is)
+less b n k is = grind arith
 
 unmarked : (m : Marks) (x : Cell) → map.len (map.remove m x) ≤ map.len m + 1
 unmarked m x = less _ _ _ (map.len-remove cell_cmp_total m x)
 
 kept_if_locked : (s : StateOf) (b : Bool) (x : Cell) (n c : ℕ) → KeepsRest s (if_locked s b x n c)
-kept_if_locked s true x n c = record { observers = refl; seats = refl; marks = marked s.observers s.marks x }
-kept_if_locked s false x n c = record { observers = refl; seats = refl; marks = same_rest s }
+kept_if_locked s b x n c = grind (arith, marked, same_rest)
 
 -- each kind of step keeps it
 pub case_kept : (s : StateOf) (seat : ℕ) (step : Step) (a : Answer) (t : StateOf) → StepCase s seat step a t → KeepsRest s t
-case_kept s seat (Step.Begin work) (Answer.At n) t c = kept_as s t _ c.new_is (record { observers = refl; seats = refl; marks = same_rest s })
-case_kept s seat (Step.Read n x) (Answer.Locked u p) t c = kept_as s t _ c.new_is (record { observers = refl; seats = refl; marks = same_rest s })
-case_kept s seat (Step.Read n x) (Answer.Found u k d) t c = kept_as s t _ c.new_is (record { observers = refl; seats = refl; marks = same_rest s })
-case_kept s seat (Step.Read n x) Answer.Absent t c = kept_as s t _ c.new_is (record { observers = refl; seats = refl; marks = same_rest s })
-case_kept s seat (Step.ReadAt n x v) (Answer.Locked u p) t c = kept_as s t _ c.new_is (record { observers = refl; seats = refl; marks = same_rest s })
-case_kept s seat (Step.ReadAt n x v) (Answer.Found u k d) t c = kept_as s t _ c.new_is (record { observers = refl; seats = refl; marks = same_rest s })
-case_kept s seat (Step.ReadAt n x v) Answer.Absent t c = kept_as s t _ c.new_is (record { observers = refl; seats = refl; marks = same_rest s })
-case_kept s seat (Step.Declare n what) Answer.Done t c = kept_as s t _ c.new_is (record { observers = refl; seats = refl; marks = same_rest s })
-case_kept s seat (Step.Prewrite n x) Answer.Done t c = kept_as s t _ c.new_is (record { observers = refl; seats = refl; marks = same_rest s })
-case_kept s seat (Step.Prewrite n x) Answer.Conflict t c = kept_as s t _ c.new_is (record { observers = refl; seats = refl; marks = same_rest s })
-case_kept s seat (Step.Stamp n) (Answer.At k) t c = kept_as s t _ c.new_is (record { observers = refl; seats = refl; marks = same_rest s })
-case_kept s seat (Step.CommitPrimary n) Answer.Committed t c = kept_as s t _ c.new_is (record { observers = refl; seats = refl; marks = marked s.observers s.marks c.primary })
-case_kept s seat (Step.CommitPrimary n) Answer.Lost t c = kept_as s t _ c.new_is (record { observers = refl; seats = refl; marks = same_rest s })
-case_kept s seat (Step.CommitSecondary n x) Answer.Done t c = kept_as s t _ c.new_is (kept_if_locked s _ _ _ _)
-case_kept s seat (Step.Settle x) Answer.Absent t c = kept_as s t _ c.new_is (record { observers = refl; seats = refl; marks = same_rest s })
-case_kept s seat (Step.Settle x) (Answer.Locked u p) t c = kept_as s t _ c.new_is (record { observers = refl; seats = refl; marks = same_rest s })
-case_kept s seat (Step.Settle x) Answer.RolledBack t c = kept_as s t _ c.new_is (record { observers = refl; seats = refl; marks = same_rest s })
-case_kept s seat (Step.Clear x) Answer.Absent t c = kept_as s t _ c.new_is (record { observers = refl; seats = refl; marks = same_rest s })
-case_kept s seat (Step.Clear x) Answer.Waits t c = kept_as s t _ c.new_is (record { observers = refl; seats = refl; marks = same_rest s })
-case_kept s seat (Step.Clear x) (Answer.CommittedAt k) t c = kept_as s t _ c.new_is (record { observers = refl; seats = refl; marks = marked s.observers s.marks x })
-case_kept s seat (Step.Clear x) Answer.RolledBack t c = kept_as s t _ c.new_is (record { observers = refl; seats = refl; marks = same_rest s })
-case_kept s seat (Step.NextMark after) (Answer.Marked x) t c = kept_as s t _ c.new_is (record { observers = refl; seats = refl; marks = same_rest s })
-case_kept s seat (Step.NextMark after) Answer.NoMark t c = kept_as s t _ c.new_is (record { observers = refl; seats = refl; marks = same_rest s })
-case_kept s seat (Step.Sweep x) Answer.NoMark t c = kept_as s t _ c.new_is (record { observers = refl; seats = refl; marks = same_rest s })
-case_kept s seat (Step.Sweep x) Answer.StillBehind t c = kept_as s t _ c.new_is (record { observers = refl; seats = refl; marks = same_rest s })
-case_kept s seat (Step.Sweep x) Answer.Done t c = kept_as s t _ c.new_is (record { observers = refl; seats = refl; marks = unmarked s.marks x })
-case_kept s seat _ _ t c = absurd c
+case_kept s seat step a t c = grind (arith, kept_as, same_rest, marked, kept_if_locked, unmarked)

@@ -1,15 +1,12 @@
 -- What is read at the front is spelt so, and what is spelt so is read.
-use Rattle.std.proofs.Common.{◌≡◌, ℕ, ◌⊎◌, inl, inr, ◌+◌, ◌*◌, ◌/◌, ◌%◌, ◌^◌, ◌<◌, ◌≤◌, ℤ, Bool, true, false, cond, List, [], ◌++◌, length, drop, Option, Some, None, Result, Ok, Err, refl, sym, ap, subst, ◌∙◌, append_assoc, arith, ok_or, ◌==◌, nat_lt, FitsSigned}
+use Rattle.std.proofs.Common.{◌≡◌, ℕ, ◌⊎◌, ◌+◌, ◌*◌, ◌/◌, ◌%◌, ◌^◌, ◌<◌, ◌≤◌, ℤ, Bool, true, false, cond, List, [], ◌++◌, length, drop, Option, Some, Result, Ok, Err, refl, sym, ap, subst, ◌∙◌, append_assoc, arith, ok_or, ◌==◌, nat_lt, FitsSigned}
 use Rattle.std.specs.Int.{w16, w32, cast_signed, cast_unsigned}
-use Rattle.std.proofs.lemmas.Bool.{eqb-true, and_parts, ltb-false, le-ltb}
-use Rattle.std.proofs.lemmas.List.{append-nil, length-append}
-use Rattle.std.proofs.lemmas.Int.{to_z-of_z, of_z-to_z}
-use Rattle.std.proofs.Math.Facts.{sfits_to_z, Fits-of_z}
+use Rattle.std.proofs.lemmas.Bool.{eqb-true, and_parts}
+use Rattle.std.proofs.lemmas.Int.{to_z-of_z}
 use Rattle.pb_isa.specs.declared.insn.Insn.{Insn}
 use Rattle.pb_isa.specs.declared.insn.Operand.{Operand}
 use Rattle.pb_isa.specs.declared.insn.AluOp.{AluOp}
 use Rattle.pb_isa.specs.declared.insn.Width.{Width}
-use Rattle.pb_isa.specs.declared.insn.Size.{Size}
 use Rattle.pb_isa.specs.declared.insn.Reg.{Reg}
 use Rattle.pb_isa.specs.declared.profile.Profile.{Profile}
 use Rattle.pb_isa.specs.Profiles.{IsOf}
@@ -21,14 +18,13 @@ use Rattle.pb_decode.specs.declared.fields.SlotFields.{SlotFields}
 use Rattle.pb_decode.specs.declared.fault.DecodeCode.{DecodeCode}
 use Rattle.pb_decode.specs.Opcodes.{opcode, IsFormOf, form_of}
 use Rattle.pb_decode.specs.Fields.{slot_bytes, slot_of_bytes}
-use Rattle.pb_decode.specs.Encoding.{bits_of, first_slot, second_slot, second_bytes, insn_bytes}
+use Rattle.pb_decode.specs.Encoding.{first_slot, second_slot, second_bytes, insn_bytes}
 use Rattle.pb_reading.specs.Reading.{◌>>=◌}
 use Rattle.pb_decode.specs.Reading.{is_alu_offset, is_clean, is_second, pair_of, size_of_bits, insn_of_form, clean_or_code, first_with, first_of}
 use Rattle.pb_decode.specs.Faults.{AreBytes}
 use Rattle.pb_decode.proofs.SlotBytes.{IsSlot, front_slot, is_slot, rest_bytes, same_slot, slot_back}
 use Rattle.pb_decode.proofs.OpcodeTable.{form_front, form_back, reg_back, reg_front}
-use Rattle.pb_decode.proofs.Extending.{IsExtending, alu_offset, zero_offset, extending_offset, size_back, some_bits, is_plain, plain_form, load_form, load_insn}
-use Rattle.pb_isa.proofs.Instructions.{number_below}
+use Rattle.pb_decode.proofs.Extending.{IsExtending, alu_offset, zero_offset, extending_offset, size_back, some_bits, is_plain, plain_form, load_form}
 
 -- an instruction, and the bytes behind it
 abbrev Read : Type 0
@@ -42,12 +38,10 @@ ok_is x y e = cc
 
 -- where two readings one after the other end well, each has
 bind_ok : {A B : Type 0} (r : Result A DecodeCode) (f : A → Result B DecodeCode) (y : B) → (r >>= f) ≡ Ok y → (x : A) × (r ≡ Ok x) × (f x ≡ Ok y)
-bind_ok (Ok x) f y e = (x, refl, e)
-bind_ok (Err d) f y e = absurd cc
+bind_ok r f y e = grind arith
 
 ok_or_ok : {A : Type 0} (c : DecodeCode) (o : Option A) (x : A) → ok_or o c ≡ Ok x → o ≡ Some x
-ok_or_ok c (Some y) x e = ap Some (ok_is y x e)
-ok_or_ok c None x e = absurd cc
+ok_or_ok c o x e = grind arith
 
 -- a form that comes through the test of its fields has none that isn't zero
 clean_ok : (p : Profile) (f g : Form) (s : SlotFields) (b : Bool) → is_clean p f s ≡ b → cond b (Ok f) (Err DecodeCode.Unused) ≡ done g → (b ≡ true) × (f ≡ g)
@@ -63,24 +57,13 @@ Takes p s rest x = (slot_bytes s ++ rest ≡ insn_bytes x.0 ++ x.1) × Fits x.0 
 
 -- where an instruction of one slot was read, and this is its slot, it is spelt by it
 single : (p : Profile) (i : Insn) (s : SlotFields) (rest : List ℕ) (x : Read) → first_slot i ≡ s → second_bytes i ≡ [] → Fits i → IsOf p i → done (i, rest) ≡ Ok x → Takes p s rest x
-single p i s rest x is alone fits of e =
-    let parts : slot_bytes s ++ rest ≡ insn_bytes i ++ rest = ap (λ (t : SlotFields). slot_bytes t ++ rest) (sym is) ∙ ap (λ (b : List ℕ). b ++ rest) (sym (append-nil (slot_bytes (first_slot i)))) ∙ ap (λ (b : List ℕ). (slot_bytes (first_slot i) ++ b) ++ rest) (sym alone) in
-    subst (Takes p s rest) (ok_is (i, rest) x e) (parts, fits, of)
-
--- a word of 32 bits read with its sign fits an immediate, and one of 16 an offset
-imm_fits : (n : ℕ) → n < 2 ^ 32 → FitsSigned w32 (cast_signed w32 n)
-imm_fits n lt = sfits_to_z {w = w32} {n = n} (record { fits = lt })
-
-off_fits : (n : ℕ) → n < 2 ^ 16 → FitsSigned w16 (cast_signed w16 n)
-off_fits n lt = sfits_to_z {w = w16} {n = n} (record { fits = lt })
+single p i s rest x is alone fits of e = grind arith
 
 -- a pair that is read has its second slot, with nothing but an immediate
 pair_cases : (d : Reg) (s : SlotFields) (rest : List ℕ) (x : Read) (short clean : Bool) → nat_lt (length rest) 8 ≡ short → is_second (slot_of_bytes rest) ≡ clean
     → cond short (Err DecodeCode.CutOff) (cond clean (Ok (Insn.LoadImm d (s.imm + 2 ^ 32 * (slot_of_bytes rest).imm), drop 8 rest)) (Err DecodeCode.SecondSlot)) ≡ done x
     → (8 ≤ length rest) × (is_second (slot_of_bytes rest) ≡ true) × ((Insn.LoadImm d (s.imm + 2 ^ 32 * (slot_of_bytes rest).imm), drop 8 rest) ≡ x)
-pair_cases d s rest x true clean p q e = absurd cc
-pair_cases d s rest x false false p q e = absurd cc
-pair_cases d s rest x false true p q e = (ltb-false _ _ p, q, ok_is (Insn.LoadImm d (s.imm + 2 ^ 32 * (slot_of_bytes rest).imm), drop 8 rest) x e)
+pair_cases d s rest x short clean p q e = grind arith
 
 -- a pair that is read is spelt so: both halves are those of its number
 pair_takes : (profile : Profile) (d : Reg) (s : SlotFields) (rest : List ℕ) (x : Read) → opcode Form.LoadImm ≡ s.opcode → number d ≡ s.dst → 0 ≡ s.src → 0 ≡ s.offset → IsSlot s → AreBytes rest → pair_of d s.imm rest ≡ Ok x → Takes profile s rest x
@@ -110,54 +93,26 @@ IsAluRead op w d r a rest x n = done (cond (n == 0) (Insn.Alu op w d a) (Insn.Mo
 -- arithmetic with a register that is read is spelt so, with an offset or without
 register_takes : (profile : Profile) (op : AluOp) (w : Width) (d r : Reg) (s : SlotFields) (rest : List ℕ) (x : Read) → opcode (Form.Alu op w Source.X) ≡ s.opcode → number d ≡ s.dst → number r ≡ s.src → 0 ≡ s.imm
     → (0 ≡ s.offset) ⊎ IsExtending profile op w s.offset → IsAluRead op w d r (Operand.Reg r) rest x s.offset → Takes profile s rest x
-register_takes profile op w d r s rest x o p q z (inl f) e =
-    single profile (Insn.Alu op w d (Operand.Reg r)) s rest x (same_slot s _ _ _ _ _ o p q f z) refl tt (is_plain profile _ tt) (subst (IsAluRead op w d r (Operand.Reg r) rest x) (sym f) e)
-register_takes profile op w d r s rest x o p q z (inr h) e =
-    let read = subst (IsAluRead op w d r (Operand.Reg r) rest x) h.bits e in
-    let extends : done (Insn.MovSx w h.size d r, rest) ≡ Ok x = rw (some_bits h.size, size_back w h.size h.narrower) at read in
-    let move : opcode (Form.Alu AluOp.Mov w Source.X) ≡ s.opcode = subst (λ (a : AluOp). opcode (Form.Alu a w Source.X) ≡ s.opcode) h.move o in
-    single profile (Insn.MovSx w h.size d r) s rest x (same_slot s _ _ _ _ _ move p q (sym h.bits) z) refl tt (h.of_profile d r) extends
+register_takes profile op w d r s rest x o p q z w1 e = grind (arith, single, same_slot, is_plain, some_bits, size_back)
 
 -- what is read as an instruction of a form is spelt so: a case for each form
 form_takes : (profile : Profile) (f : Form) (d r : Reg) (s : SlotFields) (rest : List ℕ) (x : Read) → opcode f ≡ s.opcode → IsFormOf profile f → number d ≡ s.dst → number r ≡ s.src → IsSlot s → AreBytes rest → is_clean profile f s ≡ true → insn_of_form f d r s rest ≡ Ok x → Takes profile s rest x
-form_takes profile (Form.Alu op w Source.K) d r s rest x o of p q is fits clean e =
-    let a = and_parts (s.src == 0) (s.offset == 0) clean in
-    let i = Insn.Alu op w d (Operand.Imm (cast_signed w32 s.imm)) in
-    let zero = is_zero s.offset a.1 in
-    single profile i s rest x (same_slot s _ _ _ _ _ o p (is_zero s.src a.0) zero (of_z-to_z w32 s.imm is.imm)) refl (imm_fits s.imm is.imm) (is_plain profile i tt) (subst (IsAluRead op w d r (Operand.Imm (cast_signed w32 s.imm)) rest x) (sym zero) e)
+form_takes profile (Form.Alu op w Source.K) d r s rest x o of p q is fits clean e = grind arith
 form_takes profile (Form.Alu op w Source.X) d r s rest x o of p q is fits clean e =
     let a = and_parts (is_alu_offset profile op w s.offset) (s.imm == 0) clean in
     register_takes profile op w d r s rest x o p q (is_zero s.imm a.1) (alu_offset profile op w s.offset a.0) e
-form_takes profile (Form.Neg w) d r s rest x o of p q is fits clean e =
-    let a = and_parts (s.src == 0) _ clean in
-    let b = and_parts (s.offset == 0) (s.imm == 0) a.1 in
-    single profile _ s rest x (same_slot s _ _ _ _ _ o p (is_zero s.src a.0) (is_zero s.offset b.0) (is_zero s.imm b.1)) refl tt (is_plain profile _ tt) e
+form_takes profile (Form.Neg w) d r s rest x o of p q is fits clean e = grind arith
 form_takes profile Form.LoadImm d r s rest x o of p q is fits clean e =
     let a = and_parts (s.src == 0) (s.offset == 0) clean in
     pair_takes profile d s rest x o p (is_zero s.src a.0) (is_zero s.offset a.1) is fits e
-form_takes profile (Form.Load z x) d r s rest y o of p q is fits clean e =
-    single profile _ s rest y (same_slot s _ _ _ _ _ o p q (of_z-to_z w16 s.offset is.offset) (is_zero s.imm clean)) refl (off_fits s.offset is.offset) (load_insn profile z x d r _ of) e
-form_takes profile (Form.StoreImm z) d r s rest x o of p q is fits clean e =
-    single profile _ s rest x (same_slot s _ _ _ _ _ o p (is_zero s.src clean) (of_z-to_z w16 s.offset is.offset) (of_z-to_z w32 s.imm is.imm)) refl (off_fits s.offset is.offset, imm_fits s.imm is.imm) (is_plain profile _ tt) e
-form_takes profile (Form.Store z) d r s rest x o of p q is fits clean e =
-    single profile _ s rest x (same_slot s _ _ _ _ _ o p q (of_z-to_z w16 s.offset is.offset) (is_zero s.imm clean)) refl (off_fits s.offset is.offset) (is_plain profile _ tt) e
-form_takes profile Form.Jump d r s rest x o of p q is fits clean e =
-    let a = and_parts (s.dst == 0) _ clean in
-    let b = and_parts (s.src == 0) (s.imm == 0) a.1 in
-    single profile _ s rest x (same_slot s _ _ _ _ _ o (is_zero s.dst a.0) (is_zero s.src b.0) (of_z-to_z w16 s.offset is.offset) (is_zero s.imm b.1)) refl (off_fits s.offset is.offset) (is_plain profile _ tt) e
-form_takes profile (Form.JumpIf c w Source.K) d r s rest x o of p q is fits clean e =
-    single profile _ s rest x (same_slot s _ _ _ _ _ o p (is_zero s.src clean) (of_z-to_z w16 s.offset is.offset) (of_z-to_z w32 s.imm is.imm)) refl (imm_fits s.imm is.imm, off_fits s.offset is.offset) (is_plain profile _ tt) e
-form_takes profile (Form.JumpIf c w Source.X) d r s rest x o of p q is fits clean e =
-    single profile _ s rest x (same_slot s _ _ _ _ _ o p q (of_z-to_z w16 s.offset is.offset) (is_zero s.imm clean)) refl (tt, off_fits s.offset is.offset) (is_plain profile _ tt) e
-form_takes profile Form.Call d r s rest x o of p q is fits clean e =
-    let a = and_parts (s.dst == 0) _ clean in
-    let b = and_parts (s.src == 0) (s.offset == 0) a.1 in
-    single profile _ s rest x (same_slot s _ _ _ _ _ o (is_zero s.dst a.0) (is_zero s.src b.0) (is_zero s.offset b.1) (of_z-to_z w32 s.imm is.imm)) refl (imm_fits s.imm is.imm) (is_plain profile _ tt) e
-form_takes profile Form.Exit d r s rest x o of p q is fits clean e =
-    let a = and_parts (s.dst == 0) _ clean in
-    let b = and_parts (s.src == 0) _ a.1 in
-    let g = and_parts (s.offset == 0) (s.imm == 0) b.1 in
-    single profile _ s rest x (same_slot s _ _ _ _ _ o (is_zero s.dst a.0) (is_zero s.src b.0) (is_zero s.offset g.0) (is_zero s.imm g.1)) refl tt (is_plain profile _ tt) e
+form_takes profile (Form.Load z x) d r s rest y o of p q is fits clean e = grind arith
+form_takes profile (Form.StoreImm z) d r s rest x o of p q is fits clean e = grind arith
+form_takes profile (Form.Store z) d r s rest x o of p q is fits clean e = grind arith
+form_takes profile Form.Jump d r s rest x o of p q is fits clean e = grind arith
+form_takes profile (Form.JumpIf c w Source.K) d r s rest x o of p q is fits clean e = grind arith
+form_takes profile (Form.JumpIf c w Source.X) d r s rest x o of p q is fits clean e = grind arith
+form_takes profile Form.Call d r s rest x o of p q is fits clean e = grind arith
+form_takes profile Form.Exit d r s rest x o of p q is fits clean e = grind arith
 
 -- what is read of a slot and the bytes behind it is spelt so, and is of the profile
 with_takes : (p : Profile) (s : SlotFields) (rest : List ℕ) (x : Read) → IsSlot s → AreBytes rest → first_with p s rest ≡ Ok x → Takes p s rest x
@@ -185,45 +140,9 @@ first_takes p bytes x fits long e =
 abbrev low_slot : Insn → Type 0
 low_slot i = ((first_slot i).dst < 16) × ((first_slot i).src < 16) × IsSlot (first_slot i)
 
-imm_below : (z : ℤ) → FitsSigned w32 z → cast_unsigned w32 z < 2 ^ 32
-imm_below z fits = (Fits-of_z {w = w32} {z = z} fits).fits
-
-off_below : (z : ℤ) → FitsSigned w16 z → cast_unsigned w16 z < 2 ^ 16
-off_below z fits = (Fits-of_z {w = w16} {z = z} fits).fits
-
-reg_low : (r : Reg) → number r < 16
-reg_low r = let h = number_below r in omega (arith, h)
-
-zero_low : 0 < 16
-zero_low = omega arith
-
-zero_off : 0 < 2 ^ 16
-zero_off = omega arith
-
-zero_imm : 0 < 2 ^ 32
-zero_imm = omega arith
-
-bits_low : (z : Size) → bits_of z < 2 ^ 16
-bits_low Size.B = omega arith
-bits_low Size.H = omega arith
-bits_low Size.W = omega arith
-bits_low Size.Dw = omega arith
-
 -- since its numbers fit, they have
 slot_is_low : (i : Insn) → Fits i → low_slot i
-slot_is_low (Insn.Alu op w d (Operand.Imm k)) fits = (reg_low d, zero_low, record { offset = zero_off; imm = imm_below k fits })
-slot_is_low (Insn.Alu op w d (Operand.Reg s)) fits = (reg_low d, reg_low s, record { offset = zero_off; imm = zero_imm })
-slot_is_low (Insn.MovSx w z d s) fits = (reg_low d, reg_low s, record { offset = bits_low z; imm = zero_imm })
-slot_is_low (Insn.Neg w d) fits = (reg_low d, zero_low, record { offset = zero_off; imm = zero_imm })
-slot_is_low (Insn.LoadImm d v) fits = (reg_low d, zero_low, record { offset = zero_off; imm = omega arith })
-slot_is_low (Insn.Load z x d b o) fits = (reg_low d, reg_low b, record { offset = off_below o fits; imm = zero_imm })
-slot_is_low (Insn.StoreImm z b o k) fits = (reg_low b, zero_low, record { offset = off_below o fits.0; imm = imm_below k fits.1 })
-slot_is_low (Insn.Store z b s o) fits = (reg_low b, reg_low s, record { offset = off_below o fits; imm = zero_imm })
-slot_is_low (Insn.Jump o) fits = (zero_low, zero_low, record { offset = off_below o fits; imm = zero_imm })
-slot_is_low (Insn.JumpIf c w d (Operand.Imm k) o) fits = (reg_low d, zero_low, record { offset = off_below o fits.1; imm = imm_below k fits.0 })
-slot_is_low (Insn.JumpIf c w d (Operand.Reg s) o) fits = (reg_low d, reg_low s, record { offset = off_below o fits.1; imm = zero_imm })
-slot_is_low (Insn.Call k) fits = (zero_low, zero_low, record { offset = zero_off; imm = imm_below k fits })
-slot_is_low Insn.Exit fits = (zero_low, zero_low, record { offset = zero_off; imm = zero_imm })
+slot_is_low i fits = grind arith
 
 -- an immediate is read back with its sign, and so is an offset
 imm_again : (z : ℤ) → FitsSigned w32 z → cast_signed w32 (cast_unsigned w32 z) ≡ z
@@ -232,28 +151,9 @@ imm_again z fits = to_z-of_z w32 z fits
 off_again : (z : ℤ) → FitsSigned w16 z → cast_signed w16 (cast_unsigned w16 z) ≡ z
 off_again z fits = to_z-of_z w16 z fits
 
--- a number is its low half and its high half
-halves : (v : ℕ) → v % 2 ^ 32 + 2 ^ 32 * (v / 2 ^ 32) ≡ v
-halves v = omega arith
-
-high_fits : (v : ℕ) → v < 2 ^ 64 → v / 2 ^ 32 < 2 ^ 32
-high_fits v lt = omega (arith, lt)
-
--- a second slot with this high half makes a pair
-pair_made : (d : Reg) (low h : ℕ) (rest : List ℕ) → 8 ≤ length rest → slot_of_bytes rest ≡ second_slot h → pair_of d low rest ≡ Ok (Insn.LoadImm d (low + 2 ^ 32 * h), drop 8 rest)
-pair_made d low h rest long is =
-    ap (λ (b : Bool). cond b (Err DecodeCode.CutOff) (cond (is_second (slot_of_bytes rest)) (Ok (Insn.LoadImm d (low + 2 ^ 32 * (slot_of_bytes rest).imm), drop 8 rest)) (Err DecodeCode.SecondSlot))) (le-ltb (length rest) 8 long)
-    ∙ ap (λ (t : SlotFields). cond (is_second t) (Ok (Insn.LoadImm d (low + 2 ^ 32 * t.imm), drop 8 rest)) (Err DecodeCode.SecondSlot)) is
-
-long_enough : (s : SlotFields) (rest : List ℕ) → 8 ≤ length (slot_bytes s ++ rest)
-long_enough s rest = let l = length-append (slot_bytes s) rest in omega (arith, l)
-
 -- the halves of a 64-bit immediate are read back as one
 pair_again : (d : Reg) (v : ℕ) (rest : List ℕ) → v < 2 ^ 64 → pair_of d (v % 2 ^ 32) (second_bytes (Insn.LoadImm d v) ++ rest) ≡ Ok (Insn.LoadImm d v, rest)
-pair_again d v rest lt =
-    let second = second_slot (v / 2 ^ 32) in
-    pair_made d (v % 2 ^ 32) (v / 2 ^ 32) (slot_bytes second ++ rest) (long_enough second rest) (slot_back second rest zero_low zero_low (record { offset = zero_off; imm = high_fits v lt }))
-    ∙ ap (λ (n : ℕ). Ok (Insn.LoadImm d n, rest)) (halves v)
+pair_again d v rest lt = grind arith
 
 -- the slot of an instruction is read as it: a case for each
 with_again : (p : Profile) (i : Insn) (rest : List ℕ) → Fits i → IsOf p i → first_with p (first_slot i) (second_bytes i ++ rest) ≡ Ok (i, rest)

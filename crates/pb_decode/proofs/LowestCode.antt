@@ -1,5 +1,5 @@
 -- What is read at the front is at fault exactly by the lowest code that applies there.
-use Rattle.std.proofs.Common.{◌≡◌, ℕ, ◌≤◌, inl, inr, Bool, true, false, cond, List, ◌++◌, length, drop, Option, Some, None, Result, Ok, Err, refl, sym, ap, subst, ◌∙◌, arith, ok_or, nat_eq, nat_lt}
+use Rattle.std.proofs.Common.{◌≡◌, ℕ, ◌≤◌, inl, Bool, true, false, cond, List, ◌++◌, length, drop, Option, Some, None, Result, Ok, Err, refl, sym, ap, subst, ◌∙◌, arith, ok_or, nat_eq, nat_lt}
 use Rattle.std.proofs.lemmas.Bool.{ltb-true, ltb-false}
 use Rattle.pb_isa.specs.declared.insn.Insn.{Insn}
 use Rattle.pb_isa.specs.declared.insn.Reg.{Reg}
@@ -7,7 +7,6 @@ use Rattle.pb_isa.specs.declared.profile.Profile.{Profile}
 use Rattle.pb_isa.specs.Profiles.{IsOf}
 use Rattle.pb_isa.specs.Registers.{reg_of}
 use Rattle.pb_decode.specs.declared.forms.Form.{Form}
-use Rattle.pb_decode.specs.declared.forms.Source.{Source}
 use Rattle.pb_decode.specs.declared.fault.DecodeCode.{DecodeCode}
 use Rattle.pb_decode.specs.Opcodes.{opcode, IsFormOf, form_of}
 use Rattle.pb_decode.specs.Fields.{slot_of_bytes}
@@ -35,47 +34,24 @@ same_form profile f g n is of p = some_same (form_of profile n) g f (ap (form_of
 
 -- each profile has the pair
 has_pair : (profile : Profile) → IsFormOf profile Form.LoadImm
-has_pair Profile.One = refl
-has_pair Profile.Two = refl
+has_pair profile = grind arith
 
 -- ---- step by step
 
 -- no code below 12 applies to a slot, since 10 and 11 are of the whole
 least_opcode : (profile : Profile) (bytes : List ℕ) (other : DecodeCode) → Applies profile bytes other → 12 ≤ decode_code other
-least_opcode profile bytes DecodeCode.Length h = absurd h
-least_opcode profile bytes DecodeCode.TooLong h = absurd h
-least_opcode profile bytes DecodeCode.Opcode h = omega arith
-least_opcode profile bytes DecodeCode.Register h = omega arith
-least_opcode profile bytes DecodeCode.Unused h = omega arith
-least_opcode profile bytes DecodeCode.CutOff h = omega arith
-least_opcode profile bytes DecodeCode.SecondSlot h = omega arith
+least_opcode profile bytes other h = grind arith
 
 -- an opcode that no form has is told as 12
 no_opcode : (profile : Profile) (bytes : List ℕ) → form_of profile (slot_of_bytes bytes).opcode ≡ None → IsLowest profile bytes DecodeCode.Opcode
-no_opcode profile bytes none =
-    record {
-      applies = λ f of p. no_none (form_of profile (slot_of_bytes bytes).opcode) f (ap (form_of profile) (sym p) ∙ form_back profile f of) none;
-      least = least_opcode profile bytes;
-    }
+no_opcode profile bytes none = grind (arith, no_none, form_back, least_opcode)
 
 -- where a form has the opcode, no code below 13 applies; and so from code to code
 least_register : (profile : Profile) (bytes : List ℕ) → (Applies profile bytes DecodeCode.Opcode → ⊥) → (other : DecodeCode) → Applies profile bytes other → 13 ≤ decode_code other
-least_register profile bytes known DecodeCode.Length h = absurd h
-least_register profile bytes known DecodeCode.TooLong h = absurd h
-least_register profile bytes known DecodeCode.Opcode h = absurd (known h)
-least_register profile bytes known DecodeCode.Register h = omega arith
-least_register profile bytes known DecodeCode.Unused h = omega arith
-least_register profile bytes known DecodeCode.CutOff h = omega arith
-least_register profile bytes known DecodeCode.SecondSlot h = omega arith
+least_register profile bytes known other h = grind arith
 
 least_unused : (profile : Profile) (bytes : List ℕ) → (Applies profile bytes DecodeCode.Opcode → ⊥) → (Applies profile bytes DecodeCode.Register → ⊥) → (other : DecodeCode) → Applies profile bytes other → 14 ≤ decode_code other
-least_unused profile bytes known low DecodeCode.Length h = absurd h
-least_unused profile bytes known low DecodeCode.TooLong h = absurd h
-least_unused profile bytes known low DecodeCode.Opcode h = absurd (known h)
-least_unused profile bytes known low DecodeCode.Register h = absurd (low h)
-least_unused profile bytes known low DecodeCode.Unused h = omega arith
-least_unused profile bytes known low DecodeCode.CutOff h = omega arith
-least_unused profile bytes known low DecodeCode.SecondSlot h = omega arith
+least_unused profile bytes known low other h = grind arith
 
 -- the codes before those of the pair do not apply
 record Passed (profile : Profile) (bytes : List ℕ) (f : Form) : Type 0 where
@@ -89,8 +65,7 @@ known_opcode : (profile : Profile) (bytes : List ℕ) (f : Form) → form_of pro
 known_opcode profile bytes f is h = let o = form_front profile (slot_of_bytes bytes).opcode f is in h f o.1 o.0
 
 low_registers : (profile : Profile) (bytes : List ℕ) → (slot_of_bytes bytes).dst ≤ 10 → (slot_of_bytes bytes).src ≤ 10 → Applies profile bytes DecodeCode.Register → ⊥
-low_registers profile bytes d s (inl h) = omega (arith, d, h)
-low_registers profile bytes d s (inr h) = omega (arith, s, h)
+low_registers profile bytes d s w = grind arith
 
 clean_fields : (profile : Profile) (bytes : List ℕ) (f : Form) → form_of profile (slot_of_bytes bytes).opcode ≡ Some f → is_clean profile f (slot_of_bytes bytes) ≡ true → Applies profile bytes DecodeCode.Unused → ⊥
 clean_fields profile bytes f is clean h =
@@ -99,38 +74,20 @@ clean_fields profile bytes f is clean h =
 
 -- behind the first three tests only the two codes of a pair are left
 only_pair : (profile : Profile) (bytes : List ℕ) (f : Form) → Passed profile bytes f → (Applies profile bytes DecodeCode.CutOff → ⊥) → (Applies profile bytes DecodeCode.SecondSlot → ⊥) → (code : DecodeCode) → Applies profile bytes code → ⊥
-only_pair profile bytes f p a b DecodeCode.Length h = h
-only_pair profile bytes f p a b DecodeCode.TooLong h = h
-only_pair profile bytes f p a b DecodeCode.Opcode h = known_opcode profile bytes f p.is h
-only_pair profile bytes f p a b DecodeCode.Register h = low_registers profile bytes p.dst p.src h
-only_pair profile bytes f p a b DecodeCode.Unused h = clean_fields profile bytes f p.is p.clean h
-only_pair profile bytes f p a b DecodeCode.CutOff h = a h
-only_pair profile bytes f p a b DecodeCode.SecondSlot h = b h
+only_pair profile bytes f p a b code h = grind (arith, known_opcode, low_registers, clean_fields)
 
 -- so to a slot of another form than the pair's none applies
 none_applies : (profile : Profile) (bytes : List ℕ) (f : Form) → Passed profile bytes f → (Form.LoadImm ≡ f → ⊥) → (code : DecodeCode) → Applies profile bytes code → ⊥
 none_applies profile bytes f p other = only_pair profile bytes f p (λ h. other (same_form profile f Form.LoadImm (slot_of_bytes bytes).opcode p.is (has_pair profile) h.0)) (λ h. other (same_form profile f Form.LoadImm (slot_of_bytes bytes).opcode p.is (has_pair profile) h.0))
 
 least_cut : (profile : Profile) (bytes : List ℕ) → Passed profile bytes Form.LoadImm → (other : DecodeCode) → Applies profile bytes other → 15 ≤ decode_code other
-least_cut profile bytes p DecodeCode.Length h = absurd h
-least_cut profile bytes p DecodeCode.TooLong h = absurd h
-least_cut profile bytes p DecodeCode.Opcode h = absurd (known_opcode profile bytes Form.LoadImm p.is h)
-least_cut profile bytes p DecodeCode.Register h = absurd (low_registers profile bytes p.dst p.src h)
-least_cut profile bytes p DecodeCode.Unused h = absurd (clean_fields profile bytes Form.LoadImm p.is p.clean h)
-least_cut profile bytes p DecodeCode.CutOff h = omega arith
-least_cut profile bytes p DecodeCode.SecondSlot h = omega arith
+least_cut profile bytes p other h = grind (arith, known_opcode, low_registers, clean_fields)
 
 not_short : (profile : Profile) (bytes : List ℕ) → 8 ≤ length (drop 8 bytes) → Applies profile bytes DecodeCode.CutOff → ⊥
 not_short profile bytes long h = let lt = h.1 in omega (arith, long, lt)
 
 least_second : (profile : Profile) (bytes : List ℕ) → Passed profile bytes Form.LoadImm → 8 ≤ length (drop 8 bytes) → (other : DecodeCode) → Applies profile bytes other → 16 ≤ decode_code other
-least_second profile bytes p long DecodeCode.Length h = absurd h
-least_second profile bytes p long DecodeCode.TooLong h = absurd h
-least_second profile bytes p long DecodeCode.Opcode h = absurd (known_opcode profile bytes Form.LoadImm p.is h)
-least_second profile bytes p long DecodeCode.Register h = absurd (low_registers profile bytes p.dst p.src h)
-least_second profile bytes p long DecodeCode.Unused h = absurd (clean_fields profile bytes Form.LoadImm p.is p.clean h)
-least_second profile bytes p long DecodeCode.CutOff h = absurd (not_short profile bytes long h)
-least_second profile bytes p long DecodeCode.SecondSlot h = omega arith
+least_second profile bytes p long other h = grind (arith, known_opcode, low_registers, clean_fields, not_short)
 
 -- of a pair the end is told before the second slot
 pair_told : (profile : Profile) (bytes : List ℕ) (x : Read) → Passed profile bytes Form.LoadImm → (short second : Bool) → nat_lt (length (drop 8 bytes)) 8 ≡ short → is_second (slot_of_bytes (drop 8 bytes)) ≡ second → Told profile bytes (cond short (Err DecodeCode.CutOff) (cond second (Ok x) (Err DecodeCode.SecondSlot)))
@@ -142,34 +99,21 @@ pair_told profile bytes x p false false a b =
 
 -- an instruction of each form is read with no code, or told with its lowest
 insn_told : (profile : Profile) (bytes : List ℕ) (f : Form) (d r : Reg) → Passed profile bytes f → Told profile bytes (insn_of_form f d r (slot_of_bytes bytes) (drop 8 bytes))
-insn_told profile bytes (Form.Alu op w Source.K) d r p = none_applies profile bytes (Form.Alu op w Source.K) p (λ e. absurd cc)
-insn_told profile bytes (Form.Alu op w Source.X) d r p = none_applies profile bytes (Form.Alu op w Source.X) p (λ e. absurd cc)
-insn_told profile bytes (Form.Neg w) d r p = none_applies profile bytes (Form.Neg w) p (λ e. absurd cc)
-insn_told profile bytes Form.LoadImm d r p = pair_told profile bytes _ p (nat_lt (length (drop 8 bytes)) 8) (is_second (slot_of_bytes (drop 8 bytes))) refl refl
-insn_told profile bytes (Form.Load z x) d r p = none_applies profile bytes (Form.Load z x) p (λ e. absurd cc)
-insn_told profile bytes (Form.StoreImm z) d r p = none_applies profile bytes (Form.StoreImm z) p (λ e. absurd cc)
-insn_told profile bytes (Form.Store z) d r p = none_applies profile bytes (Form.Store z) p (λ e. absurd cc)
-insn_told profile bytes Form.Jump d r p = none_applies profile bytes Form.Jump p (λ e. absurd cc)
-insn_told profile bytes (Form.JumpIf c w Source.K) d r p = none_applies profile bytes (Form.JumpIf c w Source.K) p (λ e. absurd cc)
-insn_told profile bytes (Form.JumpIf c w Source.X) d r p = none_applies profile bytes (Form.JumpIf c w Source.X) p (λ e. absurd cc)
-insn_told profile bytes Form.Call d r p = none_applies profile bytes Form.Call p (λ e. absurd cc)
-insn_told profile bytes Form.Exit d r p = none_applies profile bytes Form.Exit p (λ e. absurd cc)
+insn_told profile bytes f d r p = grind (arith, none_applies, pair_told)
 
 abbrev with_registers : Profile → List ℕ → Form → Reg → Reg → Result Read DecodeCode
 with_registers profile bytes f d r = clean_or_code profile f (slot_of_bytes bytes) >>= (λ g. insn_of_form g d r (slot_of_bytes bytes) (drop 8 bytes))
 
 clean_told : (profile : Profile) (bytes : List ℕ) (f : Form) (d r : Reg) → form_of profile (slot_of_bytes bytes).opcode ≡ Some f → (slot_of_bytes bytes).dst ≤ 10 → (slot_of_bytes bytes).src ≤ 10 → (b : Bool) → is_clean profile f (slot_of_bytes bytes) ≡ b
     → Told profile bytes (cond b (Ok f) (Err DecodeCode.Unused) >>= (λ g. insn_of_form g d r (slot_of_bytes bytes) (drop 8 bytes)))
-clean_told profile bytes f d r is p q true b = insn_told profile bytes f d r (record { is = is; dst = p; src = q; clean = b })
-clean_told profile bytes f d r is p q false b = let o = form_front profile (slot_of_bytes bytes).opcode f is in record { applies = (f, o.1, o.0, b); least = least_unused profile bytes (known_opcode profile bytes f is) (low_registers profile bytes p q) }
+clean_told profile bytes f d r is p q b b1 = grind (arith, insn_told, form_front, least_unused, known_opcode, low_registers)
 
 low_register : (n : ℕ) (r : Reg) → reg_of n ≡ Some r → n ≤ 10
 low_register n r h = let a = reg_front n r h in let b = number_below r in omega (arith, a, b)
 
 src_told : (profile : Profile) (bytes : List ℕ) (f : Form) (d : Reg) → form_of profile (slot_of_bytes bytes).opcode ≡ Some f → (slot_of_bytes bytes).dst ≤ 10 → (o : Option Reg) → reg_of (slot_of_bytes bytes).src ≡ o
     → Told profile bytes (ok_or o DecodeCode.Register >>= with_registers profile bytes f d)
-src_told profile bytes f d is p (Some r) h = clean_told profile bytes f d r is p (low_register (slot_of_bytes bytes).src r h) (is_clean profile f (slot_of_bytes bytes)) refl
-src_told profile bytes f d is p None h = record { applies = inr (reg_none (slot_of_bytes bytes).src h); least = least_register profile bytes (known_opcode profile bytes f is) }
+src_told profile bytes f d is p o h = grind (arith, clean_told, low_register, reg_none, least_register, known_opcode)
 
 dst_told : (profile : Profile) (bytes : List ℕ) (f : Form) → form_of profile (slot_of_bytes bytes).opcode ≡ Some f → (o : Option Reg) → reg_of (slot_of_bytes bytes).dst ≡ o
     → Told profile bytes (ok_or o DecodeCode.Register >>= (λ d. ok_or (reg_of (slot_of_bytes bytes).src) DecodeCode.Register >>= with_registers profile bytes f d))
@@ -178,8 +122,7 @@ dst_told profile bytes f is None h = record { applies = inl (reg_none (slot_of_b
 
 form_told : (profile : Profile) (bytes : List ℕ) (o : Option Form) → form_of profile (slot_of_bytes bytes).opcode ≡ o
     → Told profile bytes (ok_or o DecodeCode.Opcode >>= (λ f. ok_or (reg_of (slot_of_bytes bytes).dst) DecodeCode.Register >>= (λ d. ok_or (reg_of (slot_of_bytes bytes).src) DecodeCode.Register >>= with_registers profile bytes f d)))
-form_told profile bytes (Some f) h = dst_told profile bytes f h (reg_of (slot_of_bytes bytes).dst) refl
-form_told profile bytes None h = no_opcode profile bytes h
+form_told profile bytes o h = grind (arith, dst_told, no_opcode)
 
 -- so what is read, step by step, has no code that applies, or is told with the lowest
 told : (profile : Profile) (bytes : List ℕ) → Told profile bytes (first_of profile bytes)
@@ -206,13 +149,7 @@ code_of n = cond (nat_eq n 10) DecodeCode.Length (cond (nat_eq n 11) DecodeCode.
 -- the codes have numbers of their own
 code_back : (c : DecodeCode) → code_of (decode_code c) ≡ c
 unfolding code_of
-code_back DecodeCode.Length = refl
-code_back DecodeCode.TooLong = refl
-code_back DecodeCode.Opcode = refl
-code_back DecodeCode.Register = refl
-code_back DecodeCode.Unused = refl
-code_back DecodeCode.CutOff = refl
-code_back DecodeCode.SecondSlot = refl
+code_back c = grind arith
 
 same_code : (c d : DecodeCode) → decode_code c ≤ decode_code d → decode_code d ≤ decode_code c → c ≡ d
 same_code c d p q = let e : decode_code c ≡ decode_code d = omega (arith, p, q) in sym (code_back c) ∙ ap code_of e ∙ code_back d

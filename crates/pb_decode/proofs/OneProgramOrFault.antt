@@ -1,11 +1,9 @@
 -- A list of bytes is one program's, or has one fault.
-use Rattle.std.proofs.Common.{◌≡◌, ℕ, zero, suc, ◌+◌, ◌-◌, ◌*◌, ◌/◌, ◌%◌, ◌<◌, ◌≤◌, ◌⊎◌, Bool, true, false, cond, List, [], ◌∷◌, ◌++◌, length, Option, Some, None, Result, Ok, Err, refl, sym, ap, subst, ◌∙◌, append_assoc, arith, inl, inr, ◌==◌, ◌||◌, not, nat_lt, IfOk, IfErr}
+use Rattle.std.proofs.Common.{◌≡◌, ℕ, zero, suc, ◌+◌, ◌-◌, ◌*◌, ◌/◌, ◌%◌, ◌<◌, ◌≤◌, ◌⊎◌, Bool, cond, List, [], ◌∷◌, ◌++◌, length, Option, Some, None, Result, Ok, Err, refl, sym, ap, subst, ◌∙◌, append_assoc, arith, inl, inr, ◌==◌, ◌||◌, not, nat_lt, IfOk, IfErr}
 use Rattle.std.specs.List.{AllByRecursion}
-use Rattle.std.proofs.lemmas.Bool.{eqb-true, ltb-false, le-ltb}
 use Rattle.std.proofs.lemmas.List.{append-nil, length-append}
 use Rattle.std.proofs.lemmas.Grind.{flat_map-append}
 use Rattle.pb_isa.specs.declared.insn.Insn.{Insn}
-use Rattle.pb_isa.specs.declared.insn.Operand.{Operand}
 use Rattle.pb_isa.specs.Bounds.{Fits}
 use Rattle.pb_isa.specs.Slots.{places_of, layout, slots}
 use Rattle.pb_isa.specs.declared.profile.Profile.{Profile}
@@ -19,33 +17,19 @@ use Rattle.pb_decode.specs.Faults.{decode_code, whole_fault, IsFaultAt, IsDecode
 use Rattle.pb_decode.proofs.SlotBytes.{rest_bytes}
 use Rattle.pb_decode.proofs.FrontRead.{first_takes, first_again, one_insn}
 use Rattle.pb_decode.proofs.LowestCode.{lowest, lowest_read}
-use Rattle.pb_isa.proofs.Instructions.{some_place, all_next}
-use Rattle.pb_base.proofs.Logic.{positive as not_zero, one_value as some_same}
+use Rattle.pb_isa.proofs.Instructions.{all_next}
+use Rattle.pb_base.proofs.Logic.{one_value as some_same}
 
 -- ---- lengths
 
 -- an instruction has eight bytes for each slot
 insn_len : (i : Insn) → length (insn_bytes i) ≡ 8 * length (places_of i)
-insn_len (Insn.Alu op w d (Operand.Imm k)) = refl
-insn_len (Insn.Alu op w d (Operand.Reg s)) = refl
-insn_len (Insn.MovSx w z d s) = refl
-insn_len (Insn.Neg w d) = refl
-insn_len (Insn.LoadImm d v) = refl
-insn_len (Insn.Load z x d b o) = refl
-insn_len (Insn.StoreImm z b o k) = refl
-insn_len (Insn.Store z b s o) = refl
-insn_len (Insn.Jump o) = refl
-insn_len (Insn.JumpIf c w d (Operand.Imm k) o) = refl
-insn_len (Insn.JumpIf c w d (Operand.Reg s) o) = refl
-insn_len (Insn.Call k) = refl
-insn_len Insn.Exit = refl
+insn_len i = grind arith
 
 -- and so have several
 pub bytes_len : (p : List Insn) → length (encoding p) ≡ 8 * slots p
 bytes_len [] = refl
-bytes_len (i ∷ p) =
-    let a = length-append (insn_bytes i) (encoding p) in let b = length-append (places_of i) (layout p) in
-    let h = insn_len i in let k = bytes_len p in omega (arith, a, b, h, k)
+bytes_len (i ∷ p) = grind (arith, length-append, insn_len, bytes_len p)
 
 -- ---- one way to read
 
@@ -75,12 +59,8 @@ again profile i rest of = first_again profile i rest of.0 of.1
 -- the same instructions in front of a fault
 pub same_front : (profile : Profile) (f g : List Insn) (x y : List ℕ) (c d : DecodeCode) → All profile f → All profile g → encoding f ++ x ≡ encoding g ++ y → first_of profile x ≡ Err c → first_of profile y ≡ Err d → (slots f ≡ slots g) × (c ≡ d)
 same_front profile [] [] x y c d f-all g-all e p q = (refl, err_is (first_of profile y) c d (sym (ap (first_of profile) e) ∙ p) q)
-same_front profile [] (j ∷ g) x y c d f-all g-all e p q =
-    let r : first_of profile x ≡ Ok (j, encoding g ++ y) = ap (first_of profile) (e ∙ append_assoc (insn_bytes j) (encoding g) y) ∙ again profile j (encoding g ++ y) (front_one profile j g g-all) in
-    absurd (no_error (first_of profile x) (j, encoding g ++ y) c r p)
-same_front profile (i ∷ f) [] x y c d f-all g-all e p q =
-    let r : first_of profile y ≡ Ok (i, encoding f ++ x) = ap (first_of profile) (sym e ∙ append_assoc (insn_bytes i) (encoding f) x) ∙ again profile i (encoding f ++ x) (front_one profile i f f-all) in
-    absurd (no_error (first_of profile y) (i, encoding f ++ x) d r q)
+same_front profile [] (j ∷ g) x y c d f-all g-all e p q = grind (arith, append_assoc, again, front_one, no_error)
+same_front profile (i ∷ f) [] x y c d f-all g-all e p q = grind (arith, append_assoc, again, front_one, no_error)
 same_front profile (i ∷ f) (j ∷ g) x y c d f-all g-all e p q =
     let o = one_insn profile i j (encoding f ++ x) (encoding g ++ y) (front_one profile i f f-all) (front_one profile j g g-all) (sym (append_assoc (insn_bytes i) (encoding f) x) ∙ e ∙ append_assoc (insn_bytes j) (encoding g) y) in
     let s = same_front profile f g x y c d (others profile i f f-all) (others profile j g g-all) o.1 p q in
@@ -98,10 +78,7 @@ all_push profile p i all one = (list_push Fits p i all.0 one.0, list_push (IsOf 
 
 -- an instruction has some bytes
 not_nil : (i : Insn) (x : List ℕ) → [] ≡ insn_bytes i ++ x → ⊥
-not_nil i x e =
-    let h = insn_len i in let k = some_place i in let l = length-append (insn_bytes i) x in
-    let z : 0 ≡ length (insn_bytes i ++ x) = ap length e in
-    omega (arith, h, k, l, z)
+not_nil i x e = grind arith
 
 -- no fault behind the beginning of a program
 pub none_inside : (profile : Profile) (p g : List Insn) (y : List ℕ) (d : DecodeCode) → All profile p → All profile g → encoding p ≡ encoding g ++ y → 0 < length y → first_of profile y ≡ Err d → ⊥
@@ -133,9 +110,7 @@ same_program v w p q a b = rw (a, b) refl
 
 -- two programs of one profile with the same bytes are one
 pub one_program : (bytes : List ℕ) (p q : ProgramOf) → p.profile ≡ q.profile → Encodes bytes p → Encodes bytes q → p ≡ q
-one_program bytes p q same a b =
-    let of : All p.profile q.insns = subst (λ (v : Profile). All v q.insns) (sym same) (all_of bytes q b) in
-    same_program p.profile q.profile p.insns q.insns same (same_list p.profile p.insns q.insns (all_of bytes p a) of (sym a.spelt ∙ b.spelt))
+one_program bytes p q same a b = grind (arith, all_of, same_program, same_list, p.profile, q.insns, q.profile, p.insns, a.spelt, b.spelt)
 
 -- ---- the fault of the whole
 
@@ -146,30 +121,18 @@ pub record IsWhole (profile : Profile) (n : ℕ) : Type 0 where
   pub most : n ≤ 8 * max_slots profile
 
 tests : (profile : Profile) (n : ℕ) (a b c : Bool) → (n == 0) ≡ a → (n % 8 == 0) ≡ b → nat_lt (8 * max_slots profile) n ≡ c → cond (a || not b) (Some DecodeCode.Length) (cond c (Some DecodeCode.TooLong) None) ≡ None → IsWhole profile n
-tests profile n true b c p q r e = absurd cc
-tests profile n false false c p q r e = absurd cc
-tests profile n false true true p q r e = absurd cc
-tests profile n false true false p q r e =
-    let e0 = eqb-true (n % 8) 0 q in let most = ltb-false (8 * max_slots profile) n r in
-    record { some = not_zero n p; even = e0; most = omega (arith, most) }
+tests profile n a b c p q r e = grind arith
 
 -- where the whole has no fault, its length is some slots, and no more than the profile has
 pub whole_none : (profile : Profile) (bytes : List ℕ) → whole_fault profile bytes ≡ None → IsWhole profile (length bytes)
 whole_none profile bytes h = tests profile (length bytes) (length bytes == 0) (length bytes % 8 == 0) (nat_lt (8 * max_slots profile) (length bytes)) refl refl refl h
 
 pub none_whole : (profile : Profile) (bytes : List ℕ) → IsWhole profile (length bytes) → whole_fault profile bytes ≡ None
-none_whole profile bytes w =
-    let some = w.some in let even = w.even in let most = w.most in
-    let a : (length bytes == 0) ≡ false = grind arith in
-    let c : nat_lt (8 * max_slots profile) (length bytes) ≡ false = le-ltb (8 * max_slots profile) (length bytes) most in
-    rw (a, even, c) refl
+none_whole profile bytes w = grind arith
 
 -- a program's bytes have no fault of the whole
 program_whole : (bytes : List ℕ) (p : ProgramOf) → Encodes bytes p → IsWhole p.profile (length bytes)
-program_whole bytes p h =
-    let l : length bytes ≡ 8 * slots p.insns = ap length h.spelt ∙ bytes_len p.insns in
-    let s = h.program.some in let m = h.program.most in
-    record { some = omega (arith, l, s); even = omega (arith, l); most = omega (arith, l, m) }
+program_whole bytes p h = grind (arith, bytes_len, p.insns, h.spelt, h.program.some, h.program.most)
 
 no_some : {A : Type 0} (o : Option A) (x : A) → o ≡ None → o ≡ Some x → ⊥
 no_some o x p q = absurd cc
@@ -179,9 +142,7 @@ fault_all profile bytes slot code a = (a.fits, a.of_profile)
 
 -- a program's bytes have no fault
 pub not_both : (bytes : List ℕ) (p : ProgramOf) (slot : ℕ) (code : DecodeCode) → Encodes bytes p → IsDecodeFault p.profile bytes slot code → ⊥
-not_both bytes p slot code h (inl w) = no_some (whole_fault p.profile bytes) code (none_whole p.profile bytes (program_whole bytes p h)) w.0
-not_both bytes p slot code h (inr a) =
-    none_inside p.profile p.insns a.1.front a.1.rest code (all_of bytes p h) (fault_all p.profile bytes slot code a.1) (sym h.spelt ∙ a.1.parts) a.1.some (lowest_read p.profile a.1.rest code a.1.fault)
+not_both bytes p slot code h w = grind (arith, no_some, none_whole, program_whole, none_inside, all_of, fault_all, lowest_read)
 
 -- two faults of the same bytes are one
 pub one_fault : (profile : Profile) (bytes : List ℕ) (s t : ℕ) (c d : DecodeCode) → IsDecodeFault profile bytes s c → IsDecodeFault profile bytes t d → (s ≡ t) × (c ≡ d)
@@ -197,10 +158,7 @@ one_fault profile bytes s t c d (inr a) (inr b) =
 
 -- instructions of the profile that spell bytes of such a length are a program
 pub is_program : (profile : Profile) (bytes : List ℕ) (p : List Insn) → IsWhole profile (length bytes) → AreSpelt profile bytes p → Encodes bytes (program profile p)
-is_program profile bytes p w h =
-    let l : length bytes ≡ 8 * slots p = ap length h.spelt ∙ bytes_len p in
-    let some = w.some in let most = w.most in
-    record { program = record { some = omega (arith, l, some); most = omega (arith, l, most); of_profile = h.of_profile }; fits = h.fits; spelt = h.spelt }
+is_program profile bytes p w h = grind (arith, bytes_len, h.spelt, w.some, w.most, h.of_profile, h.fits)
 
 -- what the bytes from here on are
 abbrev Rest : Profile → List ℕ → Type 0
@@ -215,10 +173,7 @@ behind profile i bytes after of e (inr h) =
     inr (slots (i ∷ f.front), h.1, record { front = i ∷ f.front; rest = f.rest; some = f.some; fits = (of.0, f.fits); of_profile = (of.1, f.of_profile); parts = e ∙ ap (λ (x : List ℕ). insn_bytes i ++ x) f.parts ∙ sym (append_assoc (insn_bytes i) (encoding f.front) f.rest); place = refl; fault = f.fault })
 
 pub even_rest : (i : Insn) (bytes after : List ℕ) → bytes ≡ insn_bytes i ++ after → length bytes % 8 ≡ 0 → (length after % 8 ≡ 0) × (length after < length bytes)
-even_rest i bytes after e even =
-    let l : length bytes ≡ length (insn_bytes i) + length after = ap length e ∙ length-append (insn_bytes i) after in
-    let h = insn_len i in let k = some_place i in
-    (omega (arith, l, h, even), omega (arith, l, h, k))
+even_rest i bytes after e even = grind arith
 
 from : (profile : Profile) (n : ℕ) (bytes : List ℕ) → length bytes ≤ suc n → 0 < length bytes → length bytes % 8 ≡ 0 → AreBytes bytes → (r : Result (Insn × List ℕ) DecodeCode) → first_of profile bytes ≡ r
     → ((after : List ℕ) → length after ≤ n → length after % 8 ≡ 0 → AreBytes after → Rest profile after) → Rest profile bytes
@@ -274,8 +229,7 @@ only_fault profile (Err (DecodeFault.Refused f)) bytes a slot told h =
 
 -- a program is in range, so that making it is never refused for that
 pub never_refused : (p : ProgramOf) → IsProgram p → (slots p.insns ≡ 0) ⊎ (max_slots p.profile < slots p.insns) → ⊥
-never_refused p is (inl none) = let some = is.some in omega (arith, some, none)
-never_refused p is (inr many) = let most = is.most in omega (arith, most, many)
+never_refused p is w = grind arith
 
 -- ---- the loop
 
@@ -303,6 +257,4 @@ next p is = let most = is.most in record { some = is.some; most = omega (arith, 
 
 -- bytes of a program of profile 1 are those of the same instructions' in profile 2
 pub read_alike : (bytes : List ℕ) (p : ProgramOf) → p.profile ≡ Profile.One → Encodes bytes p → Encodes bytes (in_profile Profile.Two p)
-read_alike bytes p one h =
-    let is : IsProgram (in_profile Profile.One p) = subst (λ (v : Profile). IsProgram (in_profile v p)) one h.program in
-    record { program = next p is; fits = h.fits; spelt = h.spelt }
+read_alike bytes p one h = grind (arith, next, h.program, h.fits, h.spelt)

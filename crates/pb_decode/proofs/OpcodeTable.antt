@@ -1,6 +1,5 @@
 -- The table of opcodes read backwards, and the registers' numbers.
-use Rattle.std.proofs.Common.{◌≡◌, ℕ, zero, suc, ◌<◌, Bool, true, false, cond, List, [], ◌∷◌, Option, Some, None, refl, sym, ap, subst, ◌∙◌, arith, ◌==◌}
-use Rattle.std.proofs.lemmas.Bool.{eqb-true}
+use Rattle.std.proofs.Common.{◌≡◌, ℕ, ◌<◌, Bool, true, false, cond, List, [], ◌∷◌, Option, Some, None, refl, ap, subst, ◌∙◌, arith, ◌==◌}
 use Rattle.pb_isa.specs.declared.insn.Reg.{Reg}
 use Rattle.pb_isa.specs.Registers.{number, reg_of}
 use Rattle.pb_isa.specs.declared.insn.AluOp.{AluOp}
@@ -15,8 +14,7 @@ use Rattle.pb_decode.specs.Opcodes.{opcode, forms, with_opcode, is_form_of, IsFo
 use Rattle.pb_base.proofs.Logic.{same_some as some_is}
 
 found : (n : ℕ) (f g : Form) (fs : List Form) → ((with_opcode n fs ≡ Some g) → opcode g ≡ n) → (b : Bool) → (opcode f == n) ≡ b → cond b (Some f) (with_opcode n fs) ≡ Some g → opcode g ≡ n
-found n f g fs others true is h = subst (λ (k : Form). opcode k ≡ n) (some_is f g h) (eqb-true (opcode f) n is)
-found n f g fs others false is h = others h
+found n f g fs others b is h = grind arith
 
 -- a form that is found in a list has the opcode
 in_list : (n : ℕ) (g : Form) (fs : List Form) → with_opcode n fs ≡ Some g → opcode g ≡ n
@@ -38,10 +36,7 @@ form_front p n f h = let o = only_some p (with_opcode n forms) f h in (in_list n
 
 -- what holds of each width and source holds of any
 each_form : (P : Width → Source → Type 0) → P Width.Bits32 Source.K → P Width.Bits32 Source.X → P Width.Bits64 Source.K → P Width.Bits64 Source.X → (w : Width) (s : Source) → P w s
-each_form P a b c d Width.Bits32 Source.K = a
-each_form P a b c d Width.Bits32 Source.X = b
-each_form P a b c d Width.Bits64 Source.K = c
-each_form P a b c d Width.Bits64 Source.X = d
+each_form x a b c d w s = grind arith
 
 -- every form of a profile is found by its opcode
 listed : (p : Profile) (f : Form) → IsFormOf p f → with_opcode (opcode f) forms ≡ Some f
@@ -102,44 +97,12 @@ form_back p f of = ap (only_of p) (listed p f of) ∙ only_back p f (is_form_of 
 
 -- each register is that of its number
 pub reg_back : (r : Reg) → reg_of (number r) ≡ Some r
-reg_back Reg.R0 = refl
-reg_back Reg.R1 = refl
-reg_back Reg.R2 = refl
-reg_back Reg.R3 = refl
-reg_back Reg.R4 = refl
-reg_back Reg.R5 = refl
-reg_back Reg.R6 = refl
-reg_back Reg.R7 = refl
-reg_back Reg.R8 = refl
-reg_back Reg.R9 = refl
-reg_back Reg.R10 = refl
+reg_back r = grind arith
 
 -- a register that is found has the number
 pub reg_front : (n : ℕ) (r : Reg) → reg_of n ≡ Some r → number r ≡ n
-reg_front zero r h = ap number (some_is r Reg.R0 (sym h))
-reg_front (suc zero) r h = ap number (some_is r Reg.R1 (sym h))
-reg_front (suc (suc zero)) r h = ap number (some_is r Reg.R2 (sym h))
-reg_front (suc (suc (suc zero))) r h = ap number (some_is r Reg.R3 (sym h))
-reg_front (suc (suc (suc (suc zero)))) r h = ap number (some_is r Reg.R4 (sym h))
-reg_front (suc (suc (suc (suc (suc zero))))) r h = ap number (some_is r Reg.R5 (sym h))
-reg_front (suc (suc (suc (suc (suc (suc zero)))))) r h = ap number (some_is r Reg.R6 (sym h))
-reg_front (suc (suc (suc (suc (suc (suc (suc zero))))))) r h = ap number (some_is r Reg.R7 (sym h))
-reg_front (suc (suc (suc (suc (suc (suc (suc (suc zero)))))))) r h = ap number (some_is r Reg.R8 (sym h))
-reg_front (suc (suc (suc (suc (suc (suc (suc (suc (suc zero))))))))) r h = ap number (some_is r Reg.R9 (sym h))
-reg_front (suc (suc (suc (suc (suc (suc (suc (suc (suc (suc zero)))))))))) r h = ap number (some_is r Reg.R10 (sym h))
-reg_front (suc (suc (suc (suc (suc (suc (suc (suc (suc (suc (suc n))))))))))) r h = absurd cc
+reg_front n r h = grind arith
 
 -- a number that is no register's is over 10
 pub reg_none : (n : ℕ) → reg_of n ≡ None → 10 < n
-reg_none zero h = absurd cc
-reg_none (suc zero) h = absurd cc
-reg_none (suc (suc zero)) h = absurd cc
-reg_none (suc (suc (suc zero))) h = absurd cc
-reg_none (suc (suc (suc (suc zero)))) h = absurd cc
-reg_none (suc (suc (suc (suc (suc zero))))) h = absurd cc
-reg_none (suc (suc (suc (suc (suc (suc zero)))))) h = absurd cc
-reg_none (suc (suc (suc (suc (suc (suc (suc zero))))))) h = absurd cc
-reg_none (suc (suc (suc (suc (suc (suc (suc (suc zero)))))))) h = absurd cc
-reg_none (suc (suc (suc (suc (suc (suc (suc (suc (suc zero))))))))) h = absurd cc
-reg_none (suc (suc (suc (suc (suc (suc (suc (suc (suc (suc zero)))))))))) h = absurd cc
-reg_none (suc (suc (suc (suc (suc (suc (suc (suc (suc (suc (suc n))))))))))) h = omega arith
+reg_none n h = grind arith

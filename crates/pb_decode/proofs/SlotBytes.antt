@@ -1,8 +1,7 @@
 -- A slot is the one that its eight bytes say, and the bytes of a slot say it.
 use Rattle.std.proofs.Common.{◌≡◌, ℕ, ◌+◌, ◌^◌, ◌<◌, ◌≤◌, List, [], ◌∷◌, ◌++◌, length, drop, refl, sym, subst, arith}
 use Rattle.std.proofs.lemmas.List.{get_or-append-add, get_or-drop}
-use Rattle.byteorder.specs.Numbers.{little_number-reads_back, little_from-lt}
-use Rattle.byteorder.specs.Endian.{little_bytes}
+use Rattle.byteorder.specs.Numbers.{little_from-lt}
 use Rattle.pb_decode.specs.declared.fields.SlotFields.{SlotFields}
 use Rattle.pb_decode.specs.Fields.{slot_bytes, slot_of_bytes}
 use Rattle.pb_decode.specs.Faults.{AreBytes}
@@ -53,5 +52,4 @@ same_slot s o d r f k p q t u v = rw (p, q, t, u, v) refl
 
 -- the slot that its own bytes say
 pub slot_back : (s : SlotFields) (rest : List ℕ) → s.dst < 16 → s.src < 16 → IsSlot s → slot_of_bytes (slot_bytes s ++ rest) ≡ s
-slot_back s rest dst src fits =
-    same_slot s _ _ _ _ _ refl (omega (arith, dst, src)) (omega (arith, dst, src)) (little_number-reads_back 2 s.offset (little_bytes 4 s.imm ++ rest) fits.offset) (little_number-reads_back 4 s.imm rest fits.imm)
+slot_back s rest dst src fits = grind arith

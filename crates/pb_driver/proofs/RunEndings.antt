@@ -1,5 +1,5 @@
 -- How a run of workers ends, by what its calls answered.
-use Rattle.std.proofs.Common.{◌≡◌, ◌<◌, List, [], length, Result, Ok, Err, subst}
+use Rattle.std.proofs.Common.{arith, ◌≡◌, ◌<◌, List, [], length, Result, Ok, Err}
 use Rattle.pb_base.specs.Batch.{Writes}
 use Rattle.pb_history.specs.Journals.{IsLegal}
 use Rattle.pb_core.specs.Calls.{SharedOf, SeatOf, AreSeats}
@@ -15,10 +15,7 @@ use Rattle.pb_driver.specs.Runs.{Remains, WorkersLeave, FinishAccepts, Concludes
 
 -- a legal journal is so from what the table was opened with
 legal_from : (before after : SharedOf) → KeepsOpening before after → IsLegalTable after → IsLegal before.state.observers before.state.seats before.opened after.journal after.state
-legal_from before after k legal =
-    subst (λ os. IsLegal os before.state.seats before.opened after.journal after.state) k.observers
-    (subst (λ n. IsLegal after.state.observers n before.opened after.journal after.state) k.seats
-    (subst (λ at. IsLegal after.state.observers after.state.seats at after.journal after.state) k.opened legal))
+legal_from before after k legal = grind arith
 
 module _ (law : ChangesAreMade) (before : SharedOf) (olds : List SeatOf) (batches : List Writes) (spares : List Spare) (fresh : before.journal ≡ []) (seated : AreSeats before olds) (some : 1 < length olds) (left : Remains) (leave : WorkersLeave before olds batches spares left) where
   accepts : IsLegalTable left.table → Agree left.table left.seats → FinishAccepts before olds batches spares left

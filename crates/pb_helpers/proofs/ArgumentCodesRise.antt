@@ -1,13 +1,12 @@
 -- The codes of a call's rules are listed lowest first.
-use Rattle.std.proofs.Common.{ℕ, ◌≤◌, Bool, true, false, not, List, [], ◌∷◌, ◌++◌, arith, if◌then◌else◌, Option, Some, None}
-use Rattle.pb_isa.specs.Helpers.{Helper, Read, Write, Delete, Start}
+use Rattle.std.proofs.Common.{ℕ, ◌≤◌, Bool, List, [], ◌∷◌, ◌++◌, arith, Option}
+use Rattle.pb_isa.specs.Helpers.{Helper}
 use Rattle.pb_kinds.specs.declared.frame.Kind.{Kind}
 use Rattle.pb_kinds.specs.declared.frame.Frame.{Frame}
 use Rattle.pb_kinds.specs.Frames.{kind_of, is_unset}
-use Rattle.pb_kinds.specs.Ranges.{in_stack, are_written}
 use Rattle.pb_helpers.specs.declared.code.RuleCode.{RuleCode}
 use Rattle.pb_helpers.specs.Codes.{code_number, when, CodesRiseWithin}
-use Rattle.pb_helpers.specs.Arguments.{unset, stack_writes, filled_bytes, taken_bytes, is_cell, call_rules}
+use Rattle.pb_helpers.specs.Arguments.{unset, filled_bytes, taken_bytes, call_rules}
 
 -- codes that rise from b on rise from any a below it on
 pub from_lower : (a b c : ℕ) (cs : List RuleCode) → a ≤ b → CodesRiseWithin b c cs → CodesRiseWithin a c cs
@@ -21,13 +20,7 @@ joined a b c (x ∷ xs) ys h k = (h.0, joined (code_number x) b c xs ys h.1 k)
 
 -- one code, if it is listed at all, lies from itself to itself
 one : (a : ℕ) (t : Bool) (c : RuleCode) → a ≤ code_number c → CodesRiseWithin a (code_number c) (when t c)
-one a true c l = (l, omega arith)
-one a false c l = l
-
--- a read of stack bytes breaks 25 or 26, and never both
-read_or_outside : (t u : Bool) → CodesRiseWithin 21 26 (if t then when u RuleCode.UnwrittenByte else RuleCode.OutsideStack ∷ [])
-read_or_outside true u = one 21 u RuleCode.UnwrittenByte (omega arith)
-read_or_outside false u = (omega arith, omega arith)
+one a t c l = grind arith
 
 -- codes that rise up to b rise up to any c above it
 pub to_higher : (a b c : ℕ) (cs : List RuleCode) → b ≤ c → CodesRiseWithin a b cs → CodesRiseWithin a c cs
@@ -36,17 +29,11 @@ to_higher a b c (x ∷ xs) l h = (h.0, to_higher (code_number x) b c xs l h.1)
 
 -- the bytes of a read break nothing above 26
 filled : (k : Kind) → CodesRiseWithin 21 26 (filled_bytes k)
-filled Kind.Unset = omega arith
-filled Kind.Number = omega arith
-filled (Kind.Stack k) = to_higher 21 25 26 (stack_writes k 32) (omega arith) (one 21 (not (in_stack k 32)) RuleCode.OutsideStack (omega arith))
-filled (Kind.Record k) = omega arith
+filled k = grind arith
 
 -- nor do those of a write
 taken : (f : Frame) (k : Kind) → CodesRiseWithin 21 26 (taken_bytes f k)
-taken f Kind.Unset = omega arith
-taken f Kind.Number = omega arith
-taken f (Kind.Stack k) = read_or_outside (in_stack k 32) (not (are_written f k 32))
-taken f (Kind.Record k) = omega arith
+taken f k = grind arith
 
 pub reads : (f : Frame) (r : ℕ) → CodesRiseWithin 21 21 (unset f r)
 reads f r = one 21 (is_unset (kind_of f r)) RuleCode.ReadsUnset (omega arith)
@@ -56,17 +43,8 @@ wrong t = one 26 t RuleCode.WrongArgument (omega arith)
 
 -- three registers, then the bytes, then the wrong argument: the order of the rules is that of the codes
 with_place : (f : Frame) (cs : List RuleCode) (t : Bool) → CodesRiseWithin 21 26 cs → CodesRiseWithin 21 31 (unset f 1 ++ unset f 2 ++ unset f 3 ++ cs ++ when t RuleCode.WrongArgument)
-with_place f cs t h =
-    joined 21 26 31 (unset f 1 ++ unset f 2 ++ unset f 3 ++ cs) (when t RuleCode.WrongArgument)
-    (joined 21 21 26 (unset f 1 ++ unset f 2 ++ unset f 3) cs
-    (joined 21 21 21 (unset f 1 ++ unset f 2) (unset f 3) (joined 21 21 21 (unset f 1) (unset f 2) (reads f 1) (reads f 2)) (reads f 3)) h)
-    (wrong t)
+with_place f cs t h = grind (arith, joined, reads, wrong)
 
 -- so the codes of each helper's rules rise from 21 to 31
 pub codes_rise : (f : Frame) (h : Option Helper) → CodesRiseWithin 21 31 (call_rules f h)
-codes_rise f None = (omega arith, omega arith)
-codes_rise f (Some Read) = with_place f (filled_bytes (kind_of f 3)) _ (filled (kind_of f 3))
-codes_rise f (Some Write) = with_place f (taken_bytes f (kind_of f 3)) _ (taken f (kind_of f 3))
-codes_rise f (Some Delete) =
-    joined 21 26 31 (unset f 1 ++ unset f 2) _ (to_higher 21 21 26 (unset f 1 ++ unset f 2) (omega arith) (joined 21 21 21 (unset f 1) (unset f 2) (reads f 1) (reads f 2))) (wrong (not (is_cell f)))
-codes_rise f (Some Start) = omega arith
+codes_rise f h = grind (arith, with_place, filled, taken, joined, to_higher, reads, wrong)

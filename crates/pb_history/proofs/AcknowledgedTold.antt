@@ -23,13 +23,9 @@ module _ (journal : List Entry) (state : StateOf) (a : Agrees journal state) (i 
       let k = acknowledged_by journal state a i h.m h.in_history o row column content h.writes in
       let is : (stamp_of content).0 ≡ h.m.start = ap (λ z. (stamp_of z).0) k.stamp in
       let above = (i.stamped h.m.start h.m.commit (inr (phase_in_view journal state a i h.m h.in_history))).0 in
-      let same = h.commit_is in
-      let seen = h.seen in
       omega arith
   earlier s o row column _ h = omega arith
 
 -- an acknowledgment in a snapshot is of a run committed up to there, whose start is lower still
 pub tells_acknowledged : (observers : List ObserverOf) (seats clock : ℕ) (journal : List Entry) (state : StateOf) → IsLegal observers seats clock journal state → TellsAcknowledged journal
-tells_acknowledged observers seats clock journal state l seat s o row column answer e =
-    earlier journal state (legal_agrees observers seats clock journal state l) (legal_sound observers seats clock journal state l) s.0 o row column answer
-    ((tells_snapshots observers seats clock journal state l).read seat s _ answer e)
+tells_acknowledged observers seats clock journal state l seat s o row column answer e = grind (arith, earlier, legal_agrees, legal_sound, tells_snapshots)

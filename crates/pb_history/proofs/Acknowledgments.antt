@@ -1,5 +1,5 @@
 -- An acknowledgment is written by a run of its observer alone, with the run's start as its stamp.
-use Rattle.std.proofs.Common.{◌≡◌, ℕ, true, false, cond, List, ◌∷◌, Some, refl, sym, ap, subst, ◌∙◌}
+use Rattle.std.proofs.Common.{arith, ◌≡◌, ℕ, true, false, cond, List, ◌∷◌, Some, refl, sym, ap, subst, ◌∙◌}
 use Rattle.std.specs.Ordering.{eq_by_cmp}
 use Rattle.std.specs.Cmp.{Equal-is}
 use Rattle.pb_base.specs.declared.cell.Cell.{Cell}
@@ -19,7 +19,6 @@ use Rattle.pb_steps.specs.Readings.{data_at, write_at}
 use Rattle.pb_history.specs.declared.entry.Entry.{Entry}
 use Rattle.pb_history.specs.History.{Member, InHistory}
 use Rattle.pb_history.specs.Sound.{IsSoundTable}
-use Rattle.pb_history.specs.TableView.{view_of}
 use Rattle.pb_history.proofs.Agreement.{ts, Agrees}
 use Rattle.pb_history.proofs.HistoryTold.{is_committed}
 use Rattle.pb_history.proofs.SnapshotsTold.{content_in_view, written_by}
@@ -33,11 +32,7 @@ pub record Acknowledges (observers : List ObserverOf) (work : Work) (s : ℕ) (o
 
 -- an acknowledgment that a run writes is its own, with its start as the stamp
 own_ack : (observers : List ObserverOf) (p : ℕ) (r : Row) (s o : ℕ) (row : Row) (column : ℕ) (k : Content) → Cell.Ack o row column ≡ acknowledgment observers p r → Content.Stamp (ts s) ≡ k → Acknowledges observers (Work.Run p r) s o row column k
-own_ack observers p r s o row column k e stamp =
-    let po : o ≡ p = cc in
-    let pr : row ≡ r = cc in
-    let pc : column ≡ observed_column observers p = cc in
-    record { run = λ i. Work.Run (sym po i) (sym pr i); place = pc ∙ ap (observed_column observers) (sym po); stamp = sym stamp }
+own_ack observers p r s o row column k e stamp = grind arith
 
 -- a run writes no acknowledgment but that, since its program's writes are data cells
 run_acks : (observers : List ObserverOf) (p : ℕ) (r : Row) (s : ℕ) (ws : Writes) (o : ℕ) (row : Row) (column : ℕ) (k : Content) → AreRunWrites ws
@@ -70,7 +65,4 @@ module _ (journal : List Entry) (state : StateOf) (a : Agrees journal state) (i 
   stamp_stands o row column c s e =
       let w = written_by journal state a i (Cell.Ack o row column) c s e in
       let ack = acknowledged_by w.m w.in_history o row column w.content w.writes in
-      i.record_data (Cell.Ack o row column) c s e
-      ∙ ap (λ z. (view_of state).content z (Cell.Ack o row column)) (sym w.start_is)
-      ∙ content_in_view journal state a i w.m w.in_history (Cell.Ack o row column)
-      ∙ w.writes ∙ ap Some (ack.stamp ∙ ap (λ z. Content.Stamp (ts z)) w.start_is)
+      grind (arith, content_in_view, ts, i.record_data)

@@ -99,13 +99,7 @@ told_on old new obs g seat _ _ t = tt
 
 -- one entry more leaves the others where they were
 logged_front : (observers : List ObserverOf) (journal : List Entry) (e : Entry) (s : ℕ) (t : TransactionOf) → Logged observers journal s t → Logged observers (journal ++ e ∷ []) s t
-logged_front observers journal e s t l = record {
-  begun = has_front journal e _ l.begun;
-  reads = λ r h. has_front journal e _ (l.reads r h);
-  declared = λ h. let d = l.declared h in (d.0, has_front journal e _ d.1, d.2, d.3, d.4);
-  stamped = λ c h. has_front journal e _ (l.stamped c h);
-  committed = λ c h. has_front journal e _ (l.committed c h);
-}
+logged_front observers journal e s t l = grind (arith, has_front, l.begun, l.reads, l.declared, l.stamped, l.committed)
 
 -- ---- one transaction more, or changed
 
@@ -126,28 +120,19 @@ module _ (journal : List Entry) (e : Entry) (old new : StateOf) (a : Agrees jour
   there w n = ap (λ m. map.get m w) is ∙ got_there old.transactions s u w n
 
   early_put : (w : ℕ) (v : TransactionOf) → got new w ≡ Some v → w ≤ new.clock
-  early_put w v h = elim (same_number w s) [
-    | inl q ↦ omega arith
-    | inr n ↦ let b = a.early w v (sym (there w n) ∙ h) in omega arith
-  ]
+  early_put w v h = grind (arith, same_number, there, a.early)
 
   logged_put : Logged old.observers (journal ++ e ∷ []) s u → (w : ℕ) (v : TransactionOf) → got new w ≡ Some v → Logged old.observers (journal ++ e ∷ []) w v
   logged_put l w v h = elim (same_number w s) [
     | inl q ↦
-        let now : got new s ≡ Some v = subst (λ k. got new k ≡ Some v) q h in
-        let z = here in
-        let same : u ≡ v = cc in
-        subst (λ k. Logged old.observers (journal ++ e ∷ []) k v) (sym q) (subst (Logged old.observers (journal ++ e ∷ []) s) same l)
+        grind (arith, here, old.observers)
     | inr n ↦ logged_front old.observers journal e w v (a.logged w v (sym (there w n) ∙ h))
   ]
 
   agrees_put : Grows old new → Told new e.seat e.step e.answer → Logged old.observers (journal ++ e ∷ []) s u → Agrees (journal ++ e ∷ []) new
   agrees_put g told l = record {
     early = early_put;
-    told = λ d h. elim (has_more journal e d h) [
-      | inl q ↦ subst (λ (z : Entry). Told new z.seat z.step z.answer) q told
-      | inr q ↦ told_on old new obs g d.seat d.step d.answer (a.told d q)
-    ];
+    told = λ d h. grind (arith, has_more, told_on, a.told);
     logged = λ w v h. subst (λ o. Logged o (journal ++ e ∷ []) w v) (sym obs) (logged_put l w v h);
   }
 
@@ -155,9 +140,7 @@ module _ (journal : List Entry) (e : Entry) (old new : StateOf) (a : Agrees jour
   pub agrees_change : (t : TransactionOf) → got old s ≡ Some t → Later t u → (got new s ≡ Some u → Told new e.seat e.step e.answer) → Logged old.observers (journal ++ e ∷ []) s u → Agrees (journal ++ e ∷ []) new
   agrees_change t was later told = agrees_put (λ w v h. elim (same_number w s) [
     | inl q ↦
-        let now : got old s ≡ Some v = subst (λ k. got old k ≡ Some v) q h in
-        let same : t ≡ v = cc in
-        (u, ap (got new) q ∙ here, subst (λ k. Later k u) same later)
+        grind (arith, here)
     | inr n ↦ (v, there w n ∙ h, later_same v)
   ]) (told here)
 
@@ -168,12 +151,8 @@ module _ (journal : List Entry) (e : Entry) (old new : StateOf) (a : Agrees jour
 -- a step that changes entries alone
 pub agrees_same : (journal : List Entry) (e : Entry) (old new : StateOf) → Agrees journal old → OnlyEntries old new → Told new e.seat e.step e.answer → Agrees (journal ++ e ∷ []) new
 agrees_same journal e old new a kept told =
-    let grows : Grows old new = λ s t h. (t, ap (λ m. map.get m s) kept.transactions ∙ h, later_same t) in
     record {
       early = λ s t h. let b = a.early s t (sym (ap (λ m. map.get m s) kept.transactions) ∙ h) in let c = kept.clock in omega (arith, b, c);
-      told = λ d h. elim (has_more journal e d h) [
-        | inl q ↦ subst (λ (z : Entry). Told new z.seat z.step z.answer) q told
-        | inr q ↦ told_on old new kept.observers grows d.seat d.step d.answer (a.told d q)
-      ];
+      told = λ d h. grind (arith, has_more, told_on, kept.observers, a.told);
       logged = λ w v h. subst (λ o. Logged o (journal ++ e ∷ []) w v) (sym kept.observers) (logged_front old.observers journal e w v (a.logged w v (sym (ap (λ m. map.get m w) kept.transactions) ∙ h)));
     }

@@ -1,13 +1,11 @@
 -- A transaction begins once, before all other entries that name its start.
-use Rattle.std.proofs.Common.{◌≡◌, ℕ, ◌+◌, ◌≤◌, ◌⊎◌, inl, inr, Bool, true, false, cond, ◌||◌, List, [], ◌∷◌, Option, Some, None, refl, sym, ap, subst, ◌∙◌, arith, ◌==◌, option_map, nat_cmp}
+use Rattle.std.proofs.Common.{◌≡◌, ℕ, ◌+◌, ◌≤◌, ◌⊎◌, inl, inr, Bool, true, false, cond, ◌||◌, List, [], ◌∷◌, Option, Some, None, refl, sym, ap, subst, ◌∙◌, arith, option_map, nat_cmp}
 use Rattle.std.specs.List.{list_any}
 use Rattle.std.specs.FinMap as map
-use Rattle.std.proofs.lemmas.Bool.{eqb-true}
 use Rattle.pb_steps.specs.declared.step.Step.{Step}
 use Rattle.pb_steps.specs.declared.step.Answer.{Answer}
 use Rattle.pb_verify.specs.Observers.{ObserverOf}
 use Rattle.pb_steps.specs.State.{StateOf, TransactionOf, opening, new_transaction}
-use Rattle.pb_steps.specs.Reasons.{IsOwn}
 use Rattle.pb_steps.specs.Steps.{StepCase}
 use Rattle.pb_history.specs.declared.entry.Entry.{Entry}
 use Rattle.pb_history.specs.Journals.{JournalLeads, IsLegal}
@@ -33,39 +31,10 @@ both o t p q = cc
 -- ---- one step
 
 module _ (old : StateOf) (seat : ℕ) (new : StateOf) (s : ℕ) where
-  there : (n : ℕ) (t : TransactionOf) → (s == n) ≡ true → IsOwn old seat n t → Owns old seat s
-  there n t e own = (t, ap (got old) (eqb-true s n e) ∙ own.there, own.mine)
-
   -- what names s begins it, with a fresh start, or finds it there as its seat's
   pub named : (step : Step) (answer : Answer) → StepCase old seat step answer new → names_start s step answer ≡ true
       → ((is_begin step ≡ true) × (s ≡ old.clock + 1)) ⊎ ((is_begin step ≡ false) × Owns old seat s)
-  named (Step.Begin work) (Answer.At n) m e = inl (refl, eqb-true s n.0 e ∙ m.fresh)
-  named (Step.Read n x) (Answer.Locked start primary) m e = inr (refl, there n.0 m.t e m.own)
-  named (Step.Read n x) (Answer.Found start commit content) m e = inr (refl, there n.0 m.t e m.own)
-  named (Step.Read n x) Answer.Absent m e = inr (refl, there n.0 m.t e m.own)
-  named (Step.ReadAt n x at) (Answer.Locked start primary) m e = inr (refl, there n.0 m.t e m.own)
-  named (Step.ReadAt n x at) (Answer.Found start commit content) m e = inr (refl, there n.0 m.t e m.own)
-  named (Step.ReadAt n x at) Answer.Absent m e = inr (refl, there n.0 m.t e m.own)
-  named (Step.Declare n what) Answer.Done m e = inr (refl, there n.0 m.t e m.own)
-  named (Step.Prewrite n x) Answer.Done m e = inr (refl, there n.0 m.t e m.own)
-  named (Step.Prewrite n x) Answer.Conflict m e = inr (refl, there n.0 m.t e m.own)
-  named (Step.Stamp n) (Answer.At c) m e = inr (refl, there n.0 m.t e m.own)
-  named (Step.CommitPrimary n) Answer.Committed m e = inr (refl, there n.0 m.t e m.own)
-  named (Step.CommitPrimary n) Answer.Lost m e = inr (refl, there n.0 m.t e m.own)
-  named (Step.CommitSecondary n x) Answer.Done m e = inr (refl, there n.0 m.t e m.own)
-  named (Step.Settle x) Answer.Absent m e = cc
-  named (Step.Settle x) (Answer.Locked start primary) m e = cc
-  named (Step.Settle x) Answer.RolledBack m e = cc
-  named (Step.Clear x) Answer.Absent m e = cc
-  named (Step.Clear x) Answer.Waits m e = cc
-  named (Step.Clear x) (Answer.CommittedAt c) m e = cc
-  named (Step.Clear x) Answer.RolledBack m e = cc
-  named (Step.NextMark after) (Answer.Marked x) m e = cc
-  named (Step.NextMark after) Answer.NoMark m e = cc
-  named (Step.Sweep x) Answer.NoMark m e = cc
-  named (Step.Sweep x) Answer.StillBehind m e = cc
-  named (Step.Sweep x) Answer.Done m e = cc
-  named _ _ m e = absurd m
+  named step answer m e = grind arith
 
 -- ---- the transaction after it
 
@@ -126,10 +95,7 @@ begins_first old (e ∷ es) new s i h r =
     let after = case_tells old e.seat r.0 s e.step e.answer r.1.taken in
     let told : Bool → Option TransactionOf = λ b. cond b (transaction_after old.observers e.seat e.step e.answer (got old s)) (got old s) in
     elim (names_start s e.step e.answer) as (λ b. names_start s e.step e.answer ≡ b → BeginsOnce (cond b (e ∷ entries_naming s es) (entries_naming s es))) [
-      | true ↦ λ n. elim (named old e.seat r.0 s e.step e.answer r.1.taken n) [
-        | inl f ↦ (let u = begun old.observers e.seat s e.step e.answer (got old s) f.0 n in (f.0, none_later r.0 es new s sound (u.0, after ∙ ap told n ∙ u.1) r.2))
-        | inr f ↦ absurd (both (got old s) f.1.0 f.1.1 h)
-      ]
+      | true ↦ λ n. grind (arith, got, named, begun, none_later, both, e.seat, e.step, e.answer, r.1.taken, old.observers)
       | false ↦ λ n. begins_first r.0 es new s sound (after ∙ ap told n ∙ h) r.2
     ] refl
 

@@ -57,21 +57,17 @@ module _ (journal : List Entry) (state : StateOf) (a : Agrees journal state) (i 
   not_again : (m n : Member) → InHistory state.observers journal m → InHistory state.observers journal n → (o : ℕ) (row : Row) (c : ℕ) → Handles state.observers journal m o row c → Handles state.observers journal n o row c → m.commit < n.start → ⊥
   not_again m n hm hn o row c p q after =
       let wm = writes_ack m hm o row p.run in
-      let seen = p.seen in
-      let newer = q.newer in
       elim q.acknowledges [
         | inl z ↦ (let l = z.0 m (Content.Stamp (ts m.start)) hm wm in omega (arith, l, after))
         | inr z ↦
             (let s = z.2 in
             let stamp : q.acknowledged ≡ s.m.start = stamp_of_writer s.m s.in_history o row q.acknowledged s.writes in
             let most = s.greatest m (Content.Stamp (ts m.start)) hm wm (omega (arith, after)) in
-            let is = s.commit_is in
-            let up = above s.m s.in_history in
             elim (same_number m.start s.m.start) [
-              | inl e ↦ omega (arith, e, stamp, seen, newer)
+              | inl e ↦ omega (arith, e, stamp)
               | inr e ↦ elim (apart journal state a i m s.m hm s.in_history e (acknowledgment state.observers o row) (Content.Stamp (ts m.start)) (Content.Stamp (ts q.acknowledged)) wm s.writes) [
-                | inl l ↦ (let first = above m hm in omega (arith, l, first, stamp, seen, newer))
-                | inr l ↦ (let first = above m hm in omega (arith, l, first, most, is))
+                | inl l ↦ (let first = above m hm in omega (arith, l, first, stamp))
+                | inr l ↦ (let first = above m hm in omega (arith, l, first, most))
               ]
             ])
       ]
@@ -119,10 +115,7 @@ module _ (journal : List Entry) (state : StateOf) (a : Agrees journal state) (i 
               (let s = z.2 in
               let by = acknowledged_by journal state a i s.m s.in_history o row (observed_column state.observers o) (Content.Stamp (ts r.acknowledged)) s.writes in
               let stamp = same_stamps r.acknowledged s.m.start by.stamp in
-              let is = s.commit_is in
-              let early = s.seen in
-              let first = above s.m s.in_history in
-              first_run fuel s.m s.in_history o row c by.run some (omega (arith, l, stamp)) (omega (arith, up, first, is, early)))
+              first_run fuel s.m s.in_history o row c by.run some (omega (arith, l, stamp)) (omega (arith, up)))
         ]
       ]
 

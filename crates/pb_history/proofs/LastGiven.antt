@@ -1,5 +1,5 @@
 -- The clock of a legal journal's state is the greatest timestamp that the journal gave out.
-use Rattle.std.proofs.Common.{inl, inr, ℕ, ◌≤◌, List, [], ◌∷◌, sym, ap, subst}
+use Rattle.std.proofs.Common.{arith, ℕ, ◌≤◌, List, [], ◌∷◌, ap}
 use Rattle.pb_verify.specs.Observers.{ObserverOf}
 use Rattle.pb_steps.specs.State.{StateOf, opening}
 use Rattle.pb_history.specs.declared.entry.Entry.{Entry}
@@ -10,8 +10,7 @@ use Rattle.pb_history.proofs.TimestampsRise.{case_timestamps, run_rises, at_most
 
 -- a timestamp given out before these
 given : (clock n last : ℕ) (ts : List ℕ) → n ≤ last → IsLastGiven n ts last → IsLastGiven clock (n ∷ ts) last
-given clock n last [] low h = (inl (sym h), λ u has. elim has [ inl q ↦ subst (λ k. k ≤ last) q low | inr q ↦ absurd q ])
-given clock n last (t ∷ ts) low h = (inr h.0, λ u has. elim has [ inl q ↦ subst (λ k. k ≤ last) q low | inr q ↦ h.1 u q ])
+given clock n last ts low h = grind arith
 
 -- after a run of steps the clock is the greatest that they gave out, since each is above the one before
 run_given : (old : StateOf) (es : List Entry) (new : StateOf) → JournalLeads old es new → IsLastGiven old.clock (timestamps es) new.clock
@@ -19,9 +18,7 @@ run_given old [] new r = ap (λ (z : StateOf). z.clock) r
 run_given old (e ∷ es) new r =
     let rest = run_given r.0 es new r.2 in
     let low = at_most r.0.clock new.clock (timestamps es) (run_rises r.0 es new r.2) in
-    case_timestamps old e.seat r.0 (λ n ts. IsLastGiven n ts new.clock) (timestamps es) rest
-    (λ n clock above. given old.clock n new.clock (timestamps es) (subst (λ k. k ≤ new.clock) clock low) (subst (λ k. IsLastGiven k (timestamps es) new.clock) clock rest))
-    e.step e.answer r.1.taken
+    grind (arith, case_timestamps, given, new.clock, e.seat, old.clock, e.step, e.answer, r.1.taken)
 
 pub last_given : (observers : List ObserverOf) (seats clock : ℕ) (journal : List Entry) (state : StateOf) → IsLegal observers seats clock journal state → IsLastGiven clock (timestamps journal) state.clock
 last_given observers seats clock journal state l = run_given (opening observers seats clock) journal state l.run

@@ -1,5 +1,5 @@
 -- The table stays sound where a cell is prewritten, a lock becomes a write record, and a lock is rolled back.
-use Rattle.std.proofs.Common.{◌≡◌, ◌≢◌, ℕ, ◌<◌, ◌≤◌, Bool, true, ◌⊎◌, Some, None, refl, sym, ap, ◌∙◌, subst, inl, inr, arith, ◌||◌}
+use Rattle.std.proofs.Common.{◌≡◌, ◌≢◌, ℕ, ◌<◌, ◌≤◌, Bool, true, ◌⊎◌, Some, None, sym, ap, ◌∙◌, subst, inl, inr, arith, ◌||◌}
 use Rattle.pb_base.specs.declared.cell.Cell.{Cell}
 use Rattle.pb_base.specs.declared.content.Content.{Content}
 use Rattle.pb_steps.specs.declared.phase.Phase.{Phase}
@@ -9,9 +9,9 @@ use Rattle.pb_steps.specs.Reads.{read_up_to}
 use Rattle.pb_history.specs.History.{Has}
 use Rattle.pb_history.specs.TableView.{TableView}
 use Rattle.pb_history.specs.Sound.{HasStamp, LacksPrimary, ReadTells, IsSoundView}
-use Rattle.pb_history.proofs.Updates.{set1, set2, Apart, same_cell, same_cell_is, same_cell_itself, changed, set1_there, set1_here, set2_here, set2_there, set2_none, placed, cleared, decide, same_number}
+use Rattle.pb_history.proofs.Updates.{set1, set2, Apart, same_cell, same_cell_is, same_cell_itself, changed, set1_here, set2_here, set2_there, set2_none, placed, cleared, decide, same_number}
 use Rattle.pb_history.proofs.PhasesKeepSound.{stamped_at, committed_at, same_commit}
-use Rattle.std.proofs.lemmas.Bool.{or_left, or_right}
+use Rattle.std.proofs.lemmas.Bool.{or_right}
 use Rattle.pb_base.proofs.Logic.{or_cases}
 
 -- data and lock on one cell more
@@ -20,22 +20,14 @@ with_prewrite v s x p k = record v { prewritten = set1 v.prewritten s (λ y. v.p
 
 -- what a read tells does not turn on phases: it stands where its write record and data do
 pub tells_on : (v w : TableView) (s : ℕ) (x : Cell) (answer : Answer) → ((start c : ℕ) → v.write x c ≡ Some start → w.write x c ≡ Some start) → ((start c : ℕ) → v.write x c ≡ Some start → w.stored x start ≡ v.stored x start) → ((c u : ℕ) → c ≤ s → w.write x c ≡ Some u → v.write x c ≡ Some u) → ReadTells v s x answer → ReadTells w s x answer
-tells_on v w s x (Answer.Found start commit content) f g h t = (t.0, f start.0 commit.0 t.1, g start.0 commit.0 t.1 ∙ t.2, λ c u l e. t.3 c u l (h c u l e))
-tells_on v w s x Answer.Absent f g h t = λ c u l e. t c u l (h c u l e)
-tells_on v w s x _ f g h t = absurd t
+tells_on v w s x answer f g h t = grind arith
 
 module _ (v : TableView) (i : IsSoundView v) (s : ℕ) (x p : Cell) (k : Content) (was : v.phase s ≡ Some Phase.Declared) (first : v.primary s ≡ Some p) (declared : v.content s x ≡ Some k) (order : (x ≡ p) ⊎ (v.prewritten s p ≡ true)) (once : v.prewritten s x ≢ true) (unlocked : (u : ℕ) → v.lock x u ≡ None) (early : (c u : ℕ) → v.write x c ≡ Some u → c < s) where
   pre_back : (u : ℕ) (y : Cell) → (with_prewrite v s x p k).prewritten u y ≡ true → ((u ≡ s) × (y ≡ x)) ⊎ (v.prewritten u y ≡ true)
-  pre_back u y e = elim (changed v.prewritten s (λ z. v.prewritten s z || same_cell x z) u ((with_prewrite v s x p k).prewritten u) refl) [
-    | inl q ↦ elim (or_cases (v.prewritten s y) (same_cell x y) (ap (λ (f : Cell → Bool). f y) q.1 ∙ e)) [ inl b ↦ inr (subst (λ w. v.prewritten w y ≡ true) (sym q.0) b) | inr a ↦ inl (q.0, sym (same_cell_is x y a)) ]
-    | inr q ↦ inr (ap (λ (f : Cell → Bool). f y) q.0 ∙ e)
-  ]
+  pre_back u y e = grind (arith, changed, same_cell, or_cases, same_cell_is, v.prewritten)
 
   pre_on : (u : ℕ) (y : Cell) → v.prewritten u y ≡ true → (with_prewrite v s x p k).prewritten u y ≡ true
-  pre_on u y e = elim (same_number u s) [
-    | inl q ↦ (let z : (with_prewrite v s x p k).prewritten s y ≡ true = ap (λ (f : Cell → Bool). f y) (set1_here v.prewritten s (λ w. v.prewritten s w || same_cell x w)) ∙ or_left _ (same_cell x y) (subst (λ w. v.prewritten w y ≡ true) q e) in subst (λ w. (with_prewrite v s x p k).prewritten w y ≡ true) (sym q) z)
-    | inr n ↦ ap (λ (f : Cell → Bool). f y) (set1_there v.prewritten s (λ w. v.prewritten s w || same_cell x w) u n) ∙ e
-  ]
+  pre_on u y e = grind arith
 
   pre_here : (with_prewrite v s x p k).prewritten s x ≡ true
   pre_here = ap (λ (f : Cell → Bool). f x) (set1_here v.prewritten s (λ w. v.prewritten s w || same_cell x w)) ∙ or_right (v.prewritten s x) (same_cell x x) (same_cell_itself x)
@@ -47,8 +39,7 @@ module _ (v : TableView) (i : IsSoundView v) (s : ℕ) (x p : Cell) (k : Content
   complete_away u c y e = away u y (λ f. cc)
 
   stamp_away : (u c : ℕ) (y : Cell) → HasStamp v u c → Apart y u x s
-  stamp_away u c y (inl e) = away u y (λ f. cc)
-  stamp_away u c y (inr e) = away u y (λ f. cc)
+  stamp_away u c y w = grind arith
 
   lock_back : (y : Cell) (u : ℕ) (q : Cell) → (with_prewrite v s x p k).lock y u ≡ Some q → ((y ≡ x) × (u ≡ s) × (p ≡ q)) ⊎ ((v.lock y u ≡ Some q) × Apart y u x s)
   lock_back y u q e = placed v.lock x s p y u q e
@@ -67,54 +58,29 @@ module _ (v : TableView) (i : IsSoundView v) (s : ℕ) (x p : Cell) (k : Content
       | inl q ↦ (let z : v.phase u ≡ Some Phase.Declared = ap v.phase q.0 ∙ was in (λ f. cc, λ f. cc))
       | inr b ↦ i.past_reading u y b
     ];
-    primary_first = λ u y q e g. elim (pre_back u y e) [
-      | inl a ↦ (let z : p ≡ q = (let g' : v.primary s ≡ Some q = subst (λ w. v.primary w ≡ Some q) a.0 g in cc) in
-          subst (λ w. (with_prewrite v s x p k).prewritten w q ≡ true) (sym a.0) (subst (λ w. (with_prewrite v s x p k).prewritten s w ≡ true) z (elim order [ inl o ↦ subst (λ w. (with_prewrite v s x p k).prewritten s w ≡ true) o pre_here | inr o ↦ pre_on s p o ])))
-      | inr b ↦ pre_on u q (i.primary_first u y q b g)
-    ];
+    primary_first = λ u y q e g. grind (arith, pre_back, pre_here, pre_on, v.primary, i.primary_first);
     all_prewritten = λ u c y k' e g. pre_on u y (i.all_prewritten u c y k' e g);
-    lock_prewritten = λ y u q e. elim (lock_back y u q e) [
-      | inl a ↦ (subst (λ w. (with_prewrite v s x p k).prewritten w y ≡ true) (sym a.1) (subst (λ w. (with_prewrite v s x p k).prewritten s w ≡ true) (sym a.0) pre_here), ap v.primary a.1 ∙ first ∙ ap Some a.2)
-      | inr b ↦ (let z = i.lock_prewritten y u q b.0 in (pre_on u y z.0, z.1))
-    ];
-    lock_data = λ y u q e. elim (lock_back y u q e) [
-      | inl a ↦ (λ j. (with_prewrite v s x p k).stored (a.0 j) (a.1 j)) ∙ set2_here v.stored x s (Some k) ∙ sym declared ∙ (λ j. v.content (sym a.1 j) (sym a.0 j))
-      | inr b ↦ set2_there v.stored x s (Some k) y u b.1 ∙ i.lock_data y u q b.0
-    ];
+    lock_prewritten = λ y u q e. grind (arith, pre_here, pre_on, lock_back, v.primary, i.lock_prewritten);
+    lock_data = λ y u q e. grind (arith, lock_back, set2_here, set2_there, v.content, v.stored, i.lock_data);
     one_lock = λ y a b q r e f. elim (lock_back y a q e) [
-      | inl g ↦ elim (lock_back y b r f) [
-        | inl h ↦ g.1 ∙ sym h.1
-        | inr h ↦ (let z : v.lock x b ≡ Some r = subst (λ w. v.lock w b ≡ Some r) g.0 h.0 in let n = unlocked b in cc)
-      ]
+      | inl g ↦ grind (arith, lock_back, v.lock)
       | inr g ↦ elim (lock_back y b r f) [
         | inl h ↦ (let z : v.lock x a ≡ Some q = subst (λ w. v.lock w a ≡ Some q) h.0 g.0 in let n = unlocked a in cc)
         | inr h ↦ i.one_lock y a b q r g.0 h.0
       ]
     ];
-    all_locked = λ u q y e f g. elim (pre_back u y g) [
-      | inl a ↦ (let z : p ≡ q = (let e' : v.primary s ≡ Some q = subst (λ w. v.primary w ≡ Some q) a.0 e in cc) in (λ j. (with_prewrite v s x p k).lock (a.1 j) (a.0 j)) ∙ set2_here v.lock x s (Some p) ∙ ap Some z)
-      | inr b ↦ elim (lock_back q u q f) [
-        | inl c ↦ (let z : v.prewritten s x ≡ true = (λ j. v.prewritten (sym c.1 j) (sym c.0 j)) ∙ i.primary_first u y q b e in absurd (once z))
-        | inr c ↦ lock_on y u q (i.all_locked u q y e c.0 b)
-      ]
-    ];
+    all_locked = λ u q y e f g. grind (arith, pre_back, lock_back, set2_here, lock_on, v.primary, i.primary_first, v.lock, v.prewritten, i.all_locked);
     record_committed = i.record_committed;
     record_data = λ y c u e. set2_there v.stored x s (Some k) y u (complete_away u c y (i.record_committed y c u e)) ∙ i.record_data y c u e;
     record_prewritten = λ y c u e. pre_on u y (i.record_prewritten y c u e);
     record_unlocked = λ y c u e. set2_there v.lock x s (Some p) y u (complete_away u c y (i.record_committed y c u e)) ∙ i.record_unlocked y c u e;
-    behind_lock = λ y u q c w e f. elim (lock_back y u q e) [
-      | inl a ↦ (let z = early c w (subst (λ t. v.write t c ≡ Some w) a.0 f) in let b = a.1 in omega arith)
-      | inr b ↦ i.behind_lock y u q c w b.0 f
-    ];
+    behind_lock = λ y u q c w e f. grind (arith, lock_back, v.write, i.behind_lock);
     apart = i.apart;
     stands = λ u c y k' e g. elim (i.stands u c y k' e g) [ inl a ↦ inl a | inr b ↦ inr (b.0, lock_on y u b.0 b.1) ];
     primary_stands = i.primary_stands;
     read_begun = i.read_begun;
     tells = λ u r e. tells_on v (with_prewrite v s x p k) (read_up_to u r.at) r.cell r.answer (λ a c f. f) (λ a c f. set2_there v.stored x s (Some k) r.cell a (complete_away a c r.cell (i.record_committed r.cell c a f))) (λ c w l f. f) (i.tells u r e);
-    settled = λ u r w c k' e f l g. elim (i.settled u r w c k' e f l g) [
-      | inl a ↦ inl a
-      | inr b ↦ inr (b.0, λ q z. set2_there v.lock x s (Some p) q w (stamp_away w c q f) ∙ b.1 q z)
-    ];
+    settled = λ u r w c k' e f l g. grind (arith, set2_there, stamp_away, v.lock, i.settled);
   }
 
 -- lock and data of a start gone from a cell
@@ -144,7 +110,6 @@ module _ (v : TableView) (i : IsSoundView v) (s : ℕ) (x p : Cell) (locked : v.
     all_locked = λ u q y e f g.
         let b = roll_back q u q f in
         set2_there v.lock x s None y u (λ j l.
-        let z : v.primary s ≡ Some q = subst (λ w. v.primary w ≡ Some q) l e in
         let t = (i.lock_prewritten x s p locked).1 in
         let same : p ≡ q = cc in
         elim dead [
@@ -162,10 +127,7 @@ module _ (v : TableView) (i : IsSoundView v) (s : ℕ) (x p : Cell) (locked : v.
     primary_stands = i.primary_stands;
     read_begun = i.read_begun;
     tells = λ u r e. tells_on v (without_lock v s x) (read_up_to u r.at) r.cell r.answer (λ a c f. f) (λ a c f. set2_there v.stored x s None r.cell a (complete_far a c r.cell (i.record_committed r.cell c a f))) (λ c w l f. f) (i.tells u r e);
-    settled = λ u r w c k e f l g. elim (i.settled u r w c k e f l g) [
-      | inl a ↦ inl a
-      | inr b ↦ inr (b.0, λ q z. set2_none v.lock x s q w (b.1 q z))
-    ];
+    settled = λ u r w c k e f l g. grind (arith, set2_none, i.settled);
   }
 
 -- the lock of s on x becomes its write record, where s is committed already or x is its primary
@@ -190,60 +152,37 @@ module _ (v : TableView) (i : IsSoundView v) (s c : ℕ) (x p : Cell) (locked : 
   ]
 
   stamp_was : (u d : ℕ) → HasStamp (with_record v s x c) u d → HasStamp v u d
-  stamp_was u d (inl e) = elim (changed v.phase s (Some (committed_at c)) u (Some (stamped_at d)) e) [ inl a ↦ cc | inr b ↦ inl b.0 ]
-  stamp_was u d (inr e) = elim (changed v.phase s (Some (committed_at c)) u (Some (committed_at d)) e) [
-    | inl a ↦ (let z : c ≡ d = same_commit c d a.1 in subst (λ w. HasStamp v w d) (sym a.0) (subst (λ w. HasStamp v s w) z stamp))
-    | inr b ↦ inr b.0
-  ]
+  stamp_was u d w = grind arith
 
   -- who is committed is s, or was it before
   complete_now : (u d : ℕ) → (with_record v s x c).phase u ≡ Some (committed_at d) → ((u ≡ s) × (d ≡ c)) ⊎ (v.phase u ≡ Some (committed_at d))
   complete_now u d e = elim (changed v.phase s (Some (committed_at c)) u (Some (committed_at d)) e) [ inl a ↦ inl (a.0, same_commit d c (sym a.1)) | inr b ↦ inr b.0 ]
 
   complete_stays : (u d : ℕ) → v.phase u ≡ Some (committed_at d) → (with_record v s x c).phase u ≡ Some (committed_at d)
-  complete_stays u d e = elim (same_number u s) [
-    | inl q ↦ (let e' : v.phase s ≡ Some (committed_at d) = subst (λ w. v.phase w ≡ Some (committed_at d)) q e in
-        let z : d ≡ c = elim may [ inl a ↦ same_commit d c (sym e' ∙ a) | inr b ↦ (let b' = b.0 in cc) ] in
-        ap (set1 v.phase s (Some (committed_at c))) q ∙ set1_here v.phase s (Some (committed_at c)) ∙ ap (λ w. Some (committed_at w)) (sym z))
-    | inr n ↦ set1_there v.phase s (Some (committed_at c)) u n ∙ e
-  ]
+  complete_stays u d e = grind arith
 
   mine : v.primary s ≡ Some p
   mine = (i.lock_prewritten x s p locked).1
 
   -- the primary is locked by s, or has its record
   has_primary : v.phase s ≢ Some (committed_at c) → LacksPrimary v s → ⊥
-  has_primary n d = elim may [
-    | inl a ↦ n a
-    | inr b ↦ (let off : v.lock p s ≡ None = d p mine in let on : v.lock p s ≡ Some p = subst (λ w. v.lock w s ≡ Some p) b.1 locked in cc)
-  ]
+  has_primary n d = grind arith
 
   -- the commit comes after each recorded read of this cell
   after_reads : (w : ℕ) (r : RecordedRead) → Has (v.reads w) r → r.cell ≡ x → c ≤ read_up_to w r.at → v.write x c ≡ Some s
-  after_reads w r e same low =
-      let k = i.was_declared s x (i.lock_prewritten x s p locked).0 in
-      elim (i.settled w r s c k.0 e stamp low (ap (v.content s) same ∙ k.1)) [
-        | inl a ↦ subst (λ y. v.write y c ≡ Some s) same a
-        | inr b ↦ absurd (has_primary b.0 b.1)
-      ]
+  after_reads w r e same low = grind arith
 
   -- and so there is none at or after it
   no_read : (w : ℕ) (r : RecordedRead) → Has (v.reads w) r → r.cell ≡ x → c ≤ read_up_to w r.at → ⊥
   no_read w r e same low = let off = i.record_unlocked x c s (after_reads w r e same low) in cc
 
   held_on : (y : Cell) (k : Content) → v.content s y ≡ Some k → (v.write y c ≡ Some s) ⊎ ((q : Cell) × (v.lock y s ≡ Some q))
-  held_on y k e = elim may [
-    | inl a ↦ i.stands s c y k a e
-    | inr b ↦ inr (p, i.all_locked s p y mine (subst (λ w. v.lock w s ≡ Some p) b.1 locked) (i.all_prewritten s c y k b.0 e))
-  ]
+  held_on y k e = grind arith
 
   now_stands : (u d : ℕ) (y : Cell) → d ≡ c ⊎ (u ≢ s) → (v.write y d ≡ Some u) ⊎ ((q : Cell) × (v.lock y u ≡ Some q)) → ((with_record v s x c).write y d ≡ Some u) ⊎ ((q : Cell) × ((with_record v s x c).lock y u ≡ Some q))
   now_stands u d y which (inl a) = inl (write_on y d u a)
   now_stands u d y which (inr b) = elim (decide y u x s) [
-    | inl a ↦ elim which [
-      | inl m ↦ inl ((λ j. (with_record v s x c).write (a.0 j) (m j)) ∙ set2_here v.write x c (Some s) ∙ ap Some (sym a.1))
-      | inr n ↦ absurd (n a.1)
-    ]
+    | inl a ↦ grind (arith, set2_here, v.write)
     | inr n ↦ inr (b.0, set2_there v.lock x s None y u n ∙ b.1)
   ]
 
@@ -254,10 +193,7 @@ module _ (v : TableView) (i : IsSoundView v) (s c : ℕ) (x p : Cell) (locked : 
     stamped = λ u d e. i.stamped u d (stamp_was u d e);
     one_stamp = λ u w d a b. i.one_stamp u w d (stamp_was u d a) (stamp_was w d b);
     was_declared = i.was_declared;
-    past_reading = λ u y e. (
-      λ f. elim (changed v.phase s (Some (committed_at c)) u (Some Phase.Reading) f) [ inl q ↦ cc | inr q ↦ (i.past_reading u y e).0 q.0 ],
-      λ f. elim (changed v.phase s (Some (committed_at c)) u None f) [ inl q ↦ cc | inr q ↦ (i.past_reading u y e).1 q.0 ],
-    );
+    past_reading = λ u y e. (grind (arith, changed, committed_at, v.phase, i.past_reading));
     primary_first = i.primary_first;
     all_prewritten = λ u d y k e g. elim (changed v.phase s (Some (committed_at c)) u (Some (stamped_at d)) e) [ inl a ↦ cc | inr b ↦ i.all_prewritten u d y k b.0 g ];
     lock_prewritten = λ y u q e. i.lock_prewritten y u q (unlock_back y u q e).0;
@@ -274,36 +210,15 @@ module _ (v : TableView) (i : IsSoundView v) (s c : ℕ) (x p : Cell) (locked : 
           | inr d ↦ b.1 (sym same ∙ sym d.1) l
         ])
         ∙ i.all_locked u q y e b.0 g;
-    record_committed = λ y d u e. elim (write_back y d u e) [
-      | inl a ↦ ap (set1 v.phase s (Some (committed_at c))) (sym a.2) ∙ set1_here v.phase s (Some (committed_at c)) ∙ ap (λ w. Some (committed_at w)) (sym a.1)
-      | inr b ↦ complete_stays u d (i.record_committed y d u b.0)
-    ];
-    record_data = λ y d u e. elim (write_back y d u e) [
-      | inl a ↦ (λ j. v.stored (a.0 j) (sym a.2 j)) ∙ i.lock_data x s p locked ∙ (λ j. v.content (a.2 j) (sym a.0 j))
-      | inr b ↦ i.record_data y d u b.0
-    ];
+    record_committed = λ y d u e. grind (arith, committed_at, write_back, set1, set1_here, complete_stays, v.phase, i.record_committed);
+    record_data = λ y d u e. grind (arith, write_back, i.lock_data, v.stored, v.content, i.record_data);
     record_prewritten = λ y d u e. elim (write_back y d u e) [
       | inl a ↦ (λ j. v.prewritten (sym a.2 j) (a.0 j)) ∙ (i.lock_prewritten x s p locked).0
       | inr b ↦ i.record_prewritten y d u b.0
     ];
-    record_unlocked = λ y d u e. elim (write_back y d u e) [
-      | inl a ↦ (λ j. (with_record v s x c).lock (a.0 j) (sym a.2 j)) ∙ set2_here v.lock x s None
-      | inr b ↦ set2_none v.lock x s y u (i.record_unlocked y d u b.0)
-    ];
-    behind_lock = λ y u q d w e f. let b = unlock_back y u q e in elim (write_back y d w f) [
-      | inl a ↦ absurd (b.1 a.0 (i.one_lock x u s q p (subst (λ z. v.lock z u ≡ Some q) a.0 b.0) locked))
-      | inr g ↦ i.behind_lock y u q d w b.0 g.0
-    ];
-    apart = λ y a u b w e f n. elim (write_back y a u e) [
-      | inl g ↦ elim (write_back y b w f) [
-        | inl h ↦ absurd (n (sym g.2 ∙ h.2))
-        | inr h ↦ inr (let z = i.behind_lock x s p b w locked (subst (λ t. v.write t b ≡ Some w) g.0 h.0) in subst (λ t. b < t) g.2 z)
-      ]
-      | inr g ↦ elim (write_back y b w f) [
-        | inl h ↦ inl (let z = i.behind_lock x s p a u locked (subst (λ t. v.write t a ≡ Some u) h.0 g.0) in subst (λ t. a < t) h.2 z)
-        | inr h ↦ i.apart y a u b w g.0 h.0 n
-      ]
-    ];
+    record_unlocked = λ y d u e. grind (arith, write_back, set2_here, set2_none, i.record_unlocked);
+    behind_lock = λ y u q d w e f. grind (arith, write_back, i.one_lock, i.behind_lock);
+    apart = λ y a u b w e f n. grind (arith, write_back, i.behind_lock, v.write, i.apart);
     stands = λ u d y k e g. elim (complete_now u d e) [
       | inl a ↦ now_stands u d y (inl a.1) (subst (λ w. (v.write y w ≡ Some u) ⊎ ((q : Cell) × (v.lock y u ≡ Some q))) (sym a.1) (subst (λ w. (v.write y c ≡ Some w) ⊎ ((q : Cell) × (v.lock y w ≡ Some q))) (sym a.0) (held_on y k (subst (λ w. v.content w y ≡ Some k) a.0 g))))
       | inr b ↦ now_stands u d y (elim (same_number u s) [
@@ -311,30 +226,11 @@ module _ (v : TableView) (i : IsSoundView v) (s c : ℕ) (x p : Cell) (locked : 
         | inr n ↦ inr n
       ]) (i.stands u d y k b g)
     ];
-    primary_stands = λ u d q e g. elim (complete_now u d e) [
-      | inl a ↦ (let g' : v.primary s ≡ Some q = subst (λ w. v.primary w ≡ Some q) a.0 g in
-          let m = mine in
-          let same : p ≡ q = cc in
-          let z : (with_record v s x c).write q c ≡ Some s = elim may [
-            | inl o ↦ write_on q c s (i.primary_stands s c q o g')
-            | inr o ↦ ap (λ w. (with_record v s x c).write w c) (sym same ∙ sym o.1) ∙ set2_here v.write x c (Some s)
-          ] in
-          ap ((with_record v s x c).write q) a.1 ∙ z ∙ ap Some (sym a.0))
-      | inr b ↦ write_on q d u (i.primary_stands u d q b g)
-    ];
+    primary_stands = λ u d q e g. grind (arith, set2_here, complete_now, write_on, i.primary_stands, v.write);
     read_begun = i.read_begun;
-    tells = λ w r e. tells_on v (with_record v s x c) (read_up_to w r.at) r.cell r.answer (λ a d f. write_on r.cell d a f) (λ a d f. refl) (λ d u l f. elim (write_back r.cell d u f) [
-      | inl a ↦ absurd (no_read w r e a.0 (subst (λ z. z ≤ read_up_to w r.at) a.1 l))
-      | inr b ↦ b.0
-    ]) (i.tells w r e);
+    tells = λ w r e. grind (arith, write_back, write_on, tells_on, no_read, i.tells);
     settled = λ w r u d k e f l g. elim (i.settled w r u d k e (stamp_was u d f) l g) [
       | inl a ↦ inl (write_on r.cell d u a)
-      | inr b ↦ inr (
-        λ z. elim (complete_now u d z) [
-          | inl a ↦ has_primary (subst (λ t. v.phase t ≢ Some (committed_at c)) a.0 (subst (λ t. v.phase u ≢ Some (committed_at t)) a.1 b.0)) (subst (LacksPrimary v) a.0 b.1)
-          | inr a ↦ b.0 a
-        ],
-        λ q z. set2_none v.lock x s q u (b.1 q z),
-      )
+      | inr b ↦ grind (arith, committed_at, set2_none, complete_now, has_primary, v.phase)
     ];
   }

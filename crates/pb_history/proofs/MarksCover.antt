@@ -1,12 +1,11 @@
 -- Where an observed cell isn't marked, each of its changes is acknowledged by a run that began later.
-use Rattle.std.proofs.Common.{◌≡◌, ℕ, zero, suc, ◌<◌, ◌≤◌, Bool, true, false, cond, ◌⊎◌, inl, inr, List, [], ◌∷◌, ◌++◌, Option, Some, None, refl, sym, ap, subst, ◌∙◌, arith, ◌||◌, ◌==◌, is_some, slice_get}
+use Rattle.std.proofs.Common.{◌≡◌, ℕ, zero, suc, ◌<◌, ◌≤◌, Bool, true, false, cond, ◌⊎◌, inl, inr, List, [], ◌∷◌, ◌++◌, Option, Some, None, refl, sym, ap, subst, ◌∙◌, arith, ◌==◌, is_some, slice_get}
 use Rattle.std.specs.List.{list_any}
 use Rattle.std.specs.Ordering.{eq_by_cmp}
 use Rattle.std.specs.FinMap as map
-use Rattle.std.proofs.lemmas.Bool.{eq-eqb, or_right as or_true}
+use Rattle.std.proofs.lemmas.Bool.{or_right as or_true}
 use Rattle.pb_base.specs.declared.cell.Cell.{Cell}
 use Rattle.pb_base.specs.declared.names.Row.{Row}
-use Rattle.pb_base.specs.declared.content.Content.{Content}
 use Rattle.pb_base.specs.declared.content.Revision.{Revision}
 use Rattle.pb_base.specs.Cell.{cell_cmp, cell_cmp_total}
 use Rattle.pb_store.specs.declared.slot.Sort.{Sort}
@@ -16,7 +15,6 @@ use Rattle.pb_steps.specs.declared.step.Step.{Step}
 use Rattle.pb_steps.specs.declared.step.Answer.{Answer}
 use Rattle.pb_steps.specs.State.{StateOf, opening}
 use Rattle.pb_verify.specs.Observers.{ObserverOf}
-use Rattle.pb_steps.specs.Reads.{stamp_of}
 use Rattle.pb_steps.specs.Readings.{write_at, lock_at, start_of, last_timestamp, IsVersion, IsNewestVersion}
 use Rattle.pb_steps.specs.Marks.{is_observed, with_mark, is_marked, stamp_in, IsBehind, SomeBehind, AllUpToDate}
 use Rattle.pb_steps.specs.Commits.{commits}
@@ -35,7 +33,7 @@ use Rattle.pb_history.proofs.JournalsAreSound.{legal_sound}
 use Rattle.pb_history.proofs.PhasesKeepSound.{stamped_at, committed_at}
 use Rattle.pb_history.proofs.LocksKeepSound.{write_on}
 use Rattle.pb_history.proofs.ViewsAfter.{write_after_commit, write_after_back, write_after_put}
-use Rattle.pb_history.proofs.StepsKeepSound.{phase_by, primary_by, some_is}
+use Rattle.pb_history.proofs.StepsKeepSound.{phase_by, some_is}
 use Rattle.pb_history.proofs.Acknowledgments.{stamp_stands}
 
 -- by observers, whether a cell is marked, and write records
@@ -53,14 +51,11 @@ pub record IsCovered (state : StateOf) : Type 0 where
 -- a column that one of the observers has is observed
 observed_one : (observers : List ObserverOf) (o : ℕ) (observer : ObserverOf) → slice_get observers o ≡ Some observer → list_any (λ z. z.column == observer.column) observers ≡ true
 observed_one [] o observer e = cc
-observed_one (z ∷ zs) zero observer e =
-    let same : z ≡ observer = cc in
-    ap (λ b. b || list_any (λ w. w.column == observer.column) zs) (eq-eqb z.column observer.column (ap (λ (w : ObserverOf). w.column) same))
+observed_one (z ∷ zs) zero observer e = grind arith
 observed_one (z ∷ zs) (suc o) observer e = or_true (z.column == observer.column) _ (observed_one zs o observer e)
 
 past_insert : (b : Bool) (o : Option (Unit {0})) → is_some (cond b (Some tt) o) ≡ false → is_some o ≡ false
-past_insert true o e = cc
-past_insert false o e = e
+past_insert b o e = grind arith
 
 module _ (marks : Marks) (x : Cell) where
   marked_more : (y : Cell) → is_marked (map.insert marks x tt) y ≡ false → is_marked marks y ≡ false
@@ -79,10 +74,7 @@ module _ (marks : Marks) (x : Cell) where
       ] refl (ap is_some (sym (map.get-remove cell_cmp_total marks x y)) ∙ e)
 
   marks_were : (observers : List ObserverOf) (y : Cell) → is_marked (with_mark observers marks x) y ≡ false → is_marked marks y ≡ false
-  marks_were observers y = elim (is_observed observers x) as (λ b. is_marked (cond b (map.insert marks x tt) marks) y ≡ false → is_marked marks y ≡ false) [
-    | true ↦ λ e. marked_more y e
-    | false ↦ λ e. e
-  ]
+  marks_were observers y = grind (arith, marked_more)
 
   marked_now : (observers : List ObserverOf) → is_observed observers x ≡ true → is_marked (with_mark observers marks x) x ≡ true
   marked_now observers e = ap (λ b. is_marked (cond b (map.insert marks x tt) marks) x) e ∙ marked_here
@@ -95,11 +87,7 @@ module _ (journal : List Entry) (old : StateOf) (a : Agrees journal old) (i : Is
 
   -- the stamp of an acknowledgment's version is its start
   stamp_is : (p : ℕ) (row : Row) (column s : ℕ) (v : Revision) → IsVersion old.entries (Cell.Ack p row column) s v → stamp_in (Some v) ≡ v.start.0
-  stamp_is p row column s v n =
-      let there = n.content in
-      let stands = stamp_stands journal old a i p row column v.commit.0 v.start.0 n.written in
-      let same : v.content ≡ Content.Stamp (ts v.start.0) = cc in
-      ap (λ k. (stamp_of k).0) same
+  stamp_is p row column s v n = grind (arith, stamp_stands, ts, n.content, n.written, v.content)
 
   kept : (new : StateOf) → new.observers ≡ old.observers → new.marks ≡ old.marks → write_at new.entries ≡ write_at old.entries → IsCovered new
   kept new obs marks write = record {
@@ -120,7 +108,6 @@ module _ (journal : List Entry) (old : StateOf) (a : Agrees journal old) (i : Is
             elim (placed (write_at old.entries) x c s y d u e') [
               | inl g ↦
                   (let on = marked_now old.marks x old.observers (ap (is_observed old.observers) (sym g.0) ∙ observed_one old.observers o observer known) in
-                  let off' : is_marked (with_mark old.observers old.marks x) x ≡ false = ap (is_marked (with_mark old.observers old.marks x)) (sym g.0) ∙ off in
                   absurd cc)
               | inr b ↦
                   (let was = cov.covers o observer known row (marks_were old.marks x old.observers y off) d u b.0 in
@@ -141,10 +128,7 @@ module _ (journal : List Entry) (old : StateOf) (a : Agrees journal old) (i : Is
 
   swept : (new : StateOf) (x : Cell) → AllUpToDate old.observers old.entries x → new ≡ record old { marks = map.remove old.marks x } → IsCovered new
   swept new x all is = subst IsCovered (sym is) (record {
-    covers = λ o observer there row unmarked c u e. elim (marked_less old.marks x (Cell.Data row observer.column) unmarked) [
-      | inl q ↦ up_to_date o row observer there (subst (AllUpToDate old.observers old.entries) (sym q) all) c u e
-      | inr q ↦ cov.covers o observer there row q c u e
-    ];
+    covers = λ o observer there row unmarked c u e. grind (arith, marked_less, up_to_date, old.marks, old.observers, old.entries, cov.covers);
   })
 
   same : (new : StateOf) → new ≡ old → IsCovered new
@@ -177,7 +161,6 @@ module _ (journal : List Entry) (old : StateOf) (a : Agrees journal old) (i : Is
   case_covers seat (Step.CommitPrimary s) Answer.Committed new m =
       let held = some_is (lock_at old.entries m.primary s.0) m.locked in
       let own = (i.lock_prewritten m.primary s.0 held.0 held.1).1 in
-      let mine : (view_of old).primary s.0 ≡ Some m.primary = ap primary_by m.own.there ∙ m.primary_is in
       let is : m.primary ≡ held.0 = cc in
       committed new s.0 m.c m.primary held.0 held.1 (inr (ap phase_by m.own.there ∙ ap Some m.stamped, is)) (ap (λ (z : StateOf). z.observers) m.new_is) (ap (λ (z : StateOf). z.entries) m.new_is) (ap (λ (z : StateOf). z.marks) m.new_is)
   case_covers seat (Step.CommitPrimary s) Answer.Lost new m = beside new _ m.new_is refl refl refl
@@ -221,9 +204,8 @@ module _ (journal : List Entry) (state : StateOf) (a : Agrees journal state) (i 
   in_order x d s c u e f low = elim (same_number u s) [
     | inl q ↦ omega (arith, q)
     | inr n ↦
-        (let first = (i.stamped s d (inr (i.record_committed x d s e))).0 in
-        let second = (i.stamped u c (inr (i.record_committed x c u f))).0 in
-        elim (i.apart x c u d s f e n) [ inl g ↦ omega (arith, first, second, g, low) | inr g ↦ absurd (omega (arith, first, second, g, low)) ])
+        (let second = (i.stamped u c (inr (i.record_committed x c u f))).0 in
+        elim (i.apart x c u d s f e n) [ inl g ↦ omega (arith, second, g, low) | inr g ↦ absurd (omega (arith, second, g, low)) ])
   ]
 
   -- an acknowledgment of a start at least c tells a stamp at least c
@@ -247,8 +229,7 @@ module _ (journal : List Entry) (state : StateOf) (a : Agrees journal state) (i 
       let w = cov.covers p k.observer k.there row at h.version.commit.0 h.version.start.0 written in
       let ack : write_at state.entries (Cell.Ack p row column) w.0 ≡ Some w.1 = ap (λ c. write_at state.entries (Cell.Ack p row c) w.0) (sym k.observes) ∙ w.2 in
       let low = acknowledged_by_then p row column h.version.commit.0 w.0 w.1 h.acknowledged k.newest ack w.3 in
-      let newer = h.newer in
-      omega (arith, low, newer)
+      omega (arith, low)
 
   behind_marked : (x : Cell) → SomeBehind state.observers state.entries x → is_marked state.marks x ≡ true
   behind_marked (Cell.Data row column) h = by (is_marked state.marks (Cell.Data row column)) (unmarked_is_current row column h.0 h.1)

@@ -1,12 +1,11 @@
 -- A step of a sound table has one outcome.
-use Rattle.std.proofs.Common.{◌≡◌, ℕ, ◌<◌, ◌⊎◌, true, false, inl, inr, List, [], ◌∷◌, ◌++◌, Option, Some, None, refl, sym, ap, ◌∙◌, arith, is_some}
+use Rattle.std.proofs.Common.{◌≡◌, ℕ, ◌⊎◌, true, false, inl, inr, List, Option, Some, None, refl, sym, ap, ◌∙◌, arith, is_some}
 use Rattle.std.specs.Ordering.{eq_by_cmp}
 use Rattle.std.specs.FinMap as map
 use Rattle.pb_base.specs.declared.cell.Cell.{Cell}
 use Rattle.pb_base.specs.declared.names.Ts.{Ts}
 use Rattle.pb_base.specs.declared.content.Revision.{Revision}
 use Rattle.pb_base.specs.Cell.{cell_cmp}
-use Rattle.pb_base.specs.Batch.{content_in, primary_in}
 use Rattle.pb_store.specs.Contents.{Entries, Marks, IsNextMark}
 use Rattle.pb_steps.specs.declared.step.Step.{Step}
 use Rattle.pb_steps.specs.declared.step.Work.{Work}
@@ -15,18 +14,18 @@ use Rattle.pb_steps.specs.declared.step.Answer.{Answer}
 use Rattle.pb_steps.specs.declared.phase.Phase.{Phase}
 use Rattle.pb_verify.specs.Observers.{ObserverOf}
 use Rattle.pb_steps.specs.Marks.{stamp_in, SomeBehind, AllUpToDate}
-use Rattle.pb_steps.specs.State.{StateOf, TransactionOf, with_transaction, new_transaction, phase_in, cells_of}
+use Rattle.pb_steps.specs.State.{StateOf, TransactionOf, with_transaction}
 use Rattle.pb_steps.specs.Reads.{read_up_to, found_answer}
 use Rattle.pb_steps.specs.Reasons.{IsOwn}
-use Rattle.pb_steps.specs.Readings.{NoLockUpTo, lock_at, write_at, data_at, IsVersion, IsNewestVersion, NoVersion, IsLockOn, NoLock, last_timestamp}
+use Rattle.pb_steps.specs.Readings.{NoLockUpTo, lock_at, write_at, IsVersion, IsNewestVersion, NoVersion, IsLockOn, NoLock, last_timestamp}
 use Rattle.pb_steps.specs.Begin.{Begins}
 use Rattle.pb_steps.specs.Read.{with_read, ReadsLocked, ReadsFound, ReadsAbsent}
 use Rattle.pb_steps.specs.Declare.{Declares}
-use Rattle.pb_steps.specs.Prewrite.{put_lock, Prewrites, Conflicts}
+use Rattle.pb_steps.specs.Prewrite.{Prewrites, Conflicts}
 use Rattle.pb_steps.specs.Stamp.{Stamps}
-use Rattle.pb_steps.specs.Commits.{commits, rolls_back}
+use Rattle.pb_steps.specs.Commits.{rolls_back}
 use Rattle.pb_steps.specs.CommitPrimary.{CommitsPrimary, Loses}
-use Rattle.pb_steps.specs.CommitSecondary.{if_locked, CommitsSecondary}
+use Rattle.pb_steps.specs.CommitSecondary.{CommitsSecondary}
 use Rattle.pb_steps.specs.Settle.{MeetsNoLock, MeetsSecondary, Settles}
 use Rattle.pb_steps.specs.Clear.{ClearWaits, ClearsCommitted, ClearsBack}
 use Rattle.pb_steps.specs.NextMark.{FindsMark, FindsNone}
@@ -35,7 +34,6 @@ use Rattle.pb_steps.specs.Steps.{StepCase, TableStep}
 use Rattle.pb_history.specs.Outcomes.{AreSame}
 use Rattle.pb_history.specs.Sound.{IsSoundTable}
 use Rattle.pb_history.proofs.Progress.{first_of_two}
-use Rattle.pb_history.proofs.Updates.{same_cell, same_cell_itself}
 use Rattle.pb_base.proofs.Logic.{one_value, not_none as some_none}
 
 -- ---- of two things that a definition names, one
@@ -44,20 +42,9 @@ use Rattle.pb_base.proofs.Logic.{one_value, not_none as some_none}
 one_transaction : (state : StateOf) (seat s : ℕ) (t u : TransactionOf) → IsOwn state seat s t → IsOwn state seat s u → t ≡ u
 one_transaction state seat s t u p q = one_value (map.get state.transactions s) t u p.there q.there
 
--- two that are each the greatest
-ordered : (a b : ℕ) → (a < b → ⊥) → (b < a → ⊥) → a ≡ b
-ordered a b p q = omega (arith, p, q)
-
-some_none_test : {A : Type 0} (o : Option A) → is_some o ≡ true → o ≡ None → ⊥
-some_none_test o p q = let no = ap is_some q in cc
-
 -- a snapshot has one newest version of a cell
 one_version : (e : Entries) (x : Cell) (s : ℕ) (v w : Revision) → IsVersion e x s v → IsVersion e x s w → v ≡ w
-one_version e x s v w p q =
-    let commit : v.commit.0 ≡ w.commit.0 = ordered v.commit.0 w.commit.0 (λ lt. some_none _ _ q.written (p.newest w.commit.0 lt q.low)) (λ lt. some_none _ _ p.written (q.newest v.commit.0 lt p.low)) in
-    let start : v.start.0 ≡ w.start.0 = one_value (write_at e x v.commit.0) v.start.0 w.start.0 p.written (ap (write_at e x) commit ∙ q.written) in
-    let content : v.content ≡ w.content = one_value (data_at e x v.start.0) v.content w.content p.content (ap (data_at e x) start ∙ q.content) in
-    λ i. record { start = record { 0 = start i }; commit = record { 0 = commit i }; content = content i }
+one_version e x s v w p q = grind arith
 
 -- or none, and not both
 version_or_none : (e : Entries) (x : Cell) (s : ℕ) (v : Revision) → IsVersion e x s v → NoVersion e x s → ⊥
@@ -72,29 +59,15 @@ one_newest e x (Some v) (Some w) p q = ap Some (one_version e x last_timestamp v
 
 -- the newest lock on a cell is one
 one_lock_on : (e : Entries) (x : Cell) (s u : ℕ) (p q : Cell) → IsLockOn e x s p → IsLockOn e x u q → (s ≡ u) × (p ≡ q)
-one_lock_on e x s u p q a b =
-    let start : s ≡ u = ordered s u (λ lt. some_none _ _ b.locked (a.newest u lt b.fits)) (λ lt. some_none _ _ a.locked (b.newest s lt a.fits)) in
-    (start, one_value (lock_at e x s) p q a.locked (ap (lock_at e x) start ∙ b.locked))
+one_lock_on e x s u p q a b = grind arith
 
 -- a lock stands, or none does
 lock_or_none : (e : Entries) (x : Cell) (s : ℕ) (p : Cell) → IsLockOn e x s p → NoLock e x → ⊥
 lock_or_none e x s p a none = some_none _ _ a.locked (none s a.fits)
 
--- a lock of another primary, and one of its own
-other_or_own : (e : Entries) (x : Cell) (s u : ℕ) (p : Cell) → IsLockOn e x s p → eq_by_cmp cell_cmp p x ≡ false → IsLockOn e x u x → ⊥
-unfolding same_cell
-other_or_own e x s u p a other b =
-    let own : eq_by_cmp cell_cmp p x ≡ true = ap (λ z. eq_by_cmp cell_cmp z x) (one_lock_on e x s u p x a b).1 ∙ itself x in cc
-  where
-    itself : (y : Cell) → eq_by_cmp cell_cmp y y ≡ true
-    itself y = same_cell_itself y
-
 -- the first mark after a cell is one
 one_mark : (marks : Marks) (after : Option Cell) (x y : Cell) → IsNextMark marks after (Some x) → IsNextMark marks after (Some y) → x ≡ y
-one_mark marks after x y p q = elim (first_of_two x y) [
-  | inl low ↦ elim low [ inl is ↦ sym is | inr lt ↦ absurd (let unmarked = p.2 y q.1 lt in let marked = q.0 in cc) ]
-  | inr lt ↦ absurd (let unmarked = q.2 x p.1 lt in let marked = p.0 in cc)
-]
+one_mark marks after x y p q = grind (arith, first_of_two)
 
 -- an observer is behind, or all are up to date
 behind_or_not : (observers : List ObserverOf) (e : Entries) (x : Cell) → SomeBehind observers e x → AllUpToDate observers e x → ⊥
@@ -102,9 +75,7 @@ behind_or_not observers e (Cell.Data row column) b all =
     let o = b.1.acknowledges in
     let u = all b.0 o.observer o.there o.observes b.1.version.commit.0 b.1.newest.low (ap is_some b.1.newest.written) in
     let same = ap stamp_in (one_newest e (Cell.Ack b.0 row column) u.0 b.1.acknowledged u.1 o.newest) in
-    let newer = b.1.newer in
-    let le = u.2 in
-    omega (arith, same, newer, le)
+    omega (arith, same)
 behind_or_not observers e (Cell.Ack o row column) b all = absurd b
 
 -- ---- the steps, each case against each that the same step may have
@@ -117,25 +88,14 @@ module _ (old : StateOf) (i : IsSoundTable old) (seat : ℕ) (new other : StateO
   left : (a : Answer) (to : StateOf) → new ≡ to → other ≡ to → Same a a
   left a to p q = record { answer = refl; state = p ∙ sym q }
 
-  begins : (work : Work) (s u : Ts) → Begins old seat work s.0 new → Begins old seat work u.0 other → Same (Answer.At s) (Answer.At u)
-  begins work s u m n =
-      let is : s ≡ u = (let e : s.0 ≡ u.0 = m.fresh ∙ sym n.fresh in λ j. record { 0 = e j }) in
-      record { answer = ap Answer.At is; state = m.new_is ∙ ap (λ (z : Ts). record old { clock = z.0; transactions = map.insert old.transactions z.0 (new_transaction seat work) }) is ∙ sym n.new_is }
-
   -- ---- reads
 
   module _ (s : ℕ) (x : Cell) (at : Option Ts) where
     locked_once : (start stop : Ts) (p q : Cell) → ReadsLocked old seat s x at (start.0, p) new → ReadsLocked old seat s x at (stop.0, q) other → Same (Answer.Locked start p) (Answer.Locked stop q)
-    locked_once start stop p q m n =
-        let e : start.0 ≡ stop.0 = ordered start.0 stop.0 (λ lt. some_none _ _ n.locked (m.newest stop.0 lt n.low)) (λ lt. some_none _ _ m.locked (n.newest start.0 lt m.low)) in
-        let primary : p ≡ q = one_value (lock_at old.entries x start.0) p q m.locked (ap (lock_at old.entries x) e ∙ n.locked) in
-        record { answer = λ j. Answer.Locked (record { 0 = e j }) (primary j); state = m.new_is ∙ sym n.new_is }
+    locked_once start stop p q m n = grind arith
 
     found_once : (v w : Revision) → ReadsFound old seat s x at v new → ReadsFound old seat s x at w other → Same (found_answer v) (found_answer w)
-    found_once v w m n =
-        let is = one_version old.entries x (read_up_to s at) v w m.version n.version in
-        let t = one_transaction old seat s m.t n.t m.own n.own in
-        record { answer = ap found_answer is; state = m.new_is ∙ (λ j. with_transaction old s (with_read (t j) x at (found_answer (is j)))) ∙ sym n.new_is }
+    found_once v w m n = grind arith
 
     absent_once : ReadsAbsent old seat s x at new → ReadsAbsent old seat s x at other → Same Answer.Absent Answer.Absent
     absent_once m n = record { answer = refl; state = m.new_is ∙ ap (λ u. with_transaction old s (with_read u x at Answer.Absent)) (one_transaction old seat s m.t n.t m.own n.own) ∙ sym n.new_is }
@@ -153,17 +113,11 @@ module _ (old : StateOf) (i : IsSoundTable old) (seat : ℕ) (new other : StateO
 
   after_locked : (s : ℕ) (x : Cell) (at : Option Ts) (start : Ts) (p : Cell) (b : Answer) → ReadsLocked old seat s x at (start.0, p) new → ReadCase s x at b other → Same (Answer.Locked start p) b
   unfolding ReadCase
-  after_locked s x at start p (Answer.Locked stop q) m n = locked_once s x at start stop p q m n
-  after_locked s x at start p (Answer.Found a c k) m n = absurd (locked_or_not s start.0 x at p new m n.unlocked)
-  after_locked s x at start p Answer.Absent m n = absurd (locked_or_not s start.0 x at p new m n.unlocked)
-  after_locked s x at start p _ m n = absurd n
+  after_locked s x at start p b m n = grind arith
 
   after_found : (s : ℕ) (x : Cell) (at : Option Ts) (v : Revision) (b : Answer) → ReadsFound old seat s x at v new → ReadCase s x at b other → Same (found_answer v) b
   unfolding ReadCase
-  after_found s x at v (Answer.Locked stop q) m n = absurd (locked_or_not s stop.0 x at q other n m.unlocked)
-  after_found s x at v (Answer.Found a c k) m n = found_once s x at v (record { start = a; commit = c; content = k }) m n
-  after_found s x at v Answer.Absent m n = absurd (version_or_none old.entries x (read_up_to s at) v m.version n.none)
-  after_found s x at v _ m n = absurd n
+  after_found s x at v b m n = grind arith
 
   after_absent : (s : ℕ) (x : Cell) (at : Option Ts) (b : Answer) → ReadsAbsent old seat s x at new → ReadCase s x at b other → Same Answer.Absent b
   unfolding ReadCase
@@ -174,91 +128,25 @@ module _ (old : StateOf) (i : IsSoundTable old) (seat : ℕ) (new other : StateO
 
   reads : (s : ℕ) (x : Cell) (at : Option Ts) (a b : Answer) → ReadCase s x at a new → ReadCase s x at b other → Same a b
   unfolding ReadCase
-  reads s x at (Answer.Locked start p) b m n = after_locked s x at start p b m n
-  reads s x at (Answer.Found start commit content) b m n = after_found s x at (record { start = start; commit = commit; content = content }) b m n
-  reads s x at Answer.Absent b m n = after_absent s x at b m n
-  reads s x at _ b m n = absurd m
+  reads s x at a b m n = grind (arith, after_locked, after_found, after_absent)
 
   read_case : (s : Ts) (x : Cell) (a : Answer) (to : StateOf) → StepCase old seat (Step.Read s x) a to → ReadCase s.0 x None a to
   unfolding ReadCase
-  read_case s x (Answer.Locked start p) to m = m
-  read_case s x (Answer.Found start commit content) to m = m
-  read_case s x Answer.Absent to m = m
-  read_case s x _ to m = absurd m
+  read_case s x a to m = grind arith
 
   read_at_case : (s : Ts) (x : Cell) (t : Ts) (a : Answer) (to : StateOf) → StepCase old seat (Step.ReadAt s x t) a to → ReadCase s.0 x (Some t) a to
   unfolding ReadCase
-  read_at_case s x t (Answer.Locked start p) to m = m
-  read_at_case s x t (Answer.Found start commit content) to m = m
-  read_at_case s x t Answer.Absent to m = m
-  read_at_case s x t _ to m = absurd m
+  read_at_case s x t a to m = grind arith
 
   -- ---- a transaction's own steps
 
-  declares : (s : ℕ) (what : Declared) → Declares old seat s what new → Declares old seat s what other → Same Answer.Done Answer.Done
-  declares s what m n = record { answer = refl; state = m.new_is ∙ ap (λ (u : TransactionOf). with_transaction old s (record u { phase = Phase.Declared; declared = cells_of old.observers u.work s what })) (one_transaction old seat s m.t n.t m.own n.own) ∙ sym n.new_is }
-
-  prewrites : (s : ℕ) (x : Cell) → Prewrites old seat s x new → Prewrites old seat s x other → Same Answer.Done Answer.Done
-  prewrites s x m n =
-      let t = one_transaction old seat s m.t n.t m.own n.own in
-      let content = one_value (content_in m.t.declared x) m.content n.content m.declares (ap (λ (u : TransactionOf). content_in u.declared x) t ∙ n.declares) in
-      let primary = one_value (primary_in m.t.declared) m.primary n.primary m.primary_is (ap (λ (u : TransactionOf). primary_in u.declared) t ∙ n.primary_is) in
-      record { answer = refl; state = m.new_is ∙ (λ j. record old { entries = put_lock old.entries x s (content j) (primary j); transactions = map.insert old.transactions s (record (t j) { prewritten = (t j).prewritten ++ x ∷ [] }) }) ∙ sym n.new_is }
-
   prewrites_or_conflicts : (s : ℕ) (x : Cell) (to from : StateOf) → Prewrites old seat s x to → Conflicts old seat s x from → ⊥
-  prewrites_or_conflicts s x to from m n = elim n.why [
-    | inl l ↦ some_none_test _ l.2 (m.unlocked l.0 l.1)
-    | inr w ↦ some_none_test _ w.3 (m.no_later w.0 w.1 w.2)
-  ]
+  prewrites_or_conflicts s x to from m n = grind arith
 
   conflicts : (s : ℕ) (x : Cell) → Conflicts old seat s x new → Conflicts old seat s x other → Same Answer.Conflict Answer.Conflict
   conflicts s x m n = record { answer = refl; state = m.new_is ∙ ap (λ (u : TransactionOf). with_transaction old s (record u { phase = Phase.Failed })) (one_transaction old seat s m.t n.t m.own n.own) ∙ sym n.new_is }
 
-  stamps : (s : ℕ) (c d : Ts) → Stamps old seat s c.0 new → Stamps old seat s d.0 other → Same (Answer.At c) (Answer.At d)
-  stamps s c d m n =
-      let e : c.0 ≡ d.0 = m.fresh ∙ sym n.fresh in
-      let t = one_transaction old seat s m.t n.t m.own n.own in
-      record { answer = λ j. Answer.At (record { 0 = e j }); state = m.new_is ∙ (λ j. record old { clock = e j; transactions = map.insert old.transactions s (record (t j) { phase = Phase.Stamped (record { 0 = e j }) }) }) ∙ sym n.new_is }
-
-  stamp_in_phase : (h : Phase) (c d : ℕ) → h ≡ Phase.Stamped (record { 0 = c }) → h ≡ Phase.Stamped (record { 0 = d }) → c ≡ d
-  stamp_in_phase h c d p q = let is : ◌≡◌ {A = Phase} (Phase.Stamped (record { 0 = c })) (Phase.Stamped (record { 0 = d })) = sym p ∙ q in let t : ◌≡◌ {A = Ts} (record { 0 = c }) (record { 0 = d }) = cc in ap (λ (z : Ts). z.0) t
-
-  commit_in_phase : (h : Phase) (c d : ℕ) → h ≡ Phase.Committed (record { 0 = c }) → h ≡ Phase.Committed (record { 0 = d }) → c ≡ d
-  commit_in_phase h c d p q = let is : ◌≡◌ {A = Phase} (Phase.Committed (record { 0 = c })) (Phase.Committed (record { 0 = d })) = sym p ∙ q in let t : ◌≡◌ {A = Ts} (record { 0 = c }) (record { 0 = d }) = cc in ap (λ (z : Ts). z.0) t
-
-  commits_once : (s : ℕ) → CommitsPrimary old seat s new → CommitsPrimary old seat s other → Same Answer.Committed Answer.Committed
-  commits_once s m n =
-      let t = one_transaction old seat s m.t n.t m.own n.own in
-      let primary = one_value (primary_in m.t.declared) m.primary n.primary m.primary_is (ap (λ (u : TransactionOf). primary_in u.declared) t ∙ n.primary_is) in
-      let c = stamp_in_phase m.t.phase m.c n.c m.stamped (ap (λ (u : TransactionOf). u.phase) t ∙ n.stamped) in
-      record { answer = refl; state = m.new_is ∙ (λ j. with_transaction (commits old (primary j) s (c j)) s (record (t j) { phase = Phase.Committed (record { 0 = c j }) })) ∙ sym n.new_is }
-
-  commits_or_loses : (s : ℕ) (to from : StateOf) → CommitsPrimary old seat s to → Loses old seat s from → ⊥
-  commits_or_loses s to from m n =
-      let t = one_transaction old seat s m.t n.t m.own n.own in
-      let primary = one_value (primary_in m.t.declared) m.primary n.primary m.primary_is (ap (λ (u : TransactionOf). primary_in u.declared) t ∙ n.primary_is) in
-      let there = m.locked in
-      let gone : is_some (lock_at old.entries m.primary s) ≡ false = ap (λ p. is_some (lock_at old.entries p s)) primary ∙ n.unlocked in
-      cc
-
-  loses : (s : ℕ) → Loses old seat s new → Loses old seat s other → Same Answer.Lost Answer.Lost
-  loses s m n = record { answer = refl; state = m.new_is ∙ ap (λ (u : TransactionOf). with_transaction old s (record u { phase = Phase.Failed })) (one_transaction old seat s m.t n.t m.own n.own) ∙ sym n.new_is }
-
-  secondaries : (s : ℕ) (x : Cell) → CommitsSecondary old seat s x new → CommitsSecondary old seat s x other → Same Answer.Done Answer.Done
-  secondaries s x m n =
-      let t = one_transaction old seat s m.t n.t m.own n.own in
-      let c = commit_in_phase m.t.phase m.c n.c m.committed (ap (λ (u : TransactionOf). u.phase) t ∙ n.committed) in
-      record { answer = refl; state = m.new_is ∙ ap (if_locked old (is_some (lock_at old.entries x s)) x s) c ∙ sym n.new_is }
-
   -- ---- steps of anyone
-
-  secondary_locks : (x : Cell) (s u : Ts) (p q : Cell) → MeetsSecondary old x s.0 p new → MeetsSecondary old x u.0 q other → Same (Answer.Locked s p) (Answer.Locked u q)
-  secondary_locks x s u p q m n =
-      let l = one_lock_on old.entries x s.0 u.0 p q m.locked n.locked in
-      record { answer = λ j. Answer.Locked (record { 0 = l.0 j }) (l.1 j); state = m.new_is ∙ sym n.new_is }
-
-  settles : (x : Cell) → Settles old x new → Settles old x other → Same Answer.RolledBack Answer.RolledBack
-  settles x m n = record { answer = refl; state = m.new_is ∙ ap (rolls_back old x) (one_lock_on old.entries x m.start n.start x x m.locked n.locked).0 ∙ sym n.new_is }
 
   waits_or_goes : (x : Cell) (s u : ℕ) (p q : Cell) → IsLockOn old.entries x s p → (eq_by_cmp cell_cmp p x ≡ true) ⊎ (is_some (lock_at old.entries p s) ≡ true) → IsLockOn old.entries x u q → eq_by_cmp cell_cmp q x ≡ false → is_some (lock_at old.entries q u) ≡ false → ⊥
   waits_or_goes x s u p q a why b other gone = elim why [
@@ -267,22 +155,13 @@ module _ (old : StateOf) (i : IsSoundTable old) (seat : ℕ) (new other : StateO
   ]
 
   clears_committed : (x : Cell) (c d : Ts) → ClearsCommitted old x c.0 new → ClearsCommitted old x d.0 other → Same (Answer.CommittedAt c) (Answer.CommittedAt d)
-  clears_committed x c d m n =
-      let l = one_lock_on old.entries x m.start n.start m.primary n.primary m.locked n.locked in
-      let first = i.record_committed m.primary c.0 m.start m.written in
-      let second = i.record_committed n.primary d.0 n.start n.written in
-      let e : c.0 ≡ d.0 = one_commit (phase_in old m.start) c.0 d.0 first (ap (phase_in old) l.0 ∙ second) in
-      record { answer = λ j. Answer.CommittedAt (record { 0 = e j }); state = m.new_is ∙ (λ j. commits old x (l.0 j) (e j)) ∙ sym n.new_is }
-    where
-      one_commit : (o : Option Phase) (a b : ℕ) → o ≡ Some (Phase.Committed (record { 0 = a })) → o ≡ Some (Phase.Committed (record { 0 = b })) → a ≡ b
-      one_commit o a b p q = commit_in_phase (Phase.Committed (record { 0 = a })) a b refl (one_value o _ _ p q)
+  clears_committed x c d m n = grind arith
 
   committed_or_back : (x : Cell) (c : ℕ) (to from : StateOf) → ClearsCommitted old x c to → ClearsBack old x from → ⊥
   committed_or_back x c to from m n =
       let l = one_lock_on old.entries x m.start n.start m.primary n.primary m.locked n.locked in
       let le = (i.stamped m.start c (inr (i.record_committed m.primary c m.start m.written))).1 in
-      let small = i.small in
-      n.none c (omega (arith, le, small)) ((λ j. write_at old.entries (sym l.1 j) c) ∙ m.written ∙ ap Some l.0)
+      n.none c (omega (arith, le)) ((λ j. write_at old.entries (sym l.1 j) c) ∙ m.written ∙ ap Some l.0)
 
   clears_back : (x : Cell) → ClearsBack old x new → ClearsBack old x other → Same Answer.RolledBack Answer.RolledBack
   clears_back x m n = record { answer = refl; state = m.new_is ∙ ap (rolls_back old x) (one_lock_on old.entries x m.start n.start m.primary n.primary m.locked n.locked).0 ∙ sym n.new_is }
@@ -296,17 +175,13 @@ module _ (old : StateOf) (i : IsSoundTable old) (seat : ℕ) (new other : StateO
   -- ---- by step and answer
 
   begin_case : (work : Work) (s : Ts) (b : Answer) → Begins old seat work s.0 new → StepCase old seat (Step.Begin work) b other → Same (Answer.At s) b
-  begin_case work s (Answer.At u) m n = begins work s u m n
-  begin_case work s _ m n = absurd n
+  begin_case work s b m n = grind arith
 
   declare_case : (s : Ts) (what : Declared) (b : Answer) → Declares old seat s.0 what new → StepCase old seat (Step.Declare s what) b other → Same Answer.Done b
-  declare_case s what Answer.Done m n = declares s.0 what m n
-  declare_case s what _ m n = absurd n
+  declare_case s what b m n = grind arith
 
   prewrite_case : (s : Ts) (x : Cell) (b : Answer) → Prewrites old seat s.0 x new → StepCase old seat (Step.Prewrite s x) b other → Same Answer.Done b
-  prewrite_case s x Answer.Done m n = prewrites s.0 x m n
-  prewrite_case s x Answer.Conflict m n = absurd (prewrites_or_conflicts s.0 x new other m n)
-  prewrite_case s x _ m n = absurd n
+  prewrite_case s x b m n = grind arith
 
   conflict_case : (s : Ts) (x : Cell) (b : Answer) → Conflicts old seat s.0 x new → StepCase old seat (Step.Prewrite s x) b other → Same Answer.Conflict b
   conflict_case s x Answer.Done m n = absurd (prewrites_or_conflicts s.0 x other new n m)
@@ -314,22 +189,16 @@ module _ (old : StateOf) (i : IsSoundTable old) (seat : ℕ) (new other : StateO
   conflict_case s x _ m n = absurd n
 
   stamp_case : (s c : Ts) (b : Answer) → Stamps old seat s.0 c.0 new → StepCase old seat (Step.Stamp s) b other → Same (Answer.At c) b
-  stamp_case s c (Answer.At d) m n = stamps s.0 c d m n
-  stamp_case s c _ m n = absurd n
+  stamp_case s c b m n = grind arith
 
   commit_case : (s : Ts) (b : Answer) → CommitsPrimary old seat s.0 new → StepCase old seat (Step.CommitPrimary s) b other → Same Answer.Committed b
-  commit_case s Answer.Committed m n = commits_once s.0 m n
-  commit_case s Answer.Lost m n = absurd (commits_or_loses s.0 new other m n)
-  commit_case s _ m n = absurd n
+  commit_case s b m n = grind arith
 
   lost_case : (s : Ts) (b : Answer) → Loses old seat s.0 new → StepCase old seat (Step.CommitPrimary s) b other → Same Answer.Lost b
-  lost_case s Answer.Committed m n = absurd (commits_or_loses s.0 other new n m)
-  lost_case s Answer.Lost m n = loses s.0 m n
-  lost_case s _ m n = absurd n
+  lost_case s b m n = grind arith
 
   secondary_case : (s : Ts) (x : Cell) (b : Answer) → CommitsSecondary old seat s.0 x new → StepCase old seat (Step.CommitSecondary s x) b other → Same Answer.Done b
-  secondary_case s x Answer.Done m n = secondaries s.0 x m n
-  secondary_case s x _ m n = absurd n
+  secondary_case s x b m n = grind arith
 
   unsettled_case : (x : Cell) (b : Answer) → MeetsNoLock old x new → StepCase old seat (Step.Settle x) b other → Same Answer.Absent b
   unsettled_case x Answer.Absent m n = left Answer.Absent old m.new_is n.new_is
@@ -338,16 +207,10 @@ module _ (old : StateOf) (i : IsSoundTable old) (seat : ℕ) (new other : StateO
   unsettled_case x _ m n = absurd n
 
   other_lock_case : (x : Cell) (s : Ts) (p : Cell) (b : Answer) → MeetsSecondary old x s.0 p new → StepCase old seat (Step.Settle x) b other → Same (Answer.Locked s p) b
-  other_lock_case x s p Answer.Absent m n = absurd (lock_or_none old.entries x s.0 p m.locked n.unlocked)
-  other_lock_case x s p (Answer.Locked u q) m n = secondary_locks x s u p q m n
-  other_lock_case x s p Answer.RolledBack m n = absurd (other_or_own old.entries x s.0 n.start p m.locked m.other n.locked)
-  other_lock_case x s p _ m n = absurd n
+  other_lock_case x s p b m n = grind arith
 
   settled_case : (x : Cell) (b : Answer) → Settles old x new → StepCase old seat (Step.Settle x) b other → Same Answer.RolledBack b
-  settled_case x Answer.Absent m n = absurd (lock_or_none old.entries x m.start x m.locked n.unlocked)
-  settled_case x (Answer.Locked u q) m n = absurd (other_or_own old.entries x u.0 m.start q n.locked n.other m.locked)
-  settled_case x Answer.RolledBack m n = settles x m n
-  settled_case x _ m n = absurd n
+  settled_case x b m n = grind arith
 
   uncleared_case : (x : Cell) (b : Answer) → MeetsNoLock old x new → StepCase old seat (Step.Clear x) b other → Same Answer.Absent b
   uncleared_case x Answer.Absent m n = left Answer.Absent old m.new_is n.new_is
@@ -383,27 +246,16 @@ module _ (old : StateOf) (i : IsSoundTable old) (seat : ℕ) (new other : StateO
   mark_case after x _ m n = absurd n
 
   no_mark_case : (after : Option Cell) (b : Answer) → FindsNone old after new → StepCase old seat (Step.NextMark after) b other → Same Answer.NoMark b
-  no_mark_case after (Answer.Marked y) m n = absurd (mark_or_none after y other new n m)
-  no_mark_case after Answer.NoMark m n = left Answer.NoMark old m.new_is n.new_is
-  no_mark_case after _ m n = absurd n
+  no_mark_case after b m n = grind arith
 
   unswept_case : (x : Cell) (b : Answer) → SweepsNothing old x new → StepCase old seat (Step.Sweep x) b other → Same Answer.NoMark b
-  unswept_case x Answer.NoMark m n = left Answer.NoMark old m.new_is n.new_is
-  unswept_case x Answer.StillBehind m n = let no = m.unmarked in let yes = n.marked in absurd cc
-  unswept_case x Answer.Done m n = let no = m.unmarked in let yes = n.marked in absurd cc
-  unswept_case x _ m n = absurd n
+  unswept_case x b m n = grind arith
 
   behind_case : (x : Cell) (b : Answer) → StaysMarked old x new → StepCase old seat (Step.Sweep x) b other → Same Answer.StillBehind b
-  behind_case x Answer.NoMark m n = let yes = m.marked in let no = n.unmarked in absurd cc
-  behind_case x Answer.StillBehind m n = left Answer.StillBehind old m.new_is n.new_is
-  behind_case x Answer.Done m n = absurd (behind_or_not old.observers old.entries x m.behind n.up_to_date)
-  behind_case x _ m n = absurd n
+  behind_case x b m n = grind (arith, left, behind_or_not)
 
   swept_case : (x : Cell) (b : Answer) → Sweeps old x new → StepCase old seat (Step.Sweep x) b other → Same Answer.Done b
-  swept_case x Answer.NoMark m n = let yes = m.marked in let no = n.unmarked in absurd cc
-  swept_case x Answer.StillBehind m n = absurd (behind_or_not old.observers old.entries x n.behind m.up_to_date)
-  swept_case x Answer.Done m n = left Answer.Done (record old { marks = map.remove old.marks x }) m.new_is n.new_is
-  swept_case x _ m n = absurd n
+  swept_case x b m n = grind (arith, behind_or_not, left)
 
   case_outcome : (step : Step) (a b : Answer) → StepCase old seat step a new → StepCase old seat step b other → Same a b
   case_outcome (Step.Begin work) (Answer.At s) b m n = begin_case work s b m n

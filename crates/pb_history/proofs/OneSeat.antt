@@ -19,8 +19,7 @@ abbrev AreOf : ℕ → List Entry → Type 0
 AreOf seat es = (e : Entry) → Has es e → e.seat ≡ seat
 
 and_first : (seat : ℕ) (e : Entry) (es : List Entry) → e.seat ≡ seat → AreOf seat es → AreOf seat (e ∷ es)
-and_first seat e es is are d (inl q) = ap (λ (z : Entry). z.seat) (sym q) ∙ is
-and_first seat e es is are d (inr on) = are d on
+and_first seat e es is are d w = grind arith
 
 -- a transaction keeps its seat
 same_seat : (o : Option TransactionOf) (t u : TransactionOf) → o ≡ Some t → o ≡ Some u → u.seat ≡ t.seat

@@ -1,5 +1,5 @@
 -- The table as it is opened is sound.
-use Rattle.std.proofs.Common.{◌≡◌, ℕ, ◌<◌, ◌^◌, false, List, [], None, sym, subst, inl, inr, nat_cmp, option_map}
+use Rattle.std.proofs.Common.{arith, ◌≡◌, ℕ, ◌<◌, ◌^◌, false, List, [], None, sym, subst, nat_cmp, option_map}
 use Rattle.std.specs.FinMap as map
 use Rattle.pb_base.specs.Batch.{content_in, primary_in}
 use Rattle.pb_store.specs.Slot.{slot_cmp}
@@ -9,7 +9,7 @@ use Rattle.pb_verify.specs.Observers.{ObserverOf}
 use Rattle.pb_steps.specs.State.{TransactionOf, opening, is_in}
 use Rattle.pb_steps.specs.Readings.{data_of, primary_of, start_of}
 use Rattle.pb_history.specs.TableView.{TableView, declared_by, prewritten_by, reads_by, view_of}
-use Rattle.pb_history.specs.Sound.{HasStamp, IsSoundView, IsSoundTable}
+use Rattle.pb_history.specs.Sound.{IsSoundView, IsSoundTable}
 
 -- a table without entries and transactions
 empty_view : ℕ → TableView
@@ -29,39 +29,9 @@ view_at_opening observers seats clock i = record {
   write = λ x c. start_of (map.get-empty slot_cmp (slot_at x Sort.Write c) i);
 }
 
--- nothing has a commit timestamp there
-no_stamp : (clock s c : ℕ) → HasStamp (empty_view clock) s c → ⊥
-unfolding empty_view
-no_stamp clock s c (inl e) = cc
-no_stamp clock s c (inr e) = cc
-
 holds_empty : (clock : ℕ) → clock < 2 ^ 64 → IsSoundView (empty_view clock)
 unfolding empty_view
-holds_empty clock small = record {
-  small = small;
-  begun = λ s h e. cc;
-  stamped = λ s c e. absurd (no_stamp clock s c e);
-  one_stamp = λ s u c e. absurd (no_stamp clock s c e);
-  was_declared = λ s x e. cc;
-  past_reading = λ s x e. cc;
-  primary_first = λ s x p e. cc;
-  all_prewritten = λ s c x k e. cc;
-  lock_prewritten = λ x s p e. cc;
-  lock_data = λ x s p e. cc;
-  one_lock = λ x s u p q e. cc;
-  all_locked = λ s p x e. cc;
-  record_committed = λ x c s e. cc;
-  record_data = λ x c s e. cc;
-  record_prewritten = λ x c s e. cc;
-  record_unlocked = λ x c s e. cc;
-  behind_lock = λ x s p c u e. cc;
-  apart = λ x c s d u e. cc;
-  stands = λ s c x k e. cc;
-  primary_stands = λ s c p e. cc;
-  read_begun = λ s r e. absurd e;
-  tells = λ s r e. absurd e;
-  settled = λ s r u c k e. absurd e;
-}
+holds_empty clock small = grind arith
 
 pub opening_sound : (observers : List ObserverOf) (seats clock : ℕ) → clock < 2 ^ 64 → IsSoundTable (opening observers seats clock)
 opening_sound observers seats clock small = subst IsSoundView (sym (view_at_opening observers seats clock)) (holds_empty clock small)

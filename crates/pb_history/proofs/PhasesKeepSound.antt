@@ -1,5 +1,5 @@
 -- The table stays sound where a transaction gets a phase without a commit, where it declares, reads or is stamped.
-use Rattle.std.proofs.Common.{◌≡◌, ◌≢◌, ℕ, ◌+◌, ◌<◌, ◌≤◌, ◌^◌, true, ◌⊎◌, [], ◌∷◌, ◌++◌, Option, Some, None, refl, sym, ap, ◌∙◌, subst, inl, inr, arith}
+use Rattle.std.proofs.Common.{◌≡◌, ◌≢◌, ℕ, ◌+◌, ◌<◌, ◌≤◌, ◌^◌, true, ◌⊎◌, [], ◌∷◌, ◌++◌, Option, Some, None, sym, ap, ◌∙◌, subst, inl, inr, arith}
 use Rattle.pb_base.specs.declared.cell.Cell.{Cell}
 use Rattle.pb_base.specs.declared.content.Content.{Content}
 use Rattle.pb_base.specs.declared.names.Ts.{Ts}
@@ -30,9 +30,6 @@ one_stamp c d e = cc
 pub same_commit : (c d : ℕ) → Some (committed_at c) ≡ Some (committed_at d) → c ≡ d
 same_commit c d e = ap (λ (t : Ts). t.0) (one_commit (record { 0 = c }) (record { 0 = d }) e)
 
-pub same_stamp : (c d : ℕ) → Some (stamped_at c) ≡ Some (stamped_at d) → c ≡ d
-same_stamp c d e = ap (λ (t : Ts). t.0) (one_stamp (record { 0 = c }) (record { 0 = d }) e)
-
 -- a phase without a commit timestamp: Reading, Declared or Failed
 abbrev pub IsPlain : Phase → Type 0
 IsPlain h = (c : ℕ) → (h ≢ stamped_at c) × (h ≢ committed_at c)
@@ -62,10 +59,7 @@ module _ (v : TableView) (i : IsSoundView v) (s : ℕ) (h : Phase) (plain : IsPl
     stamped = λ u c e. let p = i.stamped u c (stamp_back u c e) in (p.0, omega arith);
     one_stamp = λ u w c a b. i.one_stamp u w c (stamp_back u c a) (stamp_back w c b);
     was_declared = i.was_declared;
-    past_reading = λ u x e. (
-      λ f. elim (changed v.phase s (Some h) u (Some Phase.Reading) f) [ inl p ↦ ready x (subst (λ w. v.prewritten w x ≡ true) p.0 e) (same_phase _ _ p.1) | inr q ↦ (i.past_reading u x e).0 q.0 ],
-      λ f. elim (changed v.phase s (Some h) u None f) [ inl p ↦ cc | inr q ↦ (i.past_reading u x e).1 q.0 ],
-    );
+    past_reading = λ u x e. (grind (arith, changed, same_phase, v.phase, v.prewritten, i.past_reading));
     primary_first = i.primary_first;
     all_prewritten = λ u c x k' e. i.all_prewritten u c x k' (stamped_back u c e);
     lock_prewritten = i.lock_prewritten;
@@ -92,19 +86,12 @@ has_read v s r = record v { reads = set1 v.reads s (v.reads s ++ r ∷ []) }
 -- a read is recorded: it tells what stands, and no lock at most the timestamp read at was seen
 module _ (v : TableView) (i : IsSoundView v) (s : ℕ) (x : Cell) (at : Option Ts) (answer : Answer) (begun : read_up_to s at ≤ v.clock) (unlocked : (u : ℕ) → u ≤ read_up_to s at → v.lock x u ≡ None) (tells : ReadTells v (read_up_to s at) x answer) where
   read_back : (u : ℕ) (r : RecordedRead) → Has ((has_read v s (read_of x at answer)).reads u) r → ((u ≡ s) × (read_of x at answer ≡ r)) ⊎ Has (v.reads u) r
-  read_back u r e = elim (changed v.reads s (v.reads s ++ read_of x at answer ∷ []) u ((has_read v s (read_of x at answer)).reads u) refl) [
-    | inl p ↦ elim (has_more (v.reads s) (read_of x at answer) r (subst (λ l. Has l r) (sym p.1) e)) [ inl q ↦ inl (p.0, q) | inr q ↦ inr (subst (λ w. Has (v.reads w) r) (sym p.0) q) ]
-    | inr p ↦ inr (subst (λ l. Has l r) (sym p.0) e)
-  ]
+  read_back u r e = grind (arith, changed, read_of, has_more, v.reads)
 
   lacks_primary : (u c : ℕ) (k : Content) → v.phase u ≡ Some (stamped_at c) → c ≤ read_up_to s at → v.content u x ≡ Some k → LacksPrimary v u
   lacks_primary u c k e l f p g =
       let lower : u ≤ read_up_to s at = (let q = i.stamped u c (inl e) in omega arith) in
-      none_if (v.lock p u) (λ q h.
-      let first : v.primary u ≡ Some q = (i.lock_prewritten p u q h).1 in
-      let h' : v.lock p u ≡ Some p = cc in
-      let on : v.lock x u ≡ Some p = i.all_locked u p x g h' (i.all_prewritten u c x k e f) in
-      let off : v.lock x u ≡ None = unlocked u lower in cc)
+      grind (arith, none_if, v.lock, v.primary, i.lock_prewritten, i.all_locked, i.all_prewritten)
 
   seen : (u c : ℕ) (k : Content) → HasStamp v u c → c ≤ read_up_to s at → v.content u x ≡ Some k → (v.write x c ≡ Some u) ⊎ ((v.phase u ≢ Some (committed_at c)) × LacksPrimary v u)
   seen u c k (inl e) l f = inr (λ g. cc, lacks_primary u c k e l f)
@@ -137,10 +124,7 @@ module _ (v : TableView) (i : IsSoundView v) (s : ℕ) (x : Cell) (at : Option T
     primary_stands = i.primary_stands;
     read_begun = λ u r e. elim (read_back u r e) [ inl p ↦ subst (λ (z : RecordedRead). read_up_to u z.at ≤ v.clock) p.1 (subst (λ w. read_up_to w at ≤ v.clock) (sym p.0) begun) | inr q ↦ i.read_begun u r q ];
     tells = λ u r e. elim (read_back u r e) [ inl p ↦ subst (λ (z : RecordedRead). ReadTells v (read_up_to u z.at) z.cell z.answer) p.1 (subst (λ w. ReadTells v (read_up_to w at) x answer) (sym p.0) tells) | inr q ↦ i.tells u r q ];
-    settled = λ u r w c k e f l g. elim (read_back u r e) [
-      | inl p ↦ subst (λ (z : RecordedRead). v.content w z.cell ≡ Some k → (v.write z.cell c ≡ Some w) ⊎ ((v.phase w ≢ Some (committed_at c)) × LacksPrimary v w)) p.1 (seen w c k f (subst (λ z. c ≤ read_up_to z at) p.0 (subst (λ (z : RecordedRead). c ≤ read_up_to u z.at) (sym p.1) l))) g
-      | inr q ↦ i.settled u r w c k q f l g
-    ];
+    settled = λ u r w c k e f l g. grind (arith, read_back, seen, v.content, v.write, v.phase, i.settled);
   }
 
 -- what a transaction writes, and its primary
@@ -197,8 +181,7 @@ with_stamp v s c = record v { clock = c; phase = set1 v.phase s (Some (stamped_a
 
 module _ (v : TableView) (i : IsSoundView v) (s c : ℕ) (fresh : c ≡ v.clock + 1) (small : c < 2 ^ 64) (was : v.phase s ≡ Some Phase.Declared) (ready : (x : Cell) (k : Content) → v.content s x ≡ Some k → v.prewritten s x ≡ true) where
   stamps_back : (u d : ℕ) → HasStamp (with_stamp v s c) u d → ((u ≡ s) × (d ≡ c)) ⊎ HasStamp v u d
-  stamps_back u d (inl e) = elim (changed v.phase s (Some (stamped_at c)) u (Some (stamped_at d)) e) [ inl p ↦ inl (p.0, same_stamp d c (sym p.1)) | inr q ↦ inr (inl q.0) ]
-  stamps_back u d (inr e) = elim (changed v.phase s (Some (stamped_at c)) u (Some (committed_at d)) e) [ inl p ↦ cc | inr q ↦ inr (inr q.0) ]
+  stamps_back u d w = grind arith
 
   own : s ≤ v.clock
   own = i.begun s Phase.Declared was
@@ -219,22 +202,14 @@ module _ (v : TableView) (i : IsSoundView v) (s c : ℕ) (fresh : c ≡ v.clock 
       | inr p ↦ elim (stamps_back w d b) [ inl q ↦ absurd (not_own u d p q.1) | inr q ↦ i.one_stamp u w d p q ]
     ];
     was_declared = i.was_declared;
-    past_reading = λ u x e. (
-      λ f. elim (changed v.phase s (Some (stamped_at c)) u (Some Phase.Reading) f) [ inl p ↦ cc | inr q ↦ (i.past_reading u x e).0 q.0 ],
-      λ f. elim (changed v.phase s (Some (stamped_at c)) u None f) [ inl p ↦ cc | inr q ↦ (i.past_reading u x e).1 q.0 ],
-    );
+    past_reading = λ u x e. (grind (arith, changed, i.past_reading));
     primary_first = i.primary_first;
-    all_prewritten = λ u d x k e g. elim (changed v.phase s (Some (stamped_at c)) u (Some (stamped_at d)) e) [
-      | inl p ↦ subst (λ w. v.prewritten w x ≡ true) (sym p.0) (ready x k (subst (λ w. v.content w x ≡ Some k) p.0 g))
-      | inr q ↦ i.all_prewritten u d x k q.0 g
-    ];
+    all_prewritten = λ u d x k e g. grind (arith, changed, v.prewritten, v.content, i.all_prewritten);
     lock_prewritten = i.lock_prewritten;
     lock_data = i.lock_data;
     one_lock = i.one_lock;
     all_locked = i.all_locked;
-    record_committed = λ x d u e.
-        let o = i.record_committed x d u e in
-        set1_there v.phase s (Some (stamped_at c)) u (λ p. let z : v.phase s ≡ Some (committed_at d) = subst (λ w. v.phase w ≡ Some (committed_at d)) p o in cc) ∙ o;
+    record_committed = grind arith;
     record_data = i.record_data;
     record_prewritten = i.record_prewritten;
     record_unlocked = i.record_unlocked;
@@ -244,8 +219,5 @@ module _ (v : TableView) (i : IsSoundView v) (s c : ℕ) (fresh : c ≡ v.clock 
     primary_stands = λ u d p e. i.primary_stands u d p (complete_was u d e);
     read_begun = λ u r e. let q = i.read_begun u r e in omega arith;
     tells = i.tells;
-    settled = λ u r w d k e f l g. elim (stamps_back w d f) [
-      | inl p ↦ (let q = i.read_begun u r e in let a = p.1 in absurd (omega arith))
-      | inr q ↦ elim (i.settled u r w d k e q l g) [ inl a ↦ inl a | inr b ↦ inr (λ z. b.0 (complete_was w d z), b.1) ]
-    ];
+    settled = λ u r w d k e f l g. grind (arith, stamps_back, complete_was, i.read_begun, i.settled);
   }

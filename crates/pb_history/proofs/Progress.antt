@@ -1,5 +1,5 @@
 -- Marks are found, and go once no observer is behind.
-use Rattle.std.proofs.Common.{◌≡◌, ℕ, true, cond, ◌⊎◌, inl, inr, Option, Some, None, refl, ap, ◌∙◌, is_some, Less, Equal, Greater}
+use Rattle.std.proofs.Common.{arith, ◌≡◌, ℕ, true, cond, ◌⊎◌, inl, inr, Option, Some, None, refl, ap, ◌∙◌, is_some, Less, Equal, Greater}
 use Rattle.std.specs.Ordering.{ordering_reverse}
 use Rattle.std.specs.FinMap as map
 use Rattle.pb_base.specs.declared.cell.Cell.{Cell}
@@ -24,10 +24,7 @@ first_of_two x y =
 
 -- the first marked cell is at most any other
 at_most_others : (marks : Marks) (after : Option Cell) (y : Cell) → IsNextMark marks after (Some y) → (x : Cell) → is_marked marks x ≡ true → ComesAfter after x → (y ≡ x) ⊎ (cell_cmp y x ≡ Less)
-at_most_others marks after y h x marked comes = elim (first_of_two x y) [
-  | inl low ↦ low
-  | inr before ↦ (let unmarked = h.2 x comes before in absurd cc)
-]
+at_most_others marks after y h x marked comes = grind (arith, first_of_two)
 
 module _ (old : StateOf) (seat : ℕ) (new : StateOf) where
   case_first : (step : Step) (answer : Answer) → StepCase old seat step answer new → TellsFirstMark old step answer

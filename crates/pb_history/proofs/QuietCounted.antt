@@ -14,7 +14,7 @@ use Rattle.pb_store.specs.Contents.{Entries, Marks, slot_at, IsOfSort}
 use Rattle.pb_steps.specs.declared.step.Step.{Step}
 use Rattle.pb_steps.specs.declared.step.Answer.{Answer}
 use Rattle.pb_verify.specs.Observers.{ObserverOf}
-use Rattle.pb_steps.specs.State.{StateOf, opening}
+use Rattle.pb_steps.specs.State.{StateOf}
 use Rattle.pb_steps.specs.Marks.{is_marked}
 use Rattle.pb_steps.specs.Readings.{lock_at, primary_of, is_lock, lock_count}
 use Rattle.pb_steps.specs.Commits.{commit_lock, erase_lock}
@@ -26,7 +26,7 @@ use Rattle.pb_history.specs.History.{Has}
 use Rattle.pb_history.specs.Journals.{JournalLeads, IsLegal}
 use Rattle.pb_history.specs.Sound.{IsSoundTable}
 use Rattle.pb_history.proofs.JournalsAreSound.{legal_sound}
-use Rattle.pb_history.proofs.Updates.{none_if, some_if}
+use Rattle.pb_history.proofs.Updates.{none_if}
 
 -- ---- each item stands under its sort
 
@@ -62,8 +62,7 @@ erased : (e : Entries) (x : Cell) (s : ℕ) → Keeps e (erase_lock e x s)
 erased e x s h = removed (map.remove e (slot_at x Sort.Lock s)) (slot_at x Sort.Data s) (removed e (slot_at x Sort.Lock s) h)
 
 committed_if : (old : StateOf) (locked : Bool) (x : Cell) (s c : ℕ) → Keeps old.entries (if_locked old locked x s c).entries
-committed_if old true x s c = committed old.entries x s c
-committed_if old false x s c = λ h. h
+committed_if old locked x s c = grind (arith, committed)
 
 module _ (old : StateOf) (seat : ℕ) (new : StateOf) (h : AreOfSort old.entries) where
   becomes : (to : StateOf) → new ≡ to → Keeps old.entries to.entries → AreOfSort new.entries
@@ -149,8 +148,7 @@ found_again (q ∷ es) p has = by (found_again es p) (eq_by_cmp slot_cmp p.0 q.0
     by more false same (inr rest) = (let r = more rest in (r.0, ap (λ b. cond b (Some q.1) (map.find slot_cmp p.0 es)) same ∙ r.1))
 
 lock_item : (o : Option Item) (p : Cell) → primary_of o ≡ Some p → o ≡ Some (Item.Lock p)
-lock_item (Some (Item.Lock q)) p e = ap (λ (c : Option Cell). elim c as (λ _. Option Item) [ None ↦ None | Some z ↦ Some (Item.Lock z) ]) e
-lock_item _ p e = absurd cc
+lock_item o p e = grind arith
 
 -- a map without a marked cell has no length
 no_marks : (marks : Marks) → ((x : Cell) → is_marked marks x ≡ false) → map.len marks ≡ 0
@@ -165,11 +163,7 @@ no_marks marks h = by (map.entries marks) refl
 module _ (state : StateOf) (i : IsSoundTable state) (sorted : AreOfSort state.entries) where
   -- the starts of locks have 64 bits
   low : (x : Cell) (s : ℕ) (p : Cell) → lock_at state.entries x s ≡ Some p → s < 2 ^ 64
-  low x s p e =
-      let phase = some_if _ (i.past_reading s x (i.lock_prewritten x s p e).0).1 in
-      let le = i.begun s phase.0 phase.1 in
-      let small = i.small in
-      omega (arith, le, small)
+  low x s p e = grind arith
 
   -- an entry under a lock's slot is a lock
   unlocked_slot : IsQuiet state → (k : Slot) (item : Item) → map.get state.entries k ≡ Some item → (sort : Sort) → k.sort ≡ sort → is_lock sort ≡ false
@@ -199,6 +193,4 @@ module _ (state : StateOf) (i : IsSoundTable state) (sorted : AreOfSort state.en
   }
 
 pub tells_quiet : (observers : List ObserverOf) (seats clock : ℕ) (journal : List Entry) (state : StateOf) → IsLegal observers seats clock journal state → TellsQuiet state
-tells_quiet observers seats clock journal state l =
-    quiet_counted state (legal_sound observers seats clock journal state l)
-    (run_sorts (opening observers seats clock) journal state nothing_stands l.run)
+tells_quiet observers seats clock journal state l = grind (arith, quiet_counted, legal_sound, run_sorts, nothing_stands, l.run)

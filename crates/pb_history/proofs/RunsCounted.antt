@@ -1,6 +1,6 @@
 -- The committed runs of an observer are counted by the entries that begin them.
-use Rattle.std.proofs.Common.{◌≡◌, ℕ, ◌+◌, ◌≤◌, ◌==◌, ◌&&◌, inl, inr, true, false, cond, List, [], ◌∷◌, length, Option, Some, None, refl, sym, ap, subst, ◌∙◌, arith, option_map}
-use Rattle.std.proofs.lemmas.Bool.{eqb-true, eq-eqb}
+use Rattle.std.proofs.Common.{◌≡◌, ℕ, ◌+◌, ◌≤◌, ◌==◌, inl, inr, true, false, cond, List, [], ◌∷◌, length, Option, Some, refl, sym, ap, subst, ◌∙◌, arith, option_map}
+use Rattle.std.proofs.lemmas.Bool.{eqb-true}
 use Rattle.std.proofs.lemmas.List.Sums.{sum_by-cons}
 use Rattle.pb_base.specs.declared.names.Ts.{Ts}
 use Rattle.pb_steps.specs.declared.step.Work.{Work}
@@ -18,22 +18,14 @@ use Rattle.pb_history.proofs.Agreement.{ts, got, Agrees}
 use Rattle.pb_history.proofs.StepsAgree.{legal_agrees}
 use Rattle.pb_history.proofs.HistoryTold.{tells}
 use Rattle.pb_history.proofs.TimestampsRise.{behind, tells_timestamps}
-use Rattle.pb_base.proofs.Logic.{one_value as one, and_true as both}
+use Rattle.pb_base.proofs.Logic.{and_true as both}
 
 -- a phase that tests as committed has its commit
 committed_at : (h : Option Phase) → phase_is_committed h ≡ true → (c : Ts) × (h ≡ Some (Phase.Committed c))
-committed_at None e = cc
-committed_at (Some Phase.Reading) e = cc
-committed_at (Some Phase.Declared) e = cc
-committed_at (Some (Phase.Stamped c)) e = cc
-committed_at (Some (Phase.Committed c)) e = (c, refl)
-committed_at (Some Phase.Failed) e = cc
+committed_at h e = grind arith
 
 phase_there : (o : Option TransactionOf) (t : TransactionOf) (c : Ts) → o ≡ Some t → option_map (λ (u : TransactionOf). u.phase) o ≡ Some (Phase.Committed c) → t.phase ≡ Phase.Committed c
 phase_there o t c there p = let q : Some t.phase ≡ Some (Phase.Committed c) = ap (option_map (λ (u : TransactionOf). u.phase)) (sym there) ∙ p in cc
-
-same_time : (c d : ℕ) (h : Phase) → h ≡ Phase.Committed (ts c) → h ≡ Phase.Committed (ts d) → c ≡ d
-same_time c d h p q = let k : ts c ≡ ts d = cc in ap (λ (t : Ts). t.0) k
 
 same_answer : (c d : ℕ) (a : Answer) → a ≡ Answer.At (ts c) → a ≡ Answer.At (ts d) → c ≡ d
 same_answer c d a p q = let k : ts c ≡ ts d = cc in ap (λ (t : Ts). t.0) k
@@ -67,25 +59,9 @@ module _ (journal : List Entry) (state : StateOf) (a : Agrees journal state) (hi
       }
   begun seat _ _ has e = cc
 
-  begins : (m : Member) → InHistory state.observers journal m → IsRunOf m o → begins_committed_run state o (Step.Begin m.work) (Answer.At (ts m.start)) ≡ true
-  begins m h run =
-      let c = history.committed m h in
-      let phase : phase_in state m.start ≡ Some (Phase.Committed (ts m.commit)) = ap (option_map (λ (u : TransactionOf). u.phase)) c.there ∙ ap Some c.phase in
-      ap (λ w. begins_committed_run state o (Step.Begin w) (Answer.At (ts m.start))) run.1
-      ∙ ap (λ b. b && phase_is_committed (phase_in state m.start)) (eq-eqb o o refl)
-      ∙ ap phase_is_committed phase
-
   -- a start is one transaction's
   same_member : (m n : Member) → InHistory state.observers journal m → InHistory state.observers journal n → m.start ≡ n.start → m ≡ n
-  same_member m n h k start =
-      let c = history.committed m h in
-      let d = history.committed n k in
-      let same : c.t ≡ d.t = one (got state n.start) c.t d.t (ap (got state) (sym start) ∙ c.there) d.there in
-      let commit : m.commit ≡ n.commit = same_time m.commit n.commit c.t.phase c.phase (ap (λ (t : TransactionOf). t.phase) same ∙ d.phase) in
-      let seat : m.seat ≡ n.seat = c.seat ∙ ap (λ (t : TransactionOf). t.seat) same ∙ sym d.seat in
-      let work : m.work ≡ n.work = c.work ∙ ap (λ (t : TransactionOf). t.work) same ∙ sym d.work in
-      let writes : m.writes ≡ n.writes = c.writes ∙ ap (λ (t : TransactionOf). t.declared) same ∙ sym d.writes in
-      λ i. record { start = start i; commit = commit i; seat = seat i; work = work i; writes = writes i }
+  same_member m n h k start = grind arith
 
   -- the committed runs that these entries begin, whose starts are above a timestamp
   record Counted (low : ℕ) (es : List Entry) : Type 0 where
@@ -107,24 +83,12 @@ module _ (journal : List Entry) (state : StateOf) (a : Agrees journal state) (hi
         ms = b.m ∷ rest.ms;
         count = let q : run_count state o (e ∷ es) ≡ 1 + run_count state o es = by_first e es ∙ ap (λ t. cond t 1 0 + run_count state o es) is in let n = rest.count in omega (arith, q, n);
         each = λ m h. elim h [ inl q ↦ subst (λ n. InHistory state.observers journal n × IsRunOf n o) q (b.in_history, b.run) | inr k ↦ rest.each m k ];
-        whole = λ m h run has. elim has [
-          | inl q ↦ inl (same_member b.m m b.in_history h (same_answer b.m.start m.start e.answer b.answer_is (ap (λ (d : Entry). d.answer) q)))
-          | inr k ↦ inr (rest.whole m h run k)
-        ];
+        whole = λ m h run has. grind (arith, same_member, same_answer, b.m.start, b.answer_is, b.m, b.in_history, e.answer);
         rising = (rises.0, rest.rising);
       }
 
   no_more : (low : ℕ) (e : Entry) (es : List Entry) → begins_committed_run state o e.step e.answer ≡ false → Counted low es → Counted low (e ∷ es)
-  no_more low e es is rest = record {
-    ms = rest.ms;
-    count = let q : run_count state o (e ∷ es) ≡ 0 + run_count state o es = by_first e es ∙ ap (λ t. cond t 1 0 + run_count state o es) is in let n = rest.count in omega (arith, q, n);
-    each = rest.each;
-    whole = λ m h run has. elim has [
-      | inl q ↦ let no : begins_committed_run state o (Step.Begin m.work) (Answer.At (ts m.start)) ≡ false = subst (λ (d : Entry). begins_committed_run state o d.step d.answer ≡ false) q is in let yes = begins m h run in absurd cc
-      | inr k ↦ rest.whole m h run k
-    ];
-    rising = rest.rising;
-  }
+  no_more low e es is rest = grind arith
 
   counted : (low high : ℕ) (es : List Entry) → ((e : Entry) → Has es e → Has journal e) → AreRising low high (timestamps es) → Counted low es
   counted low high [] within rise = record { ms = []; count = refl; each = λ m h. absurd h; whole = λ m h run has. absurd has; rising = tt }

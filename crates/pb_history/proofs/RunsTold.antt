@@ -42,11 +42,7 @@ use Rattle.pb_history.proofs.Acknowledgments.{acknowledged_by}
 
 -- what a read is answered stands in the table when it is made
 case_tells : (old : StateOf) (seat : ℕ) (step : Step) (answer : Answer) (new : StateOf) → StepCase old seat step answer new → TellsVersion old step answer
-case_tells old seat (Step.Read s x) (Answer.Found start commit content) new c = c.version
-case_tells old seat (Step.Read s x) Answer.Absent new c = c.none
-case_tells old seat (Step.ReadAt s x t) (Answer.Found start commit content) new c = c.version
-case_tells old seat (Step.ReadAt s x t) Answer.Absent new c = c.none
-case_tells old seat _ _ new c = tt
+case_tells old seat step answer new c = grind arith
 
 pub tells_reads : (observers : List ObserverOf) (seats clock : ℕ) (journal : List Entry) (state : StateOf) → IsLegal observers seats clock journal state → TellsReads observers seats clock journal
 tells_reads observers seats clock journal state l = record {
@@ -59,13 +55,11 @@ tells_reads observers seats clock journal state l = record {
 
 -- the answer in which a version was found
 found_is : (a : Answer) (v : Revision) → version_in a ≡ Some v → a ≡ found_answer v
-found_is (Answer.Found start commit content) v e = let is : record { start = start; commit = commit; content = content } ≡ v = cc in ap found_answer is
-found_is _ v e = cc
+found_is a v e = grind arith
 
 -- what a run may declare
 run_declared : (observers : List ObserverOf) (o : ℕ) (row : Row) (s : ℕ) (reads : List RecordedRead) (what : Declared) → MayDeclare observers (Work.Run o row) s reads what → (by : ℕ) × (f : Meant) × (what ≡ Declared.Run by f) × IsItsRun observers o row s reads f
-run_declared observers o row s reads (Declared.Script batch) may = absurd may
-run_declared observers o row s reads (Declared.Run by f) may = (by, f, refl, may.1)
+run_declared observers o row s reads what may = grind arith
 
 module _ (journal : List Entry) (state : StateOf) (a : Agrees journal state) (i : IsSoundTable state) where
   -- every read of a transaction of start s tells this of the history
@@ -84,9 +78,7 @@ module _ (journal : List Entry) (state : StateOf) (a : Agrees journal state) (i 
   stamp_told s o row _ h = absurd h
 
   value_told : (s : ℕ) (x : Cell) (answer : Answer) (value : Reply) → value ≡ value_in answer → TellsRecorded state.observers journal s x answer → IsValueAt state.observers journal s x value
-  value_told s x (Answer.Found start commit content) value e h = inr (start.0, commit.0, content, h, e)
-  value_told s x Answer.Absent value e h = inl (h, e)
-  value_told s x _ value e h = absurd h
+  value_told s x answer value e h = grind arith
 
   replies_told : (s : ℕ) (asked : List RecordedRead) (talk : Talk) → AreReplies asked talk → ((r : RecordedRead) → Has asked r → Tells s r) → AreRepliesAt state.observers journal s talk
   replies_told s [] [] h t = tt
@@ -100,8 +92,7 @@ module _ (journal : List Entry) (state : StateOf) (a : Agrees journal state) (i 
 
   -- the reads of the asks are among those behind the first two
   are_behind : (named : Option Ts) (x : Cell) (rest : List RecordedRead) (old : Reply) (asked : List RecordedRead) → WasOld named x rest old asked → (r : RecordedRead) → Has asked r → Has rest r
-  are_behind None x rest old asked was r h = subst (λ rs. Has rs r) (sym was.1) h
-  are_behind (Some t) x rest old asked was r h = subst (λ rs. Has rs r) (sym was.3) (inr h)
+  are_behind named x rest old asked was r h = grind arith
 
   -- what was read at the acknowledged timestamp, or nothing is acknowledged
   old_told : (s : ℕ) (x : Cell) (second : Bool) (stamp : Ts) (rest : List RecordedRead) (old : Reply) (asked : List RecordedRead) → WasOld (old_at second stamp) x rest old asked → ((r : RecordedRead) → Has rest r → Tells s r)

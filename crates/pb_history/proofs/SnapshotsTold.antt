@@ -11,7 +11,6 @@ use Rattle.pb_steps.specs.declared.step.Answer.{Answer}
 use Rattle.pb_verify.specs.Observers.{ObserverOf}
 use Rattle.pb_steps.specs.Reads.{read_up_to}
 use Rattle.pb_steps.specs.State.{StateOf, TransactionOf}
-use Rattle.pb_steps.specs.Steps.{StepCase}
 use Rattle.pb_steps.specs.Readings.{lock_at, write_at}
 use Rattle.pb_history.specs.declared.entry.Entry.{Entry}
 use Rattle.pb_history.specs.Journals.{JournalLeads, IsLegal}
@@ -29,8 +28,7 @@ use Rattle.pb_history.proofs.JournalsAreSound.{legal_sound}
 
 -- the transaction of a phase
 transaction_there : (o : Option TransactionOf) (h : Phase) → option_map (λ (t : TransactionOf). t.phase) o ≡ Some h → (t : TransactionOf) × (o ≡ Some t) × (t.phase ≡ h)
-transaction_there (Some t) h e = (t, refl, cc)
-transaction_there None h e = cc
+transaction_there o h e = grind arith
 
 -- what a read that is recorded tells
 abbrev pub TellsRecorded : List ObserverOf → List Entry → ℕ → Cell → Answer → Type 0
@@ -69,14 +67,8 @@ module _ (journal : List Entry) (state : StateOf) (a : Agrees journal state) (i 
 
   pub apart : (m n : Member) → InHistory state.observers journal m → InHistory state.observers journal n → m.start ≢ n.start → (x : Cell) (j k : Content) → WritesTo m x j → WritesTo n x k → DoNotOverlap m n
   apart m n hm hn other x j k wm wn = elim (stands_at m hm x j wm) [
-    | inl p ↦ elim (stands_at n hn x k wn) [
-      | inl q ↦ i.apart x m.commit m.start n.commit n.start p q other
-      | inr q ↦ inl (i.behind_lock x n.start q.0 m.commit m.start q.1 p)
-    ]
-    | inr p ↦ elim (stands_at n hn x k wn) [
-      | inl q ↦ inr (i.behind_lock x m.start p.0 n.commit n.start p.1 q)
-      | inr q ↦ absurd (other (i.one_lock x m.start n.start p.0 q.0 p.1 q.1))
-    ]
+    | inl p ↦ grind (arith, stands_at, i.apart, m.commit, m.start, n.commit, n.start, i.behind_lock)
+    | inr p ↦ grind (arith, stands_at, m.start, n.commit, n.start, i.behind_lock, i.one_lock)
   ]
 
   -- ---- reads
@@ -116,9 +108,7 @@ module _ (journal : List Entry) (state : StateOf) (a : Agrees journal state) (i 
 
   -- a read that is recorded found a version, or none
   pub recorded_tells : (s : ℕ) (x : Cell) (at : Option Ts) (answer : Answer) → Has ((view_of state).reads s) (record { cell = x; at = at; answer = answer }) → TellsRecorded state.observers journal (read_up_to s at) x answer
-  recorded_tells s x at (Answer.Found start commit content) is = found_at s x at start commit content is
-  recorded_tells s x at Answer.Absent is = absent_at s x at is
-  recorded_tells s x at answer is = i.tells s (record { cell = x; at = at; answer = answer }) is
+  recorded_tells s x at answer is = grind (arith, found_at, absent_at)
 
   read_tells : (seat : ℕ) (s : Ts) (x : Cell) (answer : Answer) → IsEntry journal seat (Step.Read s x) answer → TellsSnapshot state.observers journal s.0 x answer
   read_tells seat s x (Answer.Found start commit content) e = let told = a.told _ e in found_at s.0 x None start commit content (subst (λ o. Has (reads_by o) (read_of x None (Answer.Found start commit content))) (sym told.1) told.2)
@@ -130,27 +120,15 @@ module _ (journal : List Entry) (state : StateOf) (a : Agrees journal state) (i 
   read_at_tells seat s x t Answer.Absent e = let told = a.told _ e in absent_at s.0 x (Some t) (subst (λ o. Has (reads_by o) (read_of x (Some t) Answer.Absent)) (sym told.1) told.2)
   read_at_tells seat s x t _ e = tt
 
--- a read at a timestamp names none above its transaction's start
-read_in_time : (old : StateOf) (seat : ℕ) (s : Ts) (x : Cell) (t : Ts) (answer : Answer) (new : StateOf) → StepCase old seat (Step.ReadAt s x t) answer new → t.0 ≤ s.0
-read_in_time old seat s x t (Answer.Locked start primary) new c = c.in_time
-read_in_time old seat s x t (Answer.Found start commit content) new c = c.in_time
-read_in_time old seat s x t Answer.Absent new c = c.in_time
-read_in_time old seat s x t _ new c = absurd c
-
 -- a read at a timestamp names none above its transaction's start, else it is refused
 reads_in_time : (old : StateOf) (journal : List Entry) (new : StateOf) → JournalLeads old journal new → (seat : ℕ) (s : Ts) (x : Cell) (t : Ts) (answer : Answer) → IsEntry journal seat (Step.ReadAt s x t) answer → t.0 ≤ s.0
 reads_in_time old [] new r seat s x t answer e = absurd e
-reads_in_time old (d ∷ ds) new r seat s x t answer (inl is) =
-    read_in_time old seat s x t answer r.0 (subst (λ (z : Entry). StepCase old z.seat z.step z.answer r.0) is r.1.taken)
+reads_in_time old (d ∷ ds) new r seat s x t answer (inl is) = grind arith
 reads_in_time old (d ∷ ds) new r seat s x t answer (inr later) = reads_in_time r.0 ds new r.2 seat s x t answer later
 
 module _ (observers : List ObserverOf) (seats clock : ℕ) (journal : List Entry) (state : StateOf) (l : IsLegal observers seats clock journal state) where
   pub tells_snapshots : TellsSnapshots journal state
-  tells_snapshots = record {
-    read = read_tells journal state (legal_agrees observers seats clock journal state l) (legal_sound observers seats clock journal state l);
-    read_at = read_at_tells journal state (legal_agrees observers seats clock journal state l) (legal_sound observers seats clock journal state l);
-    earlier = reads_in_time _ journal state l.run;
-  }
+  tells_snapshots = grind (arith, read_tells, legal_agrees, legal_sound, read_at_tells, reads_in_time, l.run)
 
   pub tells_writers : TellsWriters journal state
   tells_writers = record { apart = apart journal state (legal_agrees observers seats clock journal state l) (legal_sound observers seats clock journal state l) }

@@ -25,7 +25,7 @@ use Rattle.pb_steps.specs.Commits.{commits, rolls_back}
 use Rattle.pb_store.specs.Contents.{Entries, Marks}
 use Rattle.pb_history.specs.declared.entry.Entry.{Entry}
 use Rattle.pb_history.specs.Journals.{JournalLeads, IsLegal}
-use Rattle.pb_history.specs.History.{Has, IsEntry, IsForWork}
+use Rattle.pb_history.specs.History.{IsEntry, IsForWork}
 use Rattle.pb_history.proofs.OnlyEntries.{OnlyEntries, only_entries, secondary_keeps}
 use Rattle.pb_history.proofs.Updates.{none_if, has_front, has_last, has_more}
 use Rattle.pb_history.proofs.PhaseTests.{reading_is}
@@ -42,18 +42,10 @@ for_work observers Work.Script s reads (Declared.Run o f) may = absurd may
 for_work observers (Work.Run p row) s reads (Declared.Script batch) may = absurd may
 
 no_stamp_declared : (h : Phase) → is_declared h ≡ true → (c : ℕ) → PastStamp h c → ⊥
-no_stamp_declared Phase.Declared e c p = elim p [ inl q ↦ cc | inr r ↦ elim r [ inl q ↦ cc | inr q ↦ cc ] ]
-no_stamp_declared Phase.Reading e c p = cc
-no_stamp_declared (Phase.Stamped d) e c p = cc
-no_stamp_declared (Phase.Committed d) e c p = cc
-no_stamp_declared Phase.Failed e c p = cc
+no_stamp_declared h e c p = grind arith
 
 past_declared : (h : Phase) → is_declared h ≡ true → is_reading h ≡ false
-past_declared Phase.Declared e = refl
-past_declared Phase.Reading e = cc
-past_declared (Phase.Stamped d) e = cc
-past_declared (Phase.Committed d) e = cc
-past_declared Phase.Failed e = cc
+past_declared h e = grind arith
 
 no_commit_declared : (h : Phase) → is_declared h ≡ true → (c : ℕ) → h ≡ Phase.Committed (ts c) → ⊥
 no_commit_declared h e c q = no_stamp_declared h e c (inr (inl q))
@@ -63,9 +55,8 @@ module _ (journal : List Entry) (seat : ℕ) (old new : StateOf) (a : Agrees jou
   begins work s m =
       let e = entry seat (Step.Begin work) (Answer.At (ts s)) in
       let clock : new.clock ≡ s = ap (λ (z : StateOf). z.clock) m.new_is in
-      let fresh = m.fresh in
-      let unknown : got old s ≡ None = none_if _ (λ t h. let z = a.early s t h in omega (arith, z, fresh)) in
-      agrees_new journal e old new a s (new_transaction seat work) (ap (λ (z : StateOf). z.transactions) m.new_is) (omega (arith, clock, fresh)) (omega (arith, clock)) (ap (λ (z : StateOf). z.observers) m.new_is) unknown
+      let unknown : got old s ≡ None = none_if _ (λ t h. let z = a.early s t h in omega (arith, z)) in
+      agrees_new journal e old new a s (new_transaction seat work) (ap (λ (z : StateOf). z.transactions) m.new_is) (omega (arith, clock)) (omega (arith, clock)) (ap (λ (z : StateOf). z.observers) m.new_is) unknown
       (λ h. (new_transaction seat work, h, refl, refl))
       (record {
         begun = has_last journal e;
@@ -124,46 +115,16 @@ module _ (journal : List Entry) (seat : ℕ) (old new : StateOf) (a : Agrees jou
   goes_on : (step : Step) (answer : Answer) (s : ℕ) (t u : TransactionOf) → got old s ≡ Some t → is_declared t.phase ≡ true → u.seat ≡ t.seat → u.work ≡ t.work → u.reads ≡ t.reads → u.declared ≡ t.declared
       → (u.phase ≡ t.phase) ⊎ (u.phase ≡ Phase.Failed) → new.transactions ≡ map.insert old.transactions s u → new.clock ≡ old.clock → new.observers ≡ old.observers → Told new seat step answer → Agrees (journal ++ entry seat step answer ∷ []) new
   goes_on step answer s t u was phase same-seat same-work same-reads same-writes how is clock obs told =
-      let e = entry seat step answer in
       let low = a.early s t was in
       let l = a.logged s t was in
       let past = past_declared t.phase phase in
-      agrees_change journal e old new a s u is (omega (arith, clock)) (omega (arith, clock, low)) obs t was
-      (record {
-        seat = same-seat;
-        work = same-work;
-        past = λ h. (elim how [ inl q ↦ ap is_reading q ∙ past | inr q ↦ ap is_reading q ], same-writes);
-        reads = λ r h. subst (λ rs. Has rs r) (sym same-reads) h;
-        stamped = λ c p. absurd (no_stamp_declared t.phase phase c p);
-        committed = λ c q. absurd (no_commit_declared t.phase phase c q);
-      })
-      (λ h. told)
-      (record {
-        begun = subst (λ n. IsEntry (journal ++ e ∷ []) n (Step.Begin u.work) (Answer.At (ts s))) (sym same-seat) (subst (λ w. IsEntry (journal ++ e ∷ []) t.seat (Step.Begin w) (Answer.At (ts s))) (sym same-work) (has_front journal e _ l.begun));
-        reads = λ r h. subst (λ n. IsEntry (journal ++ e ∷ []) n (step_by s r.cell r.at) r.answer) (sym same-seat) (has_front journal e _ (l.reads r (subst (λ rs. Has rs r) same-reads h)));
-        declared = λ h. let d = l.declared past in (
-          d.0,
-          subst (λ n. IsEntry (journal ++ e ∷ []) n (Step.Declare (ts s) d.0) Answer.Done) (sym same-seat) (has_front journal e _ d.1),
-          same-writes ∙ d.2 ∙ ap (λ w. cells_of old.observers w s d.0) (sym same-work),
-          d.3,
-          subst (λ w. MayDeclare old.observers w s u.reads d.0) (sym same-work) (subst (λ rs. MayDeclare old.observers t.work s rs d.0) (sym same-reads) d.4),
-        );
-        stamped = λ c p. absurd (elim how [
-          | inl q ↦ no_stamp_declared t.phase phase c (elim p [ inl x ↦ inl (sym q ∙ x) | inr x ↦ inr (inl (sym q ∙ x)) ])
-          | inr q ↦ elim p [ inl x ↦ cc | inr x ↦ cc ]
-        ]);
-        committed = λ c x. absurd (elim how [ inl q ↦ no_commit_declared t.phase phase c (sym q ∙ x) | inr q ↦ cc ]);
-      })
+      grind (arith, agrees_change, no_stamp_declared, no_commit_declared, ts, has_front, step_by, t.phase, u.work, t.seat, old.observers, u.reads, t.work)
 
   prewrites : (s : Ts) (x : Cell) → Prewrites old seat s.0 x new → Agrees (journal ++ entry seat (Step.Prewrite s x) Answer.Done ∷ []) new
-  prewrites s x m =
-      goes_on (Step.Prewrite s x) Answer.Done s.0 m.t (record m.t { prewritten = m.t.prewritten ++ x ∷ [] }) m.own.there m.phase
-      refl refl refl refl (inl refl) (ap (λ (z : StateOf). z.transactions) m.new_is) (ap (λ (z : StateOf). z.clock) m.new_is) (ap (λ (z : StateOf). z.observers) m.new_is) tt
+  prewrites s x m = grind (arith, goes_on, m.t, m.t.prewritten, m.own.there, m.phase, m.new_is)
 
   conflicts : (s : Ts) (x : Cell) → Conflicts old seat s.0 x new → Agrees (journal ++ entry seat (Step.Prewrite s x) Answer.Conflict ∷ []) new
-  conflicts s x m =
-      goes_on (Step.Prewrite s x) Answer.Conflict s.0 m.t (record m.t { phase = Phase.Failed }) m.own.there m.phase
-      refl refl refl refl (inr refl) (ap (λ (z : StateOf). z.transactions) m.new_is) (ap (λ (z : StateOf). z.clock) m.new_is) (ap (λ (z : StateOf). z.observers) m.new_is) tt
+  conflicts s x m = grind (arith, goes_on, m.t, m.own.there, m.phase, m.new_is)
 
   stamps : (s : Ts) (c : ℕ) → Stamps old seat s.0 c new → Agrees (journal ++ entry seat (Step.Stamp s) (Answer.At (ts c)) ∷ []) new
   stamps s c m =
@@ -173,21 +134,9 @@ module _ (journal : List Entry) (seat : ℕ) (old new : StateOf) (a : Agrees jou
       let mine = m.own.mine in
       let l = a.logged s.0 m.t was in
       let past = past_declared m.t.phase phase in
-      let u : TransactionOf = record m.t { phase = Phase.Stamped (ts c) } in
-      let clock : new.clock ≡ c = ap (λ (z : StateOf). z.clock) m.new_is in
-      let fresh = m.fresh in
       let low = a.early s.0 m.t was in
       let logged : IsEntry (journal ++ e ∷ []) m.t.seat (Step.Stamp s) (Answer.At (ts c)) = subst (λ n. IsEntry (journal ++ e ∷ []) n (Step.Stamp s) (Answer.At (ts c))) (sym mine) (has_last journal e) in
-      agrees_change journal e old new a s.0 u (ap (λ (z : StateOf). z.transactions) m.new_is) (omega (arith, clock, fresh)) (omega (arith, clock, fresh, low)) (ap (λ (z : StateOf). z.observers) m.new_is) m.t was
-      (record { seat = refl; work = refl; past = λ h. (refl, refl); reads = λ r h. h; stamped = λ d p. absurd (no_stamp_declared m.t.phase phase d p); committed = λ d q. absurd (no_commit_declared m.t.phase phase d q) })
-      (λ h. (u, h, inl refl))
-      (record {
-        begun = has_front journal e _ l.begun;
-        reads = λ r h. has_front journal e _ (l.reads r h);
-        declared = λ h. let d = l.declared past in (d.0, has_front journal e _ d.1, d.2, d.3, d.4);
-        stamped = λ d p. elim p [ inl q ↦ (let k : ts c ≡ ts d = cc in subst (λ n. IsEntry (journal ++ e ∷ []) m.t.seat (Step.Stamp s) (Answer.At n)) k logged) | inr q ↦ cc ];
-        committed = λ d q. cc;
-      })
+      grind (arith, ts, agrees_change, no_stamp_declared, no_commit_declared, has_front, m.t, m.t.phase, m.new_is, m.t.seat)
 
   commits_primary : (s : Ts) → CommitsPrimary old seat s.0 new → Agrees (journal ++ entry seat (Step.CommitPrimary s) Answer.Committed ∷ []) new
   commits_primary s m =
@@ -220,24 +169,10 @@ module _ (journal : List Entry) (seat : ℕ) (old new : StateOf) (a : Agrees jou
 
   loses : (s : Ts) → Loses old seat s.0 new → Agrees (journal ++ entry seat (Step.CommitPrimary s) Answer.Lost ∷ []) new
   loses s m =
-      let e = entry seat (Step.CommitPrimary s) Answer.Lost in
-      let stamped = m.stamped in
       let was = m.own.there in
       let l = a.logged s.0 m.t was in
-      let past : is_reading m.t.phase ≡ false = ap is_reading stamped in
-      let u : TransactionOf = record m.t { phase = Phase.Failed } in
-      let clock : new.clock ≡ old.clock = ap (λ (z : StateOf). z.clock) m.new_is in
       let low = a.early s.0 m.t was in
-      agrees_change journal e old new a s.0 u (ap (λ (z : StateOf). z.transactions) m.new_is) (omega (arith, clock)) (omega (arith, clock, low)) (ap (λ (z : StateOf). z.observers) m.new_is) m.t was
-      (record { seat = refl; work = refl; past = λ h. (refl, refl); reads = λ r h. h; stamped = λ d p. inr (inr refl); committed = λ d q. cc })
-      (λ h. tt)
-      (record {
-        begun = has_front journal e _ l.begun;
-        reads = λ r h. has_front journal e _ (l.reads r h);
-        declared = λ h. let d = l.declared past in (d.0, has_front journal e _ d.1, d.2, d.3, d.4);
-        stamped = λ d p. absurd (elim p [ inl q ↦ cc | inr q ↦ cc ]);
-        committed = λ d q. cc;
-      })
+      grind (arith, agrees_change, has_front, m.t, m.new_is)
 
   nothing_changes : OnlyEntries old old
   nothing_changes = record { transactions = refl; clock = refl; observers = refl }
@@ -290,8 +225,7 @@ run_agrees before old [] new a r = subst (λ s. Agrees (before ++ []) s) (sym r)
     append_nil (x ∷ xs) = ap (λ ys. x ∷ ys) (append_nil xs)
 run_agrees before old (e ∷ es) new a r =
     let m = r.1 in
-    subst (λ b. Agrees b new) (append_one before e es)
-    (run_agrees (before ++ e ∷ []) r.0 es new (case_agrees before e.seat old r.0 a e.step e.answer m.taken) r.2)
+    grind (arith, append_one, case_agrees, e.seat, e.step, e.answer, run_agrees (before ++ e ∷ []) r.0 es new (case_agrees before e.seat old r.0 a e.step e.answer m.taken) r.2)
 
 -- an empty journal agrees with a table as opened
 nothing_agrees : (observers : List ObserverOf) (seats clock : ℕ) → Agrees [] (opening observers seats clock)

@@ -1,5 +1,5 @@
 -- Each step of the table keeps it sound.
-use Rattle.std.proofs.Common.{◌≡◌, ◌≢◌, ℕ, ◌<◌, ◌≤◌, ◌^◌, Bool, true, false, cond, ◌+◌, ◌⊎◌, List, [], ◌∷◌, ◌++◌, Option, Some, None, refl, sym, ap, ◌∙◌, subst, inl, inr, arith, ◌||◌, option_map, is_some, not, ◌&&◌, ◌==◌}
+use Rattle.std.proofs.Common.{◌≡◌, ◌≢◌, ℕ, ◌<◌, ◌≤◌, ◌^◌, Bool, true, false, ◌+◌, ◌⊎◌, List, [], ◌∷◌, ◌++◌, Option, Some, None, refl, sym, ap, ◌∙◌, subst, inl, inr, arith, ◌||◌, option_map, is_some, ◌==◌}
 use Rattle.std.proofs.lemmas.Bool.{eq-eqb}
 use Rattle.std.specs.List.{list_all}
 use Rattle.std.specs.Ordering.{eq_by_cmp}
@@ -30,14 +30,13 @@ use Rattle.pb_steps.specs.Clear.{ClearsCommitted, ClearsBack}
 use Rattle.pb_steps.specs.Steps.{StepCase, TableStep}
 use Rattle.pb_history.specs.TableView.{TableView, declared_by, prewritten_by, reads_by, view_of}
 use Rattle.pb_history.specs.Sound.{HasStamp, ReadTells, IsSoundView, IsSoundTable}
-use Rattle.pb_history.proofs.Updates.{set1, set1_here, set1_same, none_if, some_if, same_cell}
+use Rattle.pb_history.proofs.Updates.{set1, set1_here, set1_same, none_if, same_cell}
 use Rattle.pb_history.proofs.Agreement.{read_of}
 use Rattle.pb_history.proofs.PhaseTests.{reading_is, declared_is}
 use Rattle.pb_history.proofs.PhasesKeepSound.{IsPlain, with_phase, phase_kept, has_read, read_kept, with_declared, declared_kept, with_stamp, stamp_kept, stamped_at, committed_at}
 use Rattle.pb_history.proofs.LocksKeepSound.{with_prewrite, prewrite_kept, without_lock, rolled_back_kept, with_record, record_kept}
 use Rattle.pb_history.proofs.ViewsAfter.{field_after, field_same, lock_after_commit, data_after_commit, write_after_commit, lock_after_back, data_after_back, write_after_back, lock_after_put, data_after_put, write_after_put}
 use Rattle.pb_base.proofs.Logic.{and_true as both_true, none_is, or_false}
-use Rattle.pb_base.proofs.SameCells.{cell_is}
 
 -- ---- what the view has of a transaction
 
@@ -67,13 +66,7 @@ plain_failed c = (λ e. cc, λ e. cc)
 -- ---- options, tests and lists
 
 pub some_is : {A : Type 0} (o : Option A) → is_some o ≡ true → (w : A) × (o ≡ Some w)
-some_is None h = cc
-some_is (Some w) h = (w, refl)
-
-neither : (a b : Bool) → (not a && not b) ≡ false → (a ≡ true) ⊎ (b ≡ true)
-neither true b e = inl refl
-neither false true e = inr refl
-neither false false e = cc
+some_is o h = grind arith
 
 -- the prewritten cells with one more
 one_more : (xs : List Cell) (x y : Cell) → is_in (xs ++ x ∷ []) y ≡ (is_in xs y || same_cell x y)
@@ -84,11 +77,7 @@ one_more_here : (xs : List Cell) (x : Cell) → ◌≡◌ {A = Cell → Bool} (i
 one_more_here xs x i y = one_more xs x y i
 
 content_first : (w : Cell × Content) (ws : Writes) (x : Cell) (k : Content) (P : Type 0) → content_in (w ∷ ws) x ≡ Some k → (x ≡ w.0 → P) → (content_in ws x ≡ Some k → P) → P
-content_first w ws x k P e here there =
-    elim (eq_by_cmp cell_cmp x w.0) as (λ b. eq_by_cmp cell_cmp x w.0 ≡ b → cond b (Some w.1) (content_in ws x) ≡ Some k → P) [
-      | true ↦ λ t h. here (cell_is x w.0 t)
-      | false ↦ λ t h. there h
-    ] refl e
+content_first w ws x k P e here there = grind arith
 
 -- where all are prewritten, each is
 each_in : (ws : Writes) (xs : List Cell) (x : Cell) (k : Content) → list_all (λ w. is_in xs w.0) ws ≡ true → content_in ws x ≡ Some k → is_in xs x ≡ true
@@ -100,16 +89,10 @@ each_in (w ∷ ws) xs x k all e =
 -- ---- numbers and the order of prewriting
 
 is_below : (c s : ℕ) → (s ≤ c → ⊥) → c < s
-is_below c s n = elim (compared c s) [ inl l ↦ l | inr g ↦ absurd (n g) ]
-  where
-    compared : (a b : ℕ) → (a < b) ⊎ (b ≤ a)
-    compared a b = grind arith
+is_below c s n = grind arith
 
 newest_at_most : (c d : ℕ) → (d < c → ⊥) → c ≤ d
-newest_at_most c d n = elim (compared c d) [ inl l ↦ l | inr g ↦ absurd (n g) ]
-  where
-    compared : (a b : ℕ) → (a ≤ b) ⊎ (b < a)
-    compared a b = grind arith
+newest_at_most c d n = grind arith
 
 -- below the last timestamp there is one more
 not_last : (clock : ℕ) → (clock == 18446744073709551615) ≡ false → clock ≢ 18446744073709551615
@@ -117,8 +100,7 @@ not_last clock left is = let z : (clock == 18446744073709551615) ≡ true = eq-e
 
 -- a cell that isn't too early is the primary, or comes when that is prewritten
 primary_or_after : (x : Cell) (prewritten : List Cell) (p : Cell) (writes : Writes) → primary_in writes ≡ Some p → is_before_primary (primary_in writes) prewritten x ≡ false → (x ≡ p) ⊎ (is_in prewritten p ≡ true)
-primary_or_after x prewritten p writes is order =
-    elim (neither (eq_by_cmp cell_cmp x p) (is_in prewritten p) (sym (ap (λ o. is_before_primary o prewritten x) is) ∙ order)) [ inl a ↦ inl (cell_is x p a) | inr b ↦ inr b ]
+primary_or_after x prewritten p writes is order = grind arith
 
 module _ (old : StateOf) (i : IsSoundTable old) (seat : ℕ) (new : StateOf) where
   to : (w : TableView) → view_of new ≡ w → IsSoundView w → IsSoundTable new
@@ -126,11 +108,7 @@ module _ (old : StateOf) (i : IsSoundTable old) (seat : ℕ) (new : StateOf) whe
 
   -- what stands in the table is of timestamps given out
   lock_small : (x : Cell) (s : ℕ) (p : Cell) → (view_of old).lock x s ≡ Some p → s < 2 ^ 64
-  lock_small x s p e =
-      let h = some_if _ (i.past_reading s x (i.lock_prewritten x s p e).0).1 in
-      let b = i.begun s h.0 h.1 in
-      let k = i.small in
-      omega arith
+  lock_small x s p e = grind arith
 
   write_small : (x : Cell) (c s : ℕ) → (view_of old).write x c ≡ Some s → c < 2 ^ 64
   write_small x c s e = let b = i.stamped s c (inr (i.record_committed x c s e)) in let k = i.small in omega arith
@@ -142,7 +120,6 @@ module _ (old : StateOf) (i : IsSoundTable old) (seat : ℕ) (new : StateOf) whe
   begins_keep : (work : Work) (s : ℕ) → Begins old seat work s new → IsSoundTable new
   begins_keep work s m =
       let unknown : map.get old.transactions s ≡ None = none_if _ (λ t e. let z = i.begun s t.phase (ap phase_by e) in let f = m.fresh in absurd (omega arith)) in
-      let fresh = m.fresh in
       let t : TransactionOf = new_transaction seat work in
       to (with_phase (view_of old) s Phase.Reading s) (ap view_of m.new_is ∙ λ j. record {
         clock = s;
@@ -173,11 +150,7 @@ module _ (old : StateOf) (i : IsSoundTable old) (seat : ℕ) (new : StateOf) whe
       }) (read_kept (view_of old) i s x at answer (let low = i.begun s was.phase (ap phase_by is) in omega arith) unlocked tells)
 
   found_keep : (s : ℕ) (x : Cell) (at : Option Ts) (start commit : Ts) (content : Content) → ReadsFound old seat s x at (record { start = start; commit = commit; content = content }) new → IsSoundTable new
-  found_keep s x at start commit content m =
-      let v = m.version in
-      read_keeps s x at (Answer.Found start commit content) m.t m.own.there m.in_time m.unlocked
-      (v.low, v.written, v.content, λ c u l e. newest_at_most c commit.0 (λ above. let z = v.newest c above l in cc))
-      m.new_is
+  found_keep s x at start commit content m = grind (arith, read_keeps, newest_at_most, m.version, m.t, m.own.there, m.in_time, m.unlocked, m.new_is)
 
   absent_keep : (s : ℕ) (x : Cell) (at : Option Ts) → ReadsAbsent old seat s x at new → IsSoundTable new
   absent_keep s x at m = read_keeps s x at Answer.Absent m.t m.own.there m.in_time m.unlocked (λ c u l e. let z = m.none c l in cc) m.new_is
@@ -219,8 +192,7 @@ module _ (old : StateOf) (i : IsSoundTable old) (seat : ℕ) (new : StateOf) whe
       now = set1_here (view_of old).phase s (Some Phase.Declared)
 
       not_stamped : (c : ℕ) → HasStamp (with_phase (view_of old) s Phase.Declared old.clock) s c → ⊥
-      not_stamped c (inl e) = let n = now in cc
-      not_stamped c (inr e) = let n = now in cc
+      not_stamped c w = grind arith
 
   prewrites_keep : (s : ℕ) (x : Cell) → Prewrites old seat s x new → IsSoundTable new
   prewrites_keep s x m =
@@ -267,7 +239,6 @@ module _ (old : StateOf) (i : IsSoundTable old) (seat : ℕ) (new : StateOf) whe
       let t : TransactionOf = record m.t { phase = committed_at m.c } in
       let held = some_is (lock_at old.entries m.primary s) m.locked in
       let named = (i.lock_prewritten m.primary s held.0 held.1).1 in
-      let first : (view_of old).primary s ≡ Some m.primary = ap primary_by is ∙ m.primary_is in
       let same : held.0 ≡ m.primary = cc in
       to (with_record (view_of old) s m.primary m.c) (ap view_of m.new_is ∙ λ j. record {
         clock = old.clock;

@@ -3,58 +3,23 @@ use Rattle.std.proofs.Common.{inl, inr, ◌≡◌, ℕ, ◌<◌, ◌≤◌, List
 use Rattle.pb_base.specs.declared.names.Ts.{Ts}
 use Rattle.pb_steps.specs.declared.step.Step.{Step}
 use Rattle.pb_steps.specs.declared.step.Answer.{Answer}
-use Rattle.pb_steps.specs.State.{StateOf, opening}
+use Rattle.pb_steps.specs.State.{StateOf}
 use Rattle.pb_verify.specs.Observers.{ObserverOf}
 use Rattle.pb_steps.specs.Steps.{StepCase}
 use Rattle.pb_history.specs.declared.entry.Entry.{Entry}
 use Rattle.pb_history.specs.Journals.{JournalLeads, IsLegal}
 use Rattle.pb_history.specs.History.{Has}
-use Rattle.pb_history.proofs.OnlyEntries.{secondary_keeps}
 use Rattle.pb_history.specs.Timestamps.{with_timestamp, timestamps, AreRising, TellsTimestamps}
 
 -- what holds of the clock and the timestamps after a step, and of a fresh timestamp, holds before it
 module _ (old : StateOf) (seat : ℕ) (new : StateOf) (P : ℕ → List ℕ → Type 0) (ts : List ℕ) (rest : P new.clock ts) (next : (n : ℕ) → new.clock ≡ n → old.clock < n → P old.clock (n ∷ ts)) where
-  -- a step that leaves the clock
-  same : new.clock ≡ old.clock → P old.clock ts
-  same clock = subst (λ n. P n ts) clock rest
-
   pub case_timestamps : (step : Step) (answer : Answer) → StepCase old seat step answer new → P old.clock (with_timestamp step answer ts)
-  case_timestamps (Step.Begin work) (Answer.At s) m = let fresh = m.fresh in next s.0 (ap (λ (z : StateOf). z.clock) m.new_is) (omega (arith, fresh))
-  case_timestamps (Step.Read s x) (Answer.Locked start primary) m = same (ap (λ (z : StateOf). z.clock) m.new_is)
-  case_timestamps (Step.Read s x) (Answer.Found start commit content) m = same (ap (λ (z : StateOf). z.clock) m.new_is)
-  case_timestamps (Step.Read s x) Answer.Absent m = same (ap (λ (z : StateOf). z.clock) m.new_is)
-  case_timestamps (Step.ReadAt s x t) (Answer.Locked start primary) m = same (ap (λ (z : StateOf). z.clock) m.new_is)
-  case_timestamps (Step.ReadAt s x t) (Answer.Found start commit content) m = same (ap (λ (z : StateOf). z.clock) m.new_is)
-  case_timestamps (Step.ReadAt s x t) Answer.Absent m = same (ap (λ (z : StateOf). z.clock) m.new_is)
-  case_timestamps (Step.Declare s what) Answer.Done m = same (ap (λ (z : StateOf). z.clock) m.new_is)
-  case_timestamps (Step.Prewrite s x) Answer.Done m = same (ap (λ (z : StateOf). z.clock) m.new_is)
-  case_timestamps (Step.Prewrite s x) Answer.Conflict m = same (ap (λ (z : StateOf). z.clock) m.new_is)
-  case_timestamps (Step.Stamp s) (Answer.At c) m = let fresh = m.fresh in next c.0 (ap (λ (z : StateOf). z.clock) m.new_is) (omega (arith, fresh))
-  case_timestamps (Step.CommitPrimary s) Answer.Committed m = same (ap (λ (z : StateOf). z.clock) m.new_is)
-  case_timestamps (Step.CommitPrimary s) Answer.Lost m = same (ap (λ (z : StateOf). z.clock) m.new_is)
-  case_timestamps (Step.CommitSecondary s x) Answer.Done m = same (secondary_keeps old seat s.0 x new m).clock
-  case_timestamps (Step.Settle x) Answer.Absent m = same (ap (λ (z : StateOf). z.clock) m.new_is)
-  case_timestamps (Step.Settle x) (Answer.Locked start primary) m = same (ap (λ (z : StateOf). z.clock) m.new_is)
-  case_timestamps (Step.Settle x) Answer.RolledBack m = same (ap (λ (z : StateOf). z.clock) m.new_is)
-  case_timestamps (Step.Clear x) Answer.Absent m = same (ap (λ (z : StateOf). z.clock) m.new_is)
-  case_timestamps (Step.Clear x) Answer.Waits m = same (ap (λ (z : StateOf). z.clock) m.new_is)
-  case_timestamps (Step.Clear x) (Answer.CommittedAt c) m = same (ap (λ (z : StateOf). z.clock) m.new_is)
-  case_timestamps (Step.Clear x) Answer.RolledBack m = same (ap (λ (z : StateOf). z.clock) m.new_is)
-  case_timestamps (Step.NextMark after) (Answer.Marked x) m = same (ap (λ (z : StateOf). z.clock) m.new_is)
-  case_timestamps (Step.NextMark after) Answer.NoMark m = same (ap (λ (z : StateOf). z.clock) m.new_is)
-  case_timestamps (Step.Sweep x) Answer.NoMark m = same (ap (λ (z : StateOf). z.clock) m.new_is)
-  case_timestamps (Step.Sweep x) Answer.StillBehind m = same (ap (λ (z : StateOf). z.clock) m.new_is)
-  case_timestamps (Step.Sweep x) Answer.Done m = same (ap (λ (z : StateOf). z.clock) m.new_is)
-  case_timestamps _ _ m = absurd m
+  case_timestamps step answer m = grind arith
 
 -- what a run of steps gives out rises from its first clock to its last
 pub run_rises : (old : StateOf) (es : List Entry) (new : StateOf) → JournalLeads old es new → AreRising old.clock new.clock (timestamps es)
 run_rises old [] new r = let clock : new.clock ≡ old.clock = ap (λ (z : StateOf). z.clock) r in omega (arith, clock)
-run_rises old (e ∷ es) new r =
-    let rest = run_rises r.0 es new r.2 in
-    case_timestamps old e.seat r.0 (λ n. AreRising n new.clock) (timestamps es) rest
-    (λ n clock low. (low, subst (λ k. AreRising k new.clock (timestamps es)) clock rest))
-    e.step e.answer r.1.taken
+run_rises old (e ∷ es) new r = grind (arith, case_timestamps, e.seat, new.clock, e.step, e.answer, r.1.taken, run_rises r.0 es new r.2)
 
 -- ---- what rising timestamps tell
 
@@ -68,9 +33,7 @@ lower low to high (t ∷ ts) le r = let lt = r.0 in (omega (arith, le, lt), r.1)
 
 -- those after an entry
 pub behind : (low high : ℕ) (step : Step) (answer : Answer) (ts : List ℕ) → AreRising low high (with_timestamp step answer ts) → AreRising low high ts
-behind low high (Step.Begin work) (Answer.At s) ts r = let lt = r.0 in lower low s.0 high ts (omega (arith, lt)) r.1
-behind low high (Step.Stamp s) (Answer.At c) ts r = let lt = r.0 in lower low c.0 high ts (omega (arith, lt)) r.1
-behind low high _ _ ts r = r
+behind low high step answer ts r = grind (arith, lower)
 
 -- a commit that was given out is at most the clock
 commit_at_most : (low high seat : ℕ) (s c : Ts) (es : List Entry) → Has es (record { seat = seat; step = Step.Stamp s; answer = Answer.At c }) → AreRising low high (timestamps es) → c.0 ≤ high
@@ -79,9 +42,4 @@ commit_at_most low high seat s c (e ∷ es) (inl q) r = at_most c.0 high (timest
 commit_at_most low high seat s c (e ∷ es) (inr has) r = commit_at_most low high seat s c es has (behind low high e.step e.answer (timestamps es) r)
 
 pub tells_timestamps : (observers : List ObserverOf) (seats clock : ℕ) (journal : List Entry) (state : StateOf) → IsLegal observers seats clock journal state → TellsTimestamps clock journal state
-tells_timestamps observers seats clock journal state l =
-    let rising = run_rises (opening observers seats clock) journal state l.run in
-    record {
-      rising = rising;
-      commits = λ m h. commit_at_most clock state.clock m.seat (record { 0 = m.start }) (record { 0 = m.commit }) journal h.stamped rising;
-    }
+tells_timestamps observers seats clock journal state l = grind (arith, run_rises, commit_at_most, l.run, state.clock)

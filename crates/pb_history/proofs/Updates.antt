@@ -1,5 +1,5 @@
 -- Functions of a timestamp, and of a cell and a timestamp, changed at one place, and lists with an item more.
-use Rattle.std.proofs.Common.{◌≡◌, ◌≢◌, ℕ, Bool, true, false, cond, ◌⊎◌, ◌&&◌, List, [], ◌∷◌, ◌++◌, Option, Some, None, refl, sym, ap, ◌∙◌, inl, inr, nat_eq}
+use Rattle.std.proofs.Common.{arith, ◌≡◌, ◌≢◌, ℕ, Bool, true, false, cond, ◌⊎◌, ◌&&◌, List, [], ◌∷◌, ◌++◌, Option, Some, None, refl, ap, ◌∙◌, inl, inr, nat_eq}
 use Rattle.std.specs.Ordering.{is_eq, eq_by_cmp}
 use Rattle.std.specs.Cmp.{Equal-is, tied_itself}
 use Rattle.std.proofs.lemmas.Bool.{eqb-true, eq-eqb, false_from_ne_true as not_true}
@@ -36,11 +36,7 @@ at_place_itself x s = ap (λ b. b && nat_eq s s) (same_cell_itself x) ∙ eq-eqb
 
 -- a place is that of the change, or apart from it
 pub decide : (y : Cell) (u : ℕ) (x : Cell) (s : ℕ) → ((y ≡ x) × (u ≡ s)) ⊎ Apart y u x s
-decide y u x s =
-    elim (at_place y u x s) as (λ b. at_place y u x s ≡ b → ((y ≡ x) × (u ≡ s)) ⊎ Apart y u x s) [
-      | true ↦ λ e. inl (at_place_is y u x s e)
-      | false ↦ λ e. inr (λ p q. let h : at_place y u x s ≡ true = (λ i. at_place (p i) (q i) x s) ∙ at_place_itself x s in cc)
-    ] refl
+decide y u x s = grind arith
 
 pub apart_test : (y : Cell) (u : ℕ) (x : Cell) (s : ℕ) → Apart y u x s → at_place y u x s ≡ false
 apart_test y u x s h = not_true _ (λ e. let p = at_place_is y u x s e in h p.0 p.1)
@@ -56,16 +52,10 @@ module _ {A : Type 0} where
   set2_there f x s v y u h = ap (λ b. cond b v (f y u)) (apart_test y u x s h)
 
   pub placed : (f : Cell → ℕ → Option A) (x : Cell) (s : ℕ) (v : A) (y : Cell) (u : ℕ) (w : A) → cond (at_place y u x s) (Some v) (f y u) ≡ Some w → ((y ≡ x) × (u ≡ s) × (v ≡ w)) ⊎ ((f y u ≡ Some w) × Apart y u x s)
-  placed f x s v y u w e = elim (decide y u x s) [
-    | inl p ↦ inl (p.0, p.1, (let h : cond (at_place y u x s) (Some v) (f y u) ≡ Some v = (λ i. cond (at_place (p.0 i) (p.1 i) x s) (Some v) (f y u)) ∙ ap (λ b. cond b (Some v) (f y u)) (at_place_itself x s) in cc))
-    | inr a ↦ inr (sym (ap (λ b. cond b (Some v) (f y u)) (apart_test y u x s a)) ∙ e, a)
-  ]
+  placed f x s v y u w e = grind (arith, decide, at_place_itself, apart_test)
 
   pub cleared : (f : Cell → ℕ → Option A) (x : Cell) (s : ℕ) (y : Cell) (u : ℕ) (w : A) → cond (at_place y u x s) None (f y u) ≡ Some w → (f y u ≡ Some w) × Apart y u x s
-  cleared f x s y u w e = elim (decide y u x s) [
-    | inl p ↦ (let h : cond (at_place y u x s) None (f y u) ≡ None = (λ i. cond (at_place (p.0 i) (p.1 i) x s) None (f y u)) ∙ ap (λ b. cond b None (f y u)) (at_place_itself x s) in cc)
-    | inr a ↦ (sym (ap (λ b. cond b None (f y u)) (apart_test y u x s a)) ∙ e, a)
-  ]
+  cleared f x s y u w e = grind (arith, decide, at_place_itself, apart_test)
 
   abbrev pub set1 : (ℕ → A) → ℕ → A → ℕ → A
   set1 f s v = λ u. cond (nat_eq u s) v (f u)
@@ -78,35 +68,19 @@ module _ {A : Type 0} where
 
   -- what stands after a change, at the place or elsewhere
   pub changed : (f : ℕ → A) (s : ℕ) (v : A) (u : ℕ) (w : A) → cond (nat_eq u s) v (f u) ≡ w → ((u ≡ s) × (v ≡ w)) ⊎ ((f u ≡ w) × (u ≡ s → ⊥))
-  changed f s v u w e =
-      elim (nat_eq u s) as (λ b. nat_eq u s ≡ b → cond b v (f u) ≡ w → ((u ≡ s) × (v ≡ w)) ⊎ ((f u ≡ w) × (u ≡ s → ⊥))) [
-        | true ↦ λ t h. inl (eqb-true u s t, h)
-        | false ↦ λ t h. inr (h, λ p. let q : nat_eq u s ≡ true = eq-eqb u s p in cc)
-      ] refl e
+  changed f s v u w e = grind arith
 
   pub set2_none : (f : Cell → ℕ → Option A) (x : Cell) (s : ℕ) (y : Cell) (u : ℕ) → f y u ≡ None → cond (at_place y u x s) None (f y u) ≡ None
   set2_none f x s y u e = elim (at_place y u x s) as (λ b. cond b None (f y u) ≡ None) [ true ↦ refl | false ↦ e ]
 
 pub none_if : {A : Type 0} (o : Option A) → ((w : A) → o ≡ Some w → ⊥) → o ≡ None
-none_if None h = refl
-none_if (Some w) h = absurd (h w refl)
+none_if o h = grind arith
 
 pub same_number : (a b : ℕ) → (a ≡ b) ⊎ (a ≢ b)
-same_number a b =
-    elim (nat_eq a b) as (λ t. nat_eq a b ≡ t → (a ≡ b) ⊎ (a ≢ b)) [
-      | true ↦ λ e. inl (eqb-true a b e)
-      | false ↦ λ e. inr (λ p. let q : nat_eq a b ≡ true = eq-eqb a b p in cc)
-    ] refl
-
-pub some_if : {A : Type 0} (o : Option A) → o ≢ None → (w : A) × (o ≡ Some w)
-some_if None h = absurd (h refl)
-some_if (Some w) h = (w, refl)
+same_number a b = grind arith
 
 set1_same_at : {A : Type 0} (f : ℕ → A) (s : ℕ) (v : A) → f s ≡ v → (u : ℕ) → set1 f s v u ≡ f u
-set1_same_at f s v e u = elim (same_number u s) [
-  | inl p ↦ (λ j. set1 f s v (p j)) ∙ set1_here f s v ∙ sym e ∙ ap f (sym p)
-  | inr n ↦ set1_there f s v u n
-]
+set1_same_at f s v e u = grind arith
 
 -- what stands there already
 pub set1_same : {A : Type 0} (f : ℕ → A) (s : ℕ) (v : A) → f s ≡ v → set1 f s v ≡ f

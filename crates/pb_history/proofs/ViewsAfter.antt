@@ -1,5 +1,5 @@
 -- What the view of a state is after a change of its entries or of a transaction.
-use Rattle.std.proofs.Common.{◌≡◌, ◌≢◌, ℕ, Bool, true, false, cond, inl, inr, Option, Some, None, refl, sym, ap, ◌∙◌, nat_eq}
+use Rattle.std.proofs.Common.{arith, ◌≡◌, ◌≢◌, ℕ, Bool, true, false, cond, inl, inr, Option, Some, None, refl, sym, ap, ◌∙◌, nat_eq}
 use Rattle.std.specs.Ordering.{is_eq, eq_by_cmp}
 use Rattle.std.specs.Cmp.{Equal-is, tied_itself, nat_cmp_total, unsigned_tied}
 use Rattle.std.specs.FinMap as map
@@ -18,8 +18,7 @@ use Rattle.pb_steps.specs.Commits.{commit_lock, erase_lock}
 use Rattle.pb_history.proofs.Updates.{set1, set2, at_place, decide, apart_test, at_place_itself}
 
 through : {A B : Type 0} (f : A → B) (b : Bool) (x y : A) → f (cond b x y) ≡ cond b (f x) (f y)
-through f true x y = refl
-through f false x y = refl
+through f b x y = grind arith
 
 -- ---- the transactions
 

@@ -1,5 +1,5 @@
 -- The slot after an instruction is the first of another, where there is one.
-use Rattle.std.proofs.Common.{◌<◌, ◌≡◌, ◌≢◌, ℕ, zero, suc, ◌+◌, ◌⊎◌, inl, inr, true, List, [], ◌∷◌, length, get_or, Option, Some, None, refl, arith, is_some}
+use Rattle.std.proofs.Common.{◌<◌, ◌≡◌, ◌≢◌, ℕ, ◌+◌, ◌⊎◌, inl, inr, true, List, [], ◌∷◌, length, get_or, Option, Some, None, refl, arith, is_some}
 use Rattle.pb_isa.specs.declared.insn.Insn.{Insn}
 use Rattle.pb_isa.specs.Slots.{places_of, layout, slots, insn_at}
 use Rattle.pb_isa.specs.NextSlots.{LeadOn}
@@ -10,8 +10,7 @@ size i = length (places_of i)
 
 -- an instruction takes one slot, or two of which the second is empty
 parts : (i : Insn) → ((places_of i ≡ Some i ∷ []) × (size i ≡ 1)) ⊎ ((places_of i ≡ Some i ∷ None ∷ []) × (size i ≡ 2))
-parts (Insn.LoadImm d v) = inr (refl, refl)
-parts i = inl (refl, refl)
+parts i = grind arith
 
 -- some slots begin with an instruction
 HasFirst : List (Option Insn) → Type 0
@@ -30,36 +29,18 @@ has_first (i ∷ p) = elim (parts i) [ inl e ↦ rw e.0 (λ h. refl) | inr e ↦
 -- one more slot in front changes nothing of what comes after the instruction
 next_one : (i j : Insn) (ls : List (Option Insn)) → size j ≡ 1 → HasFirst ls → HasNext ls i → HasNext (Some j ∷ ls) i
 unfolding HasFirst HasNext
-next_one i j ls s f h zero zero at e l = refl
-next_one i j ls s f h zero (suc t) at e l =
-    let same : size j ≡ size i = cc in
-    let none : t ≡ 0 = omega arith in
-    rw none (f (omega arith))
-next_one i j ls s f h (suc n) zero at e l = refl
-next_one i j ls s f h (suc n) (suc t) at e l = h n t at (omega arith) (omega arith)
+next_one i j ls s f h n n1 at e l = grind arith
 
 -- nor does a pair in front
 next_two : (i j : Insn) (ls : List (Option Insn)) → size j ≡ 2 → HasFirst ls → HasNext ls i → HasNext (Some j ∷ None ∷ ls) i
 unfolding HasFirst HasNext
-next_two i j ls s f h zero zero at e l = refl
-next_two i j ls s f h zero (suc zero) at e l = let same : size j ≡ size i = cc in absurd (omega arith)
-next_two i j ls s f h zero (suc (suc t)) at e l =
-    let same : size j ≡ size i = cc in
-    let none : t ≡ 0 = omega arith in
-    rw none (f (omega arith))
-next_two i j ls s f h (suc zero) t at e l = cc
-next_two i j ls s f h (suc (suc n)) zero at e l = refl
-next_two i j ls s f h (suc (suc n)) (suc zero) at e l = absurd (omega arith)
-next_two i j ls s f h (suc (suc n)) (suc (suc t)) at e l = h n t at (omega arith) (omega arith)
+next_two i j ls s f h n t at e l = grind arith
 
 -- so it holds in each layout, by its instructions one after the other
 has_next : (i : Insn) (p : List Insn) → HasNext (layout p) i
 unfolding HasNext
 has_next i [] = λ n t at e l. cc
-has_next i (j ∷ p) = elim (parts j) [
-  | inl e ↦ rw e.0 (next_one i j (layout p) e.1 (has_first p) (has_next i p))
-  | inr e ↦ rw e.0 (next_two i j (layout p) e.1 (has_first p) (has_next i p))
-]
+has_next i (j ∷ p) = grind (arith, parts, next_one, has_first, next_two, has_next i p)
 
 -- the slot after an instruction is the first of another, unless there is none
 next_is : (p : List Insn) (i : Insn) (n : ℕ) → insn_at p n ≡ Some i → n + size i ≢ slots p → is_some (insn_at p (n + size i)) ≡ true

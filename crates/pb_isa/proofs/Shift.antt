@@ -1,5 +1,5 @@
 -- A shift that copies the sign divides the signed value, rounded down.
-use Rattle.std.proofs.Common.{◌≡◌, ℕ, suc, ◌+◌, ◌-◌, ◌*◌, ◌/◌, ◌%◌, ◌^◌, ◌<◌, ◌≤◌, pos, negsuc, Bool, true, false, cond, refl, sym, ap, subst, ◌∙◌, arith, nat_lt}
+use Rattle.std.proofs.Common.{◌≡◌, ℕ, suc, ◌+◌, ◌-◌, ◌*◌, ◌/◌, ◌%◌, ◌^◌, ◌<◌, ◌≤◌, pos, negsuc, Bool, cond, arith, nat_lt}
 use Rattle.std.specs.Int.{cast_unsigned, cast_signed, int_shr}
 use Rattle.std.proofs.lemmas.Nat.{div-mul-add, pow-add, pow_pos}
 use Rattle.std.proofs.Math.Nat.{mod-add-div', mod-lt, add-mul, one-mul, div-lt_iff_lt-mul, pow-le-pow_right}
@@ -9,11 +9,7 @@ use Rattle.pb_isa.specs.Alu.{arsh}
 
 -- what is left of e * d after a, divided by d
 rest_div : (a d e q r t : ℕ) → r + q * d ≡ a → r < d → e ≡ 1 + q + t → (e * d - suc a) / d ≡ t
-rest_div a d e q r t is lt more =
-    let p : e * d ≡ 1 * d + q * d + t * d = ap (λ (n : ℕ). n * d) more ∙ add-mul (1 + q) t d ∙ ap (λ (n : ℕ). n + t * d) (add-mul 1 q d) in
-    let o : 1 * d ≡ d = one-mul d in
-    let s : e * d - suc a ≡ t * d + (d - suc r) = omega (arith, p, o, is, lt) in
-    ap (λ (n : ℕ). n / d) s ∙ div-mul-add t d (d - suc r) (omega (arith, lt))
+rest_div a d e q r t is lt more = grind (arith, add-mul, one-mul, div-mul-add)
 
 -- counted back from e * d, the quotients come in reverse: so a negative number is divided
 below_div : (a d e : ℕ) → 0 < d → a < e * d → (a / d < e) × ((e * d - suc a) / d ≡ e - suc (a / d))
@@ -25,18 +21,7 @@ below_div a d e some lt =
 -- by the sign of a word: a positive one is divided, and a negative one gets ones from above
 shifted : (w : Width) (a k : ℕ) → a < 2 ^ bits w → k ≤ bits w → (low : Bool)
     → cast_unsigned w (int_shr (sel low (pos a) (negsuc (2 ^ bits w - suc a))) k) ≡ cond low (a / 2 ^ k) (a / 2 ^ k + (2 ^ bits w - 2 ^ (bits w - k)))
-shifted w a k lt le true = refl
-shifted w a k lt le false =
-    let n = 2 ^ bits w in
-    let d = 2 ^ k in
-    let e = 2 ^ (bits w - k) in
-    let whole : bits w - k + k ≡ bits w = omega (arith, le) in
-    let is : e * d ≡ n = sym (pow-add 2 (bits w - k) k) ∙ ap (λ (i : ℕ). 2 ^ i) whole in
-    let s = below_div a d e (pow_pos k) (subst (λ (m : ℕ). a < m) (sym is) lt) in
-    let below = s.0 in
-    let most : e ≤ n = pow-le-pow_right {n = 2} (omega arith) (omega arith) in
-    let t : (n - suc a) / d ≡ e - suc (a / d) = subst (λ (m : ℕ). (m - suc a) / d ≡ e - suc (a / d)) is s.1 in
-    ap (λ (m : ℕ). n - suc m) t ∙ omega (arith, below, most)
+shifted w a k lt le low = grind (arith, pow-add, below_div, pow_pos, pow-le-pow_right)
 
 -- the shift of the code, at 64 bits, is that of the definition; and so at 32
 pub arsh_64 : (a b : ℕ) → a < 2 ^ 64 → cast_unsigned w64 (int_shr (cast_signed w64 a) (b % 64)) ≡ arsh w64 a (b % 64)

@@ -1,17 +1,13 @@
 -- Flags by their places, and as parts of their list: definitions ask place by place, and the code takes slices.
-use Rattle.std.proofs.Common.{◌≡◌, ℕ, zero, suc, ◌+◌, ◌≤◌, Bool, true, false, ◌&&◌, List, [], ◌∷◌, ◌++◌, length, take, drop, replicate, refl, ap, ◌∙◌, arith, add-one, drop-cons}
+use Rattle.std.proofs.Common.{◌≡◌, ℕ, zero, suc, ◌+◌, ◌≤◌, Bool, true, List, [], ◌∷◌, ◌++◌, length, take, drop, replicate, refl, ap, arith, add-one, drop-cons}
 use Rattle.std.specs.List.{list_all}
 use Rattle.pb_kinds.specs.declared.frame.Frame.{Frame}
-use Rattle.pb_kinds.specs.Frames.{has_byte}
 use Rattle.pb_kinds.specs.Ranges.{has_bytes, set_flags}
 
 -- flags from a place on, asked one by one, are all set where that part of the list is
 pub all_by_place : (f : Frame) (i n : ℕ) → i + n ≤ length f.written → has_bytes f i n ≡ list_all (λ b. b) (take n (drop i f.written))
 all_by_place f i zero l = refl
-all_by_place f i (suc n) l =
-    let h = all_by_place f (i + 1) n (omega arith) in
-    let more : i + 1 ≡ suc i = add-one i in
-    ap (λ t. has_byte f i && t) h ∙ rw (more, drop-cons f.written i false (omega arith)) refl
+all_by_place f i (suc n) l = grind (arith, add-one, drop-cons, f.written, all_by_place f (i + 1) n (omega arith))
 
 -- setting flags from a place on leaves what stands before and behind them
 pub set_by_parts : (w : List Bool) (i n : ℕ) → i ≤ length w → set_flags w i n ≡ take i w ++ replicate n true ++ drop (i + n) w

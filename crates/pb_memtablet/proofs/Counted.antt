@@ -1,5 +1,5 @@
 -- What the numbers of entries of blocks say, and how they follow a change.
-use Rattle.std.proofs.Common.{◌≡◌, ℕ, ◌<◌, ◌≤◌, ◌+◌, ◌-◌, ◌*◌, ◌/◌, Bool, true, false, cond, List, [], ◌∷◌, ◌++◌, refl, sym, ap, ◌∙◌, subst, arith, zero, suc, length, take, drop, get_or, set, slice_get, min, append_assoc, All, Vec}
+use Rattle.std.proofs.Common.{◌≡◌, ℕ, ◌<◌, ◌≤◌, ◌+◌, ◌-◌, ◌*◌, ◌/◌, Bool, cond, List, [], ◌∷◌, ◌++◌, refl, sym, ap, ◌∙◌, subst, arith, zero, suc, length, take, drop, get_or, set, slice_get, min, append_assoc, All, Vec}
 use mir.Val.{bool_byte}
 use Rattle.std.proofs.lemmas.List.{take-append-drop, take-set-le, drop-set-lt, drop-set-add, get_or-take, get_or-drop, set-get_or, length-take, length-drop, take_min, drop_min}
 use Rattle.std.proofs.Math.Seq.{take-set-lt, drop-cons}
@@ -14,16 +14,13 @@ use Rattle.pb_memtablet.proofs.Pieces.{length-chunk_entries, length-set_in}
 
 -- a flag added as a number adds one where it holds
 pub byte_of : (b : Bool) → bool_byte b ≡ cond b 1 0
-byte_of true = refl
-byte_of false = refl
+byte_of b = grind arith
 
 pub two_of : (b : Bool) → 2 * bool_byte b ≡ cond b 2 0
-two_of true = refl
-two_of false = refl
+two_of b = grind arith
 
 pub at_most_two : (b : Bool) → cond b 2 0 ≤ 2
-at_most_two true = omega arith
-at_most_two false = omega arith
+at_most_two b = grind arith
 
 -- the block of a chunk is its place divided by the length of a block
 block_with : (i : ℕ) → IsInBlock i (i / BLOCK)
@@ -36,9 +33,7 @@ module _ {E A : Type 0} where
 
   -- a place past the first block is counted on in the rest
   pub past_block : (cs : List (Vec E A)) (n i : ℕ) → n ≡ length (chunk_entries (take BLOCK cs)) → n ≤ i → slice_get (chunk_entries (drop BLOCK cs)) (i - n) ≡ slice_get (chunk_entries cs) i
-  past_block cs n i e le =
-      sym (get_later (chunk_entries (take BLOCK cs)) (chunk_entries (drop BLOCK cs)) i (i - n) (omega (arith, e, le)))
-      ∙ ap (λ es. slice_get es i) (sym (blocks_apart cs))
+  past_block cs n i e le = grind (arith, get_later, blocks_apart)
 
   pub first_count : (ns : List ℕ) (cs : List (Vec E A)) (i d : ℕ) → AreCounts (drop i ns) cs → i < length ns → (get_or ns i d ≡ length (chunk_entries (take BLOCK cs))) × AreCounts (drop (i + 1) ns) (drop BLOCK cs)
   first_count ns cs i d a lt =
@@ -49,10 +44,7 @@ module _ {E A : Type 0} where
   -- the numbers so far go on with that of the next block
   pub counts_go_on : (ms ns : List ℕ) (all cs front back : List (Vec E A)) (n j : ℕ) → ((qs : List ℕ) → AreCounts qs cs → AreCounts (ms ++ qs) all) → j ≡ min BLOCK (length cs)
       → front ≡ take j cs → back ≡ drop j cs → n ≡ length (chunk_entries front) → AreCounts ns back → AreCounts ((ms ++ (n ∷ [])) ++ ns) all
-  counts_go_on ms ns all cs front back n j so_far j_is front_is back_is n_is a =
-      let first : n ≡ length (chunk_entries (take BLOCK cs)) = n_is ∙ ap (λ q. length (chunk_entries q)) (front_is ∙ ap (λ m. take m cs) j_is ∙ take_min BLOCK cs) in
-      let rest : back ≡ drop BLOCK cs = back_is ∙ ap (λ m. drop m cs) j_is ∙ drop_min BLOCK cs in
-      subst (λ q. AreCounts q all) (sym (append_assoc ms (n ∷ []) ns)) (so_far (n ∷ ns) (first, subst (AreCounts ns) rest a))
+  counts_go_on ms ns all cs front back n j so_far j_is front_is back_is n_is a = grind (arith, take_min, drop_min, append_assoc)
 
   -- a block has few entries
   few_in_block : (cs : List (Vec E A)) → All IsChunk cs → length (chunk_entries (take BLOCK cs)) ≤ CHUNK * BLOCK
@@ -110,14 +102,12 @@ module _ {E A : Type 0} where
       let here : m ≡ get_or (take BLOCK cs) i m = e ∙ sym (get_or-take BLOCK cs i m before) in
       let less : length n.items + y ≡ length m.items + 0 = omega (arith, l) in
       let all = length-set_in (take BLOCK cs) i m n 0 y inside here less in
-      let first = a.0 in
-      omega (arith, all, first)
+      omega (arith, all)
   taken_was_counted (c ∷ ns) cs i (suc b) m n y d a lt w e l =
       let from = w.from in
       let before = w.before in
-      let past : BLOCK ≤ i = omega (arith, from) in
-      let parted : BLOCK + (i - BLOCK) ≡ i = omega (arith, past) in
-      let inside : i - BLOCK < length (drop BLOCK cs) = omega (arith, length-drop BLOCK cs, lt, past) in
+      let parted : BLOCK + (i - BLOCK) ≡ i = omega arith in
+      let inside : i - BLOCK < length (drop BLOCK cs) = omega (arith, length-drop BLOCK cs, lt) in
       let here : m ≡ get_or (drop BLOCK cs) (i - BLOCK) m = e ∙ ap (λ j. get_or cs j m) (sym parted) ∙ sym (get_or-drop BLOCK cs (i - BLOCK) m) in
       taken_was_counted ns (drop BLOCK cs) (i - BLOCK) b m n y d a.1 inside (record { from = omega (arith, from); before = omega (arith, before, from) }) here l
 

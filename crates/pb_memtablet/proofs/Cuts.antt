@@ -1,5 +1,5 @@
 -- What stands beside the cut of a sorted list at a key.
-use Rattle.std.proofs.Common.{◌≡◌, ℕ, ◌<◌, ◌≤◌, List, [], ◌∷◌, None, Some, refl, sym, ap, ◌∙◌, subst, arith, zero, suc, length, take, get_or, slice_get, T, Ordering, Less, Equal, Greater}
+use Rattle.std.proofs.Common.{◌≡◌, ℕ, ◌<◌, ◌≤◌, List, [], ◌∷◌, None, Some, refl, sym, ap, ◌∙◌, arith, zero, suc, length, take, get_or, slice_get, T, Ordering, Less, Equal, Greater}
 use Rattle.std.specs.Cmp.{IsTotalOrder}
 use Rattle.std.specs.List.{last_or}
 use Rattle.std.specs.FinMap.Entries.{is_sorted}
@@ -41,12 +41,7 @@ module _ {K X : Type 0} (R : K → K → Ordering) where
   cut_within (e ∷ es) k (suc i) c = let rest = cut_within es k i c.1 in omega (arith, rest)
 
   last_before : (es : List (K × X)) (k : K) (i : ℕ) (e : K × X) → IsCut R es k i → Some e ≡ last_or None (take i es) → IsLastUpTo R es k e
-  last_before es k zero e c p = cc
-  last_before es k (suc i) e c p =
-      let le : suc i ≤ length es = cut_within es k (suc i) c in
-      let lt : i < length es = omega (arith, le) in
-      let same : Some e ≡ Some (get_or es i e) = p ∙ last_of_take None es i e lt in
-      record { place = i; is = cc; within = lt; cut = c }
+  last_before es k i e c p = grind (arith, cut_within, last_of_take)
 
   none_before : (es : List (K × X)) (k : K) (i : ℕ) → IsCut R es k i → None ≡ last_or None (take i es) → IsCut R es k 0
   none_before es k zero c p = c
@@ -57,11 +52,7 @@ module _ {K X : Type 0} (R : K → K → Ordering) where
       cc
 
   none_behind : (es : List (K × X)) (k : K) (i : ℕ) → IsCut R es k i → None ≡ slice_get es i → IsCut R es k (length es)
-  none_behind es k i c p =
-      let le : i ≤ length es = cut_within es k i c in
-      let ge : length es ≤ i = none_past es i p in
-      let end : i ≡ length es = omega (arith, le, ge) in
-      subst (IsCut R es k) end c
+  none_behind es k i c p = grind (arith, cut_within, none_past)
 
   module _ (o : IsTotalOrder R) (es : List (K × X)) (k : K) (s : T (is_sorted R es)) where
     -- the last entry up to k stands right before the cut

@@ -1,5 +1,5 @@
 -- What edits make of sorted lists.
-use Rattle.std.proofs.Common.{◌≡◌, Bool, true, false, cond, not, List, [], ◌∷◌, refl, sym, ap, ◌∙◌, subst, length, drop, get_or, ◌≤◌, arith, Ordering, Less, Equal, Greater}
+use Rattle.std.proofs.Common.{◌≡◌, Bool, not, List, [], ◌∷◌, refl, sym, ap, ◌∙◌, subst, length, drop, arith, Ordering, Less, Equal, Greater}
 use Rattle.std.specs.Ordering.{eq_by_cmp}
 use Rattle.std.specs.FinMap as map
 use Rattle.std.specs.FinMap.{put}
@@ -36,11 +36,7 @@ of_sort-put (e ∷ es) k v new all =
 
 of_sort-where_key : (es : EntryList) (p : Slot → Bool) → AllOfSort es → AllOfSort (where_key slot_cmp p es)
 of_sort-where_key [] p all = tt
-of_sort-where_key (e ∷ es) p all =
-    elim (p e.0) as (λ b. AllOfSort (cond b (e ∷ where_key slot_cmp p es) (where_key slot_cmp p es))) [
-      | true ↦ (all.0, of_sort-where_key es p all.1)
-      | false ↦ of_sort-where_key es p all.1
-    ]
+of_sort-where_key (e ∷ es) p all = grind (arith, of_sort-where_key es p all.1)
 
 -- ---- one edit
 -- fs and ns are what one edit makes of es and ms, and again lists that a tablet may have
@@ -95,14 +91,6 @@ module _ (es : EntryList) (ms : MarkList) (l : AreLists es ms) where
   }
 
 -- ---- two edits of entries
--- edits of which the first two are known
-pub first_two : (xs : List Edit) (a b : Edit) → 2 ≤ length xs → a ≡ get_or xs 0 a → b ≡ get_or xs 1 b → xs ≡ a ∷ b ∷ drop 2 xs
-first_two [] a b le p q = absurd (omega (arith, le))
-first_two (x ∷ []) a b le p q = absurd (omega (arith, le))
-first_two (x ∷ y ∷ xs) a b le p q = λ i. sym p i ∷ sym q i ∷ xs
-
 module _ (fs gs es : EntryList) (ms : MarkList) (xs : List Edit) (a b : Edit) (e : xs ≡ a ∷ b ∷ drop 2 xs) where
   pub both_done : IsDone gs ms a es ms → IsDone fs ms b gs ms → after_edits (drop 2 xs) (contents_of fs ms) ≡ after_edits xs (contents_of es ms)
-  both_done once twice =
-      ap (after_edits (drop 2 xs)) (twice.contents ∙ ap (after_edit b) once.contents)
-      ∙ sym (ap (λ (l : List Edit). after_edits l (contents_of es ms)) e)
+  both_done once twice = grind arith

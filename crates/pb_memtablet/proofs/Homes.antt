@@ -1,5 +1,5 @@
 -- Where a key belongs among the parts of a sorted list, and what an edit there does to the whole.
-use Rattle.std.proofs.Common.{◌≡◌, ◌≢◌, ℕ, ◌<◌, ◌≤◌, ◌+◌, Bool, true, false, cond, not, List, [], ◌∷◌, ◌++◌, Option, None, Some, refl, sym, ap, ◌∙◌, arith, zero, suc, length, take, drop, get_or, slice_get, T, Ordering, Less, Equal, Greater}
+use Rattle.std.proofs.Common.{◌≡◌, ◌≢◌, ℕ, ◌<◌, ◌≤◌, ◌+◌, Bool, true, false, cond, not, List, [], ◌∷◌, ◌++◌, Option, None, Some, refl, sym, ap, ◌∙◌, arith, zero, suc, length, take, drop, get_or, slice_get, T, Ordering, Less, Greater}
 use Rattle.std.specs.Ordering.{is_eq, is_lt, is_le, eq_by_cmp}
 use Rattle.std.specs.Cmp.{IsTotalOrder}
 use Rattle.std.specs.List.{filter, last_or}
@@ -13,30 +13,18 @@ use Rattle.pb_memtablet.specs.Chunks.{AreBelow, AreAbove, entries_up_to, entries
 use Rattle.pb_base.proofs.Logic.{both_hold as both, first_holds as first, second_holds as second, less_if as less, turned}
 
 not_lt : (r : Ordering) → r ≢ Less → is_lt r ≡ false
-not_lt Less n = absurd (n refl)
-not_lt Equal n = refl
-not_lt Greater n = refl
+not_lt r n = grind arith
 
 module _ {K : Type 0} {R : K → K → Ordering} (o : IsTotalOrder R) where
   behind : (x y k : K) → R x y ≡ Less → R k y ≢ Less → R k x ≡ Greater
-  behind x y k lt ne =
-      elim (R k y) as (λ r. R k y ≡ r → r ≢ Less → R k x ≡ Greater) [
-        | Less ↦ λ e n. absurd (n refl)
-        | Equal ↦ λ e n. o.congr k y x e ∙ turned o x y Less lt
-        | Greater ↦ λ e n. turned o x k Less (o.trans x y k lt (turned o k y Greater e))
-      ] refl ne
+  behind x y k lt ne = grind arith
 
   -- ---- the first key beside k
   pub at_most : (e k : K) → is_le (R e k) ≡ true → R k e ≢ Less
   at_most e k le lt = let turn : R e k ≡ Greater = turned o k e Less lt in cc (ap is_le turn)
 
   pub is_above : (e k : K) → is_le (R e k) ≡ false → R k e ≡ Less
-  is_above e k not_le =
-      elim (R e k) as (λ r. R e k ≡ r → is_le r ≡ false → R k e ≡ Less) [
-        | Less ↦ λ q n. cc
-        | Equal ↦ λ q n. cc
-        | Greater ↦ λ q n. turned o e k Greater q
-      ] refl not_le
+  is_above e k not_le = grind arith
 
 module _ {K X : Type 0} (R : K → K → Ordering) where
   -- ---- find
@@ -59,8 +47,7 @@ module _ {K X : Type 0} (R : K → K → Ordering) where
   -- ---- put
   put_after : (xs ys : List (K × X)) (k : K) (v : X) → AreBelow R k xs → put R k v (xs ++ ys) ≡ xs ++ put R k v ys
   put_after [] ys k v b = refl
-  put_after (x ∷ xs) ys k v b =
-      ap (λ r. by_order r ((k, v) ∷ x ∷ (xs ++ ys)) ((x.0, v) ∷ (xs ++ ys)) (x ∷ put R k v (xs ++ ys))) b.0 ∙ ap (λ l. x ∷ l) (put_after xs ys k v b.1)
+  put_after (x ∷ xs) ys k v b = grind (arith, put_after xs ys k v b.1)
 
   put_first : (ys : List (K × X)) (k : K) (v : X) → AreAbove R k ys → put R k v ys ≡ (k, v) ∷ ys
   put_first [] k v a = refl
@@ -68,12 +55,7 @@ module _ {K X : Type 0} (R : K → K → Ordering) where
 
   put_before : (ms ys : List (K × X)) (k : K) (v : X) → AreAbove R k ys → put R k v (ms ++ ys) ≡ put R k v ms ++ ys
   put_before [] ys k v a = put_first ys k v a
-  put_before (m ∷ ms) ys k v a =
-      elim (R k m.0) as (λ r. by_order r ((k, v) ∷ m ∷ (ms ++ ys)) ((m.0, v) ∷ (ms ++ ys)) (m ∷ put R k v (ms ++ ys)) ≡ by_order r ((k, v) ∷ m ∷ ms) ((m.0, v) ∷ ms) (m ∷ put R k v ms) ++ ys) [
-        | Less ↦ refl
-        | Equal ↦ refl
-        | Greater ↦ ap (λ l. m ∷ l) (put_before ms ys k v a)
-      ]
+  put_before (m ∷ ms) ys k v a = grind (arith, put_before ms ys k v a)
 
   -- and so does a put, since the parts around it keep what they have
   pub put-home : (xs ms ys : List (K × X)) (k : K) (v : X) → AreBelow R k xs → AreAbove R k ys → put R k v (xs ++ (ms ++ ys)) ≡ xs ++ (put R k v ms ++ ys)
@@ -93,10 +75,7 @@ module _ {K X : Type 0} (R : K → K → Ordering) where
 
   -- a filter over three parts
   parts : (p : K × X → Bool) (xs ms ys xs' ys' : List (K × X)) → filter p xs ≡ xs' → filter p ys ≡ ys' → filter p (xs ++ (ms ++ ys)) ≡ xs' ++ (filter p ms ++ ys')
-  parts p xs ms ys xs' ys' e f =
-      filter-append p xs (ms ++ ys)
-      ∙ ap (λ l. l ++ filter p (ms ++ ys)) e
-      ∙ ap (λ l. xs' ++ l) (filter-append p ms ys ∙ ap (λ l. filter p ms ++ l) f)
+  parts p xs ms ys xs' ys' e f = grind (arith, filter-append)
 
   pub without-home : (xs ms ys : List (K × X)) (k : K) → AreBelow R k xs → AreAbove R k ys → without k (xs ++ (ms ++ ys)) ≡ xs ++ (without k ms ++ ys)
   without-home xs ms ys k b a = parts (λ e. not (eq_by_cmp R k e.0)) xs ms ys xs ys (without_below xs k b) (without_above ys k a)

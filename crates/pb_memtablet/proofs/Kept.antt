@@ -26,8 +26,7 @@ below_all-seen s x (k ∷ ks) = ap (λ b. is_lt (slot_cmp x k.0) && b) (below_al
 
 pub is_sorted-seen : (s : Items) (ks : KeyList) → is_sorted slot_cmp (seen s ks) ≡ is_sorted slot_cmp ks
 is_sorted-seen s [] = refl
-is_sorted-seen s (k ∷ ks) =
-    ap (λ b. b && is_sorted slot_cmp (seen s ks)) (below_all-seen s k.0 ks) ∙ ap (λ b. below_all slot_cmp k.0 ks && b) (is_sorted-seen s ks)
+is_sorted-seen s (k ∷ ks) = grind (arith, below_all-seen, is_sorted-seen s ks)
 
 pub length-seen : (s : Items) (ks : KeyList) → length (seen s ks) ≡ length ks
 length-seen s [] = refl
@@ -62,11 +61,7 @@ of_found P (k ∷ ks) slot n e all =
 
 all-where : (P : ℕ → Type 0) (p : Name → Bool) (ks : KeyList) → AllKeys P ks → AllKeys P (where_key slot_cmp p ks)
 all-where P p [] all = tt
-all-where P p (k ∷ ks) all =
-    elim (p k.0) as (λ b. AllKeys P (cond b (k ∷ where_key slot_cmp p ks) (where_key slot_cmp p ks))) [
-      | true ↦ (all.0, all-where P p ks all.1)
-      | false ↦ all-where P p ks all.1
-    ]
+all-where P p (k ∷ ks) all = grind (arith, all-where P p ks all.1)
 
 all-put : (P : ℕ → Type 0) (slot : Name) (n : ℕ) (ks : KeyList) → P n → AllKeys P ks → AllKeys P (put slot_cmp slot n ks)
 all-put P slot n [] new all = (new, tt)
@@ -79,11 +74,7 @@ all-put P slot n (k ∷ ks) new all =
 
 apart-where : (p : Name → Bool) (ks : KeyList) → AreApart ks → AreApart (where_key slot_cmp p ks)
 apart-where p [] a = tt
-apart-where p (k ∷ ks) a =
-    elim (p k.0) as (λ b. AreApart (cond b (k ∷ where_key slot_cmp p ks) (where_key slot_cmp p ks))) [
-      | true ↦ (all-where _ p ks a.0, apart-where p ks a.1)
-      | false ↦ apart-where p ks a.1
-    ]
+apart-where p (k ∷ ks) a = grind (arith, all-where, apart-where p ks a.1)
 
 apart-put : (slot : Name) (n : ℕ) (ks : KeyList) → AllKeys (λ m. m ≢ n) ks → AreApart ks → AreApart (put slot_cmp slot n ks)
 apart-put slot n [] new a = (tt, tt)
@@ -124,8 +115,7 @@ module _ (s t : Items) (n : ℕ) where
 
   still_seen : (ks : KeyList) → Others s t n → AllKeys (λ m. m ≢ n) ks → seen t ks ≡ seen s ks
   still_seen [] o a = refl
-  still_seen (k ∷ ks) o a =
-      ap (λ x. (k.0, unwrap_or x (Item.Write (record { 0 = 0 }))) ∷ seen t ks) (o k.1 a.0) ∙ ap (λ es. (k.0, item_at s k.1) ∷ es) (still_seen ks o a.1)
+  still_seen (k ∷ ks) o a = grind (arith, still_seen ks o a.1)
 
   seen-put : (slot : Name) (item : Item) (ks : KeyList) → item_at t n ≡ item → Others s t n → AllKeys (λ m. m ≢ n) ks → seen t (put slot_cmp slot n ks) ≡ put slot_cmp slot item (seen s ks)
   seen-put slot item [] e o a = ap (λ x. (slot, x) ∷ []) e
@@ -142,11 +132,7 @@ module _ (s t : Items) (n : ℕ) where
 
 pub seen-where : (s : Items) (p : Name → Bool) (ks : KeyList) → seen s (where_key slot_cmp p ks) ≡ where_key slot_cmp p (seen s ks)
 seen-where s p [] = refl
-seen-where s p (k ∷ ks) =
-    elim (p k.0) as (λ b. seen s (cond b (k ∷ where_key slot_cmp p ks) (where_key slot_cmp p ks)) ≡ cond b ((k.0, item_at s k.1) ∷ where_key slot_cmp p (seen s ks)) (where_key slot_cmp p (seen s ks))) [
-      | true ↦ ap (λ es. (k.0, item_at s k.1) ∷ es) (seen-where s p ks)
-      | false ↦ seen-where s p ks
-    ]
+seen-where s p (k ∷ ks) = grind (arith, seen-where s p ks)
 
 -- ---- an entry put under a fresh key
 module _ (s t : Items) (ks ls : KeyList) (slot : Name) (n : ℕ) (item : Item) (kept : AreStored s ks) (vacant : found_at s n ≡ None) (changed : found_at t n ≡ Some item) (others : Others s t n) (e : ls ≡ put slot_cmp slot n ks) where
@@ -193,10 +179,7 @@ pub freed : (slot : Name) (ks : KeyList) → find slot_cmp slot (without slot ks
 freed slot ks = without_slot slot slot ks ∙ ap (λ r. cond (not (is_eq r)) (find slot_cmp slot ks) None) (tied_itself slot_cmp_total slot)
 
 hidden : {X : Type 0} (a b : Bool) (v x y : X) → a ≡ b → cond a v (cond (not b) x y) ≡ cond a v x
-hidden true true v x y e = refl
-hidden false false v x y e = refl
-hidden true false v x y e = cc
-hidden false true v x y e = cc
+hidden a b v x y e = grind arith
 
 -- an entry taken out and put anew is one that was replaced
 pub put_anew : (slot : Name) (item : Item) (es : EntryList) → T (is_sorted slot_cmp es)

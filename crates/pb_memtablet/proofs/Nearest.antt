@@ -43,11 +43,7 @@ same_slot : (x : Slot) (cell : Cell) (sort : Sort) → x.cell ≡ cell → x.sor
 same_slot x cell sort p q = λ i. record { cell = p i; sort = q i; ts = x.ts }
 
 after_apart : (a b c d : Ordering) → ordering_then a (ordering_then b c) ≢ Less → ((a ≡ Equal) → (b ≡ Equal) → ⊥) → ordering_then a (ordering_then b d) ≡ Greater
-after_apart Less b c d n e = absurd (n refl)
-after_apart Equal Less c d n e = absurd (n refl)
-after_apart Equal Equal c d n e = absurd (e refl refl)
-after_apart Equal Greater c d n e = refl
-after_apart Greater b c d n e = refl
+after_apart a b c d n e = grind arith
 
 -- a slot of another cell or sort that is not above one of these is below them all
 apart : (x : Slot) (cell : Cell) (sort : Sort) (high t : ℕ) → slot_cmp (slot_at cell sort high) x ≢ Less → (x.cell ≡ cell → x.sort ≡ sort → ⊥) → slot_cmp (slot_at cell sort t) x ≡ Greater
@@ -62,14 +58,7 @@ apart x cell sort high t above other =
 
 -- a slot that isn't above the highest has at most its timestamp
 not_above : (cell : Cell) (sort : Sort) (high t : ℕ) → slot_cmp (slot_at cell sort high) (slot_at cell sort t) ≢ Less → t ≤ high
-not_above cell sort high t n =
-    elim (cases_order high t) [
-      | inl same ↦ omega (arith, same)
-      | inr rest ↦ elim rest [
-        | inl lt ↦ absurd (n (by_ts cell sort high t ∙ sym (nat_cmp_is high t Less lt)))
-        | inr gt ↦ omega (arith, gt)
-      ]
-    ]
+not_above cell sort high t n = grind (arith, cases_order, by_ts)
 
 -- the item at a place is of its slot's sort
 of_sort_at : (es : EntryList) (i : ℕ) (d : Slot × Item) → AllOfSort es → i < length es → IsOfSort (get_or es i d).0.sort (get_or es i d).1

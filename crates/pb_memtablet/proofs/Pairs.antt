@@ -1,5 +1,5 @@
 -- Two elements that come side by side.
-use Rattle.std.proofs.Common.{◌≡◌, ◌≤◌, ◌+◌, ◌-◌, ◌∙◌, ℕ, zero, suc, List, [], ◌∷◌, ◌++◌, length, take, drop, set, refl, sym, ap, arith}
+use Rattle.std.proofs.Common.{◌≡◌, ◌≤◌, ◌+◌, ◌-◌, ◌∙◌, ℕ, zero, suc, List, [], ◌∷◌, ◌++◌, length, take, drop, set, refl, ap, arith}
 use Rattle.std.specs.List.{insert, copy_within}
 
 -- what stands before two pushed elements
@@ -35,14 +35,7 @@ inserted (x ∷ xs) (suc i) a b le = ap (λ l. x ∷ l) (inserted xs i a b (omeg
 pub both-inserted : {X : Type 0} → (xs : List X) (i : ℕ) (a b : X) → i ≤ length xs
     → set (set (copy_within (xs ++ a ∷ b ∷ []) i (length xs) (i + 2)) i a) (i + 1) b ≡ insert (insert xs i a) (i + 1) b
 both-inserted xs i a b le =
-    let d = xs ++ a ∷ b ∷ [] in
     let n = length xs - i in
-    let next : i + 1 ≡ suc i = omega arith in
     let two : i + 2 ≡ suc (suc i) = omega arith in
     let all : suc (suc i) + n ≡ suc (suc (length xs)) = omega (arith, le) in
-    ap (λ k. set (set (take k d ++ take n (drop i d) ++ drop (k + n) d) i a) (i + 1) b) two
-    ∙ ap (λ k. set (set (take (suc (suc i)) d ++ take n (drop i d) ++ drop k d) i a) (i + 1) b) all
-    ∙ ap (λ k. set (set (moved xs i n a b) i a) k b) next
-    ∙ put_over xs i n a b le refl
-    ∙ sym (inserted xs i a b le)
-    ∙ ap (λ k. insert (insert xs i a) k b) (sym next)
+    grind (arith, put_over, inserted)

@@ -1,6 +1,5 @@
 -- The chunks of a sorted list: what they are together after an edit, and which one a key belongs into.
-use Rattle.std.proofs.Common.{◌≡◌, ℕ, ◌<◌, ◌≤◌, ◌+◌, ◌-◌, Bool, true, false, cond, List, [], ◌∷◌, ◌++◌, None, Some, refl, sym, ap, ◌∙◌, subst, arith, zero, suc, length, take, drop, get_or, set, T, append_assoc, length-append, length-set, slice_get, inl, inr, vec_len, ◌==◌, ◌*◌, Ordering, Vec}
-use Rattle.std.proofs.lemmas.Bool.Decides.{nat_tests}
+use Rattle.std.proofs.Common.{◌≡◌, ℕ, ◌<◌, ◌≤◌, ◌+◌, ◌-◌, Bool, true, false, cond, List, [], ◌∷◌, ◌++◌, None, Some, refl, sym, ap, ◌∙◌, subst, arith, zero, suc, length, take, drop, get_or, set, T, append_assoc, length-append, length-set, slice_get, vec_len, ◌==◌, ◌*◌, Ordering, Vec}
 use Rattle.std.specs.Cmp.{IsTotalOrder}
 use Rattle.std.specs.List.{All, AllWithin, insert, remove, last_or}
 use Rattle.std.proofs.lemmas.Bool.{cases_order}
@@ -28,20 +27,18 @@ at_set (y ∷ xs) zero x d lt = refl
 at_set (y ∷ xs) (suc i) x d lt = at_set xs i x d (omega arith)
 
 pub is_zero : (n : ℕ) → true ≡ (n == 0) → n ≡ 0
-is_zero n e = grind (arith, nat_tests)
+is_zero n e = grind arith
 
 pub not_zero : (n : ℕ) → false ≡ (n == 0) → 0 < n
-not_zero n e = grind (arith, nat_tests)
+not_zero n e = grind arith
 
 -- a put makes at most one entry more
 pub at_most_one : (b : Bool) → cond b 1 0 ≤ 1
-at_most_one true = omega arith
-at_most_one false = omega arith
+at_most_one b = grind arith
 
 -- whether or not a call did something, its list is sorted
 pub sorted_if : {K X : Type 0} (R : K → K → Ordering) (b : Bool) (es fs : List (K × X)) → T (is_sorted R es) → T (is_sorted R fs) → T (is_sorted R (cond b es fs))
-sorted_if R true es fs s t = s
-sorted_if R false es fs s t = t
+sorted_if x b es fs s t = grind arith
 
 pub remove-set : {X : Type 0} (xs : List X) (i : ℕ) (x : X) → remove (set xs i x) i ≡ remove xs i
 remove-set [] i x = refl
@@ -86,20 +83,13 @@ module _ {E A : Type 0} where
 
   pub length-chunk_entries : (cs : List (Vec E A)) → All IsChunk cs → length (chunk_entries cs) ≤ CHUNK * length cs
   length-chunk_entries [] h = omega arith
-  length-chunk_entries (c ∷ cs) h =
-      let chunk : IsChunk c = All-head IsChunk c cs h in
-      let rest : length (chunk_entries cs) ≤ CHUNK * length cs = length-chunk_entries cs (All-tail IsChunk c cs h) in
-      omega (arith, rest, chunk.fits, c.ok.0, length-append c.items (chunk_entries cs))
+  length-chunk_entries (c ∷ cs) h = grind (arith, All-head, All-tail, length-append, c.items, length-chunk_entries cs (All-tail IsChunk c cs h))
 
   -- an entry more or less in one chunk is one more or less of all
   pub length-set_in : (cs : List (Vec E A)) (i : ℕ) (m n : Vec E A) (a b : ℕ) → i < length cs → m ≡ get_or cs i m → length n.items + b ≡ length m.items + a → length (chunk_entries (set cs i n)) + b ≡ length (chunk_entries cs) + a
   length-set_in [] i m n a b lt e l = absurd (omega (arith, lt))
-  length-set_in (c ∷ cs) zero m n a b lt e l =
-      let same : length c.items ≡ length m.items = ap (λ (d : Vec E A). length d.items) (sym e) in
-      omega (arith, length-append n.items (chunk_entries cs), length-append c.items (chunk_entries cs))
-  length-set_in (c ∷ cs) (suc i) m n a b lt e l =
-      let rest : length (chunk_entries (set cs i n)) + b ≡ length (chunk_entries cs) + a = length-set_in cs i m n a b (omega arith) e l in
-      omega (arith, length-append c.items (chunk_entries (set cs i n)), length-append c.items (chunk_entries cs))
+  length-set_in (c ∷ cs) zero m n a b lt e l = grind (arith, length-append, c.items, m.items, n.items)
+  length-set_in (c ∷ cs) (suc i) m n a b lt e l = grind (arith, length-append, c.items, length-set_in cs i m n a b (omega arith) e l)
 
   pub length-taken_from : (cs : List (Vec E A)) (i : ℕ) (m n : Vec E A) (b : Bool) → i < length cs → m ≡ get_or cs i m → vec_len n + cond b 1 0 ≡ vec_len m → length (chunk_entries (set cs i n)) + cond b 1 0 ≡ length (chunk_entries cs)
   length-taken_from cs i m n b lt e l =
@@ -124,20 +114,16 @@ module _ {E A : Type 0} where
 
 module _ {K X : Type 0} (R : K → K → Ordering) (o : IsTotalOrder R) where
   above_from_first : (es ys : List (K × X)) (k : K) → 0 < length es → T (is_sorted R (es ++ ys)) → starts_by R k es ≡ false → AreAbove R k (es ++ ys)
-  above_from_first [] ys k some s f = absurd (omega (arith, some))
-  above_from_first (e ∷ es) ys k some s f = above_head R o e (es ++ ys) k s (is_above o e.0 k f)
+  above_from_first es ys k some s f = grind (arith, above_head, is_above)
 
   below_to_first : (xs es ys : List (K × X)) (k : K) → T (is_sorted R (xs ++ (es ++ ys))) → starts_by R k es ≡ true → AreBelow R k xs
-  below_to_first xs [] ys k s t = cc
-  below_to_first xs (e ∷ es) ys k s t = below_head R o xs e (es ++ ys) k s (at_most o e.0 k t)
+  below_to_first xs es ys k s t = grind (arith, below_head, at_most)
 
   not_above : (es ys : List (K × X)) (k : K) → AreAbove R k (es ++ ys) → starts_by R k es ≡ true → ⊥
-  not_above [] ys k a t = cc
-  not_above (e ∷ es) ys k a t = at_most o e.0 k t a.0
+  not_above es ys k a t = grind arith
 
   cut_not_started : (es : List (K × X)) (k : K) → IsCut R es k 0 → starts_by R k es ≡ true → ⊥
-  cut_not_started [] k c t = cc
-  cut_not_started (e ∷ es) k c t = at_most o e.0 k t c
+  cut_not_started es k c t = grind arith
 
   module _ {A : Type 0} where
     -- no chunk of a list above k starts by k
@@ -157,8 +143,7 @@ module _ {K X : Type 0} (R : K → K → Ordering) (o : IsTotalOrder R) where
           | false ↦ λ e. absurd (none_starts (c ∷ cs) k j d (above_from_first c.items (chunk_entries cs) k (filled c (All-head IsChunk c cs h)) s e) lt t)
         ] refl
     partitioned (c ∷ cs) k s h (suc i) zero d le lt t = absurd (omega (arith, le))
-    partitioned (c ∷ cs) k s h (suc i) (suc j) d le lt t =
-        partitioned cs k (sorted_right R c.items (chunk_entries cs) s) (All-tail IsChunk c cs h) i j d (omega arith) (omega arith) t
+    partitioned (c ∷ cs) k s h (suc i) (suc j) d le lt t = grind (arith, sorted_right, All-tail, c.items, partitioned cs k (sorted_right R c.items (chunk_entries cs) s) (All-tail IsChunk c cs h) i j d (omega arith) (omega arith) t)
 
     above_point : (cs : List (Vec (K × X) A)) (k : K) (p : ℕ) → T (is_sorted R (chunk_entries cs)) → All IsChunk cs → AllWithin (λ c. starts_by R k c.items ≡ false) cs p (length cs) → AreAbove R k (chunk_entries (drop p cs))
     above_point [] k zero s h f = tt
@@ -260,18 +245,10 @@ module _ {K X : Type 0} (R : K → K → Ordering) (o : IsTotalOrder R) where
           subst (λ (c : Vec (K × X) A). T (is_sorted R (chunk_entries (take (suc i) ds) ++ (c.items ++ chunk_entries (drop (suc (suc i)) ds))))) (sym e) (subst (λ l. T (is_sorted R l)) (chunk_entries-split ds (suc i) b lt) s)
 
       pub home-second : drop (suc (suc i)) ds ≡ drop (suc i) cs → starts_by R k b.items ≡ true → IsHome R ds k (suc i)
-      home-second after t = record {
-        within = lt;
-        below = below_to_first (chunk_entries (take (suc i) ds)) b.items (chunk_entries (drop (suc (suc i)) ds)) k at_second t;
-        above = subst (λ l. AreAbove R k (chunk_entries l)) (sym after) h.above;
-      }
+      home-second after t = grind (arith, below_to_first, at_second, b.items, h.above)
 
       pub home-first : take i ds ≡ take i cs → 0 < length b.items → starts_by R k b.items ≡ false → IsHome R ds k i
-      home-first before some f = record {
-        within = omega arith;
-        below = subst (λ l. AreBelow R k (chunk_entries l)) (sym before) h.below;
-        above = subst (AreAbove R k) (sym (chunk_entries-from ds (suc i) b lt e)) (above_from_first b.items (chunk_entries (drop (suc (suc i)) ds)) k some (sorted_right R (chunk_entries (take (suc i) ds)) _ at_second) f);
-      }
+      home-first before some f = grind (arith, chunk_entries-from, above_from_first, sorted_right, at_second, h.below, b.items)
 
     -- ---- the keys up to k, and those above
     module _ (cs : List (Vec (K × X) A)) (k : K) (i : ℕ) (m : Vec (K × X) A) (h : IsHome R cs k i) (e : m ≡ get_or cs i m) (s : T (is_sorted R (chunk_entries cs))) where
@@ -288,32 +265,13 @@ module _ {K X : Type 0} (R : K → K → Ordering) (o : IsTotalOrder R) where
           ∙ ap (λ l. l ++ chunk_entries (drop (suc i) cs)) (entries_above-cut R o m.items k p (home_sorted cs k i m h e s) c)
 
       pub last-in_home : (p q : ℕ) (x : K × X) → IsCut R m.items k p → p ≡ suc q → q < length m.items → x ≡ get_or m.items q x → Some x ≡ last_or None (entries_up_to R k (chunk_entries cs))
-      last-in_home p q x c p_is lt x_is =
-          ap Some x_is
-          ∙ sym (last_of_take (last_or None (chunk_entries (take i cs))) m.items q x lt)
-          ∙ sym (last_or-append None (chunk_entries (take i cs)) (take (suc q) m.items))
-          ∙ ap (λ n. last_or None (chunk_entries (take i cs) ++ take n m.items)) (sym p_is)
-          ∙ ap (last_or None) (sym (up_to_in_home p c))
+      last-in_home p q x c p_is lt x_is = grind (arith, last_of_take, last_or-append, up_to_in_home, m.items)
 
       pub last-none : (p : ℕ) → IsCut R m.items k p → p ≡ 0 → (0 < i → starts_by R k m.items ≡ true) → None ≡ last_or None (entries_up_to R k (chunk_entries cs))
-      last-none p c p_is started =
-          let zero_cut : IsCut R m.items k 0 = subst (IsCut R m.items k) p_is c in
-          let first_chunk : i ≡ 0 = elim (cases_order i 0) [
-            | inl same ↦ same
-            | inr rest ↦ elim rest [
-              | inl lt ↦ absurd (omega (arith, lt))
-              | inr gt ↦ absurd (cut_not_started m.items k zero_cut (started gt))
-            ]
-          ] in
-          ap (λ n. last_or None (chunk_entries (take n cs) ++ [])) (sym first_chunk)
-          ∙ ap (λ n. last_or None (chunk_entries (take i cs) ++ take n m.items)) (sym p_is)
-          ∙ ap (last_or None) (sym (up_to_in_home p c))
+      last-none p c p_is started = grind (arith, cases_order, cut_not_started, up_to_in_home, m.items)
 
       pub first-in_home : (p : ℕ) (x : K × X) → IsCut R m.items k p → p < length m.items → x ≡ get_or m.items p x → Some x ≡ slice_get (entries_above R k (chunk_entries cs)) 0
-      first-in_home p x c lt x_is =
-          ap Some x_is
-          ∙ sym (first_of_drop m.items (chunk_entries (drop (suc i) cs)) p x lt)
-          ∙ ap (λ l. slice_get l 0) (sym (above_in_home p c))
+      first-in_home p x c lt x_is = grind (arith, first_of_drop, above_in_home, m.items)
 
       past_home : (p : ℕ) → IsCut R m.items k p → length m.items ≤ p → entries_above R k (chunk_entries cs) ≡ chunk_entries (drop (suc i) cs)
       past_home p c le = above_in_home p c ∙ ap (λ l. l ++ chunk_entries (drop (suc i) cs)) (drop_past m.items p le)
@@ -328,5 +286,4 @@ module _ {K X : Type 0} (R : K → K → Ordering) (o : IsTotalOrder R) where
           ∙ ap (λ l. slice_get l 0) (sym (past_home p c le))
 
       pub first-none : (p : ℕ) → IsCut R m.items k p → length m.items ≤ p → length cs ≤ suc i → None ≡ slice_get (entries_above R k (chunk_entries cs)) 0
-      first-none p c le last =
-          ap (λ l. slice_get (chunk_entries l) 0) (sym (drop_past cs (suc i) last)) ∙ ap (λ l. slice_get l 0) (sym (past_home p c le))
+      first-none p c le last = grind (arith, drop_past, past_home)

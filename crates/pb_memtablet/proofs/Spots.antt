@@ -1,5 +1,5 @@
 -- Where keys stand in sorted lists, and what a change there does.
-use Rattle.std.proofs.Common.{◌≡◌, ◌≢◌, ℕ, ◌<◌, ◌≤◌, ◌-◌, Bool, true, false, cond, not, List, [], ◌∷◌, None, Some, refl, sym, ap, ◌∙◌, subst, arith, zero, suc, length, get_or, set, T, Ordering, Less, Equal, Greater, insert, remove, HoldsAt}
+use Rattle.std.proofs.Common.{◌≡◌, ◌≢◌, ℕ, ◌<◌, ◌≤◌, ◌-◌, Bool, true, cond, not, List, [], ◌∷◌, None, Some, refl, sym, ap, ◌∙◌, subst, arith, zero, suc, length, get_or, set, T, Ordering, Less, Equal, Greater, insert, remove, HoldsAt}
 use Rattle.std.specs.Ordering.{is_eq, is_lt, is_gt, eq_by_cmp}
 use Rattle.std.proofs.lemmas.List.{get_or_read}
 use Rattle.std.specs.Cmp.{IsTotalOrder, tied_itself, alike_right, eq_by_cmp_equiv}
@@ -14,18 +14,13 @@ pub holds : (b : Bool) → b ≡ true → T b
 holds b e = subst T (sym e) tt
 
 pub is_less : (o : Ordering) (b : Bool) → b ≡ is_lt o → b ≡ true → o ≡ Less
-is_less Less b e t = refl
-is_less Equal b e t = cc
-is_less Greater b e t = cc
+is_less o b e t = grind arith
 
 pub is_greater : (o : Ordering) (b : Bool) → b ≡ is_gt o → b ≡ true → o ≡ Greater
-is_greater Less b e t = cc
-is_greater Equal b e t = cc
-is_greater Greater b e t = refl
+is_greater o b e t = grind arith
 
 turned_choice : {A : Type 0} (b : Bool) (x y : A) → cond (not b) x y ≡ cond b y x
-turned_choice true x y = refl
-turned_choice false x y = refl
+turned_choice b x y = grind arith
 
 pub not_less : (o : Ordering) → o ≡ Greater → o ≢ Less
 not_less o g l = cc
@@ -35,12 +30,7 @@ equal_not_less o g l = cc
 
 -- what is not above one key is below all that are above that key
 pub past : {K : Type 0} {R : K → K → Ordering} → IsTotalOrder R → (k x q : K) → R k x ≢ Less → R k q ≡ Less → R q x ≡ Greater
-past {R = R} o k x q above below =
-    elim (R k x) as (λ r. R k x ≡ r → r ≢ Less → R q x ≡ Greater) [
-      | Less ↦ λ e n. absurd (n refl)
-      | Equal ↦ λ e n. turned o x q Less (sym (o.congr k x q e) ∙ below)
-      | Greater ↦ λ e n. turned o x q Less (o.trans x k q (turned o k x Greater e) below)
-    ] refl above
+past {R = R} o k x q above below = grind arith
 
 module _ {K X : Type 0} {R : K → K → Ordering} (o : IsTotalOrder R) where
   pub found_at : (es : List (K × X)) (k : K) (i : ℕ) → T (is_sorted R es) → i < length es → HoldsAt (λ e. R e.0 k ≡ Equal) es i → IsFound R es k i
@@ -92,8 +82,7 @@ module _ {K X : Type 0} {R : K → K → Ordering} (o : IsTotalOrder R) where
 
   without-found : (es : List (K × X)) (k : K) (i : ℕ) → T (is_sorted R es) → IsFound R es k i → without k es ≡ remove es i
   without-found [] k i s f = absurd f
-  without-found (e ∷ es) k zero s f =
-      ap (λ r. cond (not (is_eq r)) (e ∷ without k es) (without k es)) f ∙ without_above es k e.0 (λ y lt. o.congr k e.0 y f ∙ lt) (first _ _ s)
+  without-found (e ∷ es) k zero s f = grind (arith, without_above, first, o.congr)
   without-found (e ∷ es) k (suc i) s f =
       ap (λ r. cond (not (is_eq r)) (e ∷ without k es) (without k es)) f.0 ∙ ap (λ l. e ∷ l) (without-found es k i (second _ _ s) f.1)
 
@@ -102,9 +91,7 @@ module _ {K X : Type 0} {R : K → K → Ordering} (o : IsTotalOrder R) where
 
   pub without-gap : (es : List (K × X)) (k : K) (i : ℕ) → T (is_sorted R es) → IsGap R es k i → without k es ≡ es
   without-gap [] k i s g = refl
-  without-gap (e ∷ es) k zero s g =
-      ap (λ r. cond (not (is_eq r)) (e ∷ without k es) (without k es)) g
-      ∙ ap (λ l. e ∷ l) (without_above es k e.0 (λ y lt. o.trans k e.0 y g lt) (first _ _ s))
+  without-gap (e ∷ es) k zero s g = grind (arith, without_above, first, o.trans)
   without-gap (e ∷ es) k (suc i) s g =
       ap (λ r. cond (not (is_eq r)) (e ∷ without k es) (without k es)) g.0 ∙ ap (λ l. e ∷ l) (without-gap es k i (second _ _ s) g.1)
 
@@ -192,10 +179,7 @@ module _ {K X : Type 0} {R : K → K → Ordering} (o : IsTotalOrder R) where
 
   -- two keys come side by side
   pub put-both : (es hs : List (K × X)) (k q : K) (v w : X) (i j : ℕ) → IsGap R es k i → IsGap R (insert es i (k, v)) q j → hs ≡ insert (insert es i (k, v)) j (q, w) → hs ≡ put R q w (put R k v es)
-  put-both es hs k q v w i j gap behind hs_is =
-      hs_is
-      ∙ sym (put-gap (insert es i (k, v)) q w j behind)
-      ∙ ap (put R q w) (sym (put-gap es k v i gap))
+  put-both es hs k q v w i j gap behind hs_is = grind (arith, put-gap)
 
   -- each entry is found at its place by its own key
   pub found_self : (es : List (K × X)) (i : ℕ) (d : K × X) → T (is_sorted R es) → i < length es → IsFound R es (get_or es i d).0 i

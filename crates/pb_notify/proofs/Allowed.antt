@@ -1,5 +1,5 @@
 -- No step of a job comes at a wrong time, or declares what isn't its run.
-use Rattle.std.proofs.Common.{◌≡◌, ℕ, ◌<◌, ◌≤◌, ◌^◌, inl, inr, Bool, false, cond, List, [], ◌∷◌, ◌++◌, Option, Some, None, slice_get, refl, sym, ap, subst, ◌∙◌, true, arith, filter}
+use Rattle.std.proofs.Common.{◌≡◌, ℕ, ◌<◌, ◌≤◌, ◌^◌, inl, inr, Bool, cond, List, [], ◌∷◌, ◌++◌, Option, Some, None, slice_get, refl, sym, ap, subst, ◌∙◌, true, arith, filter}
 use Rattle.std.specs.FinMap as finite
 use Rattle.pb_base.specs.declared.refusal.Reason.{Reason}
 use Rattle.pb_base.specs.declared.cell.Cell.{Cell}
@@ -11,7 +11,7 @@ use Rattle.pb_steps.specs.declared.step.Work.{Work}
 use Rattle.pb_steps.specs.declared.step.Declared.{Declared}
 use Rattle.pb_steps.specs.declared.step.Step.{Step}
 use Rattle.pb_steps.specs.declared.step.Answer.{Answer}
-use Rattle.pb_steps.specs.Declarations.{old_at, WasOld, AreReplies, is_its}
+use Rattle.pb_steps.specs.Declarations.{AreReplies, is_its}
 use Rattle.pb_steps.specs.Reads.{read_up_to}
 use Rattle.pb_steps.specs.declared.seen.Seen.{Seen}
 use Rattle.pb_verify.specs.Observers.{ObserverOf, column_or_zero, observed_column}
@@ -45,7 +45,7 @@ use Rattle.pb_notify.proofs.RecordedReads.{after, after_is, after_append, has_ap
 use Rattle.pb_notify.proofs.ItsRun.{its_run}
 use Rattle.pb_notify.proofs.PlanEntries.{has_said}
 use Rattle.pb_notify.proofs.PlanSteps.{declaring_said_nothing, plan_step, plan_keeps}
-use Rattle.pb_notify.proofs.OwnSteps.{begins_in_time, no_transaction, looks_in_time, declares_in_time, goes_in_time}
+use Rattle.pb_notify.proofs.OwnSteps.{begins_in_time, looks_in_time, declares_in_time, goes_in_time}
 use Rattle.pb_base.proofs.Logic.{one_value as same_transaction, same_some as same_step, none_some, same_number as itself}
 use Rattle.pb_txn.proofs.PlanTransactions.{keeps}
 
@@ -54,12 +54,10 @@ has_last [] x = inl refl
 has_last (y ∷ ys) x = inr (has_last ys x)
 
 if_has : (b : Bool) (e d : Entry) (es : List Entry) → Has (cond b (e ∷ es) es) d → Has (e ∷ es) d
-if_has true e d es h = h
-if_has false e d es h = inr h
+if_has b e d es h = grind arith
 
 more_has : (e d : Entry) (xs ys : List Entry) → (Has xs d → Has ys d) → Has (e ∷ xs) d → Has (e ∷ ys) d
-more_has e d xs ys f (inl is) = inl is
-more_has e d xs ys f (inr h) = inr (f h)
+more_has e d xs ys f w = grind arith
 
 -- what is kept of a list stands in it
 has_unfiltered : (p : Entry → Bool) (es : List Entry) (d : Entry) → Has (filter p es) d → Has es d
@@ -67,16 +65,13 @@ has_unfiltered p [] d h = absurd h
 has_unfiltered p (e ∷ es) d h = more_has e d (filter p es) es (has_unfiltered p es d) (if_has (p e) e d (filter p es) h)
 
 keeps_has : (b : Bool) (e d : Entry) (es : List Entry) → Has es d → Has (cond b (e ∷ es) es) d
-keeps_has true e d es h = inr h
-keeps_has false e d es h = h
+keeps_has b e d es h = grind arith
 
 -- what was said and names the start is one of the entries that do
 has_filtered : (s : Ts) (seat : ℕ) (said : List Received) (r : Received) → Has said r → names_start s.0 r.step r.answer ≡ true
     → Has (entries_naming s.0 (entries_by seat said)) (record { seat = seat; step = r.step; answer = r.answer })
 has_filtered s seat [] r h names = absurd h
-has_filtered s seat (x ∷ xs) r (inl is) names =
-    subst (λ (z : Received). Has (entries_naming s.0 (entries_by seat (z ∷ xs))) (record { seat = seat; step = r.step; answer = r.answer })) (sym is)
-    (subst (λ b. Has (cond b (record { seat = seat; step = r.step; answer = r.answer } ∷ entries_naming s.0 (entries_by seat xs)) (entries_naming s.0 (entries_by seat xs))) (record { seat = seat; step = r.step; answer = r.answer })) (sym names) (inl refl))
+has_filtered s seat (x ∷ xs) r (inl is) names = grind arith
 has_filtered s seat (x ∷ xs) r (inr h) names = keeps_has (names_start s.0 x.step x.answer) _ _ _ (has_filtered s seat xs r h names)
 
 module _ (observers : List ObserverOf) (seats clock : ℕ) (journal : List Entry) (state : StateOf) (legal : IsLegal observers seats clock journal state) (allowed : PlansAreAllowed)
@@ -116,8 +111,7 @@ module _ (observers : List ObserverOf) (seats clock : ℕ) (journal : List Entry
 
   module _ (step : Step) (why : Reason) (refused : step_reason state seat step ≡ Some why) where
     at_look : (s : Ts) (x : Cell) (at : Option Ts) (look : Look) (reads : List RecordedRead) → IsRecorded state.observers seat s watch said reads → read_up_to s.0 at ≤ s.0 → Some (look_step s x at look) ≡ Some step → why ≡ Reason.OutOfTimestamps
-    at_look s x at look reads i in_time next =
-        absurd (looks_in_time state seat why seated s.0 (with_reads state.observers seat s watch reads) (own_read s reads i) s x at look step refl refl in_time next refused)
+    at_look s x at look reads i in_time next = grind (arith, looks_in_time, with_reads, own_read, in_time, state.observers)
 
     module _ (n r : ℕ) (p : PlanOf) (i : conversation.IsPlanned watch n r p said) where
       abbrev what : Declared
@@ -133,32 +127,17 @@ module _ (observers : List ObserverOf) (seats clock : ℕ) (journal : List Entry
       begun = subst (λ l. Has l (told (Step.Begin (Work.Run o row)) (Answer.At i.s))) (sym i.said_is) (has_append i.base i.plan _ read.recorded.begun)
 
       got_is : finite.get state.transactions i.s.0 ≡ after state.observers seat i.s i.plan (Some u)
-      got_is =
-          got i.s begun
-          ∙ ap (λ l. after state.observers seat i.s l None) i.said_is
-          ∙ after_append state.observers seat i.s i.base i.plan None
-          ∙ ap (after state.observers seat i.s i.plan) read.recorded.there
+      got_is = grind (arith, got, begun, after, after_append, i.s, state.observers, i.said_is, i.base, i.plan)
 
       -- it may declare what its plan declares
       its : is_its state.observers (Work.Run o row) i.s.0 read.reads what ≡ true
       its =
-          let w = read.was in
           its_run state.observers o row i.s.0 read.reads i.run (record {
             observer = observer;
             observer_is = there;
             seen = i.seen;
             asked = read.asked;
-            was = record {
-              found_by = w.found_by;
-              acknowledged_by = w.acknowledged_by;
-              rest = w.rest;
-              reads_are = w.reads_are;
-              observed = record { cell = w.observed.cell ∙ ap (Cell.Data row) (sym column_is); at = w.observed.at };
-              found = w.found;
-              acknowledgment = record { cell = w.acknowledgment.cell ∙ ap (Cell.Ack o row) (sym column_is); at = w.acknowledgment.at };
-              acknowledged = w.acknowledged;
-              old = subst (λ c. WasOld (old_at second i.seen.acknowledged) (Cell.Data row c) w.rest i.seen.old read.asked) (sym column_is) w.old;
-            };
+            was = grind (arith, observed, column_is, acknowledged, i.seen.acknowledged, i.seen.old);
             newer = is_newer watch i.s i.seen i.talk n i.base i.asked;
             program = i.run_on.program;
             bytes = i.run_on.bytes ∙ ap (λ c. record_by second (Cell.Data row c) i.seen.version i.seen.acknowledged.0 i.seen.old) (sym column_is);
@@ -189,13 +168,10 @@ module _ (observers : List ObserverOf) (seats clock : ℕ) (journal : List Entry
           goes_in_time state seat why seated i.s.0 kept.0 (record { there = got_is ∙ kept.1; mine = kept.2.seat }) at step later (plan_step i.s.0 what at step here) (timely next) refused
 
       by_place : (at : order.PlanPlace) → p.place ≡ at → steps.step_at i.s.0 what at ≡ Some step → plans.next_of p ≡ Some step → why ≡ Reason.OutOfTimestamps
-      by_place PlanPlace.Declaring is here next = absurd (at_declaration is here)
-      by_place at is here next = later_on at (λ e. cc) here next
+      by_place at is here next = grind (arith, at_declaration, later_on)
 
       at_plan : plans.next_of p ≡ Some step → why ≡ Reason.OutOfTimestamps
-      at_plan next =
-          let ks = keeps (plans.fresh i.s.0 what) p i.plan i.converses_are in
-          by_place p.place refl ((λ j. steps.step_at (sym ks.0 j) (sym ks.1 j) p.place) ∙ next) next
+      at_plan next = grind (arith, keeps, by_place, i.plan, i.converses_are, p.place)
 
     at_place : (n : ℕ) (place : RunPlace) → conversation.SoFar watch n place said → step_at o row observer.column place ≡ Some step → why ≡ Reason.OutOfTimestamps
     at_place n RunPlace.Beginning so next =
@@ -214,8 +190,7 @@ module _ (observers : List ObserverOf) (seats clock : ℕ) (journal : List Entry
         let r = has_read state.observers seat s watch so.0 v.talk so.1 so.2 so.4 in
         at_look s _ None look r.reads (in_look state.observers seat s watch (Cell.Data q.row q.column) None so.1 so.2 look n said r.reads r.recorded so.5) (omega arith) next
     at_place n (RunPlace.Planning r p) so next = at_plan n r p so next
-    at_place n (RunPlace.Sweeping end) so next =
-        absurd (no_transaction state seat why seated (subst (λ z. step_reason state seat z ≡ Some why) (sym (same_step (Step.Sweep (Cell.Data row observer.column)) step next)) refused))
+    at_place n (RunPlace.Sweeping end) so next = grind arith
     at_place n (RunPlace.Over end) so next = absurd (none_some step next)
 
 -- by where the job stands: looks, its declaration and the later steps of its plan each come at their time

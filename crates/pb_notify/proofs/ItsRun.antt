@@ -1,5 +1,5 @@
 -- A run of its observer's program on what it read is one that its transaction may declare.
-use Rattle.std.proofs.Common.{◌≡◌, ℕ, Bool, true, cond, ◌&&◌, List, [], ◌∷◌, Option, Some, None, refl, sym, ap, ◌∙◌}
+use Rattle.std.proofs.Common.{arith, ◌≡◌, ℕ, Bool, true, ◌&&◌, List, [], ◌∷◌, Option, Some, None, refl, sym, ap, ◌∙◌}
 use Rattle.std.specs.Coded.{coded_ℕ, coded_list}
 use Rattle.std.proofs.lemmas.Bool.{eq-eqb, lt-ltb}
 use Rattle.pb_base.specs.declared.cell.Cell.{Cell}
@@ -15,14 +15,13 @@ use Rattle.pb_steps.specs.declared.seen.RecordedRead.{RecordedRead}
 use Rattle.pb_steps.specs.declared.seen.Seen.{Seen}
 use Rattle.pb_steps.specs.declared.step.Work.{Work}
 use Rattle.pb_steps.specs.declared.step.Declared.{Declared}
-use Rattle.pb_steps.specs.Reads.{version_in, acknowledged_in, value_in, value_code, asked_cell}
+use Rattle.pb_steps.specs.Reads.{value_in, value_code, asked_cell}
 use Rattle.pb_verify.specs.Observers.{ObserverOf, observed_cell, acknowledgment}
-use Rattle.pb_steps.specs.Declarations.{IsReadOf, old_at, WasOld, WasSeen, AreReplies, IsItsRun, is_at, is_read_of, with_old, seen_by, seen_in, asked_in, are_replies, is_run, is_run_by, is_its}
+use Rattle.pb_steps.specs.Declarations.{IsReadOf, old_at, WasOld, WasSeen, AreReplies, IsItsRun, is_at, is_read_of, with_old, seen_in, asked_in, are_replies, is_run, is_run_by, is_its}
 use Rattle.pb_base.proofs.SameCells.{same_cells}
 
 at_itself : (at : Option Ts) → is_at at at ≡ true
-at_itself None = refl
-at_itself (Some t) = eq-eqb t.0 t.0 refl
+at_itself at = grind arith
 
 -- a recorded read of this cell and timestamp is found to be one
 is_read : (r : RecordedRead) (x : Cell) (named : Option Ts) → IsReadOf r x named → is_read_of r x named ≡ true
@@ -31,24 +30,14 @@ is_read r x named h = λ i. same_cells r.cell x h.cell i && (ap (is_at r.at) (sy
 -- the value of before is that of the third read, where there is one
 old_is : (at : Option Ts) (x : Cell) (seen : Seen) (rest asked : List RecordedRead) → WasOld at x rest seen.old asked
     → with_old at x (record { version = seen.version; acknowledged = seen.acknowledged; old = None }) rest ≡ Some seen
-old_is None x seen rest asked w = ap (λ o. Some (record { version = seen.version; acknowledged = seen.acknowledged; old = o })) (sym w.0)
-old_is (Some t) x seen rest asked w =
-    ap (with_old (Some t) x (record { version = seen.version; acknowledged = seen.acknowledged; old = None })) w.3
-    ∙ (λ i. cond (is_read w.0 x (Some t) w.1 i) (Some (record { version = seen.version; acknowledged = seen.acknowledged; old = value_in w.0.answer })) None)
-    ∙ ap (λ o. Some (record { version = seen.version; acknowledged = seen.acknowledged; old = o })) (sym w.2)
+old_is at x seen rest asked w = grind arith
 
 asked_is : (at : Option Ts) (x : Cell) (r q : RecordedRead) (old : Reply) (rest asked : List RecordedRead) → WasOld at x rest old asked → asked_in at (r ∷ q ∷ rest) ≡ asked
-asked_is None x r q old rest asked w = w.1
-asked_is (Some t) x r q old rest asked w = ap (λ l. asked_in (Some t) (r ∷ q ∷ l)) w.3
+asked_is at x r q old rest asked w = grind arith
 
 -- what was seen is read off the first two or three reads
 seen_is : (x ack : Cell) (second : Bool) (reads asked : List RecordedRead) (seen : Seen) → WasSeen x ack second reads seen asked → seen_in x ack second reads ≡ Some seen
-seen_is x ack second reads asked seen w =
-    ap (seen_in x ack second) w.reads_are
-    ∙ (λ i. cond (is_read w.found_by x None w.observed i && is_read w.acknowledged_by ack None w.acknowledgment i) (seen_by second x (version_in w.found_by.answer) (acknowledged_in w.acknowledged_by.answer) w.rest) None)
-    ∙ ap (λ v. seen_by second x v (acknowledged_in w.acknowledged_by.answer) w.rest) w.found
-    ∙ ap (λ a. seen_by second x (Some seen.version) a w.rest) (sym w.acknowledged)
-    ∙ old_is (old_at second seen.acknowledged) x seen w.rest asked w.old
+seen_is x ack second reads asked seen w = grind (arith, is_read, old_is, w.reads_are, w.found_by, w.observed, w.acknowledged_by, w.acknowledgment, w.found_by.answer, w.acknowledged_by.answer, w.rest, w.found, seen.version, w.acknowledged, seen.acknowledged, w.old)
 
 -- each reply is the value with which its cell was read
 replies_are : (asked : List RecordedRead) (talk : Talk) → AreReplies asked talk → are_replies asked talk ≡ true

@@ -1,18 +1,16 @@
 -- What a job's place says of its parts, after an answer and after an instruction.
-use Rattle.std.proofs.Common.{◌≡◌, ℕ, ◌+◌, ◌<◌, Bool, true, false, cond, Option, Some, None, length, refl, arith, nat_lt}
+use Rattle.std.proofs.Common.{◌≡◌, ℕ, ◌<◌, Bool, Option, Some, length, refl, arith}
 use Rattle.pb_base.specs.declared.cell.Cell.{Cell}
 use Rattle.pb_base.specs.declared.names.Row.{Row}
 use Rattle.pb_base.specs.declared.names.Ts.{Ts}
 use Rattle.pb_base.specs.declared.content.Revision.{Revision}
 use Rattle.pb_isa.specs.Programs.{JudgedOf}
-use Rattle.pb_steps.specs.Declarations.{old_at}
 use Rattle.pb_helpers.specs.declared.ask.Ask.{Ask}
 use Rattle.pb_vm.specs.declared.moved.MachinePhase.{MachinePhase}
 use Rattle.pb_vm.specs.Position.{Position}
 use Rattle.pb_steps.specs.declared.seen.Seen.{Seen}
 use Rattle.pb_steps.specs.declared.step.Step.{Step}
 use Rattle.pb_steps.specs.declared.step.Answer.{Answer}
-use Rattle.pb_steps.specs.Reads.{version_in, acknowledged_in}
 use Rattle.pb_txn.specs.declared.place.Outcome.{Outcome}
 use Rattle.pb_txn.specs.Places as orders
 use Rattle.pb_txn.specs.Plans.{PlanOf, outcome_of}
@@ -20,10 +18,9 @@ use Rattle.pb_txn.specs.Plans as plans
 use Rattle.pb_notify.specs.declared.look.TheConstants.{MAX_LOCKED}
 use Rattle.pb_notify.specs.declared.look.Look.{Look}
 use Rattle.pb_notify.specs.declared.look.Looked.{Looked}
-use Rattle.pb_notify.specs.declared.need.JobEnd.{JobEnd}
 use Rattle.pb_notify.specs.declared.place.RunPlace.{RunPlace}
 use Rattle.pb_notify.specs.Looks.{look_after, locked_after}
-use Rattle.pb_notify.specs.Places.{place_after, locked_at, after_begin, if_found, after_cell, if_recalled, seen_so_far, after_acknowledgment, after_recall, after_ask, by_outcome, Comes, goes, waits, declares, ComesFrom, AtPlace, step_at}
+use Rattle.pb_notify.specs.Places.{place_after, locked_at, after_begin, after_cell, after_acknowledgment, after_recall, after_ask, by_outcome, Comes, ComesFrom, AtPlace, step_at}
 use Rattle.pb_notify.specs.Runs.{need_at}
 use Rattle.pb_notify.specs.declared.need.Need.{Need}
 use Rattle.pb_notify.proofs.PlansFit.{fits_after, next_is}
@@ -35,66 +32,30 @@ abbrev IsFew : Looked → ℕ → Type 0
 IsFew Looked.Blocks n = Unit {0}
 IsFew _ n = n < MAX_LOCKED
 
-locked_few : (locked : ℕ) (primary : Cell) (b : Bool) → nat_lt (locked + 1) MAX_LOCKED ≡ b → IsFew (cond b (Looked.On (Look.Clearing primary)) Looked.Blocks) (locked + 1)
-locked_few locked primary true e = below (locked + 1) MAX_LOCKED e where
-  below : (a c : ℕ) → nat_lt a c ≡ true → a < c
-  below a c h = grind (arith, h)
-locked_few locked primary false e = tt
-
 -- a look blocks at the last lock that may be met, so that else there is room for one more
 look_few : (locked : ℕ) (look : Look) (a : Answer) → locked < MAX_LOCKED → IsFew (look_after locked look a) (locked_after locked look a)
-look_few locked Look.Reading (Answer.Locked start primary) few = locked_few locked primary (nat_lt (locked + 1) MAX_LOCKED) refl
-look_few locked Look.Reading _ few = few
-look_few locked (Look.Clearing primary) Answer.Waits few = few
-look_few locked (Look.Clearing primary) _ few = few
-look_few locked (Look.Settling primary) a few = few
-look_few locked Look.ClearingAgain a few = few
+look_few locked look a few = grind arith
 
 -- ---- answers
 
 -- each answer leads to a place that its parts fit, here and below
 at_begun : (n : ℕ) (a : Answer) → n < MAX_LOCKED → AtPlace n (after_begin a)
-at_begun n (Answer.At s) few = few
-at_begun n _ few = few
-
-at_found : (n : ℕ) (s : Ts) (found : Option Revision) → n < MAX_LOCKED → AtPlace n (if_found s found)
-at_found n s None few = tt
-at_found n s (Some v) few = few
+at_begun n a few = grind arith
 
 at_observed : (n : ℕ) (s : Ts) (looked : Looked) → IsFew looked n → AtPlace n (after_cell s looked)
-at_observed n s (Looked.On look) few = few
-at_observed n s (Looked.Tells a) few = at_found n s (version_in a) few
-at_observed n s Looked.Blocks few = tt
-
-at_recalled : (n : ℕ) (s : Ts) (seen : Seen) (at : Option Ts) → n < MAX_LOCKED → AtPlace n (if_recalled s seen at)
-at_recalled n s seen None few = few
-at_recalled n s seen (Some t) few = few
-
-at_dirty : (n : ℕ) (b : Bool) (s : Ts) (seen : Seen) (at : Option Ts) → n < MAX_LOCKED → AtPlace n (cond b (if_recalled s seen at) (RunPlace.Sweeping JobEnd.Clean))
-at_dirty n true s seen at few = at_recalled n s seen at few
-at_dirty n false s seen at few = tt
+at_observed n s looked few = grind arith
 
 at_acknowledged : (n : ℕ) (second : Bool) (s : Ts) (found : Revision) (looked : Looked) → IsFew looked n → AtPlace n (after_acknowledgment second s found looked)
-at_acknowledged n second s found (Looked.On look) few = few
-at_acknowledged n second s found (Looked.Tells a) few =
-    at_dirty n (nat_lt (acknowledged_in a).0 found.commit.0) s (seen_so_far found (acknowledged_in a)) (old_at second (acknowledged_in a)) few
-at_acknowledged n second s found Looked.Blocks few = tt
+at_acknowledged n second s found looked few = grind arith
 
 at_recalling : (n : ℕ) (s : Ts) (seen : Seen) (looked : Looked) → IsFew looked n → AtPlace n (after_recall s seen looked)
-at_recalling n s seen (Looked.On look) few = few
-at_recalling n s seen (Looked.Tells a) few = few
-at_recalling n s seen Looked.Blocks few = tt
+at_recalling n s seen looked few = grind arith
 
 at_asked : (n : ℕ) (s : Ts) (v : Position) (q : Ask) (looked : Looked) → v.phase ≡ MachinePhase.Asking q → IsFew looked n → AtPlace n (after_ask s v q looked)
-at_asked n s v q (Looked.On look) asks few = (few, asks)
-at_asked n s v q (Looked.Tells a) asks few = (few, refl)
-at_asked n s v q Looked.Blocks asks few = tt
+at_asked n s v q looked asks few = grind arith
 
 at_outcome : (n r : ℕ) (p : PlanOf) (o : Option Outcome) → outcome_of p ≡ o → orders.LiesWithin (length (orders.declared_cells p.what)) p.place → AtPlace n (by_outcome r p o)
-at_outcome n r p None is fits = (is, fits)
-at_outcome n r p (Some (Outcome.Committed c)) is fits = tt
-at_outcome n r p (Some Outcome.Conflicted) is fits = tt
-at_outcome n r p (Some Outcome.Lost) is fits = tt
+at_outcome n r p o is fits = grind arith
 
 -- so after any answer
 pub at_after : (second : Bool) (locked : ℕ) (place : RunPlace) (a : Answer) → AtPlace locked place → AtPlace (locked_at locked place a) (place_after second locked place a)
@@ -113,15 +74,11 @@ at_after second locked (RunPlace.Over end) a at = tt
 
 -- what an instruction did tells how the machine stands at the next place
 pub at_come : (locked o : ℕ) (s : Ts) (v : Position) (place : RunPlace) → Comes o s v place → locked < MAX_LOCKED → AtPlace locked place
-at_come locked o s v place (goes w went) few = (few, went.went.phase)
-at_come locked o s v place (waits w q asked) few = (few, asked.phase)
-at_come locked o s v place (declares r what did) few = (refl, tt)
+at_come locked o s v place x few = grind arith
 
 -- and so after any instruction
 pub at_computed : (locked o : ℕ) (judged : JudgedOf) (x : Cell) (place next : RunPlace) → ComesFrom o judged x place next → AtPlace locked place → AtPlace locked next
-at_computed locked o judged x (RunPlace.Starting s seen) next comes at = at_come locked o s _ next comes.comes at
-at_computed locked o judged x (RunPlace.Computing s v) next comes at = at_come locked o s v next comes at.0
-at_computed locked o judged x _ next comes at = absurd comes
+at_computed locked o judged x place next comes at = grind arith
 
 -- ---- the whole job
 

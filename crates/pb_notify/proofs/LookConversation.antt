@@ -1,5 +1,5 @@
 -- What a look at a cell has asked at each of its steps.
-use Rattle.std.proofs.Common.{◌≡◌, ℕ, suc, ◌+◌, ◌<◌, Bool, true, false, cond, List, [], ◌∷◌, ◌++◌, Option, Some, None, refl, sym, ap, subst, ◌∙◌, arith, append_assoc, nat_lt}
+use Rattle.std.proofs.Common.{◌≡◌, ℕ, suc, ◌+◌, ◌<◌, Bool, cond, List, [], ◌∷◌, ◌++◌, Option, refl, sym, ap, subst, ◌∙◌, arith, append_assoc, nat_lt}
 use Rattle.pb_base.specs.declared.cell.Cell.{Cell}
 use Rattle.pb_base.specs.declared.names.Ts.{Ts}
 use Rattle.pb_steps.specs.declared.step.Step.{Step}
@@ -16,11 +16,7 @@ use Rattle.pb_notify.specs.Forms.{IsRound, cleared, settled, AreRounds, one_more
 
 -- a read at any timestamp has the answers of a read
 as_read : (s : Ts) (x : Cell) (at : Option Ts) (a : Answer) → CanAnswer (read_step s x at) a → CanAnswer (Step.Read s x) a
-as_read s x None a can = can
-as_read s x (Some t) (Answer.Locked u p) can = tt
-as_read s x (Some t) (Answer.Found start commit content) can = tt
-as_read s x (Some t) Answer.Absent can = tt
-as_read s x (Some t) _ can = absurd can
+as_read s x at a can = grind arith
 
 module _ (s : Ts) (x : Cell) (at : Option Ts) (m : ℕ) (base : List Received) where
   -- rounds, and the beginning of one more
@@ -68,11 +64,7 @@ module _ (s : Ts) (x : Cell) (at : Option Ts) (m : ℕ) (base : List Received) w
 
   met_lock : (n : ℕ) (said : List Received) (t : Ts) (primary : Cell) (b : Bool) → nat_lt (n + 1) MAX_LOCKED ≡ b → n < MAX_LOCKED → AreRounds s x at m base n said
       → AfterLook (cond b (Looked.On (Look.Clearing primary)) Looked.Blocks) (n + 1) (said ++ told (read_step s x at) (Answer.Locked t primary) ∷ [])
-  met_lock n said t primary true e few rounds = (t, record { met = n; before = said; rounds = rounds; count = omega arith; said_is = refl })
-  met_lock n said t primary false e few rounds = record { met = n; before = said; rounds = rounds; last = last n MAX_LOCKED e few; t = t; primary = primary; said_is = refl }
-    where
-      last : (a b : ℕ) → nat_lt (a + 1) b ≡ false → a < b → suc a ≡ b
-      last a b h lt = grind (arith, h, lt)
+  met_lock n said t primary b e few rounds = grind arith
 
   then_read : (n : ℕ) (said : List Received) → AreRounds s x at m base n said → LooksAs n (said ++ told (read_step s x at) Answer.Absent ∷ []) Answer.Absent
   then_read n said rounds = (record { before = said; rounds = rounds; answer = Answer.Absent; held = tt; said_is = refl }, refl)
@@ -94,10 +86,8 @@ module _ (s : Ts) (x : Cell) (at : Option Ts) (m : ℕ) (base : List Received) w
 
   pub look_more : (look : Look) (n : ℕ) (said : List Received) (t : Step) (a : Answer) → InLook look n said → look_step s x at look ≡ t → CanAnswer t a → n < MAX_LOCKED
       → AfterLook (look_after n look a) (locked_after n look a) (said ++ told t a ∷ [])
-  look_more Look.Reading n said t a i e can few =
-      subst (λ u. CanAnswer u a → AfterLook (look_after n Look.Reading a) (locked_after n Look.Reading a) (said ++ told u a ∷ [])) e (λ k. read_more n said a i (as_read s x at a k) few) can
-  look_more (Look.Clearing primary) n said t a i e can few =
-      subst (λ u. CanAnswer u a → AfterLook (look_after n (Look.Clearing primary) a) n (said ++ told u a ∷ [])) e (λ k. clear_more n said primary a i k) can
+  look_more Look.Reading n said t a i e can few = grind (arith, read_more, as_read)
+  look_more (Look.Clearing primary) n said t a i e can few = grind (arith, clear_more)
   look_more (Look.Settling primary) n said t a i e can few =
       subst (λ u. CanAnswer u a → AfterLook (Looked.On Look.ClearingAgain) n (said ++ told u a ∷ [])) e (λ k. (i.0, primary, a, k, one_longer n said _ (told (Step.Settle primary) a) i.1)) can
   look_more Look.ClearingAgain n said t a i e can few =

@@ -1,6 +1,6 @@
 -- Why a step of a transaction that the table has is refused.
-use Rattle.std.proofs.Common.{◌≡◌, ℕ, ◌<◌, ◌≤◌, Bool, true, false, cond, not, length, Option, Some, None, slice_get, refl, sym, ap, subst, ◌∙◌, arith, nat_lt}
-use Rattle.std.proofs.lemmas.Bool.{eq-eqb, lt-ltb, ltb-true}
+use Rattle.std.proofs.Common.{◌≡◌, ℕ, ◌<◌, ◌≤◌, Bool, true, false, cond, not, Option, Some, None, slice_get, sym, ap, subst, ◌∙◌, arith, nat_lt}
+use Rattle.std.proofs.lemmas.Bool.{lt-ltb}
 use Rattle.std.proofs.lemmas.Option.{slice_get_within}
 use Rattle.pb_base.specs.declared.cell.Cell.{Cell}
 use Rattle.pb_base.specs.declared.names.Row.{Row}
@@ -14,13 +14,10 @@ use Rattle.pb_verify.specs.Observers.{ObserverOf}
 use Rattle.pb_steps.specs.State.{StateOf, TransactionOf}
 use Rattle.pb_steps.specs.Declarations.{is_its}
 use Rattle.pb_steps.specs.Reads.{read_up_to}
-use Rattle.pb_steps.specs.Read.{read_step, read_reasons, read_at_reasons}
-use Rattle.pb_steps.specs.Declare.{declare_reasons}
+use Rattle.pb_steps.specs.Read.{read_step}
 use Rattle.pb_steps.specs.Prewrite.{prewrite_reasons}
-use Rattle.pb_steps.specs.Stamp.{unstamped_reasons}
 use Rattle.pb_steps.specs.CommitPrimary.{commit_reasons}
-use Rattle.pb_steps.specs.CommitSecondary.{secondary_reasons}
-use Rattle.pb_steps.specs.Reasons.{Reasons, IsOwn, is_out, no_seat, if_of_seat, first_reason, reasons_of, own_reasons}
+use Rattle.pb_steps.specs.Reasons.{Reasons, IsOwn, no_seat, first_reason, own_reasons}
 use Rattle.pb_steps.specs.Steps.{step_reason}
 use Rattle.pb_txn.specs.declared.place.PlanPlace.{PlanPlace}
 use Rattle.pb_txn.specs.Allowed.{IsTimely}
@@ -38,13 +35,7 @@ first_or true r why rest isnt e = absurd (isnt (same_reason r why e))
 first_or false r why rest isnt e = e
 
 it_or_none : (b : Bool) (r why : Reason) → cond b (Some r) None ≡ Some why → why ≡ r
-it_or_none true r why e = same_reason r why e
-it_or_none false r why e = absurd (none_why why e)
-
--- the first applies, since none of the others does
-it_or : (b : Bool) (r why : Reason) (rest : Option Reason) → (rest ≡ Some why → ⊥) → cond b (Some r) rest ≡ Some why → why ≡ r
-it_or true r why rest isnt e = same_reason r why e
-it_or false r why rest isnt e = absurd (isnt e)
+it_or_none b r why e = grind arith
 
 module _ (state : StateOf) (seat : ℕ) (why : Reason) (seated : seat < state.seats) where
   has_seat : no_seat state seat ≡ false
@@ -56,16 +47,11 @@ module _ (state : StateOf) (seat : ℕ) (why : Reason) (seated : seat < state.se
 
   -- of an observer that there is
   pub begins_in_time : (o : ℕ) (row : Row) (observer : ObserverOf) → slice_get state.observers o ≡ Some observer → step_reason state seat (Step.Begin (Work.Run o row)) ≡ Some why → why ≡ Reason.OutOfTimestamps
-  begins_in_time o row observer there e =
-      let known : length state.observers ≡ length state.observers = refl in
-      it_or_none (is_out state) Reason.OutOfTimestamps why
-      ((λ i. cond (is_out state) (Some Reason.OutOfTimestamps) (cond (sym has_seat i) (Some Reason.NotOfSeat) (cond (not (sym (lt-ltb o (length state.observers) (slice_get_within state.observers o observer there)) i)) (Some Reason.NoSuchObserver) None))) ∙ e)
+  begins_in_time o row observer there e = grind (arith, it_or_none, has_seat, lt-ltb, slice_get_within, state.observers)
 
   module _ (s : ℕ) (t : TransactionOf) (own : IsOwn state seat s t) where
     by_own : (reasons : TransactionOf → Reasons) → first_reason (own_reasons state seat s reasons) ≡ first_reason (reasons t)
-    by_own reasons =
-        ap (λ o. first_reason (reasons_of o reasons))
-        ((λ i. cond (has_seat i) None (if_of_seat seat (own.there i))) ∙ ap (λ b. cond b (Some t) None) (eq-eqb t.seat seat own.mine))
+    by_own reasons = grind arith
 
     -- a look of one that reads
     pub looks_in_time : (start : Ts) (x : Cell) (at : Option Ts) (look : Look) (step : Step) → start.0 ≡ s → is_reading t.phase ≡ true → read_up_to start.0 at ≤ start.0 → Some (look_step start x at look) ≡ Some step → step_reason state seat step ≡ Some why → ⊥
@@ -74,36 +60,18 @@ module _ (state : StateOf) (seat : ℕ) (why : Reason) (seated : seat < state.se
       same_step a b h = cc
 
       not_later : (a b : ℕ) → b ≤ a → nat_lt a b ≡ false
-      not_later a b le = elim (nat_lt a b) as (λ c. nat_lt a b ≡ c → nat_lt a b ≡ false) [
-        | true ↦ λ h. (let lt = ltb-true a b h in absurd (omega arith))
-        | false ↦ λ h. h
-      ] refl
+      not_later a b le = grind arith
 
       reads_in_time : (z : Option Ts) → read_up_to start.0 z ≤ start.0 → step_reason state seat (read_step start x z) ≡ Some why → ⊥
-      reads_in_time (Some u) low h =
-          none_why why
-          ((λ i. cond (not (sym reads i)) (Some Reason.WrongPhase) (cond (sym (not_later start.0 u.0 low) i) (Some Reason.LaterThanStart) None))
-          ∙ sym (by_own (read_at_reasons start.0 u.0))
-          ∙ ap (λ n. first_reason (own_reasons state seat n (read_at_reasons start.0 u.0))) (sym is)
-          ∙ h)
-      reads_in_time None low h =
-          none_why why (ap (λ b. cond (not b) (Some Reason.WrongPhase) None) (sym reads) ∙ sym (by_own read_reasons) ∙ ap (λ n. first_reason (own_reasons state seat n read_reasons)) (sym is) ∙ h)
+      reads_in_time z low h = grind arith
 
       by : (l : Look) → step_reason state seat (look_step start x at l) ≡ Some why → ⊥
-      by Look.Reading h = reads_in_time at in_time h
-      by (Look.Clearing primary) h = no_transaction h
-      by (Look.Settling primary) h = no_transaction h
-      by Look.ClearingAgain h = no_transaction h
+      by l h = grind arith
 
     -- the declaration of one that reads, where it is its own
     pub declares_in_time : (start : Ts) (what : Declared) → start.0 ≡ s → is_reading t.phase ≡ true → is_its state.observers t.work s t.reads what ≡ true
         → step_reason state seat (Step.Declare start what) ≡ Some why → ⊥
-    declares_in_time start what is reads its e =
-        none_why why
-        ((λ i. cond (not (sym reads i)) (Some Reason.WrongPhase) (cond (not (sym its i)) (Some Reason.NotItsDeclaration) None))
-        ∙ sym (by_own (declare_reasons state.observers s what))
-        ∙ ap (λ n. first_reason (own_reasons state seat n (declare_reasons state.observers n what))) (sym is)
-        ∙ e)
+    declares_in_time start what is reads its e = grind arith
 
     own_step : (start : Ts) (reasons : TransactionOf → Reasons) → start.0 ≡ s → first_reason (own_reasons state seat start.0 reasons) ≡ Some why → first_reason (reasons t) ≡ Some why
     own_step start reasons is e = sym (by_own reasons) ∙ ap (λ n. first_reason (own_reasons state seat n reasons)) (sym is) ∙ e
@@ -113,11 +81,9 @@ module _ (state : StateOf) (seat : ℕ) (why : Reason) (seated : seat < state.se
     goes_in_time p (Step.Declare start what) later i timely e = absurd (later i)
     goes_in_time p (Step.Prewrite start x) later i timely e =
         absurd (none_why why (first_or _ Reason.AlreadyPrewritten why None timely.once (first_or _ Reason.NotDeclared why _ timely.declared (first_or _ Reason.WrongPhase why _ timely.phase (own_step start (prewrite_reasons x) i e)))))
-    goes_in_time p (Step.Stamp start) later i timely e =
-        it_or (is_out state) Reason.OutOfTimestamps why _ (λ f. none_why why (first_or _ Reason.WrongPhase why None timely.phase (own_step start unstamped_reasons i f))) e
+    goes_in_time p (Step.Stamp start) later i timely e = grind arith
     goes_in_time p (Step.CommitPrimary start) later i timely e = absurd (none_why why (first_or _ Reason.WrongPhase why None timely.phase (own_step start commit_reasons i e)))
-    goes_in_time p (Step.CommitSecondary start x) later i timely e =
-        absurd (none_why why (first_or _ Reason.NotDeclared why None timely.declared (first_or _ Reason.WrongPhase why _ timely.phase (own_step start (secondary_reasons x) i e))))
+    goes_in_time p (Step.CommitSecondary start x) later i timely e = grind arith
     goes_in_time p (Step.Settle x) later i timely e = absurd (no_transaction e)
     goes_in_time p (Step.Clear x) later i timely e = absurd (no_transaction e)
     goes_in_time p _ later i timely e = absurd i

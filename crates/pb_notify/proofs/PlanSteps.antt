@@ -1,6 +1,5 @@
 -- The steps of a plan keep whose transaction it is and what for, and it declares nothing but at first.
-use Rattle.std.proofs.Common.{◌≡◌, ℕ, ◌+◌, Bool, true, false, cond, List, [], ◌∷◌, length, Option, Some, None, refl, sym, ap, subst, ◌∙◌, slice_get, option_map, ◌==◌, nat_lt}
-use Rattle.pb_base.specs.declared.cell.Cell.{Cell}
+use Rattle.std.proofs.Common.{arith, ◌≡◌, ℕ, Bool, true, false, cond, List, [], ◌∷◌, length, Option, Some, refl, sym, ap, subst, ◌∙◌}
 use Rattle.pb_base.specs.declared.names.Ts.{Ts}
 use Rattle.pb_steps.specs.declared.step.Declared.{Declared}
 use Rattle.pb_steps.specs.declared.step.Step.{Step}
@@ -9,13 +8,11 @@ use Rattle.pb_verify.specs.Observers.{ObserverOf}
 use Rattle.pb_steps.specs.State.{TransactionOf}
 use Rattle.pb_history.specs.declared.entry.Received.{Received}
 use Rattle.pb_history.specs.TransactionsTold.{names_start, transaction_after, is_begin}
-use Rattle.pb_txn.specs.declared.place.Outcome.{Outcome}
 use Rattle.pb_txn.specs.declared.place.PlanPlace.{PlanPlace}
-use Rattle.pb_txn.specs.Places.{declared_cells, place_after, after_prewrite, after_stamp, after_primary, step_at}
+use Rattle.pb_txn.specs.Places.{declared_cells, place_after, step_at}
 use Rattle.pb_txn.specs.Plans.{PlanOf, answered}
 use Rattle.pb_txn.specs.Conversations.{Converses}
 use Rattle.pb_notify.proofs.RecordedReads.{after}
-use Rattle.pb_base.proofs.Logic.{same_some as same_step}
 
 -- ---- after an answer it declares no more
 
@@ -24,32 +21,9 @@ abbrev pub IsLater : PlanPlace → Type 0
 IsLater PlanPlace.Declaring = ⊥
 IsLater _ = Unit {0}
 
-by_test : (b : Bool) (p q : PlanPlace) → IsLater p → IsLater q → IsLater (cond b p q)
-by_test true p q i j = i
-by_test false p q i j = j
-
-prewrite_later : (count k : ℕ) (a : Answer) → IsLater (after_prewrite count k a)
-prewrite_later count k Answer.Conflict = by_test (k == 0) (PlanPlace.Over Outcome.Conflicted) (PlanPlace.Settling k) tt tt
-prewrite_later count k _ = by_test (nat_lt (k + 1) count) (PlanPlace.Prewriting (k + 1)) PlanPlace.Stamping tt tt
-
-stamp_later : (a : Answer) → IsLater (after_stamp a)
-stamp_later (Answer.At c) = tt
-stamp_later _ = tt
-
-primary_later : (count : ℕ) (c : Ts) (a : Answer) → IsLater (after_primary count c a)
-primary_later count c Answer.Committed = by_test (nat_lt 1 count) (PlanPlace.CommittingSecondary c 1) (PlanPlace.Over (Outcome.Committed c)) tt tt
-primary_later count c _ = by_test (nat_lt 1 count) (PlanPlace.Clearing 1 count Outcome.Lost) (PlanPlace.Over Outcome.Lost) tt tt
-
 -- no answer leads back to the declaration
 later : (count : ℕ) (p : PlanPlace) (a : Answer) → IsLater (place_after count p a)
-later count PlanPlace.Declaring a = by_test (nat_lt 0 count) (PlanPlace.Prewriting 0) PlanPlace.Stamping tt tt
-later count (PlanPlace.Prewriting k) a = prewrite_later count k a
-later count PlanPlace.Stamping a = stamp_later a
-later count (PlanPlace.CommittingPrimary c) a = primary_later count c a
-later count (PlanPlace.CommittingSecondary c k) a = by_test (nat_lt (k + 1) count) (PlanPlace.CommittingSecondary c (k + 1)) (PlanPlace.Over (Outcome.Committed c)) tt tt
-later count (PlanPlace.Settling k) a = by_test (nat_lt 1 k) (PlanPlace.Clearing 1 k Outcome.Conflicted) (PlanPlace.Over Outcome.Conflicted) tt tt
-later count (PlanPlace.Clearing k end o) a = by_test (nat_lt (k + 1) end) (PlanPlace.Clearing (k + 1) end o) (PlanPlace.Over o) tt tt
-later count (PlanPlace.Over o) a = tt
+later count p a = grind arith
 
 stays_later : (p q : PlanOf) (said : List Received) → IsLater p.place → Converses p said q → IsLater q.place
 stays_later p q [] i talk = subst (λ (z : PlanOf). IsLater z.place) (sym talk) i
@@ -73,25 +47,13 @@ IsPlanStep s p (Step.Settle x) = Unit {0}
 IsPlanStep s p (Step.Clear x) = Unit {0}
 IsPlanStep s p _ = ⊥
 
-at_cell : (s : ℕ) (p : PlanPlace) (f : Cell → Step) (o : Option Cell) (t : Step) → ((x : Cell) → IsPlanStep s p (f x)) → option_map f o ≡ Some t → IsPlanStep s p t
-at_cell s p f None t h e = absurd cc
-at_cell s p f (Some x) t h e = subst (IsPlanStep s p) (same_step (f x) t e) (h x)
-
 -- the step at a place is one
 pub plan_step : (s : ℕ) (what : Declared) (p : PlanPlace) (t : Step) → step_at s what p ≡ Some t → IsPlanStep s p t
-plan_step s what PlanPlace.Declaring t e = subst (IsPlanStep s PlanPlace.Declaring) (same_step (Step.Declare (record { 0 = s }) what) t e) refl
-plan_step s what (PlanPlace.Prewriting k) t e = at_cell s (PlanPlace.Prewriting k) _ (slice_get (declared_cells what) k) t (λ x. refl) e
-plan_step s what PlanPlace.Stamping t e = subst (IsPlanStep s PlanPlace.Stamping) (same_step (Step.Stamp (record { 0 = s })) t e) refl
-plan_step s what (PlanPlace.CommittingPrimary c) t e = subst (IsPlanStep s (PlanPlace.CommittingPrimary c)) (same_step (Step.CommitPrimary (record { 0 = s })) t e) refl
-plan_step s what (PlanPlace.CommittingSecondary c k) t e = at_cell s (PlanPlace.CommittingSecondary c k) _ (slice_get (declared_cells what) k) t (λ x. refl) e
-plan_step s what (PlanPlace.Settling k) t e = at_cell s (PlanPlace.Settling k) _ (slice_get (declared_cells what) 0) t (λ x. tt) e
-plan_step s what (PlanPlace.Clearing k end o) t e = at_cell s (PlanPlace.Clearing k end o) _ (slice_get (declared_cells what) k) t (λ x. tt) e
-plan_step s what (PlanPlace.Over o) t e = absurd cc
+plan_step s what p t e = grind arith
 
 -- a plan begins no transaction
 no_begin : (s : ℕ) (p : PlanPlace) (t : Step) → IsPlanStep s p t → is_begin t ≡ false
-no_begin s p (Step.Begin work) i = absurd i
-no_begin s p _ i = refl
+no_begin s p t i = grind arith
 
 -- ---- what they leave
 

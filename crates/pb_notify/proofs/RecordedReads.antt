@@ -1,5 +1,5 @@
 -- What the table keeps of a run's transaction as its looks go on: one read more for each that told what its cell holds.
-use Rattle.std.proofs.Common.{◌≡◌, ℕ, ◌<◌, inl, inr, Bool, true, false, cond, List, [], ◌∷◌, ◌++◌, Option, Some, None, refl, sym, ap, subst, ◌∙◌, ◌==◌, filter}
+use Rattle.std.proofs.Common.{arith, ◌≡◌, ℕ, ◌<◌, inl, inr, Bool, cond, List, [], ◌∷◌, ◌++◌, Option, Some, None, refl, sym, subst, filter}
 use Rattle.std.proofs.lemmas.List.Elements.{filter-append}
 use Rattle.pb_base.specs.declared.cell.Cell.{Cell}
 use Rattle.pb_base.specs.declared.names.Ts.{Ts}
@@ -25,14 +25,13 @@ use Rattle.pb_txn.specs.Allowed.{names}
 use Rattle.pb_txn.specs.Conversations.{told}
 use Rattle.pb_notify.specs.declared.look.Look.{Look}
 use Rattle.pb_notify.specs.Runs.{Watch}
-use Rattle.pb_notify.specs.Forms.{IsRound, cleared, settled, AreRounds, at_first, one_more, IsHeld, IsLooked, its_begin, IsObserved, IsAcknowledged, IsRecalled, AreAsked, dirty, asked as asked_more}
+use Rattle.pb_notify.specs.Forms.{IsRound, AreRounds, at_first, one_more, IsHeld, IsLooked, its_begin, IsObserved, IsAcknowledged, IsRecalled, AreAsked, dirty, asked as asked_more}
 use Rattle.pb_notify.specs.Allowed.{entries_by}
 use Rattle.pb_notify.proofs.LookConversation.{IsIn, InLook}
 use Rattle.pb_base.proofs.Logic.{same_number as itself}
 
 pub same_either : {A : Type 0} (b : Bool) (x : A) → cond b x x ≡ x
-same_either true x = refl
-same_either false x = refl
+same_either b x = grind arith
 
 -- what was said stays said
 pub has_append : (said more : List Received) (r : Received) → Has said r → Has (said ++ more) r
@@ -69,29 +68,22 @@ module _ (observers : List ObserverOf) (seat : ℕ) (s : Ts) where
 
   from_first : (e : Entry) (es : List Entry) (t : Option TransactionOf) (b : Bool)
       → transaction_from observers t (cond b (e ∷ es) es) ≡ transaction_from observers (cond b (transaction_after observers e.seat e.step e.answer t) t) es
-  from_first e es t true = refl
-  from_first e es t false = refl
+  from_first e es t b = grind arith
 
   pub after_is : (said : List Received) (t : Option TransactionOf) → transaction_from observers t (entries_naming s.0 (entries_by seat said)) ≡ after said t
   after_is [] t = refl
-  after_is (r ∷ rs) t =
-      from_first (record { seat = seat; step = r.step; answer = r.answer }) (entries_naming s.0 (entries_by seat rs)) t (names_start s.0 r.step r.answer) ∙ after_is rs (one r t)
+  after_is (r ∷ rs) t = grind (arith, from_first, r.step, r.answer, after_is rs (one r t))
 
   pub after_append : (said more : List Received) (t : Option TransactionOf) → after (said ++ more) t ≡ after more (after said t)
   after_append [] more t = refl
   after_append (r ∷ rs) more t = after_append rs more (one r t)
 
   told_read : (x : Cell) (at : Option Ts) (a : Answer) (u : TransactionOf) → IsHeld a → after (told (read_step s x at) a ∷ []) (Some u) ≡ Some (with_read u x at a)
-  told_read x None (Answer.Found start commit content) u held = rw (itself s.0) refl
-  told_read x None Answer.Absent u held = rw (itself s.0) refl
-  told_read x (Some t) (Answer.Found start commit content) u held = rw (itself s.0) refl
-  told_read x (Some t) Answer.Absent u held = rw (itself s.0) refl
-  told_read x _ _ u held = absurd held
+  told_read x at a u held = grind arith
 
   -- a read is no step of a plan
   read_bare : (x : Cell) (at : Option Ts) (a : Answer) → bare_of s (told (read_step s x at) a ∷ []) ≡ []
-  read_bare x None a = refl
-  read_bare x (Some t) a = refl
+  read_bare x at a = grind arith
 
   module _ (o : Watch) where
     abbrev pub with_reads : List RecordedRead → TransactionOf
@@ -112,31 +104,22 @@ module _ (observers : List ObserverOf) (seat : ℕ) (s : Ts) where
       pub leaves : (t : Option TransactionOf) → after more t ≡ t
 
     aside : (said more : List Received) (reads : List RecordedRead) → IsRecorded said reads → IsAside more → IsRecorded (said ++ more) reads
-    aside said more reads i m = record {
-      begun = has_append said more _ i.begun;
-      bare = filter-append (λ (r : Received). names s.0 r.step) said more ∙ (λ j. i.bare j ++ m.bare j);
-      there = after_append said more None ∙ m.leaves (after said None) ∙ i.there;
-    }
+    aside said more reads i m = grind (arith, has_append, filter-append, after_append, i.begun, i.bare, m.bare, m.leaves, i.there)
 
     met_aside : (x : Cell) (at : Option Ts) (t : Ts) (primary : Cell) → IsAside (told (read_step s x at) (Answer.Locked t primary) ∷ [])
-    met_aside x None t primary = record { bare = refl; leaves = λ u. same_either (s.0 == s.0) u }
-    met_aside x (Some at) t primary = record { bare = refl; leaves = λ u. same_either (s.0 == s.0) u }
+    met_aside x at t primary = grind arith
 
     cleared_aside : (x : Cell) (at : Option Ts) (t : Ts) (primary : Cell) (a : Answer) → IsAside (told (read_step s x at) (Answer.Locked t primary) ∷ told (Step.Clear x) a ∷ [])
-    cleared_aside x None t primary a = record { bare = refl; leaves = λ u. same_either (s.0 == s.0) u }
-    cleared_aside x (Some at) t primary a = record { bare = refl; leaves = λ u. same_either (s.0 == s.0) u }
+    cleared_aside x at t primary a = grind arith
 
     settled_aside : (x : Cell) (at : Option Ts) (t : Ts) (primary : Cell) (a b : Answer) → IsAside (told (read_step s x at) (Answer.Locked t primary) ∷ told (Step.Clear x) a ∷ told (Step.Settle primary) b ∷ [])
-    settled_aside x None t primary a b = record { bare = refl; leaves = λ u. same_either (s.0 == s.0) u }
-    settled_aside x (Some at) t primary a b = record { bare = refl; leaves = λ u. same_either (s.0 == s.0) u }
+    settled_aside x at t primary a b = grind arith
 
     again_aside : (x : Cell) (at : Option Ts) (t : Ts) (primary : Cell) (a b d : Answer) → IsAside (told (read_step s x at) (Answer.Locked t primary) ∷ told (Step.Clear x) a ∷ told (Step.Settle primary) b ∷ told (Step.Clear x) d ∷ [])
-    again_aside x None t primary a b d = record { bare = refl; leaves = λ u. same_either (s.0 == s.0) u }
-    again_aside x (Some at) t primary a b d = record { bare = refl; leaves = λ u. same_either (s.0 == s.0) u }
+    again_aside x at t primary a b d = grind arith
 
     round_aside : (x : Cell) (at : Option Ts) (said : List Received) → IsRound s x at said → IsAside said
-    round_aside x at said (cleared t primary a can not) = cleared_aside x at t primary a
-    round_aside x at said (settled t primary a b can also) = again_aside x at t primary Answer.Waits a b
+    round_aside x at said h = grind arith
 
     rounds : (x : Cell) (at : Option Ts) (m : ℕ) (base : List Received) (n : ℕ) (said : List Received) (reads : List RecordedRead) → IsRecorded base reads → AreRounds s x at m base n said → IsRecorded said reads
     rounds x at m base n said reads i at_first = i
@@ -160,18 +143,11 @@ module _ (observers : List ObserverOf) (seat : ℕ) (s : Ts) where
         → IsRecorded said (reads ++ read_of x at l.answer ∷ [])
     looked x at m base n said reads i is =
         let before = rounds x at m base n is.before reads i is.rounds in
-        let a = is.answer in
-        let read = told (read_step s x at) a ∷ [] in
-        subst (λ l. IsRecorded l (reads ++ read_of x at a ∷ [])) (sym is.said_is) (record {
-          begun = has_append is.before read _ before.begun;
-          bare = filter-append (λ (r : Received). names s.0 r.step) is.before read ∙ (λ j. before.bare j ++ read_bare x at a j);
-          there = after_append is.before read None ∙ ap (after read) before.there ∙ told_read x at a (with_reads reads) is.held;
-        })
+        grind (arith, has_append, filter-append, read_bare, after_append, told_read, is.before, is.said_is, is.held)
 
     -- one more read of an ask
     old_more : (at : Option Ts) (x : Cell) (rest : List RecordedRead) (old : machine.Reply) (asked : List RecordedRead) (r : RecordedRead) → WasOld at x rest old asked → WasOld at x (rest ++ r ∷ []) old (asked ++ r ∷ [])
-    old_more None x rest old asked r w = (w.0, ap (λ l. l ++ r ∷ []) w.1)
-    old_more (Some t) x rest old asked r w = (w.0, w.1, w.2, ap (λ l. l ++ r ∷ []) w.3)
+    old_more at x rest old asked r w = grind arith
 
     -- ---- the parts of a run
 
@@ -208,17 +184,7 @@ module _ (observers : List ObserverOf) (seat : ℕ) (s : Ts) where
           reads = read_of cell None i.observed.look.answer ∷ read_of ack None i.look.answer ∷ [];
           asked = [];
           recorded = acknowledged seen n said i;
-          was = record {
-            found_by = read_of cell None i.observed.look.answer;
-            acknowledged_by = read_of ack None i.look.answer;
-            rest = [];
-            reads_are = refl;
-            observed = record { cell = refl; at = refl };
-            found = i.observed.found_is;
-            acknowledgment = record { cell = refl; at = refl };
-            acknowledged = i.acknowledged;
-            old = subst (λ z. WasOld z cell [] seen.old []) (sym is) (r.0, refl);
-          };
+          was = grind (arith, acknowledged, observed, seen.old);
           replied = tt;
         }
     recalled seen n said (Some t) is r =
@@ -228,17 +194,7 @@ module _ (observers : List ObserverOf) (seat : ℕ) (s : Ts) where
           reads = read_of cell None i.observed.look.answer ∷ read_of ack None i.look.answer ∷ third ∷ [];
           asked = [];
           recorded = looked cell (Some t) r.0 r.1 n said _ (acknowledged seen r.0 r.1 i) r.3;
-          was = record {
-            found_by = read_of cell None i.observed.look.answer;
-            acknowledged_by = read_of ack None i.look.answer;
-            rest = third ∷ [];
-            reads_are = refl;
-            observed = record { cell = refl; at = refl };
-            found = i.observed.found_is;
-            acknowledgment = record { cell = refl; at = refl };
-            acknowledged = i.acknowledged;
-            old = subst (λ z. WasOld z cell (third ∷ []) seen.old []) (sym is) (third, record { cell = refl; at = refl }, r.4, refl);
-          };
+          was = grind (arith, acknowledged, observed, seen.old);
           replied = tt;
         }
 
@@ -246,22 +202,11 @@ module _ (observers : List ObserverOf) (seat : ℕ) (s : Ts) where
     has_read seen talk n said (dirty k now i newer) = recalled seen k now (old_at second seen.acknowledged) refl i
     has_read seen talk n said (asked_more before m base q k now was look) =
         let h = has_read seen before m base was in
-        let w = h.was in
         let one_more_read = read_of (asked_cell q) None look.answer in
         record {
           reads = h.reads ++ one_more_read ∷ [];
           asked = h.asked ++ one_more_read ∷ [];
           recorded = looked (asked_cell q) None m base k now h.reads h.recorded look;
-          was = record {
-            found_by = w.found_by;
-            acknowledged_by = w.acknowledged_by;
-            rest = w.rest ++ one_more_read ∷ [];
-            reads_are = ap (λ l. l ++ one_more_read ∷ []) w.reads_are;
-            observed = w.observed;
-            found = w.found;
-            acknowledgment = w.acknowledgment;
-            acknowledged = w.acknowledged;
-            old = old_more (old_at second seen.acknowledged) cell w.rest seen.old h.asked one_more_read w.old;
-          };
+          was = grind (arith, observed, acknowledged, old_more, seen.acknowledged, seen.old);
           replied = replies_more h.asked before one_more_read q (value_in look.answer) h.replied (record { cell = refl; at = refl }) refl;
         }

@@ -1,5 +1,5 @@
 -- What a job has asked at each place, and that it is a beginning of a whole conversation.
-use Rattle.std.proofs.Common.{◌≡◌, ℕ, ◌+◌, ◌<◌, ◌≤◌, Bool, true, false, cond, List, [], ◌∷◌, ◌++◌, Option, Some, None, refl, sym, ap, subst, ◌∙◌, arith, append_assoc, append-nil, nat_lt, not, ◌&&◌, ◌==◌}
+use Rattle.std.proofs.Common.{◌≡◌, ℕ, ◌<◌, ◌≤◌, Bool, true, false, cond, List, [], ◌∷◌, ◌++◌, Option, Some, None, refl, sym, ap, subst, ◌∙◌, arith, append_assoc, append-nil, nat_lt, not, ◌&&◌, ◌==◌}
 use Rattle.pb_base.specs.declared.cell.Cell.{Cell}
 use Rattle.pb_base.specs.declared.names.Ts.{Ts}
 use Rattle.pb_base.specs.declared.content.Revision.{Revision}
@@ -48,18 +48,9 @@ plan_more : (p : PlanOf) (said : List Received) (q : PlanOf) (r : Received) → 
 plan_more p [] q r t next can = (ap plans.next_of (sym t) ∙ next, can, ap (λ z. plans.answered z r.answer) t)
 plan_more p (x ∷ xs) q r t next can = (t.0, t.1, plan_more (plans.answered p x.answer) xs q r t.2 next can)
 
--- a read that met a lock tells nothing of the cell
-locked_tells_not : (b : Bool) (primary : Cell) (a : Answer) → cond b (Looked.On (Look.Clearing primary)) Looked.Blocks ≡ Looked.Tells a → ⊥
-locked_tells_not true primary a e = cc
-locked_tells_not false primary a e = cc
-
 -- where a look tells what the cell holds, the count is as before
 tells_few : (n : ℕ) (look : Look) (b a : Answer) → n < MAX_LOCKED → look_after n look b ≡ Looked.Tells a → locked_after n look b < MAX_LOCKED
-tells_few n Look.Reading (Answer.Locked t primary) a few e = absurd (locked_tells_not (nat_lt (n + 1) MAX_LOCKED) primary a e)
-tells_few n Look.Reading _ a few e = few
-tells_few n (Look.Clearing primary) b a few e = few
-tells_few n (Look.Settling primary) b a few e = few
-tells_few n Look.ClearingAgain b a few e = few
+tells_few n look b a few e = grind arith
 
 rounds_go_on : (s : Ts) (x : Cell) (at : Option Ts) (m : ℕ) (base : List Received) (n : ℕ) (said : List Received) → AreRounds s x at m base n said → (rest : List Received) × (said ≡ base ++ rest)
 rounds_go_on s x at m base n said at_first = ([], sym (append-nil base))
@@ -68,9 +59,7 @@ rounds_go_on s x at m base n said (one_more k before round r is) =
     (from.0 ++ round, ap (λ l. l ++ round) from.1 ∙ append_assoc base from.0 round)
 
 in_goes_on : (s : Ts) (x : Cell) (at : Option Ts) (m : ℕ) (base : List Received) (n : ℕ) (said part : List Received) → IsIn s x at m base n said part → (rest : List Received) × (said ≡ base ++ rest)
-in_goes_on s x at m base n said part i =
-    let from = rounds_go_on s x at m base i.met i.before i.rounds in
-    (from.0 ++ part, i.said_is ∙ ap (λ l. l ++ part) from.1 ∙ append_assoc base from.0 part)
+in_goes_on s x at m base n said part i = grind (arith, rounds_go_on, append_assoc, i.met, i.before, i.rounds, i.said_is)
 
 -- a look goes on from what was said before it
 pub look_goes_on : (s : Ts) (x : Cell) (at : Option Ts) (m : ℕ) (base : List Received) (look : Look) (n : ℕ) (said : List Received) → InLook s x at m base look n said → (rest : List Received) × (said ≡ base ++ rest)
@@ -158,8 +147,7 @@ module _ (o : Watch) where
 
   -- a look at the cell as of the acknowledged timestamp begins, or the machine does
   if_some : (b : Bool) (a t : Ts) → cond b (Some a) None ≡ Some t → t ≡ a
-  if_some true a t e = cc
-  if_some false a t e = cc
+  if_some b a t e = grind arith
 
   recalled_more : (s : Ts) (seen : Seen) (n : ℕ) (said : List Received) (at : Option Ts) → old_at second seen.acknowledged ≡ at → seen.old ≡ None → IsAcknowledged o s seen n said
       → seen.acknowledged.0 < seen.version.commit.0 → SoFar n (if_recalled s seen at) said
@@ -170,9 +158,7 @@ module _ (o : Watch) where
 
   dirty_more : (s : Ts) (found : Revision) (n : ℕ) (said : List Received) (t : Ts) (b : Bool) → nat_lt t.0 found.commit.0 ≡ b → IsAcknowledged o s (seen_so_far found t) n said → n < MAX_LOCKED
       → SoFar n (cond b (if_recalled s (seen_so_far found t) (old_at second t)) (RunPlace.Sweeping JobEnd.Clean)) said
-  dirty_more s found n said t true e i few = recalled_more s (seen_so_far found t) n said (old_at second t) refl refl i (newer t.0 found.commit.0 e) where
-    newer : (a b : ℕ) → nat_lt a b ≡ true → a < b
-    newer a b h = grind (arith, h)
+  dirty_more s found n said t true e i few = grind (arith, recalled_more)
   dirty_more s found n said t false e i few =
       record { run = None; meant = tt; ends = λ w can. clean s (seen_so_far found t) n said w i (older t.0 found.commit.0 e) few can }
     where
@@ -234,52 +220,28 @@ module _ (o : Watch) where
 
     plan_step : (n r : ℕ) (p : PlanOf) (said : List Received) (t : Step) (a : Answer) → IsPlanned n r p said → plans.next_of p ≡ Some t → CanAnswer t a
         → IsPlanned n r (plans.answered p a) (said ++ told t a ∷ [])
-    plan_step n r p said t a i next can = record {
-      s = i.s;
-      seen = i.seen;
-      talk = i.talk;
-      base = i.base;
-      asked = i.asked;
-      run = i.run;
-      run_on = i.run_on;
-      meant = i.meant;
-      result = i.result;
-      plan = i.plan ++ told t a ∷ [];
-      converses_are = plan_more _ i.plan p (told t a) i.converses_are next can;
-      said_is = ap (λ l. l ++ told t a ∷ []) i.said_is ∙ append_assoc i.base i.plan (told t a ∷ []);
-      few = i.few;
-    }
+    plan_step n r p said t a i next can = grind (arith, plan_more, append_assoc, i.s, i.seen, i.talk, i.base, i.asked, i.run, i.run_on, i.meant, i.result, i.plan, i.converses_are, i.said_is, i.few)
 
     said_more : (n : ℕ) (place : RunPlace) (said : List Received) (t : Step) (a : Answer) → AtPlace n place → SoFar n place said → step_at o.observer o.row o.column place ≡ Some t → CanAnswer t a
         → SoFar (locked_at n place a) (place_after second n place a) (said ++ told t a ∷ [])
-    said_more n RunPlace.Beginning said t a at i e can =
-        subst (λ u. CanAnswer u a → SoFar n (after_begin a) (said ++ told u a ∷ [])) (same_step (Step.Begin (Work.Run o.observer o.row)) t e)
-        (λ c. subst (λ l. SoFar n (after_begin a) (l ++ told (Step.Begin (Work.Run o.observer o.row)) a ∷ [])) (sym i.1) (subst (λ k. SoFar k (after_begin a) (told (Step.Begin (Work.Run o.observer o.row)) a ∷ [])) (sym i.0) (at_begin a c))) can
-    said_more n (RunPlace.Observing s look) said t a at i e can =
-        observed_more s _ _ (look_after n look a) (look_more s cell None 0 (its_begin o s) look n said t a i (same_step _ t e) can at) (λ b is. tells_few n look a b at is)
+    said_more n RunPlace.Beginning said t a at i e can = grind (arith, same_step, at_begin, o.observer, o.row)
+    said_more n (RunPlace.Observing s look) said t a at i e can = grind (arith, observed_more, look_more, same_step, tells_few)
     said_more n (RunPlace.Acknowledging s found look) said t a at i e can =
         acknowledged_more s found i.0 i.1 _ _ (look_after n look a) i.2 (look_more s ack None i.0 i.1 look n said t a i.3 (same_step _ t e) can at) (λ b is. tells_few n look a b at is)
     said_more n (RunPlace.Recalling s seen look) said t a at i e can =
         recalled_one s seen i.0 i.1 _ _ (look_after n look a) i.2 i.3 i.4 (look_more s cell (Some seen.acknowledged) i.0 i.1 look n said t a i.5 (same_step _ t e) can at)
     said_more n (RunPlace.Starting s seen) said t a at i e can = absurd (none_some t e)
     said_more n (RunPlace.Computing s v) said t a at i e can = absurd (none_some t e)
-    said_more n (RunPlace.Asking s v q look) said t a at i e can =
-        asked_one s v q i.0 i.1 i.2 _ _ (look_after n look a) i.3 i.4 (look_more s (Cell.Data q.row q.column) None i.1 i.2 look n said t a i.5 (same_step _ t e) can at.0)
+    said_more n (RunPlace.Asking s v q look) said t a at i e can = grind (arith, asked_one, look_more, same_step, q.row, q.column)
     said_more n (RunPlace.Planning r p) said t a at i e can = planned_more n r (plans.answered p a) _ (outcome_of (plans.answered p a)) refl (plan_step n r p said t a i e can)
-    said_more n (RunPlace.Sweeping end) said t a at i e can =
-        subst (λ u. CanAnswer u a → IsEnded end (said ++ told u a ∷ [])) (same_step (Step.Sweep cell) t e) (λ c. record { run = i.run; meant = i.meant; whole = i.ends a c }) can
+    said_more n (RunPlace.Sweeping end) said t a at i e can = grind arith
     said_more n (RunPlace.Over end) said t a at i e can = absurd (none_some t e)
 
     -- ---- one instruction
 
     comes_more : (n : ℕ) (s : Ts) (v : Position) (seen : Seen) (place : RunPlace) (said : List Received) → n < MAX_LOCKED → IsGiven s seen v → AreAsked o s seen v.talk n said
         → Comes o.observer s v place → SoFar n place said
-    comes_more n s v seen place said few given was (goes w st) =
-        let w-is = st.went in (
-          seen,
-          record { program = w-is.given.judged ∙ given.program; bytes = w-is.given.bytes ∙ given.bytes; start = w-is.given.start ∙ given.start },
-          subst (λ talk. AreAsked o s seen talk n said) (sym w-is.talk) was,
-        )
+    comes_more n s v seen place said few given was (goes w st) = grind arith
     comes_more n s v seen place said few given was (waits w q st) = (
       seen,
       n,
@@ -288,28 +250,10 @@ module _ (o : Watch) where
       subst (λ talk. AreAsked o s seen talk n said) (sym st.talk) was,
       at_first,
     )
-    comes_more n s v seen place said few given was (declares r what st) =
-        let l = st.leaves in
-        record {
-          s = s;
-          seen = seen;
-          talk = v.talk;
-          base = said;
-          asked = was;
-          run = st.left;
-          run_on = record { program = l.judged ∙ given.program; bytes = l.bytes ∙ given.bytes; start = l.start ∙ given.start; talk_is = l.talk };
-          meant = l.meant;
-          result = st.result;
-          plan = [];
-          converses_are = ap (plans.fresh s.0) st.declares;
-          said_is = sym (append-nil said);
-          few = few;
-        }
+    comes_more n s v seen place said few given was (declares r what st) = grind (arith, append-nil, st.leaves, v.talk, st.left, given.program, given.bytes, given.start, st.result, st.declares)
 
     computed_more : (n : ℕ) (place next : RunPlace) (said : List Received) → AtPlace n place → SoFar n place said → ComesFrom o.observer o.judged cell place next → SoFar n next said
-    computed_more n (RunPlace.Starting s seen) next said at i c = comes_more n s _ seen next said at (record { program = refl; bytes = refl; start = refl }) i c.comes
-    computed_more n (RunPlace.Computing s v) next said at i c = comes_more n s v i.0 next said at.0 i.1 i.2 c
-    computed_more n _ next said at i c = absurd c
+    computed_more n place next said at i c = grind (arith, comes_more)
 
     -- ---- what has been said can be ended
 
@@ -420,13 +364,7 @@ module _ (o : Watch) where
     }
 
     holds_computed : (said : List Received) (k : RunOf) (place : RunPlace) → Holds said k → ComesFrom k.watch.observer k.watch.judged (Cell.Data k.watch.row k.watch.column) k.place place → Holds said (record k { place = place })
-    holds_computed said k place h comes =
-        let c : ComesFrom o.observer o.judged cell k.place place = subst (λ (j : Watch). ComesFrom j.observer j.judged (Cell.Data j.row j.column) k.place place) h.watch comes in
-        record {
-          watch = h.watch;
-          at = at_computed k.locked o.observer o.judged cell k.place place c h.at;
-          so = computed_more k.locked k.place place said h.at h.so c;
-        }
+    holds_computed said k place h comes = grind (arith, at_computed, computed_more, o.observer, o.judged, k.place, h.watch, k.locked, h.at, h.so)
 
     pub holds : (said : List Received) (k : RunOf) → Reaches (fresh o) said k → Holds said k
     holds said k made = record { watch = refl; at = omega arith; so = (refl, refl) }
@@ -434,12 +372,7 @@ module _ (o : Watch) where
     holds said k (computed before from to reaches need c) = subst (Holds before) (sym c.same) (holds_computed before from to.place (holds before from reaches) c.comes)
 
     ended : (said : List Received) (place : RunPlace) (end : JobEnd) (n : ℕ) → SoFar n place said → need_at place ≡ Need.Over end → IsEnded end said
-    ended said (RunPlace.Over other) end n i e = subst (λ z. IsEnded z said) (same_end other end e) i where
-      same_end : (a b : JobEnd) → Need.Over a ≡ Need.Over b → a ≡ b
-      same_end a b h = cc
-    ended said (RunPlace.Starting s seen) end n i e = absurd cc
-    ended said (RunPlace.Computing s v) end n i e = absurd cc
-    ended said _ end n i e = absurd cc
+    ended said place end n i e = grind arith
 
 -- what was said at any place can be ended: a look by a read without a lock, a plan as plans can
 pub jobs_converse : PlansConverse → PlansEnd → JobsConverse

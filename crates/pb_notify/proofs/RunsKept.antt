@@ -1,5 +1,5 @@
 -- Where a seat's entries end with a conversation, these are all that name its start.
-use Rattle.std.proofs.Common.{◌≡◌, ℕ, inl, inr, Bool, true, false, cond, List, [], ◌∷◌, ◌++◌, refl, sym, ap, subst, ◌∙◌, ◌==◌}
+use Rattle.std.proofs.Common.{arith, ◌≡◌, ℕ, inl, inr, Bool, true, false, cond, List, [], ◌∷◌, ◌++◌, refl, sym, ap, subst, ◌∙◌, ◌==◌}
 use Rattle.std.proofs.lemmas.Bool.{eq-eqb, eqb-true, or_left as one_of, or_right as or_other}
 use Rattle.std.proofs.lemmas.List.Elements.{filter-append}
 use Rattle.std.specs.List.{list_any}
@@ -37,21 +37,14 @@ in_journal seat (e ∷ es) r h = elim (e.seat == seat) as
 -- an entry that names the start is among those that do
 in_naming : (s : ℕ) (journal : List Entry) (e : Entry) → names_start s e.step e.answer ≡ true → Has journal e → Has (entries_naming s journal) e
 in_naming s [] e n h = absurd h
-in_naming s (d ∷ ds) e n (inl q) = first (names_start s d.step d.answer) (ap (λ (z : Entry). names_start s z.step z.answer) q ∙ n) where
-  first : (b : Bool) → b ≡ true → Has (cond b (d ∷ entries_naming s ds) (entries_naming s ds)) e
-  first true is = inl q
-  first false is = absurd cc
-in_naming s (d ∷ ds) e n (inr on) = later (names_start s d.step d.answer) (in_naming s ds e n on) where
-  later : (b : Bool) → Has (entries_naming s ds) e → Has (cond b (d ∷ entries_naming s ds) (entries_naming s ds)) e
-  later true h = inr h
-  later false h = h
+in_naming s (d ∷ ds) e n (inl q) = grind arith
+in_naming s (d ∷ ds) e n (inr on) = grind (arith, d.step, d.answer, in_naming s ds e n on)
 
 -- ---- entries that name one start
 
 if_first : (s seat : ℕ) (r : Received) (rs : List Received) (c : Bool)
     → entries_naming s (entries_by seat (cond c (r ∷ rs) rs)) ≡ cond c (cond (names_start s r.step r.answer) (entry_of seat r ∷ entries_naming s (entries_by seat rs)) (entries_naming s (entries_by seat rs))) (entries_naming s (entries_by seat rs))
-if_first s seat r rs true = refl
-if_first s seat r rs false = refl
+if_first s seat r rs c = grind arith
 
 -- where all of them are one seat's, they are among its entries
 of_seat : (s seat : ℕ) (journal : List Entry) → ((e : Entry) → Has (entries_naming s journal) e → e.seat ≡ seat) → entries_naming s journal ≡ entries_naming s (entries_by seat (entries_of seat journal))

@@ -1,32 +1,27 @@
 -- What the operations of a line make is a batch, however many they are.
-use Rattle.std.proofs.Common.{◌≡◌, ℕ, ◌+◌, ◌<◌, ◌≤◌, ◌^◌, ◌-◌, Bool, true, false, cond, List, [], ◌∷◌, ◌++◌, length, Option, Some, None, Result, Ok, Err, refl, sym, ap, subst, ◌∙◌, arith, inl, inr, append_assoc, length-append, ◌==◌, ◌&&◌, nat_le, is_some, is_none, codes, bytes_eq}
+use Rattle.std.proofs.Common.{◌≡◌, ℕ, ◌+◌, ◌<◌, ◌≤◌, Bool, true, false, cond, List, [], ◌∷◌, ◌++◌, length, Option, Some, None, Result, Ok, refl, sym, ap, subst, ◌∙◌, arith, inl, inr, append_assoc, length-append, ◌==◌, ◌&&◌, is_none}
 use Rattle.std.specs.Cmp.{eq_by_cmp_equiv}
-use Rattle.std.specs.List.{list_all, onto_first, slice_split}
+use Rattle.std.specs.List.{list_all, onto_first}
 use Rattle.std.specs.Ordering.{eq_by_cmp}
-use Rattle.std.proofs.lemmas.Bool.{and_parts, leb-false, le-leb, lt-ltb}
+use Rattle.std.proofs.lemmas.Bool.{and_parts, le-leb, lt-ltb}
 use Rattle.std.proofs.lemmas.List.{append-nil, length-map, map-append}
 use Rattle.pb_base.specs.Cell.{cell_cmp, cell_cmp_total, is_data}
 use Rattle.pb_base.specs.declared.cell.Cell.{Cell}
 use Rattle.pb_base.specs.declared.content.Content.{Content}
 use Rattle.pb_base.specs.Batch.{Writes, content_in, is_unstamped, is_data_write, are_distinct, is_batch}
 use Rattle.pb_parse.specs.declared.script.code.ScriptCode.{ScriptCode}
-use Rattle.pb_reading.specs.Reading.{◌>>=◌, in_turn, next_word, no_word}
+use Rattle.pb_reading.specs.Reading.{◌>>=◌, in_turn}
 use Rattle.pb_base.specs.declared.limits.TheConstants.{MAX_CELLS}
-use Rattle.pb_parse.specs.ScriptWords.{put_of, del_of, write_of, operation, cell_at, number_upto, content_of}
+use Rattle.pb_parse.specs.ScriptWords.{put_of, del_of, write_of, operation, cell_at}
 use Rattle.pb_parse.specs.ScriptLines.{cut, with_operation, batch_of}
 use Rattle.pb_parse.specs.Operations.{Say}
 use Rattle.pb_reading.proofs.Readings.{ok_is, then_ok}
-use Rattle.pb_base.proofs.Logic.{none_is as not_some, chosen}
+use Rattle.pb_base.proofs.Logic.{chosen}
 
 -- the cells of a script are data cells, since no word of it names another
 cell_is_data : (words : List (List ℕ)) (c : Cell × List (List ℕ)) → cell_at words ≡ Ok c → is_data c.0 ≡ true
 unfolding cell_at
-cell_is_data words c h =
-    let a = then_ok (next_word ScriptCode.Form words) _ c h in
-    let b = then_ok (number_upto (2 ^ 64 - 1) a.0.0) _ c a.2 in
-    let d = then_ok (next_word ScriptCode.Form a.0.1) _ c b.2 in
-    let e = then_ok (number_upto 15 d.0.0) _ c d.2 in
-    sym (ap (λ (p : Cell × List (List ℕ)). is_data p.0) (ok_is {E = ScriptCode} (Cell.Data (record { 0 = b.0 }) e.0, d.0.1) c e.2))
+cell_is_data words c h = grind arith
 
 -- a value or a deletion of a data cell is what a batch may have
 is_written : (x : Cell) (k : Content) (w : Cell × Content) → is_data x ≡ true → is_unstamped k ≡ true → ◌≡◌ {A = Result (Cell × Content) ScriptCode} (Ok (x, k)) (Ok w) → is_data_write w ≡ true
@@ -35,37 +30,20 @@ is_written x k w place plain h = sym (ap is_data_write (ok_is {E = ScriptCode} (
 -- so `put` writes what a batch may have
 plain_put : (words : List (List ℕ)) (w : Cell × Content) → put_of words ≡ Ok w → is_data_write w ≡ true
 unfolding put_of
-plain_put words w h =
-    let a = then_ok (cell_at words) _ w h in
-    let b = then_ok (next_word ScriptCode.Form a.0.1) _ w a.2 in
-    let c = then_ok (content_of b.0.0) _ w b.2 in
-    let d = then_ok (no_word ScriptCode.Form b.0.1) _ w c.2 in
-    is_written a.0.0 (Content.Value c.0) w (cell_is_data words a.0 a.1) refl d.2
+plain_put words w h = grind (arith, then_ok, is_written, cell_is_data)
 
 plain_del : (words : List (List ℕ)) (w : Cell × Content) → del_of words ≡ Ok w → is_data_write w ≡ true
 unfolding del_of
-plain_del words w h =
-    let a = then_ok (cell_at words) _ w h in
-    let d = then_ok (no_word ScriptCode.Form a.0.1) _ w a.2 in
-    is_written a.0.0 Content.Deleted w (cell_is_data words a.0 a.1) refl d.2
+plain_del words w h = grind (arith, then_ok, is_written, cell_is_data)
 
 plain_write : (words : List (List ℕ)) (w : Cell × Content) → write_of words ≡ Ok w → is_data_write w ≡ true
 unfolding write_of
-plain_write words w h =
-    let a = then_ok (next_word ScriptCode.Form words) _ w h in
-    elim (chosen (bytes_eq a.0.0 (codes "put")) (put_of a.0.1) _ (Ok w) a.2) [
-      | inl p ↦ plain_put a.0.1 w p.1
-      | inr q ↦ elim (chosen (bytes_eq a.0.0 (codes "del")) (del_of a.0.1) _ (Ok w) q.1) [
-        | inl p ↦ plain_del a.0.1 w p.1
-        | inr r ↦ let e = r.1 in absurd cc
-      ]
-    ]
+plain_write words w h = grind (arith, then_ok, chosen, plain_put, plain_del)
 
 -- ---- one write more
 
 pub none_of : {A : Type 0} (o : Option A) → is_none o ≡ true → o ≡ None
-none_of None h = refl
-none_of (Some x) h = absurd cc
+none_of o h = grind arith
 
 -- a cell that none of the writes names isn't named after one more of another cell
 lack_more : (ws : Writes) (w : Cell × Content) (x : Cell) → content_in ws x ≡ None → eq_by_cmp cell_cmp x w.0 ≡ false → content_in (ws ++ w ∷ []) x ≡ None
@@ -109,21 +87,7 @@ pub record IsAdded (before after : Writes) (text : List ℕ) : Type 0 where
 -- an operation that is taken is read, of a cell not named before, and there was room for it
 added : (before after : Writes) (text : List ℕ) → with_operation before text ≡ Ok after → IsAdded before after text
 unfolding with_operation
-added before after text h =
-    let a = then_ok (operation text) _ after h in
-    elim (chosen (is_some (content_in before a.0.0)) (Err ScriptCode.Twice) _ (Ok after) a.2) [
-      | inl twice ↦ let no = twice.1 in absurd cc
-      | inr new ↦ elim (chosen (nat_le MAX_CELLS (length before)) (Err ScriptCode.Seventeenth) (Ok (before ++ a.0 ∷ [])) (Ok after) new.1) [
-        | inl full ↦ let no = full.1 in absurd cc
-        | inr room ↦ record {
-          write = a.0;
-          read = a.1;
-          new = not_some (content_in before a.0.0) new.0;
-          room = leb-false _ _ room.0;
-          all = ok_is {E = ScriptCode} (before ++ a.0 ∷ []) after room.1;
-        }
-      ]
-    ]
+added before after text h = grind arith
 
 -- one more operation says one more write
 say_more : (texts : List (List ℕ)) (ws : Writes) (text : List ℕ) (w : Cell × Content) → Say texts ws → operation text ≡ Ok w → Say (texts ++ text ∷ []) (ws ++ w ∷ [])
@@ -131,20 +95,13 @@ say_more texts ws text w said read = simp map-append (rw (said, read) refl)
 
 -- a line that is open stays so with one more operation
 grown : (texts : List (List ℕ)) (before after : Writes) (text : List ℕ) → IsOpen texts before → IsAdded before after text → IsOpen (texts ++ text ∷ []) after
-grown texts before after text o a =
-    subst (IsOpen (texts ++ text ∷ [])) a.all (record {
-      said = say_more texts before text a.write o.said a.read;
-      few = let room = a.room in simp length-append (omega arith);
-      plain = plain_more before a.write o.plain (plain_write (slice_split (λ b. b == 32) text) a.write a.read);
-      distinct = distinct_more before a.write o.distinct a.new;
-    })
+grown texts before after text o a = grind (arith, say_more, length-append, plain_more, plain_write, distinct_more, a.all, a.write, o.said, a.read, a.room, o.plain, o.distinct, a.new)
 
 -- ---- operations in turn
 
 -- operations in turn are read only where the first of them is
 turn_open : (texts : List (List ℕ)) (after : Writes) (r : Result Writes ScriptCode) (more : Writes → Result Writes ScriptCode) → ((s : Writes) → r ≡ Ok s → more s ≡ Ok after → IsOpen texts after) → (r >>= more) ≡ Ok after → IsOpen texts after
-turn_open texts after (Ok s) more f h = f s refl h
-turn_open texts after (Err e) more f h = absurd cc
+turn_open texts after r more f h = grind arith
 
 -- operations in turn after others
 pub all_open : (n : ℕ) (front : List (List ℕ)) (before after : Writes) (texts : List (List ℕ)) → IsOpen front before → in_turn (λ _. with_operation) n before texts ≡ Ok after → IsOpen (front ++ texts) after
@@ -173,9 +130,7 @@ cut_some (b ∷ c ∷ bs) = cut_choice ((b == 59) && (c == 32)) (cut bs) (onto_f
 
 -- an open line with an operation is a batch
 closed : (texts : List (List ℕ)) (ws : Writes) → IsOpen texts ws → 0 < length texts → is_batch ws ≡ true
-closed texts ws o some =
-    let same : length ws ≡ length texts = sym (length-map {B = Result (Cell × Content) ScriptCode} ws (λ w. Ok w)) ∙ sym (ap length o.said) ∙ length-map texts operation in
-    rw (lt-ltb 0 (length ws) (omega (arith, same)), le-leb (length ws) MAX_CELLS o.few, o.plain, o.distinct) refl
+closed texts ws o some = grind (arith, length-map, lt-ltb, le-leb, o.said, o.few, o.plain, o.distinct)
 
 -- what a line is read as is what its operations say
 pub line_is_open : (line : List ℕ) (batch : Writes) → batch_of line ≡ Ok batch → IsOpen (cut line) batch

@@ -20,8 +20,7 @@ no_joint b c bs none =
     ]
 
 drop_none : (k : ℕ) → drop {A = ℕ} k [] ≡ []
-drop_none zero = refl
-drop_none (suc k) = refl
+drop_none k = grind arith
 
 -- a line is cut at its first joint, wherever that is
 pub cut_at : (s : List ℕ) (k : ℕ) (r : List ℕ) → ((i : ℕ) → i < k → LacksTextAt joint s i) → drop k s ≡ 59 ∷ 32 ∷ r → cut s ≡ take k s ∷ cut r
@@ -42,6 +41,4 @@ cut_none (b ∷ c ∷ bs) none =
 
 -- what the code splits around the first joint is what the definition cuts there
 pub cut_some : (s a b : List ℕ) → SplitsAroundMatch (FindsText joint) s a b → cut s ≡ a ∷ cut b
-cut_some s a b h =
-    let i = h.0 in let j = h.1 in let f = h.2 in
-    rw (h.3, h.4) (cut_at s i (drop j s) f.0 f.1.split)
+cut_some s a b h = grind (arith, cut_at)

@@ -1,51 +1,25 @@
 -- A line's fault, unless it is its form, is that of a field; and a field's fault is the line's.
-use Rattle.std.proofs.Common.{◌≡◌, ℕ, ◌-◌, ◌^◌, ◌<◌, ◌≤◌, true, cond, List, [], ◌∷◌, length, Result, Ok, Err, refl, sym, ap, subst, ◌∙◌, arith, inl, inr, ◌⊎◌, nat_le, nat_lt, codes, decimal, bytes_eq}
-use Rattle.std.specs.Str.Parse.{digits_value}
-use Rattle.std.proofs.lemmas.Bool.{leb-false, ltb-false, ltb-true}
+use Rattle.std.proofs.Common.{◌≡◌, ℕ, ◌-◌, ◌^◌, true, cond, List, [], ◌∷◌, Result, Ok, Err, sym, ap, subst, ◌∙◌, arith, inl, inr, ◌⊎◌, codes, decimal, bytes_eq}
+use Rattle.std.proofs.lemmas.Bool.{ltb-false}
 use Rattle.pb_base.specs.declared.limits.TheConstants.{COLUMNS, MAX_CHANGES, MAX_EVENTS, MAX_SEATS}
 use Rattle.pb_base.specs.declared.cell.Cell.{Cell}
 use Rattle.pb_base.specs.declared.names.Row.{Row}
-use Rattle.pb_reading.specs.Reading.{◌>>=◌, is_numeral, next_word, no_word, numeral_upto, words_of}
+use Rattle.pb_reading.specs.Reading.{◌>>=◌, next_word, words_of}
 use Rattle.pb_verify.specs.Observers.{ObserverOf, acknowledgment}
 use Rattle.pb_parse.specs.declared.event.Job.{Job}
 use Rattle.pb_parse.specs.declared.event.Event.{Event}
 use Rattle.pb_parse.specs.declared.schedule.words.Order.{Order}
 use Rattle.pb_parse.specs.declared.schedule.code.ScheduleCode.{ScheduleCode}
-use Rattle.pb_parse.specs.ScheduleWords.{number_between, next_number, next_actor, next_row, first_named, observer_named, next_observer, next_change, next_run, next_job, once, launch_of, times_of, step_of, crash_of, next_data_cell, next_acknowledgment, next_cell, once_on, order_by, order_of_words, order_of}
+use Rattle.pb_parse.specs.ScheduleWords.{next_number, next_actor, next_row, observer_named, next_observer, next_change, next_run, next_job, once, launch_of, times_of, step_of, crash_of, next_data_cell, next_acknowledgment, next_cell, once_on, order_by, order_of_words, order_of}
 use Rattle.pb_parse.specs.EventLines.{name_of, IsActor, IsRow, IsNamed}
 use Rattle.pb_parse.specs.ScheduleFaults.{LaunchActor, ChangeNumber, RunName, RunRow, StepActor, StepTimes, CrashActor, SettleRow, SettleColumn, SettleName, SettleAckRow, ClearRow, ClearColumn, ClearName, ClearAckRow, SweepRow, SweepColumn, IsOutside, IsNoRow, IsNoColumn, IsNobody, StopsAtField}
 use Rattle.pb_reading.proofs.Parts.{AreParts, parts_are}
-use Rattle.pb_reading.proofs.Readings.{err_is, ok_is, then_err, next_fault, end_fault, next_is}
+use Rattle.pb_reading.proofs.Readings.{err_is, then_err, next_fault, next_is}
 use Rattle.pb_parse.proofs.NextWords.{same_text, next_row_is, next_observer_is, some_named}
 use Rattle.pb_parse.proofs.OrdersWritten.{actor_is}
 use Rattle.pb_base.proofs.Logic.{chosen}
 
 -- ---- numbers
-
--- a number is refused for its form, or as digits out of its range
-number_fault : (least greatest : ℕ) (word : List ℕ) (cause : ScheduleCode) → number_between least greatest word ≡ Err cause → (cause ≡ ScheduleCode.Form) ⊎ IsOutside least greatest word cause
-number_fault least greatest word cause h =
-    elim (then_err (numeral_upto ScheduleCode.Form ScheduleCode.Range greatest word) _ cause h) [
-      | inl own ↦ elim (chosen (is_numeral word) _ (Err ScheduleCode.Form) (Err cause) own) [
-        | inl digits ↦ elim (chosen (nat_le (digits_value 10 word) greatest) (Ok (digits_value 10 word)) (Err ScheduleCode.Range) (Err cause) digits.1) [
-          | inl small ↦ let e = small.1 in absurd cc
-          | inr big ↦ inr (record { numeral = digits.0; outside = inr (leb-false _ _ big.0); told = sym (err_is {A = ℕ} ScheduleCode.Range cause big.1) })
-        ]
-        | inr form ↦ inl (sym (err_is {A = ℕ} ScheduleCode.Form cause form.1))
-      ]
-      | inr low ↦ elim (chosen (is_numeral word) _ (Err ScheduleCode.Form) (Ok low.0) low.1) [
-        | inl digits ↦ elim (chosen (nat_le (digits_value 10 word) greatest) (Ok (digits_value 10 word)) (Err ScheduleCode.Range) (Ok low.0) digits.1) [
-          | inl small ↦ elim (chosen (nat_lt low.0 least) (Err ScheduleCode.Range) (Ok low.0) (Err cause) low.2) [
-            | inl less ↦ let value : digits_value 10 word ≡ low.0 = ok_is {E = ScheduleCode} (digits_value 10 word) low.0 small.1 in
-                let lt : low.0 < least = ltb-true _ _ less.0 in
-                inr (record { numeral = digits.0; outside = inl (omega (arith, value, lt)); told = sym (err_is {A = ℕ} ScheduleCode.Range cause less.1) })
-            | inr more ↦ let e = more.1 in absurd cc
-          ]
-          | inr big ↦ let e = big.1 in absurd cc
-        ]
-        | inr form ↦ let e = form.1 in absurd cc
-      ]
-    ]
 
 -- the first word is digits out of this range
 record BadNumber (least greatest : ℕ) (words : List (List ℕ)) (cause : ScheduleCode) : Type 0 where
@@ -56,25 +30,11 @@ record BadNumber (least greatest : ℕ) (words : List (List ℕ)) (cause : Sched
 
 next_number_fault : (least greatest : ℕ) (words : List (List ℕ)) (cause : ScheduleCode) → next_number least greatest words ≡ Err cause → (cause ≡ ScheduleCode.Form) ⊎ BadNumber least greatest words cause
 unfolding next_number
-next_number_fault least greatest words cause h =
-    elim (then_err (next_word ScheduleCode.Form words) _ cause h) [
-      | inl none ↦ inl (next_fault ScheduleCode.Form words cause none)
-      | inr a ↦ elim (then_err (number_between least greatest a.0.0) _ cause a.2) [
-        | inl own ↦ elim (number_fault least greatest a.0.0 cause own) [
-          | inl form ↦ inl form
-          | inr out ↦ inr (record { word = a.0.0; rest = a.0.1; cut = next_is ScheduleCode.Form words a.0 a.1; outside = out })
-        ]
-        | inr b ↦ let e = b.2 in absurd cc
-      ]
-    ]
+next_number_fault least greatest words cause h = grind arith
 
 next_row_fault : (words : List (List ℕ)) (cause : ScheduleCode) → next_row words ≡ Err cause → (cause ≡ ScheduleCode.Form) ⊎ BadNumber 0 (2 ^ 64 - 1) words cause
 unfolding next_row
-next_row_fault words cause h =
-    elim (then_err (next_number 0 (2 ^ 64 - 1) words) _ cause h) [
-      | inl own ↦ next_number_fault 0 (2 ^ 64 - 1) words cause own
-      | inr a ↦ let e = a.2 in absurd cc
-    ]
+next_row_fault words cause h = grind (arith, then_err, next_number_fault)
 
 -- ---- names
 
@@ -87,25 +47,11 @@ record BadName (observers : List ObserverOf) (words : List (List ℕ)) (cause : 
 
 -- a name is refused only where no observer has it
 named_fault : (observers : List ObserverOf) (name : List ℕ) (cause : ScheduleCode) → observer_named observers name ≡ Err cause → IsNobody observers name cause
-named_fault observers name cause h =
-    elim (chosen (nat_lt (first_named observers name) (length observers)) (Ok (first_named observers name)) (Err ScheduleCode.NoObserver) (Err cause) h) [
-      | inl some ↦ let e = some.1 in absurd cc
-      | inr none ↦ record {
-        nobody = λ o lt is. let most : length observers ≤ first_named observers name = ltb-false _ _ none.0 in let least = some_named observers name o lt is in absurd (omega (arith, most, least));
-        told = sym (err_is {A = ℕ} ScheduleCode.NoObserver cause none.1);
-      }
-    ]
+named_fault observers name cause h = grind (arith, chosen, ltb-false, some_named, err_is)
 
 next_observer_fault : (observers : List ObserverOf) (words : List (List ℕ)) (cause : ScheduleCode) → next_observer observers words ≡ Err cause → (cause ≡ ScheduleCode.Form) ⊎ BadName observers words cause
 unfolding next_observer
-next_observer_fault observers words cause h =
-    elim (then_err (next_word ScheduleCode.Form words) _ cause h) [
-      | inl none ↦ inl (next_fault ScheduleCode.Form words cause none)
-      | inr a ↦ elim (then_err (observer_named observers a.0.0) _ cause a.2) [
-        | inl own ↦ inr (record { word = a.0.0; rest = a.0.1; cut = next_is ScheduleCode.Form words a.0 a.1; nobody = named_fault observers a.0.0 cause own })
-        | inr b ↦ let e = b.2 in absurd cc
-      ]
-    ]
+next_observer_fault observers words cause h = grind (arith, then_err, next_fault, next_is, named_fault)
 
 -- behind a name, a row
 record BadRowBehind (observers : List ObserverOf) (words : List (List ℕ)) (cause : ScheduleCode) : Type 0 where
@@ -128,10 +74,7 @@ named_row make observers words = do
 name_and_row : {A : Type 0} (observers : List ObserverOf) (words : List (List ℕ)) (cause : ScheduleCode) (make : ℕ → Row → A) → AreParts 32 words → named_row make observers words ≡ Err cause → NameAndRow observers words cause
 name_and_row observers words cause make some h =
     elim (then_err (next_observer observers words) _ cause h) [
-      | inl own ↦ elim (next_observer_fault observers words cause own) [
-        | inl form ↦ inl form
-        | inr name ↦ inr (inl name)
-      ]
+      | inl own ↦ grind (arith, next_observer_fault)
       | inr a ↦ let n = next_observer_is observers words a.0 some a.1 in
           elim (then_err (next_row a.0.1) _ cause a.2) [
             | inl own ↦ elim (next_row_fault a.0.1 cause own) [
@@ -162,11 +105,7 @@ BadJob observers words cause = (cause ≡ ScheduleCode.Form) ⊎ (BadChange word
 
 change_fault : (words : List (List ℕ)) (cause : ScheduleCode) → next_change words ≡ Err cause → (cause ≡ ScheduleCode.Form) ⊎ BadNumber 1 MAX_CHANGES words cause
 unfolding next_change
-change_fault words cause h =
-    elim (then_err (next_number 1 MAX_CHANGES words) _ cause h) [
-      | inl own ↦ next_number_fault 1 MAX_CHANGES words cause own
-      | inr a ↦ let e = a.2 in absurd cc
-    ]
+change_fault words cause h = grind (arith, then_err, next_number_fault)
 
 run_fault : (observers : List ObserverOf) (words : List (List ℕ)) (cause : ScheduleCode) → AreParts 32 words → next_run observers words ≡ Err cause → NameAndRow observers words cause
 unfolding next_run
@@ -261,11 +200,7 @@ Blames observers words cause = (cause ≡ ScheduleCode.Form) ⊎ StopsAtField ob
 -- what stands behind a whole order is a fault of the form
 once_fault : (event : Event) (words : List (List ℕ)) (cause : ScheduleCode) → once event words ≡ Err cause → cause ≡ ScheduleCode.Form
 unfolding once
-once_fault event words cause h =
-    elim (then_err (no_word ScheduleCode.Form words) _ cause h) [
-      | inl own ↦ end_fault ScheduleCode.Form words cause own
-      | inr a ↦ let e = a.2 in absurd cc
-    ]
+once_fault event words cause h = grind arith
 
 launch_job : (observers : List ObserverOf) (actor : ℕ) (words rest : List (List ℕ)) (cause : ScheduleCode) → IsActor actor → words ≡ decimal actor ∷ rest → BadJob observers rest cause → Blames observers (codes "launch" ∷ words) cause
 launch_job observers actor words rest cause may is (inl form) = inl form
@@ -299,18 +234,7 @@ launch_fault observers words cause some h =
 
 times_fault : (words : List (List ℕ)) (cause : ScheduleCode) → times_of words ≡ Err cause → (cause ≡ ScheduleCode.Form) ⊎ BadNumber 1 MAX_EVENTS words cause
 unfolding times_of
-times_fault [] cause h = absurd cc
-times_fault (word ∷ words) cause h =
-    elim (then_err (number_between 1 MAX_EVENTS word) _ cause h) [
-      | inl own ↦ elim (number_fault 1 MAX_EVENTS word cause own) [
-        | inl form ↦ inl form
-        | inr out ↦ inr (record { word = word; rest = words; cut = refl; outside = out })
-      ]
-      | inr a ↦ elim (then_err (no_word ScheduleCode.Form words) _ cause a.2) [
-        | inl own ↦ inl (end_fault ScheduleCode.Form words cause own)
-        | inr b ↦ let e = b.2 in absurd cc
-      ]
-    ]
+times_fault words cause h = grind arith
 
 step_fault : (observers : List ObserverOf) (words : List (List ℕ)) (cause : ScheduleCode) → step_of words ≡ Err cause → Blames observers (codes "step" ∷ words) cause
 unfolding step_of
@@ -343,11 +267,7 @@ crash_fault observers words cause h =
 
 on_fault : (make : Cell → Event) (r : Result (Cell × List (List ℕ)) ScheduleCode) (cause : ScheduleCode) → once_on make r ≡ Err cause → (cause ≡ ScheduleCode.Form) ⊎ (r ≡ Err cause)
 unfolding once_on
-on_fault make r cause h =
-    elim (then_err r _ cause h) [
-      | inl own ↦ inr own
-      | inr a ↦ inl (once_fault (make a.0.0) a.0.1 cause a.2)
-    ]
+on_fault make r cause h = grind (arith, then_err, once_fault)
 
 -- where a verb that names any cell may stop: at a row, a column, a name, or a row behind a name
 record CellFields (observers : List ObserverOf) (verb : List ℕ) : Type 0 where
@@ -387,11 +307,7 @@ bad_cell observers verb words cause f (inr a) =
 
 -- `settle` and `clear` have the same fields, so one lemma serves both
 any_cell_fault : (observers : List ObserverOf) (verb : List ℕ) (make : Cell → Event) (words : List (List ℕ)) (cause : ScheduleCode) → AreParts 32 words → CellFields observers verb → once_on make (next_cell observers words) ≡ Err cause → Blames observers (verb ∷ words) cause
-any_cell_fault observers verb make words cause some f h =
-    elim (on_fault make (next_cell observers words) cause h) [
-      | inl form ↦ inl form
-      | inr own ↦ bad_cell observers verb words cause f (cell_fault observers words cause some own)
-    ]
+any_cell_fault observers verb make words cause some f h = grind (arith, on_fault, bad_cell, cell_fault)
 
 bad_data : (observers : List ObserverOf) (words : List (List ℕ)) (cause : ScheduleCode) → BadDataCell words cause → Blames observers (codes "sweep" ∷ words) cause
 bad_data observers words cause (inl form) = inl form
@@ -409,10 +325,7 @@ sweep_fault observers words cause h =
 
 -- one verb: where the word is it, what stands behind is blamed, and else the other verbs say what
 verb_fault : (verb this : List ℕ) (r others : Result Order ScheduleCode) (cause : ScheduleCode) (P : List ℕ → Type 0) → cond (bytes_eq verb this) r others ≡ Err cause → (r ≡ Err cause → P this) → (others ≡ Err cause → P verb) → P verb
-verb_fault verb this r others cause P h mine rest = elim (chosen (bytes_eq verb this) r others (Err cause) h) [
-  | inl p ↦ subst P (sym (same_text verb this p.0)) (mine p.1)
-  | inr q ↦ rest q.1
-]
+verb_fault verb this r others cause P h mine rest = grind (arith, chosen, same_text)
 
 by_verb : (observers : List ObserverOf) (verb : List ℕ) (words : List (List ℕ)) (cause : ScheduleCode) → AreParts 32 words → order_by observers verb words ≡ Err cause → Blames observers (verb ∷ words) cause
 by_verb observers verb words cause some h =
@@ -427,8 +340,7 @@ by_verb observers verb words cause some h =
 -- whatever a line's words begin with, its fault is its form or a field's
 words_blamed : (observers : List ObserverOf) (words : List (List ℕ)) (cause : ScheduleCode) → AreParts 32 words → order_of_words observers words ≡ Err cause → Blames observers words cause
 unfolding order_of_words
-words_blamed observers [] cause some h = inl (sym (err_is {A = Order} ScheduleCode.Form cause h))
-words_blamed observers (verb ∷ words) cause some h = by_verb observers verb words cause some.1 h
+words_blamed observers words cause some h = grind (arith, err_is, by_verb)
 
 -- so a line that isn't of a wrong form stops at a field
 pub blamed : (observers : List ObserverOf) (line : List ℕ) (cause : ScheduleCode) → order_of observers line ≡ Err cause → (cause ≡ ScheduleCode.Form) ⊎ StopsAtField observers (words_of line) cause

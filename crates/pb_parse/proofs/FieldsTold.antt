@@ -1,7 +1,6 @@
 -- Where the words of a line stop at a field, the line has the field's fault, whatever stands behind.
-use Rattle.std.proofs.Common.{◌≡◌, ℕ, ◌-◌, ◌^◌, ◌<◌, Bool, true, false, List, ◌∷◌, ◌++◌, length, Result, Err, refl, sym, ap, subst, ◌∙◌, arith, inl, inr, nat_lt, codes, decimal, bytes_eq}
-use Rattle.std.specs.Str.Parse.{digits_value}
-use Rattle.std.proofs.lemmas.Bool.{cases_lt, le-leb, lt-leb, lt-ltb, ltb-true}
+use Rattle.std.proofs.Common.{◌≡◌, ℕ, ◌-◌, ◌^◌, ◌<◌, Bool, true, false, List, ◌∷◌, ◌++◌, length, Result, Err, refl, sym, ap, subst, ◌∙◌, arith, nat_lt, codes, decimal, bytes_eq}
+use Rattle.std.proofs.lemmas.Bool.{ltb-true}
 use Rattle.pb_base.specs.declared.limits.TheConstants.{COLUMNS, MAX_CHANGES, MAX_EVENTS, MAX_SEATS}
 use Rattle.pb_base.specs.declared.cell.Cell.{Cell}
 use Rattle.pb_base.specs.declared.names.Row.{Row}
@@ -22,14 +21,7 @@ refused {A} e cause is = ap (λ (c : ScheduleCode). Err c) (sym is)
 
 -- digits out of the range are refused as such
 outside_is : (least greatest : ℕ) (word : List ℕ) (cause : ScheduleCode) → IsOutside least greatest word cause → number_between least greatest word ≡ Err cause
-outside_is least greatest word cause out =
-    elim (cases_lt greatest (digits_value 10 word)) [
-      | inl big ↦ rw (out.numeral, lt-leb (digits_value 10 word) greatest big) (refused {A = ℕ} ScheduleCode.Range cause out.told)
-      | inr small ↦ elim out.outside [
-        | inl low ↦ rw (out.numeral, le-leb (digits_value 10 word) greatest small, lt-ltb (digits_value 10 word) least low) (refused {A = ℕ} ScheduleCode.Range cause out.told)
-        | inr big ↦ absurd (omega (arith, big, small))
-      ]
-    ]
+outside_is least greatest word cause out = grind arith
 
 number_refused : (least greatest : ℕ) (word : List ℕ) (rest : List (List ℕ)) (cause : ScheduleCode) → IsOutside least greatest word cause → next_number least greatest (word ∷ rest) ≡ Err cause
 unfolding next_number

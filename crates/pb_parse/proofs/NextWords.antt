@@ -1,19 +1,16 @@
 -- What the steps of reading a line say of their words.
-use Rattle.std.proofs.Common.{◌≡◌, ◌≢◌, ℕ, zero, suc, ◌+◌, ◌-◌, ◌^◌, ◌<◌, ◌≤◌, Bool, true, false, cond, List, [], ◌∷◌, length, Ok, refl, sym, ap, subst, ◌∙◌, arith, ◌==◌, not, nat_lt, decimal, bytes_eq}
-use Rattle.std.specs.List.{list_all}
+use Rattle.std.proofs.Common.{◌≡◌, ◌≢◌, ℕ, zero, suc, ◌+◌, ◌-◌, ◌^◌, ◌<◌, ◌≤◌, Bool, true, false, cond, List, [], ◌∷◌, length, Ok, refl, subst, arith, not, decimal, bytes_eq}
 use Rattle.std.proofs.lemmas.Bool.{ltb-false, ltb-true, le-ltb, lt-ltb}
 use Rattle.std.proofs.lemmas.Slice.Eq.{bytes_eq-Decides}
 use Rattle.pb_base.specs.declared.names.Row.{Row}
-use Rattle.pb_reading.specs.Reading.{next_word, no_word, numeral_upto}
 use Rattle.pb_verify.specs.Observers.{ObserverOf}
 use Rattle.pb_parse.specs.declared.event.Event.{Event}
 use Rattle.pb_parse.specs.declared.schedule.words.Order.{Order}
-use Rattle.pb_parse.specs.declared.schedule.code.ScheduleCode.{ScheduleCode}
 use Rattle.pb_parse.specs.ScheduleWords.{number_between, next_number, next_row, first_named, observer_named, next_observer, once}
 use Rattle.pb_parse.specs.EventLines.{name_of, IsRow, IsNamed}
 use Rattle.pb_reading.proofs.Parts.{Lacks, AreParts, if_lacks}
 use Rattle.pb_reading.proofs.NumeralValues.{numeral_back, numeral_is}
-use Rattle.pb_reading.proofs.Readings.{ok_is, then_ok, if_ok, else_ok, next_is, none_left}
+use Rattle.pb_reading.proofs.Readings.{ok_is, then_ok, if_ok, else_ok, next_is}
 
 -- words that compare alike are the same word
 pub same_text : (a b : List ℕ) → bytes_eq a b ≡ true → a ≡ b
@@ -22,9 +19,7 @@ same_text a b h = (bytes_eq-Decides a b).0 h
 -- what is asked for once has no word behind it
 pub once_is : (event : Event) (words : List (List ℕ)) (order : Order) → once event words ≡ Ok order → (words ≡ []) × (record { event = event; times = 1 } ≡ order)
 unfolding once
-once_is event words order h =
-    let a = then_ok (no_word ScheduleCode.Form words) _ order h in
-    (none_left ScheduleCode.Form words a.0 a.1, ok_is (record { event = event; times = 1 }) order a.2)
+once_is event words order h = grind arith
 
 -- ---- numbers
 
@@ -36,20 +31,11 @@ pub record IsBetween (least greatest n : ℕ) (word : List ℕ) : Type 0 where
 
 -- a word that is read as a number is its spelling: no other digits, signs or zeros are read
 pub number_is : (least greatest n : ℕ) (word : List ℕ) → greatest < 2 ^ 64 → number_between least greatest word ≡ Ok n → IsBetween least greatest n word
-number_is least greatest n word lt h =
-    let a = then_ok (numeral_upto ScheduleCode.Form ScheduleCode.Range greatest word) _ n h in
-    let b = else_ok (nat_lt a.0 least) (Ok a.0) ScheduleCode.Range n a.2 in
-    let p = numeral_is ScheduleCode.Form ScheduleCode.Range greatest a.0 word lt a.1 in
-    let same : a.0 ≡ n = ok_is {E = ScheduleCode} a.0 n b.1 in
-    let low : least ≤ a.0 = ltb-false _ _ b.0 in
-    let high = p.1 in
-    record { written = p.0 ∙ ap decimal same; low = omega (arith, low, same); high = omega (arith, high, same) }
+number_is least greatest n word lt h = grind (arith, then_ok, else_ok, numeral_is, ok_is, ltb-false)
 
 -- and each number in the range is read from its spelling
 pub number_back : (least greatest n : ℕ) → greatest < 2 ^ 64 → least ≤ n → n ≤ greatest → number_between least greatest (decimal n) ≡ Ok n
-number_back least greatest n lt low high =
-    let f : nat_lt n least ≡ false = le-ltb _ _ low in
-    rw (numeral_back ScheduleCode.Form ScheduleCode.Range greatest n (omega (arith, lt, high)) high, f) refl
+number_back least greatest n lt low high = grind (arith, le-ltb, numeral_back)
 
 -- a word of a number in front of other words
 pub record TakesNumber (least greatest n : ℕ) (words rest : List (List ℕ)) : Type 0 where
@@ -60,12 +46,7 @@ pub record TakesNumber (least greatest n : ℕ) (words rest : List (List ℕ)) :
 -- the next word is read as a number from its spelling alone, and the words after it are left
 pub next_number_is : (least greatest : ℕ) (words : List (List ℕ)) (x : ℕ × List (List ℕ)) → greatest < 2 ^ 64 → next_number least greatest words ≡ Ok x → TakesNumber least greatest x.0 words x.1
 unfolding next_number
-next_number_is least greatest words x lt h =
-    let a = then_ok (next_word ScheduleCode.Form words) _ x h in
-    let b = then_ok (number_between least greatest a.0.0) _ x a.2 in
-    let n = number_is least greatest b.0 a.0.0 lt b.1 in
-    subst (λ (y : ℕ × List (List ℕ)). TakesNumber least greatest y.0 words y.1) (ok_is (b.0, a.0.1) x b.2)
-    (record { written = next_is ScheduleCode.Form words a.0 a.1 ∙ ap (λ (w : List ℕ). w ∷ a.0.1) n.written; low = n.low; high = n.high })
+next_number_is least greatest words x lt h = grind (arith, then_ok, number_is, ok_is, next_is)
 
 pub next_number_back : (least greatest n : ℕ) (rest : List (List ℕ)) → greatest < 2 ^ 64 → least ≤ n → n ≤ greatest → next_number least greatest (decimal n ∷ rest) ≡ Ok (n, rest)
 unfolding next_number
@@ -77,8 +58,7 @@ unfolding next_row
 next_row_is words x h =
     let a = then_ok (next_number 0 (2 ^ 64 - 1) words) _ x h in
     let n = next_number_is 0 (2 ^ 64 - 1) words a.0 (omega arith) a.1 in
-    let high = n.high in
-    subst (λ (y : Row × List (List ℕ)). (words ≡ decimal y.0.0 ∷ y.1) × IsRow y.0) (ok_is (record { 0 = a.0.0 }, a.0.1) x a.2) (n.written, omega (arith, high))
+    subst (λ (y : Row × List (List ℕ)). (words ≡ decimal y.0.0 ∷ y.1) × IsRow y.0) (ok_is (record { 0 = a.0.0 }, a.0.1) x a.2) (n.written, omega arith)
 
 -- and each row is read from it
 pub next_row_back : (row : Row) (rest : List (List ℕ)) → IsRow row → next_row (decimal row.0 ∷ rest) ≡ Ok (row, rest)
@@ -96,16 +76,11 @@ differs : (a b : List ℕ) → bytes_eq a b ≡ false → a ≢ b
 differs a b h is = let t : bytes_eq a b ≡ true = (bytes_eq-Decides a b).1 is in absurd cc
 
 not_before : (x : ObserverOf) (xs : List ObserverOf) (name : List ℕ) (o : ℕ) → x.name ≢ name → ((before : ℕ) → before < o → name_of xs before ≢ name) → (before : ℕ) → before < suc o → name_of (x ∷ xs) before ≢ name
-not_before x xs name o apart later zero lt = apart
-not_before x xs name o apart later (suc k) lt = later k (omega (arith, lt))
+not_before x xs name o apart later before lt = grind arith
 
 -- a list's first observer of a name is its head, or the first among the others
 named_from : (x : ObserverOf) (xs : List ObserverOf) (name : List ℕ) (b : Bool) → bytes_eq x.name name ≡ b → (first_named xs name < length xs → IsFirstNamed xs name (first_named xs name)) → cond (not b) (1 + first_named xs name) 0 < length (x ∷ xs) → IsFirstNamed (x ∷ xs) name (cond (not b) (1 + first_named xs name) 0)
-named_from x xs name true is others lt = record { same = same_text x.name name is; first = λ k less. absurd (omega (arith, less)) }
-named_from x xs name false is others lt =
-    let f = others (omega (arith, lt)) in
-    let next : 1 + first_named xs name ≡ suc (first_named xs name) = omega arith in
-    subst (IsFirstNamed (x ∷ xs) name) (sym next) (record { same = f.same; first = not_before x xs name (first_named xs name) (differs x.name name is) f.first })
+named_from x xs name b is others lt = grind (arith, same_text, not_before, differs)
 
 -- the place that is found is of the first observer of the name
 pub first_is : (observers : List ObserverOf) (name : List ℕ) → first_named observers name < length observers → IsFirstNamed observers name (first_named observers name)
@@ -116,8 +91,7 @@ equal_text : (a b : List ℕ) → a ≡ b → bytes_eq a b ≡ true
 equal_text a b h = (bytes_eq-Decides a b).1 h
 
 other_text : (b : Bool) (x y : List ℕ) → bytes_eq x y ≡ b → x ≢ y → bytes_eq x y ≡ false
-other_text true x y is apart = absurd (apart (same_text x y is))
-other_text false x y is apart = is
+other_text b x y is apart = grind (arith, same_text)
 
 -- and the first of the name is the place that is found
 pub first_back : (observers : List ObserverOf) (name : List ℕ) (o : ℕ) → o < length observers → IsFirstNamed observers name o → first_named observers name ≡ o
@@ -131,9 +105,7 @@ first_back (x ∷ xs) name (suc o) lt f =
 
 -- where an observer has the name, some place has it first
 place_there : (xs : List ObserverOf) (x : ObserverOf) (name : List ℕ) (o : ℕ) (b : Bool) → bytes_eq x.name name ≡ b → ((k : ℕ) → k < length xs → name_of xs k ≡ name → first_named xs name < length xs) → o < length (x ∷ xs) → name_of (x ∷ xs) o ≡ name → cond (not b) (1 + first_named xs name) 0 < length (x ∷ xs)
-place_there xs x name o true e others lt is = omega arith
-place_there xs x name zero false e others lt is = absurd (differs x.name name e is)
-place_there xs x name (suc k) false e others lt is = let f = others k (omega (arith, lt)) is in omega (arith, f)
+place_there xs x name o b e others lt is = grind (arith, differs)
 
 -- where any observer has the name, a place is found
 pub some_named : (observers : List ObserverOf) (name : List ℕ) (o : ℕ) → o < length observers → name_of observers o ≡ name → first_named observers name < length observers
@@ -142,19 +114,11 @@ some_named (x ∷ xs) name o lt is = place_there xs x name o (bytes_eq x.name na
 
 -- a name that is read is the observer's own, and a name without blanks names it in a line
 pub named_is : (observers : List ObserverOf) (name : List ℕ) (o : ℕ) → observer_named observers name ≡ Ok o → (name_of observers o ≡ name) × (Lacks 32 name → IsNamed observers o)
-named_is observers name o h =
-    let p = if_ok (nat_lt (first_named observers name) (length observers)) (Ok (first_named observers name)) ScheduleCode.NoObserver o h in
-    let lt : first_named observers name < length observers = ltb-true _ _ p.0 in
-    let f = first_is observers name lt in
-    subst (λ (k : ℕ). (name_of observers k ≡ name) × (Lacks 32 name → IsNamed observers k)) (ok_is (first_named observers name) o p.1)
-    (f.same, λ word. record { there = lt; first = λ k less is. f.first k less (is ∙ f.same); word = ap (list_all (λ b. not (b == 32))) f.same ∙ if_lacks 32 name word })
+named_is observers name o h = grind (arith, if_ok, ltb-true, first_is, ok_is, if_lacks)
 
 -- an observer that is the first of its name is read from it
 pub named_back : (observers : List ObserverOf) (o : ℕ) → IsNamed observers o → observer_named observers (name_of observers o) ≡ Ok o
-named_back observers o n =
-    let e : first_named observers (name_of observers o) ≡ o = first_back observers (name_of observers o) o n.there (record { same = refl; first = n.first }) in
-    let t : nat_lt o (length observers) ≡ true = lt-ltb _ _ n.there in
-    rw (e, t) refl
+named_back observers o n = grind (arith, first_back, lt-ltb, n.there, n.first)
 
 -- a word that names an observer in front of other words
 pub record TakesName (observers : List ObserverOf) (o : ℕ) (words rest : List (List ℕ)) : Type 0 where
@@ -164,14 +128,7 @@ pub record TakesName (observers : List ObserverOf) (o : ℕ) (words rest : List 
 -- the next word is read as a name that a line can have, since a line's words have no blank
 pub next_observer_is : (observers : List ObserverOf) (words : List (List ℕ)) (x : ℕ × List (List ℕ)) → AreParts 32 words → next_observer observers words ≡ Ok x → TakesName observers x.0 words x.1
 unfolding next_observer
-next_observer_is observers words x some h =
-    let a = then_ok (next_word ScheduleCode.Form words) _ x h in
-    let b = then_ok (observer_named observers a.0.0) _ x a.2 in
-    let n = named_is observers a.0.0 b.0 b.1 in
-    let cut = next_is ScheduleCode.Form words a.0 a.1 in
-    let parts = subst (AreParts 32) cut some in
-    subst (λ (y : ℕ × List (List ℕ)). TakesName observers y.0 words y.1) (ok_is (b.0, a.0.1) x b.2)
-    (record { written = cut ∙ ap (λ (w : List ℕ). w ∷ a.0.1) (sym n.0); named = n.1 parts.0 })
+next_observer_is observers words x some h = grind (arith, then_ok, named_is, next_is, ok_is)
 
 pub next_observer_back : (observers : List ObserverOf) (o : ℕ) (rest : List (List ℕ)) → IsNamed observers o → next_observer observers (name_of observers o ∷ rest) ≡ Ok (o, rest)
 unfolding next_observer

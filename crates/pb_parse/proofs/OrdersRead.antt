@@ -31,8 +31,7 @@ run_back observers o row rest named fits = rw (next_observer_back observers o (d
 -- each job is read from its words
 job_back : (observers : List ObserverOf) (job : Job) → FitsJob observers job → next_job observers (job_words observers job) ≡ Ok (job, [])
 unfolding next_job
-job_back observers (Job.Change number) fits = change_back number [] fits.0 fits.1
-job_back observers (Job.Run o row) fits = run_back observers o row [] fits.0 fits.1
+job_back observers job fits = grind (arith, change_back, run_back)
 
 -- each data cell is read from its words
 data_back : (row : Row) (column : ℕ) (rest : List (List ℕ)) → IsRow row → column < COLUMNS → next_data_cell (decimal row.0 ∷ decimal column ∷ rest) ≡ Ok (Cell.Data row column, rest)
@@ -82,12 +81,7 @@ sweep_back observers (Cell.Ack o row column) data_cell fits = absurd data_cell
 -- each event that may stand in a line is read from its words, once
 event_back : (observers : List ObserverOf) (e : Event) → FitsEvent observers e → order_of_words observers (event_words observers e) ≡ Ok (record { event = e; times = 1 })
 unfolding order_of_words
-event_back observers (Event.Launch actor job) fits = launch_back observers actor job fits.0 fits.1
-event_back observers (Event.Step actor) fits = step_back actor fits
-event_back observers (Event.Crash actor) fits = crash_back actor fits
-event_back observers (Event.Settle x) fits = once_on_back Event.Settle _ x (cell_back observers x fits)
-event_back observers (Event.Clear x) fits = once_on_back Event.Clear _ x (cell_back observers x fits)
-event_back observers (Event.Sweep x) fits = sweep_back observers x fits.0 fits.1
+event_back observers e fits = grind (arith, launch_back, step_back, crash_back, once_on_back, cell_back, sweep_back)
 
 -- and a step as often as the last word says
 steps_back : (observers : List ObserverOf) (actor n : ℕ) → IsActor actor → 1 ≤ n → n ≤ MAX_EVENTS → order_of_words observers (codes "step" ∷ decimal actor ∷ decimal n ∷ []) ≡ Ok (record { event = Event.Step actor; times = n })
@@ -121,8 +115,7 @@ event_cut observers (Event.Clear x) fits = joined_parts 32 (codes "clear") (cell
 event_cut observers (Event.Sweep x) fits = joined_parts 32 (codes "sweep") (cell_words observers x) (lacks_if 32 (codes "sweep") refl) (cell_are observers x fits.1)
 
 once_line : (observers : List ObserverOf) (e : Event) (n : ℕ) (line : List ℕ) (words : List (List ℕ)) → FitsEvent observers e → n ≡ 1 → words ≡ event_words observers e → line ≡ join_with_byte 32 words → order_of observers line ≡ Ok (record { event = e; times = n })
-once_line observers e n line words fits one are is =
-    ap (order_of observers) (is ∙ ap (join_with_byte 32) are) ∙ ap (order_of_words observers) (event_cut observers e fits) ∙ event_back observers e fits ∙ ap (λ (k : ℕ). Ok (record { event = e; times = k })) (sym one)
+once_line observers e n line words fits one are is = grind (arith, event_cut, event_back)
 
 steps_line : (observers : List ObserverOf) (e : Event) (n : ℕ) (line : List ℕ) (words : List (List ℕ)) → FitsEvent observers e → IsStep e → 1 ≤ n → n ≤ MAX_EVENTS → words ≡ event_words observers e ++ decimal n ∷ [] → line ≡ join_with_byte 32 words → order_of observers line ≡ Ok (record { event = e; times = n })
 steps_line observers (Event.Step actor) n line words fits step low high are is =

@@ -4,14 +4,14 @@ use Rattle.std.proofs.lemmas.List.{append-nil}
 use Rattle.std.proofs.lemmas.List.Splits.{join_with_byte-slice_split}
 use Rattle.pb_base.specs.declared.limits.TheConstants.{COLUMNS, MAX_CHANGES, MAX_EVENTS, MAX_SEATS}
 use Rattle.pb_base.specs.declared.cell.Cell.{Cell}
-use Rattle.pb_reading.specs.Reading.{next_word, no_word, words_of}
-use Rattle.pb_verify.specs.Observers.{ObserverOf, acknowledgment}
+use Rattle.pb_reading.specs.Reading.{next_word, words_of}
+use Rattle.pb_verify.specs.Observers.{ObserverOf}
 use Rattle.pb_parse.specs.declared.event.Job.{Job}
 use Rattle.pb_parse.specs.declared.event.Event.{Event}
 use Rattle.pb_parse.specs.declared.schedule.words.Order.{Order}
 use Rattle.pb_parse.specs.declared.schedule.code.ScheduleCode.{ScheduleCode}
-use Rattle.pb_parse.specs.ScheduleWords.{number_between, next_number, next_actor, next_row, next_observer, next_change, next_run, next_job, once, launch_of, times_of, step_of, crash_of, next_data_cell, next_acknowledgment, next_cell, once_on, order_by, order_of_words, order_of}
-use Rattle.pb_parse.specs.EventLines.{name_of, cell_words, job_words, event_words, IsActor, FitsJob, FitsCell, IsRowCell, FitsEvent, AreWordsOf, IsLineOf}
+use Rattle.pb_parse.specs.ScheduleWords.{next_number, next_actor, next_row, next_observer, next_change, next_run, next_job, once, launch_of, times_of, step_of, crash_of, next_data_cell, next_acknowledgment, next_cell, once_on, order_by, order_of_words, order_of}
+use Rattle.pb_parse.specs.EventLines.{cell_words, job_words, event_words, IsActor, FitsJob, FitsCell, IsRowCell, FitsEvent, AreWordsOf, IsLineOf}
 use Rattle.pb_reading.proofs.Parts.{AreParts, parts_are}
 use Rattle.pb_reading.proofs.Readings.{then_ok, ok_is, next_is, none_left}
 use Rattle.pb_parse.proofs.NextWords.{same_text, once_is, number_is, next_number_is, next_row_is, next_observer_is}
@@ -26,8 +26,7 @@ pub record TakesActor (actor : ℕ) (words rest : List (List ℕ)) : Type 0 wher
 pub actor_is : (words : List (List ℕ)) (x : ℕ × List (List ℕ)) → next_actor words ≡ Ok x → TakesActor x.0 words x.1
 actor_is words x h =
     let n = next_number_is 1 (MAX_SEATS - 1) words x (omega arith) h in
-    let low = n.low in let high = n.high in
-    record { written = n.written; fits = (omega (arith, low), omega (arith, high)) }
+    let low = n.low in record { written = n.written; fits = (omega (arith, low), omega arith) }
 
 -- ---- jobs
 
@@ -42,8 +41,7 @@ unfolding next_change
 change_is observers words x h =
     let a = then_ok (next_number 1 MAX_CHANGES words) _ x h in
     let n = next_number_is 1 MAX_CHANGES words a.0 (omega arith) a.1 in
-    subst (λ (y : Job × List (List ℕ)). TakesJob observers y.0 (codes "change" ∷ words) y.1) (ok_is (Job.Change a.0.0, a.0.1) x a.2)
-    (record { written = ap (λ (ws : List (List ℕ)). codes "change" ∷ ws) n.written; fits = (n.low, n.high) })
+    grind (arith, ok_is)
 
 -- a run is read from its words alone
 run_is : (observers : List ObserverOf) (words : List (List ℕ)) (x : Job × List (List ℕ)) → AreParts 32 words → next_run observers words ≡ Ok x → TakesJob observers x.0 (codes "run" ∷ words) x.1
@@ -53,8 +51,7 @@ run_is observers words x some h =
     let n = next_observer_is observers words a.0 some a.1 in
     let b = then_ok (next_row a.0.1) _ x a.2 in
     let r = next_row_is a.0.1 b.0 b.1 in
-    subst (λ (y : Job × List (List ℕ)). TakesJob observers y.0 (codes "run" ∷ words) y.1) (ok_is (Job.Run a.0.0 b.0.0, b.0.1) x b.2)
-    (record { written = ap (λ (ws : List (List ℕ)). codes "run" ∷ ws) (n.written ∙ ap (λ (ws : List (List ℕ)). name_of observers a.0.0 ∷ ws) r.0); fits = (n.named, r.1) })
+    grind (arith, ok_is)
 
 -- the word in front is this one
 in_front : (P : List (List ℕ) → Type 0) (words : List (List ℕ)) (x : List ℕ × List (List ℕ)) (word : List ℕ) → words ≡ x.0 ∷ x.1 → bytes_eq x.0 word ≡ true → P (word ∷ x.1) → P words
@@ -104,8 +101,7 @@ acknowledgment_is observers words x some h =
     let n = next_observer_is observers words a.0 some a.1 in
     let b = then_ok (next_row a.0.1) _ x a.2 in
     let r = next_row_is a.0.1 b.0 b.1 in
-    subst (λ (y : Cell × List (List ℕ)). TakesCell observers y.0 (codes "ack" ∷ words) y.1) (ok_is (acknowledgment observers a.0.0 b.0.0, b.0.1) x b.2)
-    (record { written = ap (λ (ws : List (List ℕ)). codes "ack" ∷ ws) (n.written ∙ ap (λ (ws : List (List ℕ)). name_of observers a.0.0 ∷ ws) r.0); fits = (n.named, r.1, refl) })
+    grind (arith, ok_is)
 
 -- a cell is read from its words alone, whichever of two forms it has
 cell_is : (observers : List ObserverOf) (words : List (List ℕ)) (x : Cell × List (List ℕ)) → AreParts 32 words → next_cell observers words ≡ Ok x → TakesCell observers x.0 words x.1
@@ -124,10 +120,7 @@ record IsWritten (observers : List ObserverOf) (order : Order) (words : List (Li
 
 -- the words of an event that is asked for once, and none behind them
 once_written : (observers : List ObserverOf) (event : Event) (words rest : List (List ℕ)) (order : Order) → once event rest ≡ Ok order → words ≡ event_words observers event ++ rest → FitsEvent observers event → IsWritten observers order words
-once_written observers event words rest order h is fits =
-    let o = once_is event rest order h in
-    subst (λ (other : Order). IsWritten observers other words) o.1
-    (record { written = inl (refl, is ∙ ap (λ (ws : List (List ℕ)). event_words observers event ++ ws) o.0 ∙ append-nil (event_words observers event)); fits = fits })
+once_written observers event words rest order h is fits = grind (arith, once_is, append-nil)
 
 launch_is : (observers : List ObserverOf) (words : List (List ℕ)) (order : Order) → AreParts 32 words → launch_of observers words ≡ Ok order → IsWritten observers order (codes "launch" ∷ words)
 unfolding launch_of
@@ -143,28 +136,14 @@ launch_is observers words order some h =
 -- how often is said by no word, or by the spelling of a number
 times_is : (words : List (List ℕ)) (n : ℕ) → times_of words ≡ Ok n → ((n ≡ 1) × (words ≡ [])) ⊎ ((1 ≤ n) × (n ≤ MAX_EVENTS) × (words ≡ decimal n ∷ []))
 unfolding times_of
-times_is [] n h = inl (sym (ok_is 1 n h), refl)
-times_is (word ∷ words) n h =
-    let a = then_ok (number_between 1 MAX_EVENTS word) _ n h in
-    let b = then_ok (no_word ScheduleCode.Form words) _ n a.2 in
-    let same : a.0 ≡ n = ok_is a.0 n b.2 in
-    let k = number_is 1 MAX_EVENTS a.0 word (omega arith) a.1 in
-    let low = k.low in let high = k.high in
-    inr (omega (arith, low, same), omega (arith, high, same), ap (λ (ws : List (List ℕ)). word ∷ ws) (none_left ScheduleCode.Form words b.0 b.1) ∙ ap (λ (w : List ℕ). w ∷ []) (k.written ∙ ap decimal same))
+times_is words n h = grind (arith, ok_is, then_ok, number_is, none_left)
 
 step_is : (observers : List ObserverOf) (words : List (List ℕ)) (order : Order) → step_of words ≡ Ok order → IsWritten observers order (codes "step" ∷ words)
 unfolding step_of
 step_is observers words order h =
     let a = then_ok (next_actor words) _ order h in
     let n = actor_is words a.0 a.1 in
-    let b = then_ok (times_of a.0.1) _ order a.2 in
-    let front = λ (ws : List (List ℕ)). codes "step" ∷ decimal a.0.0 ∷ ws in
-    let start : codes "step" ∷ words ≡ codes "step" ∷ decimal a.0.0 ∷ a.0.1 = ap (λ (ws : List (List ℕ)). codes "step" ∷ ws) n.written in
-    subst (λ (other : Order). IsWritten observers other (codes "step" ∷ words)) (ok_is (record { event = Event.Step a.0.0; times = b.0 }) order b.2)
-    (elim (times_is a.0.1 b.0 b.1) [
-      | inl one ↦ record { written = inl (one.0, start ∙ ap front one.1); fits = n.fits }
-      | inr some ↦ record { written = inr (tt, some.0, some.1, start ∙ ap front some.2); fits = n.fits }
-    ])
+    grind (arith, ok_is, times_is)
 
 crash_is : (observers : List ObserverOf) (words : List (List ℕ)) (order : Order) → crash_of words ≡ Ok order → IsWritten observers order (codes "crash" ∷ words)
 unfolding crash_of
@@ -196,10 +175,7 @@ sweep_is observers words order h =
 
 -- one verb: where the word is it, what stands behind says the order, and else the other verbs do
 verb_is : (verb : List ℕ) (this : List ℕ) (r others : Result Order ScheduleCode) (order : Order) (P : List ℕ → Type 0) → cond (bytes_eq verb this) r others ≡ Ok order → (r ≡ Ok order → P this) → (others ≡ Ok order → P verb) → P verb
-verb_is verb this r others order P h mine rest = elim (chosen (bytes_eq verb this) r others (Ok order) h) [
-  | inl p ↦ subst P (sym (same_text verb this p.0)) (mine p.1)
-  | inr q ↦ rest q.1
-]
+verb_is verb this r others order P h mine rest = grind (arith, chosen, same_text)
 
 -- an order is read from its words alone, whichever verb they begin with
 by_verb : (observers : List ObserverOf) (verb : List ℕ) (words : List (List ℕ)) (order : Order) → AreParts 32 words → order_by observers verb words ≡ Ok order → IsWritten observers order (verb ∷ words)

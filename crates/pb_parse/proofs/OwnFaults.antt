@@ -1,5 +1,5 @@
 -- An operation's own faults are its form, its row or column out of range, and its HEX.
-use Rattle.std.proofs.Common.{◌≡◌, ℕ, List, Result, Ok, Err, subst, ◌==◌, ◌||◌, codes, nat_lt, length, bytes_eq}
+use Rattle.std.proofs.Common.{arith, ◌≡◌, ℕ, List, Result, Err, subst, ◌==◌, ◌||◌, nat_lt, length}
 use Rattle.std.specs.Char.{is_ascii_uppercase}
 use Rattle.std.specs.List.{list_any}
 use Rattle.hex.specs.Hex.{decode_of}
@@ -26,8 +26,7 @@ number : (greatest : ℕ) (word : List ℕ) → FaultIsOwn (number_upto greatest
 number greatest word = numeral_fails IsOwn ScriptCode.Form ScriptCode.Range greatest word tt tt
 
 pads : {E : Type 0} (r : Result (List ℕ) E) → FaultIsOwn (padded r)
-pads (Ok bytes) = tt
-pads (Err e) = tt
+pads r = grind arith
 
 -- a value is refused by 72 alone
 content : (word : List ℕ) → FaultIsOwn (content_of word)
@@ -47,9 +46,7 @@ del words = then_fails IsOwn (cell_at words) _ (cell words) (λ a. then_fails Is
 
 write : (words : List (List ℕ)) → FaultIsOwn (write_of words)
 unfolding write_of
-write words =
-    then_fails IsOwn (next_word ScriptCode.Form words) _ (next_fails IsOwn ScriptCode.Form words tt) (λ a.
-    if_fails IsOwn (bytes_eq a.0 (codes "put")) (put_of a.1) _ (put a.1) (if_fails IsOwn (bytes_eq a.0 (codes "del")) (del_of a.1) (Err ScriptCode.Form) (del a.1) tt))
+write words = grind (arith, then_fails, next_fails, if_fails, put, del)
 
 -- so an operation has no fault that depends on those before it
 pub own_fault : (text : List ℕ) (cause : ScriptCode) → operation text ≡ Err cause → IsOwn cause

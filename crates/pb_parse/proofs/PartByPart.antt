@@ -1,5 +1,5 @@
 -- A line read part by part, each with what its operations wrote so far.
-use Rattle.std.proofs.Common.{◌≡◌, ℕ, ◌+◌, ◌≤◌, List, [], ◌∷◌, length, Result, Ok, Err, refl, sym, ap, ◌∙◌}
+use Rattle.std.proofs.Common.{arith, ◌≡◌, ℕ, ◌+◌, ◌≤◌, List, [], ◌∷◌, length, Result, Ok, Err, refl, sym, ap, ◌∙◌}
 use Rattle.std.specs.Str.Pattern.{LacksTextAt, FindsText, SplitsAroundMatch}
 use Rattle.pb_base.specs.Batch.{Writes}
 use Rattle.pb_reading.specs.Reading.{◌>>=◌, in_turn}
@@ -10,8 +10,7 @@ use Rattle.pb_parse.specs.ScriptLines.{cut, with_operation}
 use Rattle.pb_parse.proofs.Cuts.{joint, cut_none, cut_some}
 
 same_then : {S E : Type 0} (f g : S → Result S E) (r : Result S E) → ((t : S) → f t ≡ g t) → (r >>= f) ≡ (r >>= g)
-same_then f g (Ok t) h = h t
-same_then f g (Err e) h = refl
+same_then f g r h = grind arith
 
 -- steps that don't look at their number
 any_number : {S A E : Type 0} (step : S → A → Result S E) (n m : ℕ) (s : S) (xs : List A) → in_turn (λ _. step) n s xs ≡ in_turn (λ _. step) m s xs
@@ -41,8 +40,7 @@ stops w rest first after total (LineFault.Code code) split ends before = sym bef
 -- ---- the last part
 
 same_end : (r : Result Writes ScriptCode) → (r >>= λ t. Ok t) ≡ r
-same_end (Ok t) = refl
-same_end (Err e) = refl
+same_end r = grind arith
 
 -- where no joint is left, what is left is one operation, and ends the line
 pub last_part : (w : Writes) (rest : List ℕ) (total : Result Writes ScriptCode) → ((i : ℕ) → i ≤ length rest → LacksTextAt joint rest i) → from_here w rest ≡ total → total ≡ with_operation w rest

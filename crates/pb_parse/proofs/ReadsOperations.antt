@@ -21,10 +21,7 @@ use Rattle.pb_base.proofs.Logic.{chosen}
 
 -- where a cell isn't among the writes, it is none of their cells
 apart : (vs ws : Writes) (w : Cell × Content) (x : Cell) → content_in (vs ++ w ∷ ws) x ≡ None → eq_by_cmp cell_cmp x w.0 ≡ false
-apart [] ws w x n = elim (chosen (eq_by_cmp cell_cmp x w.0) (Some w.1) (content_in ws x) None n) [
-  | inl here ↦ let no = here.1 in absurd cc
-  | inr there ↦ there.0
-]
+apart [] ws w x n = grind arith
 apart (v ∷ vs) ws w x n = elim (chosen (eq_by_cmp cell_cmp x v.0) (Some v.1) (content_in (vs ++ w ∷ ws) x) None n) [
   | inl here ↦ let no = here.1 in absurd cc
   | inr there ↦ apart vs ws w x there.1

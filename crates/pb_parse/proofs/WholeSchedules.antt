@@ -1,5 +1,5 @@
 -- A text is read as events exactly where its lines ask for them.
-use Rattle.std.proofs.Common.{◌≡◌, ℕ, ◌+◌, ◌≤◌, ◌↔◌, true, false, List, [], ◌++◌, length, Result, Ok, refl, sym, ap, subst, ◌∙◌, arith, length-append, nat_lt, replicate}
+use Rattle.std.proofs.Common.{◌≡◌, ℕ, ◌+◌, ◌≤◌, ◌↔◌, true, false, List, [], ◌++◌, length, Ok, refl, sym, ap, subst, ◌∙◌, arith, length-append, replicate}
 use Rattle.std.proofs.lemmas.Bool.{ltb-false, le-ltb}
 use Rattle.std.proofs.Math.ListN.{length-replicate}
 use Rattle.pb_base.specs.declared.limits.TheConstants.{MAX_EVENTS}
@@ -9,7 +9,6 @@ use Rattle.pb_reading.proofs.Readings.{then_ok, ok_is, else_ok}
 use Rattle.pb_verify.specs.Observers.{ObserverOf}
 use Rattle.pb_parse.specs.declared.event.Event.{Event}
 use Rattle.pb_parse.specs.declared.schedule.words.Order.{Order}
-use Rattle.pb_parse.specs.declared.schedule.code.ScheduleCode.{ScheduleCode}
 use Rattle.pb_parse.specs.ScheduleCodes.{schedule_code}
 use Rattle.pb_parse.specs.ScheduleWords.{order_of}
 use Rattle.pb_parse.specs.Schedules.{with_order, with_event_line, schedule_of}
@@ -40,21 +39,14 @@ length_asked order = length-replicate order.times order.event
 
 -- a line that is read adds its order's events, and goes not past
 take_line : (observers : List ObserverOf) (before after : List Event) (l : List ℕ) → is_skipped l ≡ false → with_event_line observers before l ≡ Ok after → Adds (order_of observers) asked Room before after l
-take_line observers before after l is h =
-    let a = then_ok (order_of observers l) (with_order before) after (sym (shown_line observers before l is) ∙ h) in
-    let p = else_ok (nat_lt MAX_EVENTS (length before + a.0.times)) (Ok (before ++ asked a.0)) ScheduleCode.TooMany after a.2 in
-    let whole = ok_is {E = ScheduleCode} (before ++ asked a.0) after p.1 in
-    let few : Room (before ++ asked a.0) = let m = ltb-false _ _ p.0 in let s = length_asked a.0 in simp length-append (omega (arith, m, s)) in
-    record { thing = a.0; says = a.1; whole = whole; room = subst Room whole few }
+take_line observers before after l is h = grind (arith, then_ok, shown_line, else_ok, ok_is, ltb-false, length_asked, length-append)
 
 -- an order that fits is added whole
 added : (before : List Event) (order : Order) → length before + order.times ≤ MAX_EVENTS → with_order before order ≡ Ok (before ++ asked order)
 added before order most = rw (le-ltb MAX_EVENTS (length before + order.times) most) refl
 
 add_line : (observers : List ObserverOf) (before : List Event) (l : List ℕ) (order : Order) → is_skipped l ≡ false → order_of observers l ≡ Ok order → Room (before ++ asked order) → with_event_line observers before l ≡ Ok (before ++ asked order)
-add_line observers before l order is says room =
-    let most : length before + order.times ≤ MAX_EVENTS = let s = length_asked order in let b = length-append before (asked order) in omega (arith, s, b, room) in
-    shown_line observers before l is ∙ ap (λ (r : Result Order ScheduleCode). r >>= with_order before) says ∙ added before order most
+add_line observers before l order is says room = grind (arith, length_asked, length-append, shown_line, added, order.times)
 
 fewer : (before more : List Event) → Room (before ++ more) → Room before
 fewer before more room = let b = length-append before more in omega (arith, b, room)

@@ -41,10 +41,7 @@ take_line before after l is h =
     record { thing = a.0; says = a.1; whole = whole; room = subst Room whole few }
 
 add_line : (before : Batches) (l : List ℕ) (batch : Writes) → is_skipped l ≡ false → batch_of l ≡ Ok batch → Room (before ++ batch ∷ []) → with_line before l ≡ Ok (before ++ batch ∷ [])
-add_line before l batch is says few =
-    let room : length before < MAX_CHANGES = let k = simp length-append at few in omega arith in
-    let e : nat_le MAX_CHANGES (length before) ≡ false = lt-leb MAX_CHANGES (length before) room in
-    shown_line before l is ∙ rw (says, e) refl
+add_line before l batch is says few = grind (arith, length-append, lt-leb, shown_line)
 
 fewer : (before more : Batches) → Room (before ++ more) → Room before
 fewer before more room = let b = length-append before more in omega (arith, b, room)

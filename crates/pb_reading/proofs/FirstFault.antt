@@ -1,8 +1,7 @@
 -- The fault of things taken in turn is that of the first at fault, and so is that of the lines of a text.
-use Rattle.std.proofs.Common.{◌≡◌, ℕ, ◌+◌, List, [], ◌∷◌, ◌++◌, length, Result, Ok, Err, refl, sym, ap, ◌∙◌, arith}
+use Rattle.std.proofs.Common.{◌≡◌, ℕ, ◌+◌, List, [], ◌∷◌, ◌++◌, length, Result, Ok, Err, refl, ap, ◌∙◌, arith}
 use Rattle.pb_reading.specs.Reading.{◌>>=◌, in_turn, lines_of, numbered}
 use Rattle.pb_reading.specs.Faults.{in_lines, StopsAt}
-use Rattle.pb_reading.proofs.Readings.{err_is}
 
 -- the things in front are read, as before, and the next is at fault after them
 pub record IsFirst {S A E : Type 0} (step : ℕ → S → A → Result S E) (n : ℕ) (s : S) (xs : List A) (e : E) : Type 0 where
@@ -33,9 +32,7 @@ first_fault step n s (x ∷ xs) e h = onward step n s x xs e (step n s x) (λ t.
 -- a fault that was numbered is of the line after those before it, with the number of its code
 numbered_err : {A C : Type 0} (code : C → ℕ) (n line told : ℕ) (r : Result A C) → numbered code n r ≡ Err (line, told) → (cause : C) × (r ≡ Err cause) × (line ≡ n + 1) × (told ≡ code cause)
 numbered_err code n line told (Ok x) h = absurd cc
-numbered_err {A} code n line told (Err c) h =
-    let e = err_is {A = A} (n + 1, code c) (line, told) h in
-    (c, refl, sym (ap (λ (p : ℕ × ℕ). p.0) e), sym (ap (λ (p : ℕ × ℕ). p.1) e))
+numbered_err {A} code n line told (Err c) h = grind arith
 
 -- a text that isn't read stops at its first line at fault
 pub stops_at : {S C : Type 0} (code : C → ℕ) (with_line : S → List ℕ → Result S C) (start : S) (text : List ℕ) (line told : ℕ) → in_lines code with_line 0 start (lines_of text) ≡ Err (line, told) → StopsAt code with_line start text line told

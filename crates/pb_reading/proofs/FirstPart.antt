@@ -1,5 +1,5 @@
 -- The first part of a text that is cut at each byte of a kind, and the parts behind it.
-use Rattle.std.proofs.Common.{◌≡◌, ℕ, suc, ◌+◌, ◌<◌, ◌≤◌, Bool, true, false, cond, not, List, [], ◌∷◌, length, Option, Some, None, Err, refl, ap, arith, ◌==◌, is_some}
+use Rattle.std.proofs.Common.{◌≡◌, ℕ, suc, ◌+◌, ◌<◌, ◌≤◌, Bool, true, cond, not, List, [], ◌∷◌, length, Option, Err, refl, arith, ◌==◌, is_some}
 use Rattle.std.specs.List.{onto_first, slice_split, position_or_len, before_first, after_first}
 use Rattle.std.proofs.lemmas.List.Splits.{length-slice_split, slice_split_first}
 use Rattle.std.proofs.lemmas.List.Sums.{count_by-le-length}
@@ -14,8 +14,7 @@ module _ (byte : ℕ) where
 
   one_part_by : (x : ℕ) (xs : List ℕ) (b : Bool) → (position_or_len (λ b. b == byte) xs ≡ length xs → slice_split (λ b. b == byte) xs ≡ xs ∷ []) → cond (not b) (1 + position_or_len (λ b. b == byte) xs) 0 ≡ suc (length xs)
       → cond b ([] ∷ slice_split (λ b. b == byte) xs) (onto_first x (slice_split (λ b. b == byte) xs)) ≡ (x ∷ xs) ∷ []
-  one_part_by x xs true shorter h = absurd (omega (arith, h))
-  one_part_by x xs false shorter h = ap (onto_first x) (shorter (omega (arith, h)))
+  one_part_by x xs b shorter h = grind arith
 
   -- a text without one is one part, also an empty text
   pub one_part : (text : List ℕ) → position_or_len (λ b. b == byte) text ≡ length text → slice_split (λ b. b == byte) text ≡ text ∷ []
@@ -28,14 +27,8 @@ few_lines text = omega (arith, length-slice_split (λ b. b == 10) text, count_by
 
 -- ---- no word is left
 
--- parts that a byte was put in front of are some
-onto_some : {E : Type 0} (form : E) (x : ℕ) (parts : List (List ℕ)) → no_word form (onto_first x parts) ≡ Err form
-onto_some form x [] = refl
-onto_some form x (p ∷ ps) = refl
-
 has_word_by : {E : Type 0} (form : E) (x : ℕ) (xs : List ℕ) (b : Bool) → no_word form (cond b ([] ∷ words_of xs) (onto_first x (words_of xs))) ≡ Err form
-has_word_by form x xs true = refl
-has_word_by form x xs false = onto_some form x (words_of xs)
+has_word_by form x xs b = grind arith
 
 -- a line, be it empty, has a word, so asking that none be left fails
 has_word : {E : Type 0} (form : E) (text : List ℕ) → no_word form (words_of text) ≡ Err form
@@ -44,5 +37,4 @@ has_word form (x ∷ xs) = has_word_by form x xs (x == 32)
 
 -- where anything is left of a line, a word is left
 pub left_over : {E : Type 0} (form : E) (words : Option (Bor (List ℕ))) → is_some words ≡ true → no_word form (words_left words) ≡ Err form
-left_over form None h = absurd cc
-left_over form (Some text) h = has_word form text.now
+left_over form words h = grind (arith, has_word)

@@ -1,10 +1,10 @@
 -- A text of which each line that isn't skipped says a thing, and adds what that makes: it is read exactly where these
 -- lines say such things, in order, and all that they make has room.
-use Rattle.std.proofs.Common.{◌≡◌, ℕ, ◌+◌, Bool, true, false, List, [], ◌∷◌, ◌++◌, map, Result, Ok, Err, refl, sym, ap, subst, ◌∙◌, append_assoc, append-nil, flat_map}
+use Rattle.std.proofs.Common.{arith, ◌≡◌, ℕ, ◌+◌, Bool, true, false, List, [], ◌∷◌, ◌++◌, map, Result, Ok, refl, sym, ap, subst, ◌∙◌, append_assoc, append-nil, flat_map}
 use Rattle.pb_reading.specs.Reading.{◌>>=◌, is_skipped, numbered}
 use Rattle.pb_reading.specs.Faults.{in_lines}
 use Rattle.pb_reading.proofs.Readings.{ok_is}
-use Rattle.pb_reading.proofs.SkippedLines.{kept, kept_not, kept_one}
+use Rattle.pb_reading.proofs.SkippedLines.{kept, kept_one}
 
 -- what one line added: the thing that it says, and room for what that makes
 pub record Adds {T I C : Type 0} (said : List ℕ → Result I C) (made : I → List T) (Room : List T → Type 0) (before after : List T) (l : List ℕ) : Type 0 where
@@ -39,10 +39,7 @@ module _ {T I C : Type 0} (code : C → ℕ) (with_line : List T → List ℕ �
   -- ---- what has been read
 
   one_more : (before p after : List T) (l : List ℕ) (ls : List (List ℕ)) (b : Bool) → is_skipped l ≡ b → with_line before l ≡ Ok p → Room before → (Room p → AddAll said made Room p after ls) → AddAll said made Room before after (l ∷ ls)
-  one_more before p after l ls true is h room others =
-      let same : before ≡ p = ok_is {E = C} before p (sym (law.skips before l is) ∙ h) in
-      let f = others (subst Room same room) in
-      record { things = f.things; says = ap (map said) (kept_not l ls is) ∙ f.says; whole = f.whole ∙ ap (λ (ts : List T). ts ++ flat_map made f.things) (sym same); room = f.room }
+  one_more before p after l ls true is h room others = grind arith
   one_more before p after l ls false is h room others =
       let t = law.adds before p l is h in
       let f = others t.room in
@@ -55,14 +52,11 @@ module _ {T I C : Type 0} (code : C → ℕ) (with_line : List T → List ℕ �
 
   step : (n : ℕ) (before after : List T) (l : List ℕ) (ls : List (List ℕ)) (r : Result (List T) C) → with_line before l ≡ r → (numbered code n r >>= λ p. in_lines code with_line (n + 1) p ls) ≡ Ok after → Room before
       → ((p : List T) → in_lines code with_line (n + 1) p ls ≡ Ok after → Room p → AddAll said made Room p after ls) → AddAll said made Room before after (l ∷ ls)
-  step n before after l ls (Err e) is h room others = absurd cc
-  step n before after l ls (Ok p) is h room others = one_more before p after l ls (is_skipped l) refl is room (others p h)
+  step n before after l ls r is h room others = grind (arith, one_more)
 
   -- lines that are read add what they say
   pub read : (n : ℕ) (before after : List T) (ls : List (List ℕ)) → in_lines code with_line n before ls ≡ Ok after → Room before → AddAll said made Room before after ls
-  read n before after [] h room =
-      let same : before ≡ after = ok_is {E = ℕ × ℕ} before after h in
-      record { things = []; says = refl; whole = sym same ∙ sym (append-nil before); room = subst Room same room }
+  read n before after [] h room = grind (arith, ok_is, append-nil)
   read n before after (l ∷ ls) h room = step n before after l ls (with_line before l) refl h room (λ p k m. read (n + 1) p after ls k m)
 
   -- ---- and what will be
@@ -75,16 +69,13 @@ module _ {T I C : Type 0} (code : C → ℕ) (with_line : List T → List ℕ �
 
   back_line : (n : ℕ) (before : List T) (things : List I) (l : List ℕ) (ls : List (List ℕ)) (b : Bool) → is_skipped l ≡ b → map said (kept (l ∷ ls)) ≡ map (λ thing. Ok thing) things → Room (before ++ flat_map made things) → ReadOn (n + 1) ls
       → in_lines code with_line n before (l ∷ ls) ≡ Ok (before ++ flat_map made things)
-  back_line n before things l ls true is says room others =
-      go_on n before before (before ++ flat_map made things) l ls (law.skips before l is) (others before things (ap (map said) (sym (kept_not l ls is)) ∙ says) room)
-  back_line n before [] l ls false is says room others =
-      let none : said l ∷ map said (kept ls) ≡ [] = ap (map said) (sym (kept_one l ls is)) ∙ says in absurd cc
+  back_line n before things l ls true is says room others = grind arith
+  back_line n before [] l ls false is says room others = grind arith
   back_line n before (i ∷ is) l ls false shown says room others =
       let h = heads (said l) (Ok i) (map said (kept ls)) (map (λ thing. Ok thing) is) (ap (map said) (sym (kept_one l ls shown)) ∙ says) in
       let grouped : (before ++ made i) ++ flat_map made is ≡ before ++ flat_map made (i ∷ is) = append_assoc before (made i) (flat_map made is) in
       let whole : Room ((before ++ made i) ++ flat_map made is) = subst Room (sym grouped) room in
-      go_on n before (before ++ made i) (before ++ flat_map made (i ∷ is)) l ls (law.takes before l i shown h.0 (law.fewer (before ++ made i) (flat_map made is) whole))
-      (others (before ++ made i) is h.1 whole ∙ ap Ok grouped)
+      grind (arith, go_on, law.takes, law.fewer)
 
   -- lines that say such things are read, wherever they begin
   pub back : (n : ℕ) (ls : List (List ℕ)) → ReadOn n ls

@@ -1,5 +1,5 @@
 -- Parts without a byte, joined by that byte and cut there.
-use Rattle.std.proofs.Common.{◌≡◌, ℕ, ◌+◌, ◌%◌, ◌^◌, ◌<◌, ◌≤◌, Bool, true, false, cond, List, [], ◌∷◌, ◌++◌, not, refl, ap, ◌∙◌, arith, ◌==◌, decimal}
+use Rattle.std.proofs.Common.{◌≡◌, ℕ, ◌+◌, ◌%◌, ◌^◌, ◌<◌, ◌≤◌, Bool, true, false, cond, List, [], ◌∷◌, ◌++◌, not, refl, arith, ◌==◌, decimal}
 use Rattle.std.specs.List.{AllByRecursion, join_with_byte, list_all, onto_first, slice_split}
 use Rattle.std.proofs.lemmas.Bool.{and_parts, eq-eqb}
 use Rattle.pb_base.proofs.Logic.{false_if_not}
@@ -30,13 +30,8 @@ if_lacks c (x ∷ xs) h = rw (h.0, if_lacks c xs h.1) refl
 
 -- ---- what is cut has none
 
-onto_parts : (c x : ℕ) (parts : List (List ℕ)) → (x == c) ≡ false → AreParts c parts → AreParts c (onto_first x parts)
-onto_parts c x [] is h = ((is, tt), tt)
-onto_parts c x (p ∷ ps) is h = ((is, h.0), h.1)
-
 cut_at : (c x : ℕ) (parts : List (List ℕ)) (b : Bool) → (x == c) ≡ b → AreParts c parts → AreParts c (cond b ([] ∷ parts) (onto_first x parts))
-cut_at c x parts true is h = (tt, h)
-cut_at c x parts false is h = onto_parts c x parts is h
+cut_at c x parts b is h = grind arith
 
 -- what is cut at a byte hasn't that byte
 pub parts_are : (c : ℕ) (text : List ℕ) → AreParts c (slice_split (λ b. b == c) text)
@@ -48,9 +43,7 @@ parts_are c (x ∷ xs) = cut_at c x (slice_split (λ b. b == c) xs) (x == c) ref
 -- parts without the byte are cut where they were joined
 pub joined_parts : (c : ℕ) (part : List ℕ) (parts : List (List ℕ)) → Lacks c part → AreParts c parts → slice_split (λ b. b == c) (join_with_byte c (part ∷ parts)) ≡ part ∷ parts
 joined_parts c part [] h k = slice_split_none (λ b. b == c) part (All-from_recursion (λ b. (b == c) ≡ false) part h)
-joined_parts c part (next ∷ parts) h k =
-    slice_split_at (λ b. b == c) part c (join_with_byte c (next ∷ parts)) (All-from_recursion (λ b. (b == c) ≡ false) part h) (eq-eqb c c refl)
-    ∙ ap (λ (ps : List (List ℕ)). part ∷ ps) (joined_parts c next parts k.0 k.1)
+joined_parts c part (next ∷ parts) h k = grind (arith, slice_split_at, All-from_recursion, eq-eqb, joined_parts c next parts k.0 k.1)
 
 -- parts joined by another byte
 pub lacks_joined : (c d : ℕ) (parts : List (List ℕ)) → (d == c) ≡ false → AreParts c parts → Lacks c (join_with_byte d parts)

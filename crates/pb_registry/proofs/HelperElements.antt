@@ -27,9 +27,7 @@ numbers_pushed (w ∷ vs) v = ap (λ ns. number_of w ∷ ns) (numbers_pushed vs 
 parted : (vs : List Value) (i : ℕ) (d : Value) → i < length vs → (rest : List ℕ) × (numbers vs ≡ numbers (take i vs) ++ number_of (get_or vs i d) ∷ rest)
 parted [] i d lt = absurd (omega (arith, lt))
 parted (v ∷ vs) zero d lt = (numbers vs, refl)
-parted (v ∷ vs) (suc i) d lt =
-    let r = parted vs i d (omega (arith, lt)) in
-    (r.0, ap (λ ns. number_of v ∷ ns) r.1)
+parted (v ∷ vs) (suc i) d lt = grind (arith, parted vs i d (omega (arith, lt)))
 
 if_second : (a b : Bool) → a ≡ true → (a && b) ≡ false → b ≡ false
 if_second a b p h = sym (ap (λ c. c && b) p) ∙ h
@@ -49,14 +47,10 @@ module _ (vs : List Value) (i : ℕ) (v : Value) (lt : i < length vs) (at : get_
   has low = ap (λ s. is_some (declared_helper s (pos n))) set ∙ declared_is (numbers (take i vs)) n low
 
   pub twice : n ≤ 4 → is_some (declared_helper h (pos n)) ≡ true → None ≡ helpers_of (numbers vs)
-  twice low there =
-      let named : is_named n (numbers (take i vs)) ≡ true = second (is_helper n) (is_named n (numbers (take i vs))) (sym (has low) ∙ there) in
-      fault (ap (λ b. is_helper n && not b) named ∙ not_second (is_helper n))
+  twice low there = grind (arith, second, has, fault, not_second)
 
   pub no_helper : n ≤ 4 → option_map (with_helper h) (helper_of (pos n)) ≡ None → None ≡ helpers_of (numbers vs)
-  no_helper low none =
-      let no = not_added (numbers (take i vs)) n low (sym (ap (λ s. option_map (with_helper s) (helper_of (pos n))) set) ∙ none) in
-      fault (ap (λ b. b && not (is_named n (numbers (take i vs)))) no)
+  no_helper low none = grind (arith, not_added, fault)
 
   pub more : (g : HelperSet) → n ≤ 4 → are_helpers (numbers (take i vs)) ≡ true → is_some (declared_helper h (pos n)) ≡ false → option_map (with_helper h) (helper_of (pos n)) ≡ Some g → (are_helpers (numbers (take (i + 1) vs)) ≡ true) × (g ≡ helper_set (numbers (take (i + 1) vs)))
   more g low are absent some =

@@ -1,7 +1,6 @@
 -- The helpers of numbers, one after the other.
 use Rattle.std.proofs.Common.{◌≡◌, ◌≤◌, ℕ, zero, suc, pos, Bool, true, false, cond, Some, None, List, [], ◌∷◌, ◌++◌, refl, sym, ap, ◌∙◌, arith, is_some, true≢false, not, ◌&&◌, ◌||◌, ◌==◌, option_map, unwrap_or}
 use Rattle.std.proofs.lemmas.Bool.{and_parts, or_parts as neither}
-use Rattle.std.proofs.lemmas.Bool.Decides.{nat_tests}
 use Rattle.std.proofs.lemmas.List.Folds.{list_any-append}
 use Rattle.pb_isa.specs.Helpers.{HelperSet, helper_of, declared_helper, Read, Write, Delete, Start}
 use Rattle.pb_helpers.specs.Table.{with_helper}
@@ -9,25 +8,19 @@ use Rattle.pb_registry.specs.Helpers.{is_helper, is_named, are_helpers, helper_s
 use Rattle.pb_base.proofs.Logic.{or_false, false_if_not as was_false}
 
 or_true : (b : Bool) → (b || true) ≡ true
-or_true true = refl
-or_true false = refl
+or_true b = grind arith
 
 and_false : (a b : Bool) → (a && (b && false)) ≡ false
-and_false true true = refl
-and_false true false = refl
-and_false false b = refl
+and_false a b = grind arith
 
 pub not_second : (a : Bool) → (a && false) ≡ false
-not_second true = refl
-not_second false = refl
+not_second a = grind arith
 
 not_first : (a : Bool) → (a && true) ≡ false → a ≡ false
-not_first true h = h
-not_first false h = refl
+not_first a h = grind arith
 
 turned : (m n : ℕ) (b : Bool) → (m == n) ≡ b → (n == m) ≡ b
-turned m n true h = grind (arith, nat_tests, h)
-turned m n false h = grind (arith, nat_tests, h)
+turned m n b h = grind arith
 
 -- a new helper behind distinct ones
 pub one_more : (ns : List ℕ) (n : ℕ) → are_helpers ns ≡ true → is_helper n ≡ true → is_named n ns ≡ false → are_helpers (ns ++ n ∷ []) ≡ true
@@ -42,19 +35,10 @@ one_more (m ∷ ns) n all is new =
 -- no helper, or one named before
 pub one_fault : (ns : List ℕ) (n : ℕ) (rest : List ℕ) → (is_helper n && not (is_named n ns)) ≡ false → are_helpers (ns ++ n ∷ rest) ≡ false
 one_fault [] n rest h = ap (λ b. b && (not (is_named n rest) && are_helpers rest)) (not_first (is_helper n) h)
-one_fault (m ∷ ns) n rest h = at (m == n) refl (one_fault ns n rest)
-  where
-    at : (b : Bool) → (m == n) ≡ b → ((is_helper n && not (is_named n ns)) ≡ false → are_helpers (ns ++ n ∷ rest) ≡ false) → are_helpers (m ∷ ns ++ n ∷ rest) ≡ false
-    at true e later =
-        let again : is_named m (ns ++ n ∷ rest) ≡ true = list_any-append (λ x. x == m) ns (n ∷ rest) ∙ ap (λ b. is_named m ns || (b || is_named m rest)) (turned m n true e) ∙ or_true (is_named m ns) in
-        ap (λ b. is_helper m && (not b && are_helpers (ns ++ n ∷ rest))) again ∙ not_second (is_helper m)
-    at false e later =
-        let before : (is_helper n && not (is_named n ns)) ≡ false = sym (ap (λ b. is_helper n && not (b || is_named n ns)) e) ∙ h in
-        ap (λ b. is_helper m && (not (is_named m (ns ++ n ∷ rest)) && b)) (later before) ∙ and_false (is_helper m) (not (is_named m (ns ++ n ∷ rest)))
+one_fault (m ∷ ns) n rest h = grind (arith, list_any-append, turned, or_true, not_second, and_false, one_fault ns n rest)
 
 some_if : {A : Type 0} (x : A) (b : Bool) → is_some (cond b (Some x) None) ≡ b
-some_if x true = refl
-some_if x false = refl
+some_if x b = grind arith
 
 -- whether the set has a helper
 pub declared_is : (ns : List ℕ) (n : ℕ) → n ≤ 4 → is_some (declared_helper (helper_set ns) (pos n)) ≡ (is_helper n && is_named n ns)
@@ -83,9 +67,4 @@ module _ (ns : List ℕ) where
 
   -- no set where there is no such helper
   pub not_added : (n : ℕ) → n ≤ 4 → option_map (with_helper (helper_set ns)) (helper_of (pos n)) ≡ None → is_helper n ≡ false
-  not_added zero low e = refl
-  not_added (suc zero) low e = absurd (true≢false (ap is_some e))
-  not_added (suc (suc zero)) low e = absurd (true≢false (ap is_some e))
-  not_added (suc (suc (suc zero))) low e = absurd (true≢false (ap is_some e))
-  not_added (suc (suc (suc (suc zero)))) low e = absurd (true≢false (ap is_some e))
-  not_added (suc (suc (suc (suc (suc n))))) low e = absurd (omega (arith, low))
+  not_added n low e = grind arith

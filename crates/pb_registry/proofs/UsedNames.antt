@@ -1,5 +1,5 @@
 -- The names of the observers in a map are its keys.
-use Rattle.std.proofs.Common.{◌≡◌, ℕ, Bool, true, false, cond, Option, Some, None, Result, Ok, Err, is_ok, List, [], ◌∷◌, is_some, String, Global, refl, sym, ap, ◌∙◌, true≢false, ◌||◌, if◌then◌else◌, string_bytes, codes, bytes_eq}
+use Rattle.std.proofs.Common.{arith, ◌≡◌, ℕ, false, Option, Some, None, Result, Ok, List, [], ◌∷◌, is_some, String, Global, refl, sym, ap, ◌∙◌, string_bytes, codes, bytes_eq}
 use Rattle.pb_reading.specs.Reading.{◌>>=◌}
 use Rattle.std.specs.List.{IsDistinct, AllByRecursion, list_any}
 use Rattle.std.specs.Map.{lookup, keys_of}
@@ -10,7 +10,7 @@ use Rattle.pb_helpers.specs.declared.change.Version.{Version}
 use Rattle.pb_verify.specs.Observers.{ObserverOf}
 use Rattle.pb_registry.specs.declared.code.ManifestCode.{ManifestCode}
 use Rattle.pb_registry.specs.declared.observer.RegisteredObserver.{RegisteredObserver}
-use Rattle.pb_registry.specs.Manifests.{WrittenOf, is_name, name_in, text_at, column_in, number_at, helpers_in, elements_at, version_in, bytes_in, members_of}
+use Rattle.pb_registry.specs.Manifests.{WrittenOf, name_in, text_at, column_in, number_at, helpers_in, elements_at, version_in, bytes_in, members_of}
 use Rattle.pb_registry.specs.Observers.{observers_of}
 use Rattle.pb_registry.specs.Judging.{IsObserver, is_among, is_used, names_of}
 use Rattle.pb_base.proofs.Logic.{none_is as nothing_found}
@@ -18,15 +18,7 @@ use Rattle.pb_base.proofs.Logic.{none_is as nothing_found}
 -- a name is a key of the map exactly where an observer has it
 pub found_name : (s : List ℕ) (es : List (String Global × RegisteredObserver)) → is_some (lookup (λ k. bytes_eq s (string_bytes k)) es) ≡ list_any (bytes_eq s) (names_of (observers_of es))
 found_name s [] = refl
-found_name s (e ∷ es) = at (bytes_eq s (string_bytes e.0)) (found_name s es)
-  where
-    at : (b : Bool) → is_some (lookup (λ k. bytes_eq s (string_bytes k)) es) ≡ list_any (bytes_eq s) (names_of (observers_of es)) → is_some (cond b (Some e.1) (lookup (λ k. bytes_eq s (string_bytes k)) es)) ≡ (b || list_any (bytes_eq s) (names_of (observers_of es)))
-    at true rest = refl
-    at false rest = rest
-
-abbrev name_read : Result WrittenOf ManifestCode → Option (List ℕ)
-name_read (Ok w) = Some w.name
-name_read (Err c) = None
+found_name s (e ∷ es) = grind (arith, found_name s es)
 
 -- the members of an observer read one after the other, each of them given
 abbrev written : Result (List ℕ) ManifestCode → Result ℕ ManifestCode → Result HelperSet ManifestCode → Result Version ManifestCode → Result (List ℕ) ManifestCode → Result WrittenOf ManifestCode
@@ -38,18 +30,8 @@ written n a h v b = do
   bytes ← b
   Ok (record { name = name; column = column; helpers = helpers; version = version; bytes = bytes })
 
--- what is written has the name that is read
-name_kept : (s : List ℕ) (n : Bool) (a : Result ℕ ManifestCode) (h : Result HelperSet ManifestCode) (v : Result Version ManifestCode) (b : Result (List ℕ) ManifestCode) (w : WrittenOf) → written (if n then Ok s else Err ManifestCode.Name) a h v b ≡ Ok w → Some s ≡ Some w.name
-name_kept s false a h v b w e = absurd (true≢false (sym (ap is_ok e)))
-name_kept s true (Err c) h v b w e = absurd (true≢false (sym (ap is_ok e)))
-name_kept s true (Ok column) (Err c) v b w e = absurd (true≢false (sym (ap is_ok e)))
-name_kept s true (Ok column) (Ok helpers) (Err c) b w e = absurd (true≢false (sym (ap is_ok e)))
-name_kept s true (Ok column) (Ok helpers) (Ok version) (Err c) w e = absurd (true≢false (sym (ap is_ok e)))
-name_kept s true (Ok column) (Ok helpers) (Ok version) (Ok bytes) w e = ap name_read e
-
 name_of : (t : Option (List ℕ)) (a : Result ℕ ManifestCode) (h : Result HelperSet ManifestCode) (v : Result Version ManifestCode) (b : Result (List ℕ) ManifestCode) (w : WrittenOf) → written (name_in t) a h v b ≡ Ok w → t ≡ Some w.name
-name_of None a h v b w e = absurd (true≢false (sym (ap is_ok e)))
-name_of (Some s) a h v b w e = name_kept s (is_name s) a h v b w e
+name_of t a h v b w e = grind arith
 
 -- what is read of an element has the name that the element has
 named : (d : Data) (w : WrittenOf) → members_of d ≡ Ok w → text_at (codes "name") d ≡ Some w.name

@@ -1,20 +1,19 @@
 -- Committed writes, gathered along the journal.
-use Rattle.std.proofs.Common.{◌≡◌, ℕ, ◌+◌, ◌<◌, ◌⊎◌, inl, inr, Bool, true, false, cond, zero, suc, List, [], ◌∷◌, ◌++◌, length, get_or, take, map, Option, Some, None, slice_get, refl, sym, ap, subst, ◌∙◌, append_assoc, arith, add-one, Contains, is_none, option_map, flat_map}
-use Rattle.std.specs.Ordering.{eq_by_cmp, is_eq}
-use Rattle.std.specs.Cmp.{tied_itself}
+use Rattle.std.proofs.Common.{◌≡◌, ℕ, ◌+◌, ◌<◌, ◌⊎◌, inl, inr, Bool, true, cond, zero, suc, List, [], ◌∷◌, ◌++◌, length, get_or, take, map, Option, Some, None, slice_get, refl, sym, ap, subst, ◌∙◌, append_assoc, arith, add-one, Contains, is_none, option_map, flat_map}
+use Rattle.std.specs.Ordering.{eq_by_cmp}
 use Rattle.std.specs.FinMap as finmap
 use Rattle.std.proofs.lemmas.List.{append-nil, map-append, take_more}
 use Rattle.pb_base.specs.declared.names.Ts.{Ts}
 use Rattle.pb_base.specs.declared.cell.Cell.{Cell}
 use Rattle.pb_base.specs.declared.content.Content.{Content}
-use Rattle.pb_base.specs.Cell.{cell_cmp, cell_cmp_total}
+use Rattle.pb_base.specs.Cell.{cell_cmp}
 use Rattle.pb_base.specs.Batch.{Writes, content_in, are_distinct}
 use Rattle.pb_steps.specs.declared.step.Declared.{Declared}
 use Rattle.pb_steps.specs.declared.step.Step.{Step}
 use Rattle.pb_steps.specs.declared.step.Answer.{Answer}
 use Rattle.pb_steps.specs.declared.phase.Phase.{Phase}
 use Rattle.pb_steps.specs.State.{StateOf, TransactionOf, phase_in, cells_of}
-use Rattle.pb_verify.specs.Observers.{ObserverOf, acknowledgment}
+use Rattle.pb_verify.specs.Observers.{ObserverOf}
 use Rattle.pb_base.specs.declared.names.Row.{Row}
 use Rattle.pb_steps.specs.declared.step.Work.{Work}
 use Rattle.pb_history.specs.declared.entry.Entry.{Entry}
@@ -94,8 +93,7 @@ map_has f (x ∷ xs) y (inr h) = let p = map_has f xs y h in (p.0, inr p.1, p.2)
 -- ---- what a list of writes has
 
 found_or : (b : Bool) (k : Content) (rest : Option Content) (c : Content) → cond b (Some k) rest ≡ Some c → ((b ≡ true) × (k ≡ c)) ⊎ (rest ≡ Some c)
-found_or true k rest c e = inl (refl, cc)
-found_or false k rest c e = inr e
+found_or b k rest c e = grind arith
 
 -- what a cell gets from a transaction is one of its writes
 pub content_has : (ws : Writes) (x : Cell) (c : Content) → content_in ws x ≡ Some c → Has ws (x, c)
@@ -106,24 +104,17 @@ content_has (w ∷ ws) x c e = elim (found_or (eq_by_cmp cell_cmp x w.0) w.1 (co
 ]
 
 none_is : (o : Option Content) → is_none o ≡ true → o ≡ None
-none_is None e = refl
-none_is (Some x) e = cc
+none_is o e = grind arith
 
 -- where no cell is named twice, each write is what its cell gets
 pub distinct_content : (ws : Writes) → are_distinct ws ≡ true → (w : Cell × Content) → Has ws w → content_in ws w.0 ≡ Some w.1
 distinct_content [] d w h = absurd h
-distinct_content (v ∷ ws) d w (inl e) =
-    ap (λ (p : Cell × Content). cond (eq_by_cmp cell_cmp p.0 v.0) (Some v.1) (content_in ws p.0)) (sym e)
-    ∙ ap (λ b. cond b (Some v.1) (content_in ws v.0)) (ap is_eq (tied_itself cell_cmp_total v.0))
-    ∙ ap (λ (p : Cell × Content). Some p.1) e
+distinct_content (v ∷ ws) d w (inl e) = grind arith
 distinct_content (v ∷ ws) d w (inr h) =
     let p = both (is_none (content_in ws v.0)) (are_distinct ws) d in
     let rest = distinct_content ws p.1 w h in
     let first = none_is (content_in ws v.0) p.0 in
-    elim (eq_by_cmp cell_cmp w.0 v.0) as (λ b. eq_by_cmp cell_cmp w.0 v.0 ≡ b → cond b (Some v.1) (content_in ws w.0) ≡ Some w.1) [
-      | true ↦ λ e. let q : content_in ws w.0 ≡ None = ap (content_in ws) (cell_is w.0 v.0 e) ∙ first in absurd cc
-      | false ↦ λ e. rest
-    ] refl
+    grind (arith, cell_is)
 
 -- ---- committed writes
 
@@ -133,21 +124,11 @@ phase_there state start t c there p = let q : Some t.phase ≡ Some (Phase.Commi
 
 -- a write to a data cell is no acknowledgment
 in_written : (observers : List ObserverOf) (work : Work) (s : ℕ) (what : Declared) (row : Row) (column : ℕ) (k : Content) → Has (cells_of observers work s what) (Cell.Data row column, k) → Has (written_in what) (Cell.Data row column, k)
-in_written observers work s (Declared.Script batch) row column k h = h
-in_written observers Work.Script s (Declared.Run o f) row column k h = h
-in_written observers (Work.Run p r) s (Declared.Run o f) row column k (inl e) =
-    let cells : acknowledgment observers p r ≡ Cell.Data row column = ap (λ (w : Cell × Content). w.0) e in
-    absurd (apart p r _ row column cells)
-  where
-    apart : (p : ℕ) (r : Row) (n : ℕ) (row : Row) (column : ℕ) → Cell.Ack p r n ≡ Cell.Data row column → ⊥
-    apart p r n row column e = cc
-in_written observers (Work.Run p r) s (Declared.Run o f) row column k (inr h) = h
+in_written observers work s what row column k h = grind arith
 
 -- and each is what its cell gets
 in_cells : (observers : List ObserverOf) (work : Work) (s : ℕ) (what : Declared) → are_distinct (cells_of observers work s what) ≡ true → (w : Cell × Content) → Has (written_in what) w → content_in (cells_of observers work s what) w.0 ≡ Some w.1
-in_cells observers work s (Declared.Script batch) d w h = distinct_content batch d w h
-in_cells observers Work.Script s (Declared.Run o f) d w h = distinct_content f.writes d w h
-in_cells observers (Work.Run p r) s (Declared.Run o f) d w h = distinct_content (cells_of observers (Work.Run p r) s (Declared.Run o f)) d w (inr h)
+in_cells observers work s what d w h = grind (arith, distinct_content)
 
 module _ (journal : List Entry) (state : StateOf) (tells : TellsHistory journal state) where
   write_of : (seat : ℕ) (start : Ts) (what : Declared) (c : Ts) (w : Cell × Content) → Has journal (record { seat = seat; step = Step.Declare start what; answer = Answer.Done }) → phase_in state start.0 ≡ Some (Phase.Committed c)
@@ -165,18 +146,10 @@ module _ (journal : List Entry) (state : StateOf) (tells : TellsHistory journal 
 
   committed_write : (seat : ℕ) (start : Ts) (what : Declared) (p : Put) (h : Option Phase) → phase_in state start.0 ≡ h → Has journal (record { seat = seat; step = Step.Declare start what; answer = Answer.Done })
       → Has (if_committed h (written_in what)) p → IsWrite state.observers journal p.cell p.commit.0 p.content
-  committed_write seat start what p None is entry has = absurd has
-  committed_write seat start what p (Some Phase.Reading) is entry has = absurd has
-  committed_write seat start what p (Some Phase.Declared) is entry has = absurd has
-  committed_write seat start what p (Some (Phase.Stamped c)) is entry has = absurd has
-  committed_write seat start what p (Some (Phase.Committed c)) is entry has =
-      let q = map_has (put_by c) (written_in what) p has in
-      subst (λ (r : Put). IsWrite state.observers journal r.cell r.commit.0 r.content) q.2 (write_of seat start what c q.0 entry is q.1)
-  committed_write seat start what p (Some Phase.Failed) is entry has = absurd has
+  committed_write seat start what p h is entry has = grind (arith, map_has, write_of)
 
   by_step : (seat : ℕ) (step : Step) (answer : Answer) (p : Put) → Has journal (record { seat = seat; step = step; answer = answer }) → Has (writes_by state step answer) p → IsWrite state.observers journal p.cell p.commit.0 p.content
-  by_step seat (Step.Declare start what) Answer.Done p entry has = committed_write seat start what p (phase_in state start.0) refl entry has
-  by_step seat _ _ p entry has = absurd has
+  by_step seat step answer p entry has = grind (arith, committed_write)
 
   sound_from : (es : List Entry) (p : Put) → ((e : Entry) → Has es e → Has journal e) → Has (all_puts state es) p → IsWrite state.observers journal p.cell p.commit.0 p.content
   sound_from [] p within has = absurd has

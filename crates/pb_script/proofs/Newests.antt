@@ -1,6 +1,6 @@
 -- What is newest at each cell, as writes come one by one.
 use Rattle.std.specs.BTreeMap as tree
-use Rattle.std.proofs.Common.{◌≡◌, ◌≢◌, ℕ, ◌≤◌, ◌<◌, inl, inr, true, false, cond, List, [], ◌∷◌, ◌++◌, Option, Some, None, refl, sym, ap, subst, ◌∙◌, arith, ◌&&◌, Ordering, Less, Equal, Greater}
+use Rattle.std.proofs.Common.{◌≡◌, ◌≢◌, ℕ, ◌≤◌, ◌<◌, inl, inr, true, false, cond, List, [], ◌∷◌, ◌++◌, Option, Some, None, sym, ap, subst, ◌∙◌, arith, ◌&&◌, Ordering, Equal}
 use Rattle.std.specs.Cmp.{eq_by_cmp_equiv}
 use Rattle.std.proofs.lemmas.Bool.{cases_Bool, ltb-true, ltb-false, and_cases as one_false}
 use Rattle.std.proofs.lemmas.List.Elements.{Contains-append_left, Contains-push, Contains-push_cases}
@@ -12,9 +12,7 @@ use Rattle.pb_script.specs.Reports.{IsNewestPut, IsTold, is_later, newest_in}
 use Rattle.pb_base.proofs.Logic.{and_true as both_true}
 
 is_equal : (o : Ordering) → tree.is_at {K = ℕ} (λ _. o) 0 ≡ true → o ≡ Equal
-is_equal Less h = absurd cc
-is_equal Equal h = refl
-is_equal Greater h = absurd cc
+is_equal o h = grind arith
 
 -- a key that is found is the cell itself, as cells that compare alike are one
 same_cell : (a b : Cell) → tree.is_at (cell_cmp a) b ≡ true → a ≡ b
@@ -46,18 +44,15 @@ lower puts p (Some n) later h =
 
 -- what is told goes by what is newest, and of an acknowledgment nothing is told
 pub told_by : (M N : Cell → Option Newest → Type 0) (x : Cell) (r : Option Newest) → (M x r → N x r) → IsTold M x r → IsTold N x r
-told_by M N (Cell.Data row column) r f h = f h
-told_by M N (Cell.Ack observer row column) r f h = h
+told_by x k p r f h = grind arith
 
 -- of a data cell what is newest is told
 told_data : (M N : Cell → Option Newest → Type 0) (x : Cell) (r s : Option Newest) → is_data x ≡ true → (M x r → N x s) → IsTold M x r → IsTold N x s
-told_data M N (Cell.Data row column) r s d f h = f h
-told_data M N (Cell.Ack observer row column) r s d f h = absurd cc
+told_data x k p r s d f h = grind arith
 
 -- and of an acknowledgment nothing, whatever is newest there
 told_none : (M N : Cell → Option Newest → Type 0) (x : Cell) (r : Option Newest) → is_data x ≡ false → IsTold M x r → IsTold N x r
-told_none M N (Cell.Data row column) r d h = absurd cc
-told_none M N (Cell.Ack observer row column) r d h = h
+told_none x k p r d h = grind arith
 
 -- of each cell is told what is newest of these writes
 abbrev AreTold : List Put → (Cell → Option Newest) → Type 0
@@ -80,18 +75,11 @@ newest_more puts p f g h news is x =
     ]
 
 stays_here : (puts : List Put) (p : Put) (r : Option Newest) → (is_data p.cell && is_later r p.commit) ≡ false → IsTold (IsNewestPut puts) p.cell r → IsTold (IsNewestPut (puts ++ p ∷ [])) p.cell r
-stays_here puts p r old h = elim (one_false _ _ old) [
-  | inl ack ↦ told_none (IsNewestPut puts) (IsNewestPut (puts ++ p ∷ [])) p.cell r ack h
-  | inr low ↦ told_by (IsNewestPut puts) (IsNewestPut (puts ++ p ∷ [])) p.cell r (lower puts p r low) h
-]
+stays_here puts p r old h = grind (arith, one_false, told_none, told_by, lower, p.cell)
 
 -- a write that isn't newer, or is no data, changes nothing that is told
 newest_same : (puts : List Put) (p : Put) (f : Cell → Option Newest) → AreTold puts f → (is_data p.cell && is_later (f p.cell) p.commit) ≡ false → AreTold (puts ++ p ∷ []) f
-newest_same puts p f h old x =
-    elim (cases_Bool (tree.is_at (cell_cmp p.cell) x)) [
-      | inl here ↦ subst (λ (y : Cell). IsTold (IsNewestPut (puts ++ p ∷ [])) y (f y)) (same_cell p.cell x here) (stays_here puts p (f p.cell) old (h p.cell))
-      | inr there ↦ told_by (IsNewestPut puts) (IsNewestPut (puts ++ p ∷ [])) x (f x) (other puts p x (f x) (other_cell p.cell x there)) (h x)
-    ]
+newest_same puts p f h old x = grind (arith, cases_Bool, same_cell, stays_here, told_by, other, other_cell, p.cell)
 
 -- ---- one write more
 

@@ -1,6 +1,6 @@
 -- One report: where one thing is newest at each cell, the text is settled.
 use Rattle.std.specs.BTreeMap as tree
-use Rattle.std.proofs.Common.{◌≡◌, ℕ, ◌≤◌, cond, T, List, [], ◌∷◌, ◌++◌, map, Option, Some, None, refl, sym, ap, ◌∙◌, arith, Less}
+use Rattle.std.proofs.Common.{◌≡◌, ℕ, ◌≤◌, cond, T, List, [], ◌∷◌, map, Option, Some, None, refl, sym, ap, ◌∙◌, arith, Less}
 use Rattle.std.specs.List.{AllByRecursion}
 use Rattle.std.specs.List.Sorted.{IsStrictlySortedBy}
 use Rattle.std.specs.Map.{lookup}
@@ -9,8 +9,7 @@ use Rattle.pb_base.specs.declared.cell.Cell.{Cell}
 use Rattle.pb_base.specs.Cell.{cell_cmp, cell_cmp_total, cell_cmp-IsAntisymmetric}
 use Rattle.pb_script.specs.declared.reports.lines.Newest.{Newest}
 use Rattle.pb_script.specs.declared.reports.newest.Put.{Put}
-use Rattle.pb_script.specs.ReportLines.{Tallies, cell_lines, run_lines, last_line}
-use Rattle.pb_script.proofs.Newests.{told_by}
+use Rattle.pb_script.specs.ReportLines.{Tallies}
 use Rattle.pb_script.specs.Reports.{IsNewestPut, IsTold, IsReportOf, IsReport, AreApart}
 use Rattle.pb_base.proofs.Logic.{both_hold as both, less_holds as less}
 
@@ -46,9 +45,7 @@ told_one newest one (Cell.Ack observer row column) r s g h = g ∙ sym h
 
 -- where one thing is newest at each cell, there is one report
 pub same_report : (newest : Cell → Option Newest → Type 0) (runs : Tallies) (marks locks : ℕ) (s t : List ℕ) → IsOne newest → IsReportOf newest runs marks locks s → IsReportOf newest runs marks locks t → s ≡ t
-same_report newest runs marks locks s t one g h =
-    let e : g.entries ≡ h.entries = same_by_lookup g.entries h.entries g.rising h.rising (λ x. told_one newest one x _ _ (g.told x) (h.told x)) in
-    g.lines ∙ ap (λ (es : Entries). cell_lines es ++ (run_lines runs ++ last_line marks locks)) e ∙ sym h.lines
+same_report newest runs marks locks s t one g h = grind (arith, same_by_lookup, told_one, one, g.entries, h.entries, g.rising, h.rising, g.told, h.told, g.lines, h.lines)
 
 same_number : (a b : ℕ) → a ≤ b → b ≤ a → a ≡ b
 same_number a b g h = omega arith

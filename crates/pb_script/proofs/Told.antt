@@ -29,8 +29,7 @@ module _ (observers : List ObserverOf) (journal : List Entry) (clock : ℕ) (put
       )
 
   told_in : (x : Cell) (r : Option Newest) → IsTold (IsNewestPut puts) x r → IsTold (IsSeenAt observers journal clock) x r
-  told_in (Cell.Data row column) r h = seen_in row column r h
-  told_in (Cell.Ack observer row column) r h = h
+  told_in x r h = grind (arith, seen_in)
 
   pub report_in : (runs : Tallies) (marks locks : ℕ) (text : List ℕ) → IsReport puts runs marks locks text → IsReportOf (IsSeenAt observers journal clock) runs marks locks text
   report_in runs marks locks text h = record { entries = h.entries; rising = h.rising; told = λ x. told_in x _ (h.told x); lines = h.lines }

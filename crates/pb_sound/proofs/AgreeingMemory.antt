@@ -109,18 +109,14 @@ pub byte_alike : (w : List Bool) (vs : List ℕ) (g j : Map) (x y lo n : ℕ) �
 byte_alike w vs g j x y lo n lv h i t =
     elim (cases_lt i lo) [
       | inl low ↦
-          with_list_below vs g (x + lo) (x + i) (omega arith)
-          ∙ h i (flag_from w lo n i (inl low) t)
-          ∙ sym (with_list_below vs j (y + lo) (y + i) (omega arith))
+          grind (arith, with_list_below, flag_from)
       | inr up ↦ elim (cases_lt i (lo + n)) [
         | inl mid ↦
             let e1 : x + i ≡ x + lo + (i - lo) = omega arith in
             let e2 : y + i ≡ y + lo + (i - lo) = omega arith in
             rw (e1, e2) (with_list_in vs g (x + lo) (i - lo) (omega arith) ∙ sym (with_list_in vs j (y + lo) (i - lo) (omega arith)))
         | inr high ↦
-            with_list_above vs g (x + lo) (x + i) (omega arith)
-            ∙ h i (flag_from w lo n i (inr high) t)
-            ∙ sym (with_list_above vs j (y + lo) (y + i) (omega arith))
+            grind (arith, flag_from, with_list_above)
       ]
     ]
 
@@ -193,13 +189,8 @@ jump_if_agrees x c w d y o a b f s t here h two =
     let right = operand_is (run x a) f s y p1.1 two.fits_a in
     let left_b = sym (number_same (at f d) _ _ (when_not _ _ p1.0) plain.0 (two.alike.reg (number d))) ∙ left.is in
     let right_b = sym (operand_same a b f s t y p1.1 plain.1 two.alike) ∙ right.1 in
-    let l = lands x.judged.program.insns n o p2.1 in
     let i = Insn.JumpIf c w d y o in
-    let on = follows x.judged.program.insns i n here p3.1 in
-    let either : (taken : Bool) → Agree a b f i (m.with_value (cond taken (m.target s.slot o) (Some (s.slot + 1))) (λ k. m.goes (run x a) s k s.regs s.stack)) (m.with_value (cond taken (m.target n o) (Some (n + 1))) (λ k. m.goes (run x b) t k t.regs t.stack)) = λ taken. elim taken as (λ q. Agree a b f i (m.with_value (cond q (m.target s.slot o) (Some (s.slot + 1))) (λ k. m.goes (run x a) s k s.regs s.stack)) (m.with_value (cond q (m.target n o) (Some (n + 1))) (λ k. m.goes (run x b) t k t.regs t.stack))) [
-      | true ↦ rw (two.alike.slot, l.is) (agree_goes x a b f s t i l.to refl l.first two.alike)
-      | false ↦ rw two.alike.slot (agree_goes x a b f s t i (n + 1) refl on two.alike)
-    ] in
+    let either : (taken : Bool) → Agree a b f i (m.with_value (cond taken (m.target s.slot o) (Some (s.slot + 1))) (λ k. m.goes (run x a) s k s.regs s.stack)) (m.with_value (cond taken (m.target n o) (Some (n + 1))) (λ k. m.goes (run x b) t k t.regs t.stack)) = grind (arith, run, agree_goes, two.alike, s.slot, s.regs, s.stack, t.regs, t.stack, two.alike.slot) in
     rw (left.is, right.1, left_b, right_b) (either (holds c w left.value right.0))
 
 -- both end with the same result, since register 0 may not be a pointer

@@ -1,5 +1,5 @@
 -- An instruction whose rules hold does the same at two placements.
-use Rattle.std.proofs.Common.{◌≡◌, ℕ, zero, suc, ◌+◌, ℤ, pos, ◌+ℤ◌, Bool, true, false, not, ◌&&◌, cond, nat_lt, List, [], ◌++◌, length, replicate, Option, Some, None, is_some, refl, sym, ap, ◌∙◌, arith}
+use Rattle.std.proofs.Common.{◌≡◌, ℕ, ◌+◌, ℤ, pos, ◌+ℤ◌, Bool, true, false, not, ◌&&◌, cond, nat_lt, List, [], ◌++◌, length, replicate, Option, Some, None, is_some, refl, sym, ap, ◌∙◌, arith}
 use Rattle.pb_base.specs.Batch.{Writes}
 use Rattle.pb_base.specs.declared.content.Content.{Content}
 use Rattle.pb_isa.specs.declared.limits.TheConstants.{STACK_BYTES}
@@ -10,7 +10,7 @@ use Rattle.pb_isa.specs.Machine as m
 use Rattle.pb_isa.specs.Machine.{Map, Placement, State, Outcome, Goes, Asks, act, address, entries, with_list, called_regs}
 use Rattle.pb_kinds.specs.declared.frame.Kind.{Kind}
 use Rattle.pb_kinds.specs.declared.frame.Frame.{Frame}
-use Rattle.pb_kinds.specs.Frames.{kind_of, is_number_kind}
+use Rattle.pb_kinds.specs.Frames.{kind_of}
 use Rattle.pb_kinds.specs.Ranges.{from_low, with_written}
 use Rattle.pb_helpers.specs.Codes.{when}
 use Rattle.pb_helpers.specs.declared.code.RuleCode.{RuleCode}
@@ -24,8 +24,8 @@ use Rattle.pb_sound.proofs.Offsets.{moved_word, plus_zero}
 use Rattle.pb_sound.proofs.Registers.{follows, IsFollowed}
 use Rattle.pb_sound.proofs.Loads.{stretch}
 use Rattle.pb_sound.proofs.Stores.{stack_room}
-use Rattle.pb_sound.proofs.Calls.{cell_is, called_is, reply_long}
-use Rattle.pb_sound.proofs.AgreeingValues.{Setting, run, Two, is_number_same, Agrees, alu_agrees, mov_sx_agrees, neg_agrees, load_imm_agrees}
+use Rattle.pb_sound.proofs.Calls.{called_is, reply_long}
+use Rattle.pb_sound.proofs.AgreeingValues.{Setting, run, Two, Agrees, alu_agrees, mov_sx_agrees, neg_agrees, load_imm_agrees}
 use Rattle.pb_sound.proofs.AgreeingMemory.{stack_same, load_agrees, alike_put, store_imm_agrees, store_agrees, jump_agrees, jump_if_agrees, exit_agrees}
 use Rattle.pb_verify.proofs.JumpsForward.{empty_parts}
 use Rattle.pb_base.proofs.Logic.{true_if_not as not_false, and_true}
@@ -34,18 +34,7 @@ use Rattle.pb_base.proofs.Logic.{true_if_not as not_false, and_true}
 
 -- after a call register 0 is the same, 1 to 5 are unset, and the others stay
 same_called : (f : Frame) (g j : Map) (v : ℕ) → ((r : ℕ) → SameNumber (kind_of f r) (g r) (j r)) → (r : ℕ) → SameNumber (kind_of (clobber f) r) (called_regs g v r) (called_regs j v r)
-same_called f g j v h zero = refl
-same_called f g j v h (suc zero) = tt
-same_called f g j v h (suc (suc zero)) = tt
-same_called f g j v h (suc (suc (suc zero))) = tt
-same_called f g j v h (suc (suc (suc (suc zero)))) = tt
-same_called f g j v h (suc (suc (suc (suc (suc zero))))) = tt
-same_called f g j v h (suc (suc (suc (suc (suc (suc zero)))))) = h 6
-same_called f g j v h (suc (suc (suc (suc (suc (suc (suc zero))))))) = h 7
-same_called f g j v h (suc (suc (suc (suc (suc (suc (suc (suc zero)))))))) = h 8
-same_called f g j v h (suc (suc (suc (suc (suc (suc (suc (suc (suc zero))))))))) = h 9
-same_called f g j v h (suc (suc (suc (suc (suc (suc (suc (suc (suc (suc zero)))))))))) = h 10
-same_called f g j v h (suc (suc (suc (suc (suc (suc (suc (suc (suc (suc (suc r))))))))))) = tt
+same_called f g j v h r = grind arith
 
 alike_returned : (a b : Placement) (f : Frame) (s t u w : State) (v : ℕ) → Alike a b f s t → u.slot ≡ w.slot → u.writes ≡ w.writes → u.regs ≡ called_regs s.regs v → w.regs ≡ called_regs t.regs v → u.stack ≡ s.stack → w.stack ≡ t.stack → Alike a b (clobber f) u w
 alike_returned a b f s t u w v l eslot ewrites eu ew su sw = record {
@@ -138,17 +127,7 @@ pub record CellTwo (s t : State) : Type 0 where
 
 -- row and column are numbers, and so the same
 cell_two : (x : Setting) (a b : Placement) (f : Frame) (s t : State) → is_cell f ≡ true → Two x a b f s t → CellTwo s t
-cell_two x a b f s t h two =
-    let q = and_true (is_number_kind (kind_of f 1)) (is_number_kind (kind_of f 2)) h in
-    let c = cell_is (run x a) f s h two.fits_a in
-    record {
-      row = c.row;
-      column = c.column;
-      row_a = c.row_is;
-      row_b = sym (is_number_same (kind_of f 1) _ _ q.0 (two.alike.reg 1)) ∙ c.row_is;
-      column_a = c.column_is;
-      column_b = sym (is_number_same (kind_of f 2) _ _ q.1 (two.alike.reg 2)) ∙ c.column_is;
-    }
+cell_two x a b f s t h two = grind arith
 
 -- the frame after a call of the helper y
 to_call : (a b : Placement) (f : Frame) (k : ℤ) (y : Helper) (u w : State) → helper_of k ≡ Some y → Alike a b (after_call f (Some y)) u w → Alike a b (after f (Insn.Call k)) u w
@@ -191,8 +170,7 @@ helps_agree x a b f s t k Delete hx h two =
     let p = empty_parts (unset f 1 ++ unset f 2) (when (not (is_cell f)) RuleCode.WrongArgument) h in
     let c = cell_two x a b f s t (not_false _ (when_not _ _ p.1)) two in
     rw (c.row_a, c.row_b, c.column_a, c.column_b) (write_agrees x a b f s t k Delete c.row c.column Content.Deleted refl hx two.alike)
-helps_agree x a b f s t k Start hx h two =
-    to_call a b f k Start _ _ hx (alike_returned a b f s t (m.state_after_call s s.writes x.start) (m.state_after_call t t.writes x.start) x.start two.alike (ap (λ n. n + 1) two.alike.slot) two.alike.writes refl refl refl refl)
+helps_agree x a b f s t k Start hx h two = grind arith
 
 calls_agree : (x : Setting) (a b : Placement) (f : Frame) (s t : State) (k : ℤ) (y : Option Helper) → declared_helper x.judged.helpers k ≡ y → is_some (insn_at x.judged.program.insns (t.slot + 1)) ≡ true → call_rules f y ≡ [] → Two x a b f s t → Agree a b f (Insn.Call k) (m.calls (run x a) s y) (m.calls (run x b) t y)
 calls_agree x a b f s t k None hx on h two = cc
@@ -208,21 +186,9 @@ call_agrees x k a b f s t here h two =
 
 -- every instruction, by its kind
 does_agree : (x : Setting) (i : Insn) → Agrees x i
-does_agree x (Insn.Alu op w d y) = alu_agrees x op w d y
-does_agree x (Insn.MovSx w z d r) = mov_sx_agrees x w z d r
-does_agree x (Insn.Neg w d) = neg_agrees x w d
-does_agree x (Insn.LoadImm d v) = load_imm_agrees x d v
-does_agree x (Insn.Load z y d r o) = load_agrees x z y d r o
-does_agree x (Insn.StoreImm z d o k) = store_imm_agrees x z d o k
-does_agree x (Insn.Store z d r o) = store_agrees x z d o r
-does_agree x (Insn.Jump o) = jump_agrees x o
-does_agree x (Insn.JumpIf c w d y o) = jump_if_agrees x c w d y o
-does_agree x (Insn.Call k) = call_agrees x k
-does_agree x Insn.Exit = exit_agrees x
+does_agree x i = grind (arith, alu_agrees, mov_sx_agrees, neg_agrees, load_imm_agrees, load_agrees, store_imm_agrees, store_agrees, jump_agrees, jump_if_agrees, call_agrees, exit_agrees)
 
 -- and so it is at a slot where that instruction stands
 pub acts_agree : (x : Setting) (i : Insn) (a b : Placement) (f : Frame) (s t : State) → IsFollowed x.judged.program.insns t.slot i → insn_rules x.judged t.slot f i ≡ [] → Two x a b f s t → Agree a b f i (act (run x a) s) (act (run x b) t)
 unfolding act
-acts_agree x i a b f s t here h two =
-    let there : insn_at x.judged.program.insns s.slot ≡ Some i = rw two.alike.slot here.at in
-    rw (here.at, there) (does_agree x i a b f s t here h two)
+acts_agree x i a b f s t here h two = grind (arith, does_agree, x.judged.program.insns, s.slot, two.alike.slot, here.at)

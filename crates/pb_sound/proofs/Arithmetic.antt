@@ -1,6 +1,5 @@
 -- Operations with two operands, the sign-extending move, the negative, and the 64-bit immediate.
-use Rattle.std.proofs.Common.{◌≡◌, ℕ, ◌+◌, ℤ, pos, neg_ℤ, [], ◌++◌, Some, refl, ap}
-use Rattle.pb_isa.specs.declared.limits.TheConstants.{STACK_BYTES}
+use Rattle.std.proofs.Common.{arith, ◌≡◌, ℕ, ◌+◌, ℤ, pos, neg_ℤ, [], ◌++◌, Some, refl}
 use Rattle.pb_isa.specs.declared.insn.Insn.{Insn}
 use Rattle.pb_isa.specs.declared.insn.AluOp.{AluOp}
 use Rattle.pb_isa.specs.declared.insn.Width.{Width}
@@ -20,7 +19,7 @@ use Rattle.pb_verify.specs.Rules.{at, reads, reads_operand, sets, numeric_rules,
 use Rattle.pb_verify.specs.Following.{kind_after, move_pointer}
 use Rattle.pb_sound.specs.Fits.{HasValue, Holds, FitsFrame}
 use Rattle.pb_sound.specs.Outcomes.{GoesOn}
-use Rattle.pb_sound.proofs.Offsets.{moved_word, sub_is}
+use Rattle.pb_sound.proofs.Offsets.{sub_is}
 use Rattle.pb_sound.proofs.Registers.{read_value, sets_on, IsFollowed}
 use Rattle.pb_verify.proofs.JumpsForward.{empty_parts}
 
@@ -47,20 +46,11 @@ operand_is e f s (Operand.Imm k) h t = (word k, refl)
 operand_is e f s (Operand.Reg r) h t = let v = read_value e f s r h t in (v.value, v.is)
 
 pub both : (e : Environment) (f : Frame) (s : State) (d : registers.Reg) (x : Operand) → numeric_rules f d x ≡ [] → FitsFrame e f s → Both s d x
-both e f s d x h t =
-    let p3 = empty_parts (reads f d ++ reads_operand f x ++ sets d) (when (on_pointer f d x) RuleCode.PointerArithmetic) h in
-    let p2 = empty_parts (reads f d ++ reads_operand f x) (sets d) p3.0 in
-    let p1 = empty_parts (reads f d) (reads_operand f x) p2.0 in
-    let a = read_value e f s d p1.0 t in
-    let b = operand_is e f s x p1.1 t in
-    record { left = a.value; right = b.0; left_is = a.is; right_is = b.1; sets = p2.1 }
+both e f s d x h t = grind (arith, empty_parts, read_value, operand_is)
 
 -- a pointer plus a number points as much further on, since sums of addresses wrap alike
 moved_holds : (e : Environment) (k : Kind) (x : ℕ) (z : ℤ) → Holds e k (Some x) → Holds e (move_pointer k z) (Some (address x z))
-moved_holds e Kind.Unset x z h = (address x z, refl)
-moved_holds e Kind.Number x z h = (address x z, refl)
-moved_holds e (Kind.Stack k) x z h = let same : x ≡ address (e.place.stack + STACK_BYTES) k = cc in ap Some (rw same (moved_word (e.place.stack + STACK_BYTES) k z))
-moved_holds e (Kind.Record k) x z h = let same : x ≡ address e.place.record_at k = cc in ap Some (rw same (moved_word e.place.record_at k z))
+moved_holds e k x z h = grind arith
 
 add_holds : (e : Environment) (f : Frame) (s : State) (d : registers.Reg) (k : ℤ) → reads f d ++ sets d ≡ [] → FitsFrame e f s → Operands e f s AluOp.Add Width.Bits64 d (Operand.Imm k)
 add_holds e f s d k h t =

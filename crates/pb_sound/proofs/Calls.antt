@@ -1,24 +1,23 @@
 -- Calls of the four helpers.
-use Rattle.std.proofs.Common.{◌≡◌, ℕ, zero, suc, ◌+◌, ℤ, pos, ◌+ℤ◌, Bool, true, false, cond, not, ◌&&◌, nat_lt, List, [], ◌++◌, length, replicate, Option, Some, None, refl, sym, ap, ◌∙◌, arith, is_some}
-use Rattle.std.proofs.lemmas.Bool.Decides.{nat_tests}
+use Rattle.std.proofs.Common.{◌≡◌, ℕ, ◌+◌, ℤ, pos, ◌+ℤ◌, Bool, true, false, cond, not, ◌&&◌, nat_lt, List, [], ◌++◌, length, replicate, Option, Some, None, refl, sym, ap, ◌∙◌, arith, is_some}
 use Rattle.pb_base.specs.Batch.{Writes}
 use Rattle.pb_base.specs.declared.content.Content.{Content}
 use Rattle.pb_isa.specs.declared.limits.TheConstants.{STACK_BYTES}
 use Rattle.pb_isa.specs.declared.insn.Insn.{Insn}
-use Rattle.pb_isa.specs.Helpers.{Helper, HelperSet, Read, Write, Delete, Start, helper_of, declared_helper, if_declared, has_helper}
+use Rattle.pb_isa.specs.Helpers.{Helper, HelperSet, Read, Write, Delete, Start, helper_of, declared_helper}
 use Rattle.pb_isa.specs.Slots.{insn_at}
 use Rattle.pb_isa.specs.Machine as m
 use Rattle.pb_isa.specs.Machine.{IsReply, IsPlaced, Map, Environment, State, Reply, address, does, helps, writes_cell, with_list, called_regs}
 use Rattle.pb_kinds.specs.declared.frame.Kind.{Kind}
 use Rattle.pb_kinds.specs.declared.frame.Frame.{Frame}
-use Rattle.pb_kinds.specs.Frames.{kind_of, is_number_kind}
+use Rattle.pb_kinds.specs.Frames.{kind_of}
 use Rattle.pb_kinds.specs.Ranges.{from_low, with_written}
 use Rattle.pb_helpers.specs.declared.code.RuleCode.{RuleCode}
 use Rattle.pb_helpers.specs.Codes.{when}
 use Rattle.pb_helpers.specs.Arguments.{unset, filled_bytes, taken_bytes, is_cell, is_place, read_rules, call_rules, stack_writes}
-use Rattle.pb_verify.specs.Rules.{falls, insn_rules}
+use Rattle.pb_verify.specs.Rules.{insn_rules}
 use Rattle.pb_verify.specs.Following.{after_call, clobber}
-use Rattle.pb_sound.specs.Fits.{HasValue, Holds, FitsFrame}
+use Rattle.pb_sound.specs.Fits.{Holds, FitsFrame}
 use Rattle.pb_sound.specs.Outcomes.{Arrives, GoesOn}
 use Rattle.pb_sound.proofs.Lists.{when_not}
 use Rattle.pb_sound.proofs.Offsets.{plus_zero, moved_word}
@@ -32,18 +31,7 @@ use Rattle.pb_verify.proofs.JumpsForward.{empty_parts}
 
 -- after a call register 0 has a number, and those from 6 on hold what they did
 holds_called : (e : Environment) (f : Frame) (g : Map) (v : ℕ) → ((r : ℕ) → Holds e (kind_of f r) (g r)) → (r : ℕ) → Holds e (kind_of (clobber f) r) (called_regs g v r)
-holds_called e f g v h zero = (v, refl)
-holds_called e f g v h (suc zero) = tt
-holds_called e f g v h (suc (suc zero)) = tt
-holds_called e f g v h (suc (suc (suc zero))) = tt
-holds_called e f g v h (suc (suc (suc (suc zero)))) = tt
-holds_called e f g v h (suc (suc (suc (suc (suc zero))))) = tt
-holds_called e f g v h (suc (suc (suc (suc (suc (suc zero)))))) = h 6
-holds_called e f g v h (suc (suc (suc (suc (suc (suc (suc zero))))))) = h 7
-holds_called e f g v h (suc (suc (suc (suc (suc (suc (suc (suc zero)))))))) = h 8
-holds_called e f g v h (suc (suc (suc (suc (suc (suc (suc (suc (suc zero))))))))) = h 9
-holds_called e f g v h (suc (suc (suc (suc (suc (suc (suc (suc (suc (suc zero)))))))))) = h 10
-holds_called e f g v h (suc (suc (suc (suc (suc (suc (suc (suc (suc (suc (suc r))))))))))) = tt
+holds_called e f g v h r = grind arith
 
 fits_returned : (e : Environment) (f : Frame) (s t : State) (v : ℕ) → FitsFrame e f s → t.regs ≡ called_regs s.regs v → t.stack ≡ s.stack → FitsFrame e (clobber f) t
 fits_returned e f s t v h er es = record {
@@ -60,19 +48,9 @@ pub record Cell (s : State) : Type 0 where
   pub row_is : s.regs 1 ≡ Some row
   pub column_is : s.regs 2 ≡ Some column
 
-number_is : (e : Environment) (k : Kind) (v : Option ℕ) → is_number_kind k ≡ true → Holds e k v → HasValue v
-number_is e Kind.Unset v u h = cc
-number_is e Kind.Number v u h = h
-number_is e (Kind.Stack k) v u h = cc
-number_is e (Kind.Record k) v u h = cc
-
 -- row and column are numbers, and have values
 pub cell_is : (e : Environment) (f : Frame) (s : State) → is_cell f ≡ true → FitsFrame e f s → Cell s
-cell_is e f s h t =
-    let q = and_true (is_number_kind (kind_of f 1)) (is_number_kind (kind_of f 2)) h in
-    let row = number_is e (kind_of f 1) (s.regs 1) q.0 (t.reg 1) in
-    let column = number_is e (kind_of f 2) (s.regs 2) q.1 (t.reg 2) in
-    record { row = row.0; column = column.0; row_is = row.1; column_is = column.1 }
+cell_is e f s h t = grind arith
 
 -- 32 stack bytes that a read fills
 pub record Filled (e : Environment) (f : Frame) (s : State) : Type 0 where
@@ -116,25 +94,13 @@ taken_at e f s Kind.Number pl p b h t = cc
 taken_at e f s (Kind.Record k) pl p b h t = cc
 taken_at e f s (Kind.Stack k) pl p b h t =
     let st = stretch e f s k 32 (omega arith) pl t b in
-    record {
-      at = e.place.stack + from_low k;
-      is = h ∙ ap Some st.there;
-      inside = st.inside;
-      bytes = st.read.bytes;
-      are = st.read.are;
-      long = st.read.long;
-    }
+    grind (arith, e.place.stack)
 
 -- ---- the helpers
 
 -- a helper that is called is the one of its number
 pub called_is : (h : HelperSet) (k : ℤ) (x : Helper) → declared_helper h k ≡ Some x → helper_of k ≡ Some x
-called_is h k x e =
-    let go : (o : Option Helper) → if_declared h o ≡ Some x → o ≡ Some x = λ o. elim o as (λ o. if_declared h o ≡ Some x → o ≡ Some x) [
-      | None ↦ λ q. q
-      | Some y ↦ λ q. elim (has_helper h y) as (λ b. cond b (Some y) None ≡ Some x → Some y ≡ Some x) [ true ↦ λ r. r | false ↦ λ r. cc ] q
-    ] in
-    go (helper_of k) e
+called_is h k x e = grind arith
 
 -- after a call of the helper x
 arrives : (e : Environment) (f : Frame) (s t : State) (k : ℤ) (x : Helper) → helper_of k ≡ Some x → is_some (insn_at e.judged.program.insns (s.slot + 1)) ≡ true → t.slot ≡ s.slot + 1 → FitsFrame e (after_call f (Some x)) t → Arrives e f s.slot (Insn.Call k) t
@@ -142,8 +108,7 @@ arrives e f s t k x hx lands at h = record { leads = rw at (among_one (s.slot + 
 
 -- a reply has 32 bytes for the stack, zeros where the cell is absent
 pub reply_long : (r : Reply) → IsReply r → length (m.reply_bytes r) ≡ 32
-reply_long None h = refl
-reply_long (Some v) h = grind (arith, nat_tests)
+reply_long r h = grind arith
 
 -- a read goes on with each reply, or asks nothing where there is no such column
 read_on : (e : Environment) (f : Frame) (s : State) (k : ℤ) → IsPlaced e → helper_of k ≡ Some Read → is_some (insn_at e.judged.program.insns (s.slot + 1)) ≡ true → read_rules f ≡ [] → FitsFrame e f s → GoesOn e f s.slot (Insn.Call k) (helps e s Read)
@@ -191,6 +156,4 @@ calls_on e f s k (Some x) pl hx lands b t = rw lands (helps_on e f s k x pl (cal
 
 -- a call whose rules hold is of a declared helper, and goes on
 pub call_on : (e : Environment) (f : Frame) (s : State) (k : ℤ) → IsPlaced e → IsFollowed e.judged.program.insns s.slot (Insn.Call k) → insn_rules e.judged s.slot f (Insn.Call k) ≡ [] → FitsFrame e f s → GoesOn e f s.slot (Insn.Call k) (does e s (Insn.Call k))
-call_on e f s k pl a b t =
-    let parts = empty_parts (call_rules f (declared_helper e.judged.helpers k)) (falls e.judged.program.insns (s.slot + 1)) b in
-    calls_on e f s k (declared_helper e.judged.helpers k) pl refl (follows e.judged.program.insns (Insn.Call k) s.slot a parts.1) parts.0 t
+call_on e f s k pl a b t = grind (arith, empty_parts, calls_on, follows, e.judged.helpers, e.judged.program.insns, s.slot)

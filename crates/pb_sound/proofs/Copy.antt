@@ -1,5 +1,5 @@
 -- The machine of the run does what the definitions do.
-use Rattle.std.proofs.Common.{◌≡◌, ◌≢◌, ℕ, zero, suc, ◌+◌, ◌-◌, ◌<◌, ◌≤◌, inl, inr, ℤ, pos, negsuc, Bool, true, false, cond, nat_eq, nat_le, nat_lt, List, ◌∷◌, ◌++◌, length, get_or, set, take, drop, replicate, Option, Some, None, is_some, refl, sym, ap, ◌∙◌, arith, length-append, length-take, length-drop, drop-cons, slice_get, get_or-set_same, get_or-set_other, get_or-take, get_or-drop}
+use Rattle.std.proofs.Common.{◌≡◌, ℕ, zero, suc, ◌+◌, ◌-◌, ◌<◌, ◌≤◌, inl, inr, ℤ, Bool, true, false, cond, nat_eq, nat_le, nat_lt, List, ◌∷◌, length, get_or, set, take, drop, replicate, Option, Some, None, is_some, refl, sym, ap, ◌∙◌, arith, length-append, length-take, length-drop, drop-cons, slice_get, get_or-set_same, get_or-set_other, get_or-take, get_or-drop}
 use Rattle.std.proofs.lemmas.List.{length-set, get_or_append_left, get_or-append_right}
 use Rattle.std.proofs.lemmas.Bool.{cases_eq, cases_lt}
 use Rattle.std.proofs.lemmas.Bool.Decides.{nat_tests}
@@ -34,20 +34,16 @@ use Rattle.pb_isa.proofs.Instructions.{number_below as number_lt}
 
 -- where a value is missing the definitions are stuck, so that only what comes of one has to be copied
 given_copy : (e : Environment) (p : Type 0) (o : Option ℕ) (go : ℕ → Outcome) (x : CellsOutcome) → ((v : ℕ) → o ≡ Some v → Copies e p (go v) x) → Copies e p (m.with_value o go) x
-given_copy e p None go x h = tt
-given_copy e p (Some v) go x h = h v refl
+given_copy e p o go x h = grind arith
 
 given_list_copy : (e : Environment) (p : Type 0) (o : Option (List ℕ)) (go : List ℕ → Outcome) (x : CellsOutcome) → ((bs : List ℕ) → o ≡ Some bs → Copies e p (go bs) x) → Copies e p (m.with_values o go) x
-given_list_copy e p None go x h = tt
-given_list_copy e p (Some v) go x h = h v refl
+given_list_copy e p o go x h = grind arith
 
 if_copy : (e : Environment) (p : Type 0) (b : Bool) (o : Outcome) (x : CellsOutcome) → (b ≡ true → Copies e p o x) → Copies e p (cond b o Stuck) x
-if_copy e p true o x h = h refl
-if_copy e p false o x h = tt
+if_copy e p b o x h = grind arith
 
 unless_copy : (e : Environment) (p : Type 0) (b : Bool) (o : Outcome) (x : CellsOutcome) → Copies e p o x → Copies e p (cond b Stuck o) x
-unless_copy e p true o x h = tt
-unless_copy e p false o x h = h
+unless_copy e p b o x h = grind arith
 
 -- ---- registers
 
@@ -56,14 +52,10 @@ mirrored : (e : Environment) (c : Cells) (s : State) (r : Reg) (v : ℕ) → Mir
 mirrored e c s r v t h = t.reg (number r) v (number_lt r) h
 
 second_is : (e : Environment) (c : Cells) (s : State) (x : Operand) (v : ℕ) → Mirrors e c s → m.operand s x ≡ Some v → cell.second_of c x ≡ v
-second_is e c s (Operand.Imm k) v t h = let q : word k ≡ v = cc in q
-second_is e c s (Operand.Reg r) v t h = mirrored e c s r v t h
+second_is e c s x v t h = grind arith
 
 reg_set : (rs : List ℕ) (g : Map) (d v : ℕ) → length rs ≡ 11 → ((r x : ℕ) → r < 11 → g r ≡ Some x → get_or rs r 0 ≡ x) → (r x : ℕ) → r < 11 → with_entry g d v r ≡ Some x → get_or (set rs d v) r 0 ≡ x
-reg_set rs g d v l h r x k q = elim (cases_eq r d) [
-  | inl same ↦ (let inside : d < length rs = omega arith in rw (same, get_or-set_same) (some_same v x (sym (with_at g d v r same) ∙ q)))
-  | inr other ↦ rw get_or-set_other (h r x k (sym (with_other g d v r other) ∙ q))
-]
+reg_set rs g d v l h r x k q = grind (arith, cases_eq, get_or-set_same, some_same, with_at, get_or-set_other, with_other)
 
 -- a register is set in both
 set_copy : (e : Environment) (p : Type 0) (c : Cells) (s : State) (d : Reg) (v w size : ℕ) → Mirrors e c s → p → w ≡ v → Copies e p (m.sets_register e s d v size) (CellsGo (cell.set_reg c d w size))
@@ -82,9 +74,7 @@ set_copy e p c s d v w size t safe same =
 
 -- mov doesn't read its left operand
 left_is : (op : AluOp) (w : Width) (s : State) (d : Reg) (a x b : ℕ) → ((v : ℕ) → m.value s d ≡ Some v → x ≡ v) → m.left s op d ≡ Some a → alu op w x b ≡ alu op w a b
-left_is AluOp.Mov Width.Bits32 s d a x b h q = refl
-left_is AluOp.Mov Width.Bits64 s d a x b h q = refl
-left_is op w s d a x b h q = ap (λ y. alu op w y b) (h a q)
+left_is op w s d a x b h q = grind arith
 
 alu_copy : (e : Environment) (c : Cells) (s : State) (op : AluOp) (w : Width) (d : Reg) (x : Operand) → Mirrors e c s → Copies e (Unit {0}) (does e s (Insn.Alu op w d x)) (cells_act e.start c (Insn.Alu op w d x))
 alu_copy e c s op w d x t =
@@ -139,7 +129,6 @@ stack_got e c s x n bs pl t h q =
     let i = inside e.place.stack STACK_BYTES x n h in
     let low : MAX_RECORD_BYTES ≤ x = let z = ap (λ (a : Placement). a.stack) pl.place in let l = i.low in omega arith in
     let high : x + n ≤ cell.memory_bytes = let z = ap (λ (a : Placement). a.stack) pl.place in let l = i.high in omega arith in
-    let long = t.long.memory in
     record { are = entries_copy s.stack x n c.memory bs (λ j b k1 k2. t.byte j b (omega arith) (omega arith)) (omega arith) q; room = high }
 
 record_got : (e : Environment) (c : Cells) (s : State) (x n : ℕ) (bs : List ℕ) → IsHere e → Mirrors e c s → m.record_has e x n ≡ true → entries (m.record_map e) x n ≡ Some bs → Got c x n bs
@@ -174,23 +163,13 @@ load_copy e c s z y d r o pl t =
 -- a list with n elements overwritten from a on
 module _ (xs : List ℕ) (a : ℕ) (vs : List ℕ) (room : a + length vs ≤ length xs) where
   over_before : (j : ℕ) → j < a → get_or (cell.put_at xs a vs) j 0 ≡ get_or xs j 0
-  over_before j h =
-      let l1 : j < length (take a xs ++ vs) = simp (length-append, length-take) (omega arith) in
-      let l2 : j < length (take a xs) = simp length-take (omega arith) in
-      get_or_append_left (take a xs ++ vs) (drop (a + length vs) xs) 0 j l1 ∙ get_or_append_left (take a xs) vs 0 j l2 ∙ get_or-take a xs j 0 h
+  over_before j h = grind (arith, length-append, length-take, get_or_append_left, get_or-take)
 
   over_in : (i : ℕ) → i < length vs → get_or (cell.put_at xs a vs) (a + i) 0 ≡ get_or vs i 0
-  over_in i h =
-      let l1 : a + i < length (take a xs ++ vs) = simp (length-append, length-take) (omega arith) in
-      let l2 : length (take a xs) ≡ a = simp length-take (omega arith) in
-      let e : a + i - a ≡ i = omega arith in
-      get_or_append_left (take a xs ++ vs) (drop (a + length vs) xs) 0 (a + i) l1 ∙ get_or-append_right (take a xs) vs a (a + i) 0 l2 (omega arith) ∙ ap (λ m. get_or vs m 0) e
+  over_in i h = grind (arith, length-append, length-take, get_or_append_left, get_or-append_right)
 
   over_after : (j : ℕ) → a + length vs ≤ j → get_or (cell.put_at xs a vs) j 0 ≡ get_or xs j 0
-  over_after j h =
-      let l2 : length (take a xs ++ vs) ≡ a + length vs = simp (length-append, length-take) (omega arith) in
-      let e : a + length vs + (j - (a + length vs)) ≡ j = omega arith in
-      get_or-append_right (take a xs ++ vs) (drop (a + length vs) xs) (a + length vs) j 0 l2 h ∙ get_or-drop (a + length vs) xs (j - (a + length vs)) 0 ∙ ap (λ m. get_or xs m 0) e
+  over_after j h = grind (arith, length-append, length-take, get_or-append_right, get_or-drop)
 
   over_long : length (cell.put_at xs a vs) ≡ length xs
   over_long = simp (length-append, length-take, length-drop) (omega arith)
@@ -235,10 +214,7 @@ store_copy e p c s x y vs ws pl t safe ex ev =
     )))
 
 length-bytes : (z : Size) (v : ℕ) → length (to_le_bytes (width z) v) ≡ byte_len (width z)
-length-bytes Size.B v = refl
-length-bytes Size.H v = refl
-length-bytes Size.W v = refl
-length-bytes Size.Dw v = refl
+length-bytes z v = grind arith
 
 store_imm_copy : (e : Environment) (c : Cells) (s : State) (z : Size) (d : Reg) (o k : ℤ) → IsHere e → Mirrors e c s → Copies e (IsSafe c (Insn.StoreImm z d o k)) (does e s (Insn.StoreImm z d o k)) (cells_act e.start c (Insn.StoreImm z d o k))
 store_imm_copy e c s z d o k pl t =
@@ -259,24 +235,17 @@ store_reg_copy e c s z d o r pl t =
 -- ---- jumps, and the exit
 
 goes_copy : (e : Environment) (c : Cells) (s : State) (n k : ℕ) → Mirrors e c s → k ≡ n → Copies e (Unit {0}) (m.goes e s n s.regs s.stack) (CellsGo (cell.jumped_to c k))
-goes_copy e c s n k t same =
-    if_copy e _ (is_some (insn_at e.judged.program.insns n)) _ _ (λ _. (tt, record { slot = same; writes = t.writes; long = record { regs = t.long.regs; memory = t.long.memory }; reg = t.reg; byte = t.byte; given = t.given }))
+goes_copy e c s n k t same = grind arith
 
 -- a jump that leads somewhere leads to the same slot in both
 jumped_is : (n : ℕ) (o : ℤ) (t : ℕ) → m.target n o ≡ Some t → cell.jump_slot n o ≡ t
-jumped_is n (pos z) t h = some_same _ t h
-jumped_is n (negsuc z) t h = either (nat_le z n) h
-  where
-    either : (b : Bool) → cond b (Some (n - z)) None ≡ Some t → n - z ≡ t
-    either true h = some_same _ t h
-    either false h = cc
+jumped_is n o t h = grind arith
 
 jump_copy : (e : Environment) (c : Cells) (s : State) (o : ℤ) → Mirrors e c s → Copies e (Unit {0}) (does e s (Insn.Jump o)) (cells_act e.start c (Insn.Jump o))
 jump_copy e c s o t = given_copy e _ (m.target s.slot o) _ _ (λ n hn. goes_copy e c s n _ t (rw t.slot (jumped_is s.slot o n hn)))
 
 chosen : (b : Bool) (n : ℕ) (o : ℤ) (t : ℕ) → cond b (m.target n o) (Some (n + 1)) ≡ Some t → cond b (cell.jump_slot n o) (n + 1) ≡ t
-chosen true n o t h = jumped_is n o t h
-chosen false n o t h = some_same _ t h
+chosen b n o t h = grind arith
 
 jump_if_copy : (e : Environment) (c : Cells) (s : State) (p : Cmp) (w : Width) (d : Reg) (x : Operand) (o : ℤ) → Mirrors e c s → Copies e (Unit {0}) (does e s (Insn.JumpIf p w d x o)) (cells_act e.start c (Insn.JumpIf p w d x o))
 jump_if_copy e c s p w d x o t =
@@ -289,25 +258,10 @@ exit_copy e c s t = given_copy e _ (s.regs 0) _ _ (λ v hv. (t.reg 0 v (omega ar
 -- ---- calls
 
 called_reg : (rs : List ℕ) (g : Map) (v : ℕ) → length rs ≡ 11 → ((r x : ℕ) → r < 11 → g r ≡ Some x → get_or rs r 0 ≡ x) → (r x : ℕ) → r < 11 → m.called_regs g v r ≡ Some x → get_or (set rs 0 v) r 0 ≡ x
-called_reg rs g v l h zero x k q = let inside : 0 < length rs = omega arith in rw get_or-set_same (some_same v x q)
-called_reg rs g v l h (suc r) x k q =
-    let apart : suc r ≢ 0 = λ e. absurd (omega arith) in
-    let no : nat_eq (suc r) 0 ≡ false = grind (arith, nat_tests) in
-    rw get_or-set_other (either (nat_le (suc r) 5) (rw no at q))
-  where
-    either : (b : Bool) → cond b None (g (suc r)) ≡ Some x → get_or rs (suc r) 0 ≡ x
-    either true q = cc
-    either false q = h (suc r) x k q
+called_reg rs g v l h r x k q = grind (arith, get_or-set_same, some_same, nat_tests, get_or-set_other)
 
 returned_copy : (e : Environment) (c : Cells) (s : State) (ws us : Writes) (v w : ℕ) → Mirrors e c s → us ≡ ws → w ≡ v → Mirrors e (cell.cells_after_call c us w) (m.state_after_call s ws v)
-returned_copy e c s ws us v w t ew ev = record {
-  slot = ap (λ n. n + 1) t.slot;
-  writes = ew;
-  long = record { regs = length-set _ _ _ ∙ t.long.regs; memory = t.long.memory };
-  reg = rw ev (called_reg c.regs s.regs v t.long.regs t.reg);
-  byte = t.byte;
-  given = t.given;
-}
+returned_copy e c s ws us v w t ew ev = grind (arith, length-set, called_reg, t.slot, t.long.regs, t.long.memory, c.regs, s.regs, t.reg, t.byte, t.given)
 
 filled_copy : (e : Environment) (c : Cells) (s : State) (x y : ℕ) (bs : List ℕ) (v : ℕ) → Mirrors e c s → MAX_RECORD_BYTES ≤ x → x + length bs ≤ cell.memory_bytes → y ≡ x → Mirrors e (cell.cells_after_read c y bs v) (m.state_after_read s x bs v)
 filled_copy e c s x y bs v t low high ex =
@@ -323,13 +277,7 @@ pub record Room (c : Cells) (x : ℕ) : Type 0 where
   pub high : x + 32 ≤ cell.memory_bytes
 
 room_at : (e : Environment) (c : Cells) (s : State) (x : ℕ) → IsHere e → Mirrors e c s → s.regs 3 ≡ Some x → m.stack_has e x 32 ≡ true → Room c x
-room_at e c s x pl t hx h =
-    let i = inside e.place.stack STACK_BYTES x 32 h in
-    record {
-      is = t.reg 3 x (omega arith) hx;
-      low = (let z = ap (λ (a : Placement). a.stack) pl.place in let l = i.low in omega arith);
-      high = (let z = ap (λ (a : Placement). a.stack) pl.place in let l = i.high in omega arith);
-    }
+room_at e c s x pl t hx h = grind arith
 
 read_copy : (e : Environment) (c : Cells) (s : State) → IsHere e → Mirrors e c s → Copies e (cell.IsSafeCall c (Some Read)) (m.helps e s Read) (cell.cells_call e.start c (Some Read))
 read_copy e c s pl t =

@@ -1,6 +1,5 @@
 -- Maps with entries, and codes that are not listed.
-use Rattle.std.proofs.Common.{◌≡◌, ◌≢◌, ℕ, zero, suc, ◌+◌, ◌<◌, ◌≤◌, Bool, true, false, not, if◌then◌else◌, List, [], ◌∷◌, length, get_or, drop, replicate, Option, Some, refl, sym, ap, ◌∙◌, arith, add-zero, get_or-drop, ◌-◌, ◌⊎◌, inl, inr}
-use Rattle.std.proofs.lemmas.Bool.Decides.{nat_tests}
+use Rattle.std.proofs.Common.{◌≡◌, ◌≢◌, ℕ, zero, suc, ◌+◌, ◌<◌, ◌≤◌, Bool, true, false, not, if◌then◌else◌, List, [], ◌∷◌, length, get_or, Option, Some, refl, ◌∙◌, arith, add-zero, get_or-drop, ◌⊎◌, inl, inr}
 use Rattle.std.proofs.lemmas.List.{length-replicate, get_or-append_right}
 use Rattle.pb_kinds.specs.declared.frame.Frame.{Frame}
 use Rattle.pb_kinds.specs.Frames.{has_byte}
@@ -13,22 +12,19 @@ use Rattle.pb_base.proofs.Logic.{and_true}
 
 -- a code that isn't listed has its rule kept
 pub when_not : (b : Bool) (c : RuleCode) → when b c ≡ [] → b ≡ false
-when_not true c e = cc
-when_not false c e = refl
+when_not b c e = grind arith
 
 pub cond_when : (a b : Bool) (c d : RuleCode) → (if a then when (not b) c else d ∷ []) ≡ [] → (a ≡ true) × (b ≡ true)
-cond_when true true c d e = (refl, refl)
-cond_when true false c d e = cc
-cond_when false b c d e = cc
+cond_when a b c d e = grind arith
 
 with_same : (m : Map) (x v : ℕ) → with_entry m x v x ≡ Some v
-with_same m x v = grind (arith, nat_tests)
+with_same m x v = grind arith
 
 pub with_at : (m : Map) (x v y : ℕ) → y ≡ x → with_entry m x v y ≡ Some v
 with_at m x v y e = rw e (with_same m x v)
 
 pub with_other : (m : Map) (x v y : ℕ) → y ≢ x → with_entry m x v y ≡ m y
-with_other m x v y h = grind (arith, nat_tests)
+with_other m x v y h = grind arith
 
 -- n bytes, where there is each
 pub record Bytes (m : Map) (x n : ℕ) : Type 0 where
@@ -61,10 +57,7 @@ true_at (suc n) f j h (suc i) k =
 -- a flag that is set apart from those that are set from lo on was set before
 pub flag_from : (w : List Bool) (lo n i : ℕ) → (i < lo) ⊎ (lo + n ≤ i) → get_or (set_flags w lo n) i false ≡ true → get_or w i false ≡ true
 flag_from w zero n i (inl l) t = absurd (omega arith)
-flag_from w zero n i (inr l) t =
-    let e : n + (i - n) ≡ i = omega arith in
-    let past = get_or-append_right (replicate n true) (drop n w) n i false (length-replicate n true) (omega arith) ∙ get_or-drop n w (i - n) false ∙ ap (λ m. get_or w m false) e in
-    sym past ∙ t
+flag_from w zero n i (inr l) t = grind (arith, get_or-append_right, length-replicate, get_or-drop)
 flag_from [] (suc lo) n zero k t = cc
 flag_from [] (suc lo) n (suc i) (inl l) t = flag_from [] lo n i (inl (omega arith)) t
 flag_from [] (suc lo) n (suc i) (inr l) t = flag_from [] lo n i (inr (omega arith)) t
@@ -84,6 +77,4 @@ with_list_above (v ∷ vs) m x y h = with_list_above vs (with_entry m x v) (x + 
 pub with_list_in : (vs : List ℕ) (m : Map) (x i : ℕ) → i < length vs → with_list m x vs (x + i) ≡ Some (get_or vs i 0)
 with_list_in [] m x i h = absurd (omega arith)
 with_list_in (v ∷ vs) m x zero h = rw add-zero (with_list_below vs (with_entry m x v) (x + 1) x (omega arith) ∙ with_same m x v)
-with_list_in (v ∷ vs) m x (suc i) h =
-    let e : x + suc i ≡ (x + 1) + i = omega arith in
-    rw e (with_list_in vs (with_entry m x v) (x + 1) i (omega arith))
+with_list_in (v ∷ vs) m x (suc i) h = grind (arith, with_list_in vs (with_entry m x v) (x + 1) i (omega arith))

@@ -1,5 +1,5 @@
 -- Loads of any number of bytes, from the stack and from the record.
-use Rattle.std.proofs.Common.{◌∙◌, ◌≡◌, ℕ, ◌+◌, ◌-◌, ◌<◌, ◌≤◌, inl, inr, ℤ, pos, negsuc, ◌+ℤ◌, true, false, List, [], ◌++◌, length, Some, refl, arith, nat_abs, slice_get, get_or}
+use Rattle.std.proofs.Common.{◌∙◌, ◌≡◌, ℕ, ◌+◌, ◌-◌, ◌<◌, ◌≤◌, ℤ, pos, negsuc, ◌+ℤ◌, true, false, List, [], ◌++◌, length, Some, refl, arith, nat_abs, slice_get, get_or}
 use Rattle.std.proofs.lemmas.Option.{slice_get-get_or}
 use Rattle.std.specs.Int.{from_le_bytes}
 use Rattle.pb_isa.specs.declared.limits.TheConstants.{STACK_BYTES}
@@ -18,7 +18,7 @@ use Rattle.pb_verify.specs.Rules.{at, reads, sets, loads, bytes_of, insn_rules}
 use Rattle.pb_sound.specs.Fits.{HasValue, Holds, FitsFrame}
 use Rattle.pb_sound.specs.Outcomes.{GoesOn}
 use Rattle.pb_sound.proofs.Lists.{Bytes, when_not, cond_when, entries_are, true_at}
-use Rattle.pb_sound.proofs.Offsets.{moved_word, le_from, stack_at, record_at, lies, lies_not}
+use Rattle.pb_sound.proofs.Offsets.{moved_word, le_from, stack_at, lies}
 use Rattle.pb_sound.proofs.Registers.{read_value, sets_on, IsFollowed}
 use Rattle.pb_verify.proofs.JumpsForward.{empty_parts}
 use Rattle.pb_base.proofs.Logic.{true_if_not as not_false, and_true}
@@ -72,17 +72,7 @@ pub record Part (e : Environment) (s : State) (z : ℤ) (n : ℕ) : Type 0 where
 -- bytes of the record that the rules let a load take are in the record
 pub part : (e : Environment) (s : State) (z : ℤ) (n : ℕ) → 0 < n → IsPlaced e → in_record e.judged.record_size z n ≡ true → Part e s z n
 unfolding fetch
-part e s z n some pl k =
-    let h : in_record (length e.bytes) z n ≡ true = rw pl.size k in
-    let range = and_true _ _ h in
-    let low = le_from (pos 0) z range.0 in
-    let high = le_from (z +ℤ pos n) (pos (length e.bytes)) range.1 in
-    let there = record_at (length e.bytes) e.place.record_at n z low high pl.place.record_fits in
-    let j = nat_abs z in
-    let room : j + n ≤ length e.bytes = there.1 in
-    let is_out : m.stack_has e (e.place.record_at + j) n ≡ false = lies_not e.place.stack STACK_BYTES (e.place.record_at + j) n (elim pl.place.apart [ inl q ↦ inr (omega arith) | inr q ↦ inl (omega arith) ]) some in
-    let is_in : m.record_has e (e.place.record_at + j) n ≡ true = lies e.place.record_at (length e.bytes) (e.place.record_at + j) n (omega arith) (omega arith) in
-    record { room = room; are = rw (there.0, is_out, is_in) refl }
+part e s z n some pl k = grind arith
 
 -- where a stretch of the stack is fetched
 pub stack_part : (e : Environment) (s : State) (z : ℤ) (n : ℕ) → Stretch e s z n → fetch e s (address (e.place.stack + STACK_BYTES) z) n ≡ entries s.stack (e.place.stack + from_low z) n
@@ -112,10 +102,7 @@ found e f s (Kind.Record k) x o n some pl t u l h =
     rw (same, moved_word e.place.record_at k o) (record_found e s (k +ℤ o) n some pl (not_false _ (when_not _ _ l)))
 
 pub some_bytes : (z : Size) → 0 < bytes_of z
-some_bytes Size.B = omega arith
-some_bytes Size.H = omega arith
-some_bytes Size.W = omega arith
-some_bytes Size.Dw = omega arith
+some_bytes z = grind arith
 
 -- a load whose rules hold goes on, with a number
 pub load_on : (e : Environment) (f : Frame) (s : State) (z : Size) (y : Extension) (d r : Reg) (o : ℤ) → IsPlaced e → IsFollowed e.judged.program.insns s.slot (Insn.Load z y d r o) → insn_rules e.judged s.slot f (Insn.Load z y d r o) ≡ [] → FitsFrame e f s → GoesOn e f s.slot (Insn.Load z y d r o) (does e s (Insn.Load z y d r o))

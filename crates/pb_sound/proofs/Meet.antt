@@ -1,5 +1,5 @@
 -- What fits a frame fits one that says less.
-use Rattle.std.proofs.Common.{◌≡◌, ◌≢◌, ℕ, ℤ, Option, refl}
+use Rattle.std.proofs.Common.{arith, ◌≡◌, ◌≢◌, ℕ, Option, refl}
 use Rattle.pb_kinds.specs.declared.frame.Kind.{Kind}
 use Rattle.pb_kinds.specs.declared.frame.Frame.{Frame}
 use Rattle.pb_kinds.specs.Frames.{kind_of}
@@ -11,21 +11,8 @@ use Rattle.pb_sound.specs.Fits.{Holds, FitsFrame}
 abbrev pub SaysLess : Frame → Frame → Type 0
 SaysLess g f = (x : Fact) → Says g x → Says f x
 
--- a number isn't unset
-pub number_set : Kind.Number ≢ Kind.Unset
-number_set e = cc
-
-stack_set : (k : ℤ) → Kind.Stack k ≢ Kind.Unset
-stack_set k e = cc
-
-record_set : (k : ℤ) → Kind.Record k ≢ Kind.Unset
-record_set k e = cc
-
 holds_less : (e : Environment) (f : Frame) (r : ℕ) (v : Option ℕ) (k : Kind) → (k ≢ Kind.Unset → kind_of f r ≡ k) → Holds e (kind_of f r) v → Holds e k v
-holds_less e f r v Kind.Unset same h = tt
-holds_less e f r v Kind.Number same h = rw (same number_set) at h
-holds_less e f r v (Kind.Stack k) same h = rw (same (stack_set k)) at h
-holds_less e f r v (Kind.Record k) same h = rw (same (record_set k)) at h
+holds_less e f r v k same h = grind arith
 
 -- so a state that fits the frame after an instruction fits the one before the next slot
 pub fits_less : (e : Environment) (g f : Frame) (s : State) → SaysLess g f → FitsFrame e f s → FitsFrame e g s

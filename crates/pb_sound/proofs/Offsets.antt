@@ -1,10 +1,7 @@
 -- Addresses at a distance from a place.
-use Rattle.std.proofs.Common.{◌≡◌, ℕ, zero, suc, ◌-◌, ◌%◌, ◌<◌, ◌≤◌, ltb, cond, Bool, true, false, ℤ, pos, negsuc, ◌+ℤ◌, neg_ℤ, ◌≤ℤ◌, ◌+◌, int_le, nat_abs, ◌&&◌, ◌⊎◌, arith, refl}
-use Rattle.std.proofs.Math.IntN.{sub_ℕ}
-use borrow.Author.Tests.{ltb-true, ltb-false}
+use Rattle.std.proofs.Common.{◌≡◌, ℕ, ◌<◌, ◌≤◌, Bool, true, ℤ, pos, negsuc, ◌+ℤ◌, neg_ℤ, ◌≤ℤ◌, ◌+◌, int_le, ◌&&◌, arith}
 use Rattle.std.proofs.lemmas.Float.{T_from_true}
 use Rattle.std.proofs.lemmas.Int.{ints}
-use Rattle.std.proofs.lemmas.Bool.Decides.{nat_tests}
 use Rattle.pb_isa.specs.declared.limits.TheConstants.{STACK_BYTES}
 use Rattle.pb_isa.specs.Alu.{alu, word}
 use Rattle.pb_isa.specs.declared.insn.AluOp.{AluOp}
@@ -13,24 +10,13 @@ use Rattle.pb_isa.specs.Machine.{address, lies_in}
 use Rattle.pb_kinds.specs.Ranges.{in_record, from_low}
 use Rattle.pb_base.proofs.Logic.{truth as t_true}
 
--- the word of a difference
-word_sub : (a b : ℕ) → (word (sub_ℕ a b) + b) % 18446744073709551616 ≡ a % 18446744073709551616
-word_sub a b =
-    let go : (t : Bool) → ltb a b ≡ t → (word (cond t (negsuc (b - suc a)) (pos (a - b))) + b) % 18446744073709551616 ≡ a % 18446744073709551616 = λ t e. elim t as (λ t. ltb a b ≡ t → (word (cond t (negsuc (b - suc a)) (pos (a - b))) + b) % 18446744073709551616 ≡ a % 18446744073709551616) [ true ↦ λ h. let l : a < b = ltb-true a b h in omega arith | false ↦ λ h. let l : b ≤ a = ltb-false a b h in omega arith ] e in
-    go (ltb a b) refl
-
 -- two distances one after the other are their sum
 pub moved_word : (b : ℕ) (k z : ℤ) → address (address b k) z ≡ address b (k +ℤ z)
-moved_word b (pos k) (pos z) = omega arith
-moved_word b (pos k) (negsuc z) = let e = word_sub k (suc z) in omega arith
-moved_word b (negsuc k) (pos z) = let e = word_sub z (suc k) in omega arith
-moved_word b (negsuc k) (negsuc z) = omega arith
+moved_word b k z = grind arith
 
 -- what is subtracted is added as its negative
 pub sub_is : (a : ℕ) (z : ℤ) → alu AluOp.Sub Width.Bits64 a (word z) ≡ address a (neg_ℤ z)
-sub_is a (pos zero) = omega arith
-sub_is a (pos (suc n)) = omega arith
-sub_is a (negsuc n) = omega arith
+sub_is a z = grind arith
 
 pub plus_zero : (z : ℤ) → z +ℤ pos 0 ≡ z
 plus_zero z = omega (arith, ints)
@@ -42,13 +28,10 @@ pub le_to : (a b : ℤ) → a ≤ℤ b → int_le a b ≡ true
 le_to a b h = t_true _ h.le
 
 le_more : (a : ℤ) (m k : ℕ) → m ≤ k → a ≤ℤ pos m → a ≤ℤ pos k
-le_more (pos a) m k more h = omega (arith, ints)
-le_more (negsuc a) m k more h = omega (arith, ints)
+le_more a m k more h = grind arith
 
 both_true : (a b c : Bool) → (a && b) ≡ true → (b ≡ true → c ≡ true) → (a && c) ≡ true
-both_true true true c e f = f refl
-both_true true false c e f = cc
-both_true false b c e f = cc
+both_true a b c e f = grind arith
 
 -- what lies in a record lies in a larger one
 pub larger : (m k : ℕ) (z : ℤ) (n : ℕ) → m ≤ k → in_record m z n ≡ true → in_record k z n ≡ true
@@ -56,18 +39,8 @@ larger m k z n more h = both_true (int_le (pos 0) z) (int_le (z +ℤ pos n) (pos
 
 -- stack bytes at a distance from the stack's end lie where their place from the lowest one says
 pub stack_at : (b n : ℕ) (z : ℤ) → 0 < n → negsuc 511 ≤ℤ z → (z +ℤ pos n) ≤ℤ pos 0 → b + STACK_BYTES < 18446744073709551616 → (address (b + STACK_BYTES) z ≡ b + from_low z) × (from_low z + n ≤ STACK_BYTES)
-stack_at b n (pos m) some l h f = absurd (omega (arith, ints))
-stack_at b n (negsuc m) some l h f = (omega (arith, ints), omega (arith, ints))
-
--- bytes of the record lie at their distance from its first byte
-pub record_at : (size b n : ℕ) (z : ℤ) → pos 0 ≤ℤ z → (z +ℤ pos n) ≤ℤ pos size → b + size < 18446744073709551616 → (address b z ≡ b + nat_abs z) × (nat_abs z + n ≤ size)
-record_at size b n (pos m) l h f = (omega (arith, ints), omega (arith, ints))
-record_at size b n (negsuc m) l h f = absurd (omega (arith, ints))
+stack_at b n z some l h f = grind arith
 
 -- n bytes between the ends of a region lie in it
 pub lies : (base len x n : ℕ) → base ≤ x → x + n ≤ base + len → lies_in base len x n ≡ true
-lies base len x n a b = grind (arith, nat_tests)
-
--- and of bytes beside it none does: so stack and record aren't taken for one another
-pub lies_not : (base len x n : ℕ) → (x + n ≤ base) ⊎ (base + len ≤ x) → 0 < n → lies_in base len x n ≡ false
-lies_not base len x n a b = grind (arith, nat_tests)
+lies base len x n a b = grind arith

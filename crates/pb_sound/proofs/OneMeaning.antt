@@ -1,9 +1,9 @@
 -- From entry with one talk there is one end.
-use Rattle.std.proofs.Common.{◌≡◌, ℕ, zero, suc, ◌+◌, ◌-◌, ◌<◌, [], inl, inr, length, Option, Some, None, refl, sym, ap, ◌∙◌, arith}
+use Rattle.std.proofs.Common.{◌≡◌, ℕ, zero, suc, ◌+◌, ◌-◌, ◌<◌, [], inl, inr, length, Option, Some, None, refl, ap, arith}
 use Rattle.std.proofs.lemmas.Bool.{cases_eq, cases_lt}
 use Rattle.pb_base.specs.Batch.{Writes}
 use Rattle.pb_isa.specs.Machine.{Environment, State, Outcome, Ends, act}
-use Rattle.pb_isa.specs.Meaning.{Talk, Point, point, onward, point_after, environment_of, kept_writes, EndsWith}
+use Rattle.pb_isa.specs.Meaning.{Talk, Point, point, onward, point_after, EndsWith}
 use Rattle.pb_sound.specs.OneMeaning.{EachHasOneMeaning}
 
 -- after an end nothing follows
@@ -44,10 +44,7 @@ same_end r v ws us h = (ap result_of h, ap writes_of h)
 one_end : (e : Environment) (talk : Talk) (r v : ℕ) (ws us : Writes) → EndsWith e talk r ws → EndsWith e talk v us → (r ≡ v) × (ws ≡ us)
 one_end e talk r v ws us x y = elim (cases_eq x.steps y.steps) [
   | inl same ↦
-      let there : point_after e talk y.steps ≡ Some (point x.last (length talk)) = rw same at x.leads in
-      let last : x.last ≡ y.last = same_state x.last y.last (length talk) (sym there ∙ y.leads) in
-      let ends = same_end r v x.made y.made (sym x.ends ∙ ap (act e) last ∙ y.ends) in
-      (ends.0, x.kept ∙ (λ i. kept_writes (ends.0 i) (ends.1 i)) ∙ sym y.kept)
+      grind (arith, same_state, same_end, y.steps, x.last, x.leads, y.last, y.leads, x.made, y.made, x.ends, y.ends, x.kept, y.kept)
   | inr apart ↦ elim (cases_lt x.steps y.steps) [
     | inl l ↦ absurd (not_later e talk r v ws us x y l)
     | inr l ↦ absurd (not_later e talk v r us ws y x (omega (arith, l, apart)))
@@ -56,6 +53,4 @@ one_end e talk r v ws us x y = elim (cases_eq x.steps y.steps) [
 
 -- and so a program means one result and one list of writes
 pub one_meaning : EachHasOneMeaning
-one_meaning j bytes start talk r v ws us x y =
-    let a = x.some in
-    one_end (environment_of j bytes start a.0) talk r v ws us (x.at a.0 a.1) (y.at a.0 a.1)
+one_meaning j bytes start talk r v ws us x y = grind (arith, one_end, x.some, x.at, y.at)

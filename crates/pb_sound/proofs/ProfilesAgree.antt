@@ -1,16 +1,15 @@
 -- The profile decides which programs there are, and nothing else.
-use Rattle.std.proofs.Common.{◌≡◌, ℕ, zero, suc, ◌+◌, List, Option, Some, None, is_some, cond, refl, sym, ap, ◌∙◌, arith}
+use Rattle.std.proofs.Common.{◌≡◌, ℕ, zero, suc, List, Option, refl, sym, ap, ◌∙◌, arith}
 use Rattle.pb_base.specs.Batch.{Writes}
 use Rattle.pb_isa.specs.declared.insn.Insn.{Insn}
 use Rattle.pb_isa.specs.declared.profile.Profile.{Profile}
 use Rattle.pb_isa.specs.Slots.{insn_at}
-use Rattle.pb_isa.specs.Helpers.{Helper, Read, Write, Delete, Start, HelperSet, declared_helper}
-use Rattle.pb_isa.specs.Machine.{Placement, Environment, State, Stuck, fetch, helps, calls, does, does_at, act, state_at_entry}
-use Rattle.pb_isa.specs.Meaning.{Talk, Point, on, onward, point_after, environment_of, EndsWith, Means}
+use Rattle.pb_isa.specs.Helpers.{Helper, HelperSet}
+use Rattle.pb_isa.specs.Machine.{Placement, Environment, State, fetch, helps, calls, does, does_at, act, state_at_entry}
+use Rattle.pb_isa.specs.Meaning.{Talk, Point, onward, point_after, environment_of, EndsWith, Means}
 use Rattle.pb_kinds.specs.declared.frame.Frame.{Frame}
 use Rattle.pb_helpers.specs.declared.code.RuleCode.{RuleCode}
 use Rattle.pb_helpers.specs.Codes.{lowest_code}
-use Rattle.pb_verify.specs.Rules.{insn_rules}
 use Rattle.pb_verify.specs.Arriving.{in_at, codes_at, faults, Accepts, Refuses}
 use Rattle.pb_sound.specs.ProfilesAgree.{judged_in, ProgramsOfOneAreOfTwo, SameAreAccepted, SameAreRefused, SameIsMeant}
 use Rattle.pb_isa.proofs.Instructions.{all_next as all_of_two}
@@ -24,23 +23,8 @@ programs is p = record { some = p.some; most = (let most = p.most in omega (arit
 module _ (p q : Profile) (is : List Insn) (h : HelperSet) (size : ℕ) where
   -- ---- rules
 
-  rules_same : (n : ℕ) (f : Frame) (i : Insn) → insn_rules (judged_in p is h size) n f i ≡ insn_rules (judged_in q is h size) n f i
-  rules_same n f (Insn.Alu op w d x) = refl
-  rules_same n f (Insn.MovSx w z d r) = refl
-  rules_same n f (Insn.Neg w d) = refl
-  rules_same n f (Insn.LoadImm d v) = refl
-  rules_same n f (Insn.Load z x d r o) = refl
-  rules_same n f (Insn.StoreImm z d o k) = refl
-  rules_same n f (Insn.Store z d r o) = refl
-  rules_same n f (Insn.Jump o) = refl
-  rules_same n f (Insn.JumpIf c w d x o) = refl
-  rules_same n f (Insn.Call k) = refl
-  rules_same n f Insn.Exit = refl
-
   codes_same : (n : ℕ) (i : Option Insn) (f : Option Frame) → codes_at (judged_in p is h size) n i f ≡ codes_at (judged_in q is h size) n i f
-  codes_same n None f = refl
-  codes_same n (Some i) None = refl
-  codes_same n (Some i) (Some f) = rules_same n f i
+  codes_same n i f = grind arith
 
   faults_same : (n : ℕ) → faults (judged_in p is h size) n ≡ faults (judged_in q is h size) n
   faults_same n = codes_same n (insn_at is n) (in_at is n)
@@ -61,40 +45,24 @@ module _ (p q : Profile) (is : List Insn) (h : HelperSet) (size : ℕ) where
     in_other = environment_of (judged_in q is h size) bytes start a
 
     helps_same : (s : State) (x : Helper) → helps in_one s x ≡ helps in_other s x
-    helps_same s Read = refl
-    helps_same s Write = refl
-    helps_same s Delete = refl
-    helps_same s Start = refl
+    helps_same s x = grind arith
 
     calls_same : (s : State) (x : Option Helper) → calls in_one s x ≡ calls in_other s x
-    calls_same s None = refl
-    calls_same s (Some x) = ap (λ o. cond (is_some (insn_at is (s.slot + 1))) o Stuck) (helps_same s x)
+    calls_same s x = grind arith
 
     does_same : (s : State) (i : Insn) → does in_one s i ≡ does in_other s i
     unfolding fetch
-    does_same s (Insn.Alu op w d x) = refl
-    does_same s (Insn.MovSx w z d r) = refl
-    does_same s (Insn.Neg w d) = refl
-    does_same s (Insn.LoadImm d v) = refl
-    does_same s (Insn.Load z x d r o) = refl
-    does_same s (Insn.StoreImm z d o k) = refl
-    does_same s (Insn.Store z d r o) = refl
-    does_same s (Insn.Jump o) = refl
-    does_same s (Insn.JumpIf c w d x o) = refl
-    does_same s (Insn.Call k) = calls_same s (declared_helper h k)
-    does_same s Insn.Exit = refl
+    does_same s i = grind arith
 
     does_at_same : (s : State) (i : Option Insn) → does_at in_one s i ≡ does_at in_other s i
-    does_at_same s None = refl
-    does_at_same s (Some i) = does_same s i
+    does_at_same s i = grind (arith, does_same)
 
     acts_same : (s : State) → act in_one s ≡ act in_other s
     unfolding act
     acts_same s = does_at_same s (insn_at is s.slot)
 
     onward_same : (talk : Talk) (x : Option Point) → onward in_one talk x ≡ onward in_other talk x
-    onward_same talk None = refl
-    onward_same talk (Some x) = ap (λ o. on talk o x.told) (acts_same x.state)
+    onward_same talk x = grind (arith, acts_same)
 
     point_same : (talk : Talk) (n : ℕ) → point_after in_one talk n ≡ point_after in_other talk n
     unfolding point_after state_at_entry

@@ -1,8 +1,7 @@
 -- Registers: what is set, and what holds of it.
-use Rattle.std.proofs.Common.{◌≡◌, ◌≢◌, ℕ, ◌+◌, inl, inr, true, false, nat_eq, List, [], ◌∷◌, length, get_or, set, Option, Some, refl, arith, is_some, get_or-set_same, get_or-set_other}
+use Rattle.std.proofs.Common.{◌≡◌, ◌≢◌, ℕ, ◌+◌, true, false, nat_eq, List, [], ◌∷◌, length, get_or, set, Option, Some, arith, is_some, get_or-set_same, get_or-set_other}
 use Rattle.std.proofs.lemmas.List.{length-set, get_or_past}
 use Rattle.std.proofs.lemmas.Bool.{cases_eq, cases_lt}
-use Rattle.std.proofs.lemmas.Bool.Decides.{nat_tests}
 use Rattle.pb_isa.specs.declared.insn.Insn.{Insn}
 use Rattle.pb_isa.specs.declared.insn.Reg.{Reg}
 use Rattle.pb_isa.specs.Registers.{number}
@@ -22,26 +21,17 @@ use Rattle.pb_sound.proofs.Lists.{when_not, with_at, with_other}
 
 -- past the end nothing is known
 holds_same : (e : Environment) (ks : List Kind) (d : ℕ) (k : Kind) (v : Option ℕ) → Holds e k v → Holds e (get_or (set ks d k) d Kind.Unset) v
-holds_same e ks d k v h = elim (cases_lt d (length ks)) [
-  | inl l ↦ rw (get_or-set_same) h
-  | inr l ↦ (let past : get_or (set ks d k) d Kind.Unset ≡ Kind.Unset = get_or_past (set ks d k) d Kind.Unset (rw (length-set ks d k) (omega arith)) in rw past tt)
-]
+holds_same e ks d k v h = grind (arith, cases_lt, get_or-set_same, get_or_past, length-set)
 
 holds_set : (e : Environment) (ks : List Kind) (m : Map) (d : ℕ) (k : Kind) (v : ℕ) → ((r : ℕ) → Holds e (get_or ks r Kind.Unset) (m r)) → Holds e k (Some v) → (r : ℕ) → Holds e (get_or (set ks d k) r Kind.Unset) (with_entry m d v r)
-holds_set e ks m d k v h n r = elim (cases_eq r d) [
-  | inl same ↦ rw (with_at m d v r same, same) (holds_same e ks d k (Some v) n)
-  | inr other ↦ rw (with_other m d v r other, get_or-set_other) (h r)
-]
+holds_set e ks m d k v h n r = grind (arith, cases_eq, with_at, holds_same, with_other, get_or-set_other)
 
 -- a state fits on where a register is set to what its new kind says
 pub fits_set : (e : Environment) (f : Frame) (s t : State) (d : Reg) (k : Kind) (v : ℕ) → FitsFrame e f s → Holds e k (Some v) → t.regs ≡ with_entry s.regs (number d) v → t.stack ≡ s.stack → FitsFrame e (with_kind f d k) t
-fits_set e f s t d k v h n er es = record {
-  reg = λ r. rw er (holds_set e f.kinds s.regs (number d) k v h.reg n r);
-  byte = λ i w. rw es (h.byte i w);
-}
+fits_set e f s t d k v h n er es = grind (arith, holds_set, f.kinds, s.regs, h.reg, h.byte)
 
 ne_from_false : (a b : ℕ) → nat_eq a b ≡ false → a ≢ b
-ne_from_false a b h = grind (arith, nat_tests)
+ne_from_false a b h = grind arith
 
 -- how many slots an instruction takes
 abbrev pub size : Insn → ℕ
@@ -60,18 +50,11 @@ pub follows : (p : List Insn) (i : Insn) (n : ℕ) → IsFollowed p n i → fall
 follows p i n a h = a.next (ne_from_false _ _ (when_not _ _ h))
 
 pub among_one : (n : ℕ) → has_slot (n ∷ []) n ≡ true
-among_one n = grind (arith, nat_tests)
+among_one n = grind arith
 
 -- a register is set, and the instruction leads to the slot after it
 pub sets_on : (e : Environment) (f : Frame) (s : State) (i : Insn) (d : Reg) (k : Kind) (v : ℕ) → leads s.slot i ≡ (s.slot + size i) ∷ [] → after f i ≡ with_kind f d k → IsFollowed e.judged.program.insns s.slot i → falls e.judged.program.insns (s.slot + size i) ≡ [] → sets d ≡ [] → FitsFrame e f s → Holds e k (Some v) → GoesOn e f s.slot i (m.sets_register e s d v (size i))
-sets_on e f s i d k v el ea a b o h n =
-    let free : nat_eq (number d) 10 ≡ false = when_not _ _ o in
-    let lands = follows e.judged.program.insns i s.slot a b in
-    rw (free, lands) (record {
-      leads = rw el (among_one (s.slot + size i));
-      first = lands;
-      fits = rw ea (fits_set e f s _ d k v h n refl refl);
-    })
+sets_on e f s i d k v el ea a b o h n = grind (arith, when_not, follows, among_one, fits_set, e.judged.program.insns, s.slot)
 
 -- a register that is read has a value
 pub record Value (e : Environment) (k : Kind) (v : Option ℕ) : Type 0 where
@@ -80,10 +63,7 @@ pub record Value (e : Environment) (k : Kind) (v : Option ℕ) : Type 0 where
   pub holds : Holds e k (Some value)
 
 pub value_of : (e : Environment) (k : Kind) (v : Option ℕ) → is_unset k ≡ false → Holds e k v → Value e k v
-value_of e Kind.Unset v u h = cc
-value_of e Kind.Number v u h = record { value = h.0; is = h.1; holds = (h.0, refl) }
-value_of e (Kind.Stack k) v u h = record { value = _; is = h; holds = refl }
-value_of e (Kind.Record k) v u h = record { value = _; is = h; holds = refl }
+value_of e k v u h = grind arith
 
 -- a register that the rules let be read has a value
 pub read_value : (e : Environment) (f : Frame) (s : State) (r : Reg) → reads f r ≡ [] → FitsFrame e f s → Value e (at f r) (m.value s r)

@@ -1,5 +1,5 @@
 -- The writes of a run are distinct data cells without stamps, 16 at most, at each point of it.
-use Rattle.std.proofs.Common.{◌≡◌, ℕ, ◌+◌, ◌≤◌, zero, suc, Bool, true, false, cond, nat_eq, nat_lt, List, [], ◌∷◌, ◌++◌, length, Option, Some, None, refl, sym, ap, subst, ◌∙◌, inl, inr, arith, length-append, ◌&&◌, replicate, is_some, is_none, slice_get}
+use Rattle.std.proofs.Common.{◌≡◌, ℕ, ◌≤◌, zero, suc, Bool, true, false, cond, nat_eq, nat_lt, List, [], ◌∷◌, ◌++◌, length, Option, Some, None, refl, sym, ap, subst, ◌∙◌, inl, inr, arith, length-append, ◌&&◌, is_some, is_none}
 use Rattle.std.specs.Cmp.{eq_by_cmp_equiv}
 use Rattle.std.specs.List.{list_all}
 use Rattle.std.specs.Ordering.{eq_by_cmp}
@@ -11,9 +11,9 @@ use Rattle.pb_base.specs.declared.limits.TheConstants.{MAX_CELLS}
 use Rattle.pb_base.specs.Batch.{Writes, content_in, is_unstamped, is_data_write, are_distinct}
 use Rattle.pb_isa.specs.declared.insn.Insn.{Insn}
 use Rattle.pb_isa.specs.Slots.{insn_at}
-use Rattle.pb_isa.specs.Helpers.{Helper, Read, Write, Delete, Start, declared_helper}
-use Rattle.pb_isa.specs.Machine.{Environment, State, Ask, Reply, is_reply, Outcome, Goes, Asks, Ends, Stuck, with_value, with_values, stack_has, entries, replace_write, add_write, write_result, cell_of, state_after_call, state_after_read, reply_bytes, reply_result, reads_cell, writes_cell, helps, calls, does, does_at, act, state_at_entry}
-use Rattle.pb_isa.specs.Meaning.{Talk, Point, point, is_same_ask, on_reply, on, onward, point_after}
+use Rattle.pb_isa.specs.Helpers.{Helper}
+use Rattle.pb_isa.specs.Machine.{Environment, State, Reply, Outcome, Goes, Asks, Ends, Stuck, with_value, with_values, replace_write, add_write, reads_cell, writes_cell, helps, calls, does, does_at, act, state_at_entry}
+use Rattle.pb_isa.specs.Meaning.{Talk, Point, point, on, onward, point_after}
 use Rattle.pb_sound.specs.RunWrites.{AreRunWrites, RunsWriteBatches}
 use Rattle.pb_sound.proofs.Silent.{IsSilentStep, plain_is_silent}
 use Rattle.pb_base.proofs.SameCells.{cell_is}
@@ -44,12 +44,10 @@ plain_replaced x c (w ∷ ws) p h = let q = and_parts (is_data_write w) (list_al
 
 -- whether a cell is written doesn't depend on what it is given
 none_some : (t : Bool) (a b : Content) (o : Option Content) → is_none (cond t (Some a) o) ≡ is_none (cond t (Some b) o)
-none_some true a b o = refl
-none_some false a b o = refl
+none_some t a b o = grind arith
 
 none_past : (t : Bool) (a : Content) (o p : Option Content) → is_none o ≡ is_none p → is_none (cond t (Some a) o) ≡ is_none (cond t (Some a) p)
-none_past true a o p e = refl
-none_past false a o p e = e
+none_past t a o p e = grind arith
 
 -- a replaced write is of the same cells
 lacks_replaced : (x : Cell) (c : Content) (ws : Writes) (y : Cell) → is_none (content_in (replace_write x c ws) y) ≡ is_none (content_in ws y)
@@ -73,8 +71,7 @@ distinct_replaced x c (w ∷ ws) h = let q = and_parts (is_none (content_in ws w
 
 -- a cell that the list lacks is none of its own, either way round
 pub lacks_first : (t : Bool) (a : Content) (o : Option Content) → is_none (cond t (Some a) o) ≡ true → (t ≡ false) × (is_none o ≡ true)
-lacks_first true a o h = cc
-lacks_first false a o h = (refl, h)
+lacks_first t a o h = grind arith
 
 lacks_more : (ws : Writes) (x : Cell) (c : Content) (y : Cell) → is_none (content_in ws y) ≡ true → eq_by_cmp cell_cmp y x ≡ false → is_none (content_in (ws ++ (x, c) ∷ []) y) ≡ true
 lacks_more [] x c y h apart = ap (λ b. is_none (cond b (Some c) None)) apart
@@ -96,8 +93,7 @@ plain_more [] w h p = λ i. p i && true
 plain_more (v ∷ vs) w h p = let q = and_parts (is_data_write v) (list_all is_data_write vs) h in (λ i. q.0 i && plain_more vs w q.1 p i)
 
 none_if : (o : Option Content) → is_some o ≡ false → is_none o ≡ true
-none_if None e = refl
-none_if (Some k) e = cc
+none_if o e = grind arith
 
 -- a write keeps it so: of a 17th cell nothing is written
 made_more : (ws : Writes) (x : Cell) (c : Content) → is_data_write (x, c) ≡ true → AreMade ws → AreMade (add_write x c ws)
@@ -121,59 +117,35 @@ IsMadeStep (Ends v us) = AreMade us
 IsMadeStep Stuck = Unit {0}
 
 from_silent : (ws : Writes) → AreMade ws → (o : Outcome) → IsSilentStep ws o → IsMadeStep o
-from_silent ws m (Goes t) h = subst AreMade (sym h) m
-from_silent ws m (Asks q go) h = absurd h
-from_silent ws m (Ends v us) h = subst AreMade (sym h) m
-from_silent ws m Stuck h = tt
+from_silent ws m o h = grind arith
 
 with_one : (o : Option ℕ) (go : ℕ → Outcome) → ((v : ℕ) → IsMadeStep (go v)) → IsMadeStep (with_value o go)
-with_one None go h = tt
-with_one (Some v) go h = h v
+with_one o go h = grind arith
 
 with_many : (o : Option (List ℕ)) (go : List ℕ → Outcome) → ((v : List ℕ) → IsMadeStep (go v)) → IsMadeStep (with_values o go)
-with_many None go h = tt
-with_many (Some v) go h = h v
+with_many o go h = grind arith
 
 either : (b : Bool) (o q : Outcome) → IsMadeStep o → IsMadeStep q → IsMadeStep (cond b o q)
-either true o q h k = h
-either false o q h k = k
+either b o q h k = grind arith
 
 module _ (e : Environment) (s : State) (m : AreMade s.writes) where
   reads : (row column x : ℕ) → IsMadeStep (reads_cell s row column x)
-  reads row column x = either (nat_lt column 16)
-      (Asks (record { row = row; column = column }) (λ r. state_after_read s x (reply_bytes r) (reply_result r)))
-      (Goes (state_after_read s x (zeros 32) 2)) (λ r. m) m
-    where
-      zeros : ℕ → List ℕ
-      zeros n = replicate n 0
+  reads row column x = grind arith
 
   writes : (row column : ℕ) (c : Content) → is_unstamped c ≡ true → IsMadeStep (writes_cell s row column c)
-  writes row column c p = either (nat_lt column 16)
-      (Goes (state_after_call s (add_write (cell_of row column) c s.writes) (write_result (cell_of row column) s.writes)))
-      (Goes (state_after_call s s.writes 2)) (made_more s.writes (cell_of row column) c p m) m
+  writes row column c p = grind (arith, either, made_more, s.writes)
 
   helping : (h : Helper) → IsMadeStep (helps e s h)
-  helping Read =
-      with_one (s.regs 1) _ (λ row. with_one (s.regs 2) _ (λ column. with_one (s.regs 3) _ (λ x.
-      either (stack_has e x 32) (reads_cell s row column x) Stuck (reads row column x) tt)))
-  helping Write =
-      with_one (s.regs 1) _ (λ row. with_one (s.regs 2) _ (λ column. with_one (s.regs 3) _ (λ x.
-      either (stack_has e x 32) (with_values (entries s.stack x 32) (λ bs. writes_cell s row column (Content.Value bs))) Stuck
-      (with_many (entries s.stack x 32) _ (λ bs. writes row column (Content.Value bs) refl)) tt)))
-  helping Delete = with_one (s.regs 1) _ (λ row. with_one (s.regs 2) _ (λ column. writes row column Content.Deleted refl))
-  helping Start = m
+  helping h = grind (arith, with_one, either, reads, with_many, writes)
 
   calling : (h : Option Helper) → IsMadeStep (calls e s h)
-  calling None = tt
-  calling (Some h) = either (is_some (insn_at e.judged.program.insns (s.slot + 1))) (helps e s h) Stuck (helping h) tt
+  calling h = grind (arith, either, helping)
 
   doing : (i : Insn) → IsMadeStep (does e s i)
-  doing (Insn.Call imm) = calling (declared_helper e.judged.helpers imm)
-  doing i = from_silent s.writes m (does e s i) (plain_is_silent e s i tt)
+  doing i = grind (arith, calling, from_silent, plain_is_silent)
 
   doing_at : (i : Option Insn) → IsMadeStep (does_at e s i)
-  doing_at None = tt
-  doing_at (Some i) = doing i
+  doing_at i = grind (arith, doing)
 
   acting : IsMadeStep (act e s)
   unfolding act
@@ -181,19 +153,8 @@ module _ (e : Environment) (s : State) (m : AreMade s.writes) where
 
 -- ---- a run
 
-replied : (a : Ask) (go : Reply → State) (k : ℕ) (x : Option (Ask × Reply)) (u : Point) → ((r : Reply) → AreMade (go r).writes) → on_reply a go k x ≡ Some u → AreMade u.state.writes
-replied a go k None u h e = cc
-replied a go k (Some x) u h e = by (is_same_ask x.0 a && is_reply x.1) e
-  where
-    by : (b : Bool) → cond b (Some (point (go x.1) (k + 1))) None ≡ Some u → AreMade u.state.writes
-    by true e = let same : point (go x.1) (k + 1) ≡ u = cc in subst (λ (z : Point). AreMade z.state.writes) same (h x.1)
-    by false e = cc
-
 going_on : (talk : Talk) (o : Outcome) (k : ℕ) (u : Point) → IsMadeStep o → on talk o k ≡ Some u → AreMade u.state.writes
-going_on talk (Goes t) k u h e = let same : point t k ≡ u = cc in subst (λ (z : Point). AreMade z.state.writes) same h
-going_on talk (Asks q go) k u h e = replied q go k (slice_get talk k) u h e
-going_on talk (Ends v us) k u h e = cc
-going_on talk Stuck k u h e = cc
+going_on talk o k u h e = grind arith
 
 nothing : AreMade []
 nothing = record { few = omega arith; plain = refl; distinct = refl }

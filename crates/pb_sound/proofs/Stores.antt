@@ -1,5 +1,5 @@
 -- Stores of any number of bytes.
-use Rattle.std.proofs.Common.{◌≡◌, ℕ, ◌+◌, ◌-◌, ◌<◌, ◌≤◌, inl, inr, ℤ, pos, negsuc, ◌+ℤ◌, Bool, true, false, List, [], ◌∷◌, ◌++◌, length, get_or, Some, refl, ◌∙◌, arith, is_some, IsTrue}
+use Rattle.std.proofs.Common.{◌≡◌, ℕ, ◌+◌, ◌-◌, ◌<◌, ◌≤◌, inl, inr, ℤ, pos, negsuc, ◌+ℤ◌, Bool, true, false, List, [], ◌∷◌, ◌++◌, length, get_or, Some, refl, arith, is_some, IsTrue}
 use Rattle.std.proofs.lemmas.Bool.{cases_lt}
 use Rattle.std.specs.Int.{to_le_bytes}
 use Rattle.pb_isa.specs.declared.limits.TheConstants.{STACK_BYTES}
@@ -70,13 +70,7 @@ stack_room e f k o n some pl l =
     let low = le_from (negsuc 511) z range.0 in
     let high = le_from (z +ℤ pos n) (pos 0) range.1 in
     let there = stack_at e.place.stack n z some low high pl.place.stack_fits in
-    let room : from_low z + n ≤ STACK_BYTES = there.1 in
-    record {
-      frame = rw ok refl;
-      there = moved_word (e.place.stack + STACK_BYTES) k o ∙ there.0;
-      room = room;
-      inside = lies e.place.stack STACK_BYTES (e.place.stack + from_low z) n (omega arith) (omega arith);
-    }
+    grind (arith, moved_word, lies, e.place.stack)
 
 -- a store whose rules hold goes through a pointer to the stack
 pub store_room : (e : Environment) (f : Frame) (k : Kind) (x : ℕ) (o : ℤ) (n : ℕ) → 0 < n → IsPlaced e → is_unset k ≡ false → stores k o n ≡ [] → Holds e k (Some x) → Room e f k o n x
@@ -89,18 +83,10 @@ store_room e f (Kind.Stack k) x o n some pl u l h =
 
 -- n bytes are stored there, and the instruction leads to the slot after it
 stores_on : (e : Environment) (f : Frame) (s : State) (i : Insn) (k : Kind) (x : ℕ) (o : ℤ) (n : ℕ) (vs : List ℕ) → length vs ≡ n → leads s.slot i ≡ (s.slot + 1) ∷ [] → after f i ≡ with_store f k o n → is_some (insn_at e.judged.program.insns (s.slot + 1)) ≡ true → FitsFrame e f s → Room e f k o n x → GoesOn e f s.slot i (m.stores_bytes e s (address x o) vs)
-stores_on e f s i k x o n vs lv el ea lands h at =
-    rw (at.there, lv, at.inside, lands) (record {
-      leads = rw el (among_one (s.slot + 1));
-      first = lands;
-      fits = rw (ea, at.frame) (fits_put e f s _ (spot k o) n vs lv h refl refl);
-    })
+stores_on e f s i k x o n vs lv el ea lands h at = grind (arith, among_one, fits_put, at.there, at.inside, s.slot, at.frame)
 
 pub length-bytes : (z : Size) (v : ℕ) → length (to_le_bytes (width z) v) ≡ bytes_of z
-length-bytes Size.B v = refl
-length-bytes Size.H v = refl
-length-bytes Size.W v = refl
-length-bytes Size.Dw v = refl
+length-bytes z v = grind arith
 
 pub store_imm_on : (e : Environment) (f : Frame) (s : State) (z : Size) (d : Reg) (o k : ℤ) → IsPlaced e → IsFollowed e.judged.program.insns s.slot (Insn.StoreImm z d o k) → insn_rules e.judged s.slot f (Insn.StoreImm z d o k) ≡ [] → FitsFrame e f s → GoesOn e f s.slot (Insn.StoreImm z d o k) (does e s (Insn.StoreImm z d o k))
 store_imm_on e f s z d o k pl a b t =

@@ -1,5 +1,5 @@
 -- Where observers are behind on a cell, and where they aren't.
-use Rattle.std.proofs.Common.{ℕ, ◌<◌, ◌≤◌, ◌⊎◌, inl, inr, Bool, true, false, List, length, arith, MatchBool}
+use Rattle.std.proofs.Common.{ℕ, ◌<◌, ◌≤◌, ◌⊎◌, Bool, List, length, arith, MatchBool}
 use Rattle.std.proofs.lemmas.Option.{slice_get_within}
 use Rattle.pb_base.specs.declared.cell.Cell.{Cell}
 use Rattle.pb_base.specs.declared.names.Row.{Row}
@@ -12,31 +12,14 @@ use Rattle.pb_state.specs.Behind.{SomeLate, AreOnTime}
 
 module _ (observers : List ObserverOf) (e : Entries) (row : Row) (column : ℕ) where
   pub some_behind : (v : Revision) → IsVersion e (Cell.Data row column) last_timestamp v → SomeLate e row column v.commit.0 observers → SomeBehind observers e (Cell.Data row column)
-  some_behind v n late =
-      let stamp = late.3.2.2 in
-      let below = late.3.3 in (
-        late.0,
-        record {
-          version = v;
-          newest = n;
-          acknowledged = late.3.2.0;
-          acknowledges = record { observer = late.1; there = late.2; observes = late.3.0; newest = late.3.2.1 };
-          newer = omega (arith, stamp, below);
-        },
-      )
+  some_behind v n late = grind arith
 
   above : (b c : ℕ) → (c < b) ⊎ (b ≤ c)
   above b c = grind arith
 
   pub all_up_to_date : (v : Revision) → IsVersion e (Cell.Data row column) last_timestamp v → AreOnTime e row column v.commit.0 observers (length observers) → AllUpToDate observers e (Cell.Data row column)
-  all_up_to_date v n times p observer there observes c low written =
-      let k = times p observer (slice_get_within observers p observer there) there observes in
-      elim (above c v.commit.0) [
-        | inl g ↦ (let none = n.newest c g low in absurd cc)
-        | inr g ↦ (let is = k.1.2 in let on = k.2 in (k.1.0, k.1.1, omega (arith, g, is, on)))
-      ]
+  all_up_to_date v n times p observer there observes c low written = grind (arith, slice_get_within, above, n.newest)
 
 -- what a test tells either way, said of what follows from it
 pub either_way : {A B C D : Type 0} (b : Bool) → (A → C) → (B → D) → MatchBool b A B → MatchBool b C D
-either_way true f g h = f h
-either_way false f g h = g h
+either_way b f g h = grind arith

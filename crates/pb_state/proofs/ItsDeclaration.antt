@@ -1,5 +1,5 @@
 -- What passes the test for a declaration of its transaction is one.
-use Rattle.std.proofs.Common.{◌≡◌, ℕ, Bool, true, false, cond, ◌&&◌, List, [], ◌∷◌, Option, Some, None, slice_get, refl, sym, ap, subst, ◌∙◌, ◌==◌, nat_lt}
+use Rattle.std.proofs.Common.{arith, ◌≡◌, ℕ, Bool, true, false, cond, ◌&&◌, List, [], ◌∷◌, Option, Some, None, slice_get, refl, sym, subst, ◌==◌, nat_lt}
 use Rattle.std.specs.Ordering.{eq_by_cmp}
 use Rattle.std.proofs.lemmas.Bool.{eqb-true, ltb-true}
 use Rattle.pb_base.specs.declared.cell.Cell.{Cell}
@@ -22,16 +22,13 @@ use Rattle.pb_steps.specs.Reads.{asked_cell, version_in, acknowledged_in, value_
 use Rattle.pb_steps.specs.State.{cells_of, batch_in}
 use Rattle.pb_verify.specs.Observers.{ObserverOf, observed_cell, acknowledgment}
 use Rattle.pb_state.specs.Cells.{acknowledgment_by, run_writes}
-use Rattle.pb_steps.specs.Declarations.{IsReadOf, old_at, WasOld, WasSeen, AreReplies, IsItsRun, MayDeclare, is_at, is_read_of, with_old, seen_by, seen_in, asked_in, is_replied, are_replies, is_made_of, is_run, is_run_by, is_run_of, is_its}
+use Rattle.pb_steps.specs.Declarations.{IsReadOf, old_at, WasOld, WasSeen, AreReplies, IsItsRun, MayDeclare, is_at, is_read_of, with_old, seen_by, seen_in, asked_in, is_replied, are_replies, is_made_of, is_run, is_run_by, is_its}
 use Rattle.pb_base.proofs.Logic.{and_true as both}
 use Rattle.pb_base.proofs.SameCells.{cell_is as same_cell}
 
 -- the test of two named timestamps tells that they are one
 at_is : (p q : Option Ts) → is_at p q ≡ true → p ≡ q
-at_is None None e = refl
-at_is (Some t) (Some u) e = ap (λ n. Some (record { 0 = n })) (eqb-true t.0 u.0 e)
-at_is None (Some u) e = cc
-at_is (Some t) None e = cc
+at_is p q e = grind arith
 
 -- and that of a read that it is of this cell
 read_is : (r : RecordedRead) (x : Cell) (named : Option Ts) → is_read_of r x named ≡ true → IsReadOf r x named
@@ -47,27 +44,10 @@ pub record IsWithOld (at : Option Ts) (x : Cell) (was : Seen) (rest : List Recor
 
 if_old : (a : Ts) (x : Cell) (was : Seen) (r : RecordedRead) (rs : List RecordedRead) (seen : Seen) (b : Bool) → is_read_of r x (Some a) ≡ b
     → cond b (Some (record was { old = value_in r.answer })) None ≡ Some seen → IsWithOld (Some a) x was (r ∷ rs) seen
-if_old a x was r rs seen true e h =
-    let is : record was { old = value_in r.answer } ≡ seen = cc in
-    record {
-      version = ap (λ (z : Seen). z.version) (sym is);
-      acknowledged = ap (λ (z : Seen). z.acknowledged) (sym is);
-      asked = rs;
-      old = (r, read_is r x (Some a) e, ap (λ (z : Seen). z.old) (sym is), refl);
-      behind = λ p q. refl;
-    }
-if_old a x was r rs seen false e h = cc
+if_old a x was r rs seen b e h = grind arith
 
 old_is : (at : Option Ts) (x : Cell) (was : Seen) (rest : List RecordedRead) (seen : Seen) → was.old ≡ None → with_old at x was rest ≡ Some seen → IsWithOld at x was rest seen
-old_is None x was rest seen none h =
-    let is : was ≡ seen = cc in
-    record {
-      version = ap (λ (z : Seen). z.version) (sym is);
-      acknowledged = ap (λ (z : Seen). z.acknowledged) (sym is);
-      asked = rest;
-      old = (ap (λ (z : Seen). z.old) (sym is) ∙ none, refl);
-      behind = λ p q. refl;
-    }
+old_is None x was rest seen none h = grind arith
 old_is (Some a) x was (r ∷ rs) seen none h = if_old a x was r rs seen _ refl h
 old_is (Some a) x was [] seen none h = cc
 
@@ -83,13 +63,7 @@ told_by : (second : Bool) (x : Cell) (v : Option Revision) (a : Ts) (rest : List
 told_by second x None a rest seen e = cc
 told_by second x (Some v) a rest seen e =
     let o = old_is (old_at second a) x (record { version = v; acknowledged = a; old = None }) rest seen refl e in
-    record {
-      found = ap Some (sym o.version);
-      acknowledged = o.acknowledged;
-      asked = o.asked;
-      old = subst (λ t. WasOld (old_at second t) x rest seen.old o.asked) (sym o.acknowledged) o.old;
-      behind = λ r q. ap (λ t. asked_in (old_at second t) (r ∷ q ∷ rest)) o.acknowledged ∙ o.behind r q;
-    }
+    grind (arith, seen.old)
 
 pair_seen : (x ack : Cell) (second : Bool) (r q : RecordedRead) (rest : List RecordedRead) (seen : Seen) (b : Bool) → (is_read_of r x None && is_read_of q ack None) ≡ b
     → cond b (seen_by second x (version_in r.answer) (acknowledged_in q.answer) rest) None ≡ Some seen → WasSeen x ack second (r ∷ q ∷ rest) seen (asked_in (old_at second seen.acknowledged) (r ∷ q ∷ rest))
@@ -111,9 +85,7 @@ pair_seen x ack second r q rest seen false e h = cc
 
 -- reads that pass the test are those of a run: cell, acknowledgment, perhaps the cell before, and the asks
 was_seen : (x ack : Cell) (second : Bool) (reads : List RecordedRead) (seen : Seen) → seen_in x ack second reads ≡ Some seen → WasSeen x ack second reads seen (asked_in (old_at second seen.acknowledged) reads)
-was_seen x ack second (r ∷ q ∷ rest) seen h = pair_seen x ack second r q rest seen _ refl h
-was_seen x ack second (r ∷ []) seen h = cc
-was_seen x ack second [] seen h = cc
+was_seen x ack second reads seen h = grind (arith, pair_seen)
 
 -- replies that pass the test are what their cells were read with
 replies_are : (reads : List RecordedRead) (talk : Talk) → are_replies reads talk ≡ true → AreReplies reads talk
@@ -150,38 +122,16 @@ run_by observers p row s reads f o (Some seen) oe ke h =
 
 run_of : (observers : List ObserverOf) (p : ℕ) (row : Row) (s : ℕ) (reads : List RecordedRead) (f : Meant) (o : Option ObserverOf)
     → slice_get observers p ≡ o → is_run_by o (observed_cell observers p row) (acknowledgment observers p row) s reads f ≡ true → IsItsRun observers p row s reads f
-run_of observers p row s reads f None oe h = cc
-run_of observers p row s reads f (Some o) oe h = run_by observers p row s reads f o _ oe refl h
+run_of observers p row s reads f o oe h = grind (arith, run_by)
 
 -- what passes the whole test is a declaration of its transaction, as the relation has it
 pub may_be_its : (observers : List ObserverOf) (work : Work) (s : ℕ) (reads : List RecordedRead) (what : Declared) → is_its observers work s reads what ≡ true → MayDeclare observers work s reads what
-may_be_its observers Work.Script s reads (Declared.Script batch) h = tt
-may_be_its observers Work.Script s reads (Declared.Run o f) h = cc
-may_be_its observers (Work.Run p row) s reads (Declared.Script batch) h = cc
-may_be_its observers (Work.Run p row) s reads (Declared.Run o f) h =
-    let q = both (o == p) (is_run_of observers p row s reads f) h in
-    (eqb-true o p q.0, run_of observers p row s reads f _ refl q.1)
-
--- an observer that is there has an acknowledgment in each row
-by_observer : (observers : List ObserverOf) (p : ℕ) (row : Row) (ob : ObserverOf) → slice_get observers p ≡ Some ob → acknowledgment_by observers (Work.Run p row) ≡ Some (acknowledgment observers p row)
-by_observer observers p row ob e = rw e refl
+may_be_its observers work s reads what h = grind (arith, both, eqb-true, run_of)
 
 -- a declaration without an acknowledgment is a script's, and writes its batch
 pub script_writes : (observers : List ObserverOf) (work : Work) (s : ℕ) (reads : List RecordedRead) (what : Declared) → is_its observers work s reads what ≡ true → None ≡ acknowledgment_by observers work → batch_in what ≡ cells_of observers work s what
-script_writes observers Work.Script s reads (Declared.Script batch) h none = refl
-script_writes observers Work.Script s reads (Declared.Run o f) h none = cc
-script_writes observers (Work.Run p row) s reads (Declared.Script batch) h none = cc
-script_writes observers (Work.Run p row) s reads (Declared.Run o f) h none =
-    let k = (may_be_its observers (Work.Run p row) s reads (Declared.Run o f) h).1 in
-    let there = by_observer observers p row k.observer k.observer_is in
-    absurd cc
+script_writes observers work s reads what h none = grind arith
 
 -- a run writes its acknowledgment, and then what its program does
 pub run_writes_all : (observers : List ObserverOf) (work : Work) (s : Ts) (reads : List RecordedRead) (what : Declared) (x : Cell) → is_its observers work s.0 reads what ≡ true → Some x ≡ acknowledgment_by observers work → (x, Content.Stamp s) ∷ run_writes what ≡ cells_of observers work s.0 what
-run_writes_all observers Work.Script s reads what x h some = cc
-run_writes_all observers (Work.Run p row) s reads (Declared.Script batch) x h some = cc
-run_writes_all observers (Work.Run p row) s reads (Declared.Run o f) x h some =
-    let k = (may_be_its observers (Work.Run p row) s.0 reads (Declared.Run o f) h).1 in
-    let there = by_observer observers p row k.observer k.observer_is in
-    let same : x ≡ acknowledgment observers p row = cc in
-    ap (λ y. (y, Content.Stamp s) ∷ f.writes) same
+run_writes_all observers work s reads what x h some = grind arith

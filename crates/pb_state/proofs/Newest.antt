@@ -1,5 +1,5 @@
 -- What the newest entry tells of locks and write records.
-use Rattle.std.proofs.Common.{◌≡◌, ℕ, ◌≤◌, true, Option, Some, None, refl, ap, ◌∙◌, arith, is_some}
+use Rattle.std.proofs.Common.{◌≡◌, ℕ, ◌≤◌, true, Option, Some, ap, ◌∙◌, arith, is_some}
 use Rattle.pb_base.specs.declared.cell.Cell.{Cell}
 use Rattle.pb_base.specs.declared.names.Ts.{Ts}
 use Rattle.pb_store.specs.declared.slot.Item.{Item}
@@ -12,14 +12,10 @@ abbrev pub last : Ts
 last = record { 0 = 18446744073709551615 }
 
 lock_item : (i : Item) → IsOfSort Sort.Lock i → is_some (primary_of (Some i)) ≡ true
-lock_item (Item.Data c) h = absurd h
-lock_item (Item.Lock p) h = refl
-lock_item (Item.Write s) h = absurd h
+lock_item i h = grind arith
 
 write_item : (i : Item) → IsOfSort Sort.Write i → is_some (start_of (Some i)) ≡ true
-write_item (Item.Data c) h = absurd h
-write_item (Item.Lock p) h = absurd h
-write_item (Item.Write s) h = refl
+write_item i h = grind arith
 
 -- the newest lock is a lock
 pub some_lock : (e : Entries) (x : Cell) (f : Ts × Item) → IsNewest e x Sort.Lock last (Some f) → SomeLock e x
@@ -31,5 +27,4 @@ later_write e x s f h le = let low = h.0 in (f.0.0, le, omega arith, ap (λ o. i
 
 -- where the newest lock is there, a lock stands
 pub lock_if : (e : Entries) (x : Cell) (o : Option (Ts × Item)) → IsNewest e x Sort.Lock last o → is_some o ≡ true → SomeLock e x
-lock_if e x None h is = cc
-lock_if e x (Some f) h is = some_lock e x f h
+lock_if e x o h is = grind (arith, some_lock)

@@ -1,5 +1,5 @@
 -- Look-ups and changes in pairs that rise by their numbers.
-use Rattle.std.proofs.Common.{◌≡◌, ◌≢◌, ℕ, ◌+◌, ◌<◌, ◌≤◌, T, inl, inr, Bool, true, false, cond, zero, suc, List, [], ◌∷◌, ◌++◌, length, length-set, get_or, set, Option, Some, None, slice_get, refl, sym, ap, subst, ◌∙◌, arith, Less}
+use Rattle.std.proofs.Common.{◌≡◌, ◌≢◌, ℕ, ◌+◌, ◌<◌, ◌≤◌, T, Bool, true, false, cond, zero, suc, List, [], ◌∷◌, ◌++◌, length, length-set, get_or, set, Option, Some, None, slice_get, refl, sym, ap, ◌∙◌, arith, Less}
 use Rattle.std.specs.Ordering.{nat_cmp, eq_by_cmp}
 use Rattle.std.specs.Cmp.{unsigned_tied, nat_cmp_total, nat_cmp_is}
 use Rattle.std.specs.FinMap as map
@@ -24,19 +24,13 @@ module _ {X : Type 0} where
   pub below_here : (es : List (ℕ × X)) (m k : ℕ) (here : ℕ × X) → StartsRise es → m < length es → (get_or es m here).0 < k → (i : ℕ) (d : ℕ × X) → i < m + 1 → (get_or es i d).0 < k
   below_here es m k here r lt below i d up =
       let same = any_default es m d here lt in
-      elim (cases_lt i m) [
-        | inl less ↦ let h = r.at i m d less lt in omega arith
-        | inr more ↦ let e : i ≡ m = omega arith in subst (λ n. (get_or es n d).0 < k) (sym e) (omega arith)
-      ]
+      grind (arith, cases_lt, r.at)
 
   -- numbers from one that is above on
   pub above_here : (es : List (ℕ × X)) (m k : ℕ) (here : ℕ × X) → StartsRise es → m < length es → k < (get_or es m here).0 → (i : ℕ) (d : ℕ × X) → m ≤ i → i < length es → k < (get_or es i d).0
   above_here es m k here r lt above i d up within =
       let same = any_default es m d here lt in
-      elim (cases_lt m i) [
-        | inl less ↦ let h = r.at m i d less within in omega arith
-        | inr more ↦ let e : i ≡ m = omega arith in subst (λ n. k < (get_or es n d).0) (sym e) (omega arith)
-      ]
+      grind (arith, cases_lt, r.at)
 
   tail_rises : (e : ℕ × X) (es : List (ℕ × X)) → StartsRise (e ∷ es) → StartsRise es
   tail_rises e es r = record { at = λ i j d lt within. r.at (suc i) (suc j) d (omega arith) (omega arith) }
@@ -58,14 +52,10 @@ module _ {X : Type 0} where
       ∙ find_nowhere es k (record { none = λ i d lt is. h.none (suc i) d (omega arith) is })
 
   either : (a b : Bool) (v x rest : Option X) → (a ≡ true → b ≡ true → ⊥) → cond a x (cond b v rest) ≡ cond b v (cond a x rest)
-  either true true v x rest h = absurd (h refl refl)
-  either true false v x rest h = refl
-  either false b v x rest h = refl
+  either a b v x rest h = grind arith
 
   skipped : (a b : Bool) (v x rest : Option X) → a ≡ b → cond a v rest ≡ cond a v (cond b x rest)
-  skipped true b v x rest e = refl
-  skipped false true v x rest e = cc
-  skipped false false v x rest e = refl
+  skipped a b v x rest e = grind arith
 
   find_set : (es : List (ℕ × X)) (k i : ℕ) (v : X) (q : ℕ) → StartsRise es → IsStartAt es k i → map.find nat_cmp q (set es i (k, v)) ≡ cond (eq_by_cmp nat_cmp q k) (Some v) (map.find nat_cmp q es)
   find_set [] k i v q r h = let lt = h.within in absurd (omega arith)
@@ -75,8 +65,7 @@ module _ {X : Type 0} where
       let lt = r.at 0 (suc i) e (omega arith) within in
       let is = h.here e in
       let apart : eq_by_cmp nat_cmp q e.0 ≡ true → eq_by_cmp nat_cmp q k ≡ true → ⊥ =
-      (λ a b. let x : q ≡ e.0 = eqb-true q e.0 (sym (unsigned_tied q e.0) ∙ a) in
-      let y : q ≡ k = eqb-true q k (sym (unsigned_tied q k) ∙ b) in omega (arith, lt, is, x, y)) in
+      (grind (arith, eqb-true)) in
       ap (cond (eq_by_cmp nat_cmp q e.0) (Some e.1)) (find_set es k i v q (tail_rises e es r) (record { within = omega arith; here = h.here }))
       ∙ either _ _ (Some v) (Some e.1) (map.find nat_cmp q es) apart
 
@@ -90,23 +79,7 @@ module _ {X : Type 0} where
   -- ---- one more pair at the end
 
   pub push_rises : (es : List (ℕ × X)) (p : ℕ × X) → StartsRise es → ((i : ℕ) (d : ℕ × X) → i < length es → (get_or es i d).0 < p.0) → StartsRise (es ++ p ∷ [])
-  push_rises es p r all = record {
-    at = λ i j d less within.
-        elim (cases_lt j (length es)) [
-          | inl in' ↦
-              let a : get_or (es ++ p ∷ []) i d ≡ get_or es i d = get_or_append_left es (p ∷ []) d i (omega arith) in
-              let b : get_or (es ++ p ∷ []) j d ≡ get_or es j d = get_or_append_left es (p ∷ []) d j in' in
-              let h = r.at i j d less in' in
-              rw (a, b) h
-          | inr out ↦
-              let n : length (es ++ p ∷ []) ≡ length es + 1 = length_push es p in
-              let e : length es ≡ j = omega (arith, n, within, out) in
-              let a : get_or (es ++ p ∷ []) i d ≡ get_or es i d = get_or_append_left es (p ∷ []) d i (omega arith) in
-              let b : get_or (es ++ p ∷ []) j d ≡ p = get_or_push es p d j e in
-              let h = all i d (omega arith) in
-              rw (a, b) h
-        ];
-  }
+  push_rises es p r all = grind (arith, cases_lt, get_or_append_left, length_push, get_or_push, r.at)
 
   pub nowhere_above : (es : List (ℕ × X)) (k : ℕ) → ((i : ℕ) (d : ℕ × X) → i < length es → (get_or es i d).0 < k) → IsNoStart es k
   nowhere_above es k all = record { none = λ i d lt is. let h = all i d lt in omega (arith, h, is) }
@@ -151,15 +124,11 @@ module _ {X : Type 0} where
 
     -- and the other way round
     pub start_at : (t : X) → slice_get (map.entries m) i ≡ Some (k, t) → IsStartAt es k i
-    start_at t there =
-        let here = ap (λ ps. slice_get ps i) (sym (entries_are es m r is)) ∙ there in
-        record { within = slice_get_within es i (k, t) here; here = λ d. ap (λ (p : ℕ × X). p.0) (get_or_from_slice_get es i (k, t) d here) }
+    start_at t there = grind (arith, entries_are, slice_get_within, get_or_from_slice_get)
 
     -- another value there is put under its number
     pub changed : (e : ℕ × X) (w : X) → IsStartAt es k i → e ≡ get_or es i e → map.from_entries {R = nat_cmp} (set es i (e.0, w)) ≡ map.insert m k w
-    changed e w at here =
-        let number : e.0 ≡ k = ap (λ (p : ℕ × X). p.0) here ∙ at.here e in
-        ap (λ n. map.from_entries {R = nat_cmp} (set es i (n, w))) number ∙ inserted es k i w r at ∙ ap (λ n. map.insert n k w) is
+    changed e w at here = grind (arith, inserted, at.here)
 
   set_number : (es : List (ℕ × X)) (i : ℕ) (v : ℕ × X) → ((d : ℕ × X) → (get_or es i d).0 ≡ v.0) → (j : ℕ) (d : ℕ × X) → (get_or (set es i v) j d).0 ≡ (get_or es j d).0
   set_number [] i v h j d = refl
@@ -170,30 +139,19 @@ module _ {X : Type 0} where
 
   -- and the numbers rise as before
   pub set_rises : (es : List (ℕ × X)) (k i : ℕ) (e : ℕ × X) (w : X) → StartsRise es → IsStartAt es k i → e ≡ get_or es i e → StartsRise (set es i (e.0, w))
-  set_rises es k i e w r at here = record {
-    at = λ j l d lt within.
-        let low = r.at j l d lt (subst (λ n. l < n) (length-set es i _) within) in
-        let number : e.0 ≡ k = ap (λ (p : ℕ × X). p.0) here ∙ at.here e in
-        let same = set_number es i (e.0, w) (λ f. at.here f ∙ sym number) in
-        let a = same j d in
-        let b = same l d in
-        omega (arith, low, a, b);
-  }
+  set_rises es k i e w r at here = grind (arith, length-set, set_number, at.here)
 
   pub not_held : (es : List (ℕ × X)) (m : map.FinMap nat_cmp X) (k : ℕ) → map.from_entries es ≡ m → IsNoStart es k → map.get m k ≡ None
   not_held es m k is none = ap (λ n. map.get n k) (sym is) ∙ map.get-from_entries nat_cmp_total es k ∙ find_nowhere es k none
 
   pub added : (es : List (ℕ × X)) (m : map.FinMap nat_cmp X) (k : ℕ) (v : X) → StartsRise es → map.from_entries es ≡ m → ((q : ℕ) (x : X) → map.get m q ≡ Some x → q < k) → map.from_entries {R = nat_cmp} (es ++ (k, v) ∷ []) ≡ map.insert m k v
-  added es m k v r is low =
-      let below = all_below es k r (λ q x g. low q x (ap (λ n. map.get n q) (sym is) ∙ g)) in
-      pushed es k v (nowhere_above es k below) ∙ ap (λ n. map.insert n k v) is
+  added es m k v r is low = grind (arith, all_below, pushed, nowhere_above)
 
   pub added_rises : (es : List (ℕ × X)) (m : map.FinMap nat_cmp X) (k : ℕ) (v : X) → StartsRise es → map.from_entries es ≡ m → ((q : ℕ) (x : X) → map.get m q ≡ Some x → q < k) → StartsRise (es ++ (k, v) ∷ [])
   added_rises es m k v r is low = push_rises es (k, v) r (all_below es k r (λ q x g. low q x (ap (λ n. map.get n q) (sym is) ∙ g)))
 
   same_if : (b : Bool) (o p : Option X) → (b ≡ true → p ≡ o) → cond b o p ≡ p
-  same_if true o p h = sym (h refl)
-  same_if false o p h = refl
+  same_if b o p h = grind arith
 
   -- what stands there put once more
   pub put_again : (m : map.FinMap nat_cmp X) (k : ℕ) (v : X) → map.get m k ≡ Some v → map.insert m k v ≡ m

@@ -1,5 +1,5 @@
 -- Whether a run is one of a program, a record and a start, by its tests in turn.
-use Rattle.std.proofs.Common.{◌≡◌, ◌↔◌, ℕ, not, ◌==◌, Bool, true, false, ◌&&◌, List, refl, sym, ap, ◌∙◌, IsTrue}
+use Rattle.std.proofs.Common.{arith, ◌≡◌, ◌↔◌, ℕ, not, ◌==◌, Bool, true, false, ◌&&◌, List, refl, sym, ap, ◌∙◌, IsTrue}
 use Rattle.std.specs.Coded.{Coded, coded_ℕ, coded_list}
 use Rattle.std.proofs.lemmas.Bool.{false_from_ne_true as not_true}
 use Rattle.pb_base.specs.Same.{same, same_is, is_same}
@@ -17,8 +17,7 @@ decided k x y false h = sym (differ k x y (λ e. let no = h.1 e in cc))
 
 -- what isn't told apart is one
 pub not_ne : (r b : Bool) → r ≡ not b → r ≡ false → b ≡ true
-not_ne r true e f = refl
-not_ne r false e f = cc
+not_ne r b e f = grind arith
 
 pub true_and : (a b c : Bool) → a ≡ true → c ≡ b → c ≡ (a && b)
 true_and a b c e h = h ∙ ap (λ z. z && b) (sym e)
@@ -28,10 +27,7 @@ module _ (f : Meant) (p : JudgedOf) (bytes : List ℕ) (s : ℕ) where
   other_program h = let no = sym (differ judged_code f.judged p h) in (λ i. no i && same (coded_list coded_ℕ) f.bytes bytes && (f.start == s))
 
   pub other_record : f.judged ≡ p → (f.bytes ≡ bytes → ⊥) → false ≡ is_made_of p bytes s f
-  other_record e h =
-      let one = sym (is_same judged_code f.judged p e) in
-      let no = sym (differ (coded_list coded_ℕ) f.bytes bytes h) in
-      (λ i. one i && no i && (f.start == s))
+  other_record e h = grind (arith, differ, f.judged, f.bytes, f.start)
 
   pub by_start : f.judged ≡ p → f.bytes ≡ bytes → (b : Bool) → b ≡ (f.start == s) → b ≡ is_made_of p bytes s f
   by_start e h b is =

@@ -34,11 +34,7 @@ none_tail q e es h = elim (has q es) as (λ b. has q es ≡ b → has q es ≡ f
 
 -- an entry of the list is the head, or of the rest
 in_rest : (q : Cell) (e : Cell × Unit {0}) (es : List1) → has q (e ∷ es) ≡ true → (cell_cmp q e.0 ≡ Equal → ⊥) → has q es ≡ true
-in_rest q e es h apart = elim (cell_cmp q e.0) as (λ r. cell_cmp q e.0 ≡ r → is_some (cond (is_eq r) (Some e.1) (find cell_cmp q es)) ≡ true → has q es ≡ true) [
-  | Less ↦ λ _ k. k
-  | Equal ↦ λ is _. absurd (apart is)
-  | Greater ↦ λ _ k. k
-] refl h
+in_rest q e es h apart = grind arith
 
 -- what is above the first of the rest is above each of them
 above : (x q : Cell) (es : List1) → T (below_all cell_cmp x es) → has q es ≡ true → cell_cmp x q ≡ Less
@@ -104,21 +100,17 @@ after_true None x h = refl
 after_true (Some y) x h = ap is_lt h
 
 after_false : (last : Option Cell) (x : Cell) → (ComesAfter last x → ⊥) → comes_after last x ≡ false
-after_false None x h = absurd (h tt)
-after_false (Some y) x h = elim (cell_cmp y x) as (λ r. cell_cmp y x ≡ r → is_lt r ≡ false) [ Less ↦ λ e. absurd (h e) | Equal ↦ λ e. refl | Greater ↦ λ e. refl ] refl
+after_false last x h = grind arith
 
 after_or_not : (last : Option Cell) (x : Cell) → ComesAfter last x ⊎ (ComesAfter last x → ⊥)
-after_or_not None x = inl tt
-after_or_not (Some y) x = elim (cell_cmp y x) as (λ r. cell_cmp y x ≡ r → (cell_cmp y x ≡ Less) ⊎ (cell_cmp y x ≡ Less → ⊥)) [ Less ↦ λ e. inl e | Equal ↦ λ e. inr (λ q. cc) | Greater ↦ λ e. inr (λ q. cc) ] refl
+after_or_not last x = grind arith
 
 -- those that were passed and those that are left are all
 left_is : (es : List1) (last : Option Cell) (n : ℕ) → IsWalked last es n → left_after last es + n ≡ length es
 left_is [] last zero w = refl
 left_is [] last (suc n) w = absurd w
 left_is (e ∷ es) last zero w = ap (λ b. cond b (length (e ∷ es)) (left_after last es) + zero) (after_true last e.0 w) ∙ omega arith
-left_is (e ∷ es) last (suc n) w =
-    let rest = left_is es last n w.1 in
-    ap (λ b. cond b (length (e ∷ es)) (left_after last es) + suc n) (after_false last e.0 w.0) ∙ omega (arith, rest)
+left_is (e ∷ es) last (suc n) w = grind (arith, after_false, left_is es last n w.1)
 
 walked_from : (es : List1) (last : Option Cell) → (n : ℕ) × IsWalked last es n
 walked_from [] last = (zero, tt)

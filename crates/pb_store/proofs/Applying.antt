@@ -1,25 +1,18 @@
 -- What an application of edits to one tablet, done or refused, does to all.
-use Rattle.std.proofs.Common.{◌≡◌, ℕ, ◌<◌, List, [], ◌∷◌, refl, sym, ap, ◌∙◌, subst, arith, length, get_or, set, Result, Ok, Err, OnOk, OnErr, false, is_err}
+use Rattle.std.proofs.Common.{◌≡◌, ℕ, ◌<◌, List, sym, ap, ◌∙◌, subst, arith, length, get_or, set, Result, OnOk, OnErr, false, is_err}
 use Rattle.pb_base.specs.declared.names.Row.{Row}
 use Rattle.pb_store.specs.declared.slot.Edit.{Edit}
-use Rattle.pb_store.specs.Contents.{Contents, after_edits, edit_row, AreOfRow, AreOfOneRow}
+use Rattle.pb_store.specs.Contents.{Contents, after_edits, AreOfRow}
 use Rattle.pb_store.specs.Tiles.{IsTiling, IsPlace, joined, tiles_of}
 use Rattle.pb_store.proofs.Routing.{tiles_changed}
 use Rattle.pb_store.proofs.Joined.{edits_in_place}
 
--- edits of one row are all of the row that the first one tells, by which the table finds the tablet
-pub all_of_first : (edits : List Edit) (d : Edit) → 0 < length edits → AreOfOneRow edits → AreOfRow (edit_row (get_or edits 0 d)) edits
-all_of_first [] d lt one = absurd (omega arith)
-all_of_first (edit ∷ edits) d lt one = (refl, one)
-
 -- a call is done or refused, and what follows in either case holds
 pub result_cases : {U E : Type 0} (r : Result U E) (P Q G : Type 0) → OnOk r P → OnErr r Q → (P → G) → (Q → G) → G
-result_cases (Ok u) P Q G p q f g = f p
-result_cases (Err e) P Q G p q f g = g q
+result_cases r h k s p q f g = grind arith
 
 pub err_then : {U E : Type 0} (r : Result U E) (P Q : Type 0) → (P → Q) → OnErr r P → OnErr r Q
-err_then (Ok u) P Q f p = p
-err_then (Err e) P Q f p = f p
+err_then r h k f p = grind arith
 
 -- tablet i, with what stands there, p, becomes t
 module _ {T : Type 0} (c : T → Contents) (parts : List (Row × T)) (i : ℕ) (p : Row × T) (t : T) (lt : i < length parts) (e : p ≡ get_or parts i p) where
@@ -32,5 +25,4 @@ module _ {T : Type 0} (c : T → Contents) (parts : List (Row × T)) (i : ℕ) (
 
 -- a call that isn't refused has what it promises when it is done
 pub ok_holds : {U E : Type 0} (r : Result U E) (P : Type 0) → false ≡ is_err r → OnOk r P → P
-ok_holds (Ok u) P e p = p
-ok_holds (Err x) P e p = cc
+ok_holds r h e p = grind arith

@@ -82,11 +82,7 @@ get-up_to after m q =
 -- leaving elements out makes no list longer
 no_longer : {X : Type 0} (p : Cell → Bool) (es : List (Cell × X)) → length (where_key cell_cmp p es) ≤ length es
 no_longer p [] = omega arith
-no_longer p (e ∷ es) =
-    elim (p e.0) as (λ b. length (cond b (e ∷ where_key cell_cmp p es) (where_key cell_cmp p es)) ≤ suc (length es)) [
-      | true ↦ omega (arith, no_longer p es)
-      | false ↦ omega (arith, no_longer p es)
-    ]
+no_longer p (e ∷ es) = grind (arith, no_longer p es)
 
 len-up_to : (after : Option Cell) (m : Marks) → map.len (marks_up_to after m) ≤ map.len m
 len-up_to after m =
@@ -105,12 +101,7 @@ no_marks_yet m = map.same_map cell_cmp_total cell_cmp-IsAntisymmetric _ _ (λ q.
 -- a cell that isn't up to the given one comes after it
 comes_or_not : (after : Option Cell) (q : Cell) → up_to after q ≡ false → ComesAfter after q
 comes_or_not None q e = tt
-comes_or_not (Some a) q e =
-    elim (cell_cmp a q) as (λ r. not (is_lt r) ≡ false → r ≡ Less) [
-      | Less ↦ λ p. refl
-      | Equal ↦ λ p. cc
-      | Greater ↦ λ p. cc
-    ] e
+comes_or_not (Some a) q e = grind arith
 
 -- a cell after the next mark wasn't reached before it either
 beyond : (after : Option Cell) (n q : Cell) → ComesAfter after n → cell_cmp n q ≡ Less → up_to after q ≡ false
@@ -204,9 +195,7 @@ module _ (m : Entries) (after : Option Slot) (i : ℕ) (left : entries_after aft
     stands_there = p ∙ ap (λ es. slice_get es 0) left ∙ first_of_drop (map.entries m) i
 
     pub left_behind : entries_after (Some e.0) (map.entries m) ≡ drop (i + 1) (map.entries m)
-    left_behind =
-        let more : suc i ≡ i + 1 = omega arith in
-        rest ∙ ap (drop 1) left ∙ drop_next (map.entries m) i ∙ ap (λ n. drop n (map.entries m)) more
+    left_behind = grind (arith, rest, drop_next)
 
     pub fewer_entries : length (entries_after (Some e.0) (map.entries m)) < length (entries_after after (map.entries m))
     fewer_entries = subst (λ es. length es < length (entries_after after (map.entries m))) (sym rest) (shorter (entries_after after (map.entries m)) e p)

@@ -40,12 +40,7 @@ module _ {K X : Type 0} {R : K → K → Ordering} (o : IsTotalOrder R) where
       ] p
 
   behind_first : (es : List (K × X)) (e : K × X) → T (is_sorted R es) → Some e ≡ slice_get es 0 → above e.0 es ≡ drop 1 es
-  behind_first [] e s p = cc
-  behind_first (x ∷ es) e s p =
-      let same : e ≡ x = cc in
-      ap (λ (z : K × X). above z.0 (x ∷ es)) same
-      ∙ ap (λ r. cond (is_lt r) (x ∷ above x.0 es) (above x.0 es)) (tied_itself o x.0)
-      ∙ all_above x.0 es (first _ _ s)
+  behind_first es e s p = grind (arith, all_above, first)
 
   not_itself : (x e : K × X) (es : List (K × X)) → R x.0 e.0 ≡ Less → above e.0 (x ∷ es) ≡ above e.0 es
   not_itself x e es lt = ap (λ r. cond (is_lt r) (x ∷ above e.0 es) (above e.0 es)) (o.antisymm e.0 x.0 ∙ ap ordering_reverse lt)
@@ -68,13 +63,11 @@ behind (Some k) es e s p = behind_next slot_cmp_total k es e s p
 -- and where it is told none, nothing is to be shown
 pub rest_behind : (after : Option Slot) (es : List (Slot × Item)) (r : Option (Slot × Item)) → T (is_sorted slot_cmp es) → r ≡ slice_get (entries_after after es) 0
     → IfSome r (λ e. entries_after (Some e.0) es ≡ drop 1 (entries_after after es))
-rest_behind after es None s p = tt
-rest_behind after es (Some e) s p = behind after es e s p
+rest_behind after es r s p = grind (arith, behind)
 
 -- ---- tablets side by side
 after-append : (after : Option Slot) (xs ys : List (Slot × Item)) → entries_after after (xs ++ ys) ≡ entries_after after xs ++ entries_after after ys
-after-append None xs ys = refl
-after-append (Some k) xs ys = filter-append (λ e. is_lt (slot_cmp k e.0)) xs ys
+after-append after xs ys = grind (arith, filter-append)
 
 has_head : (e : Slot × Item) (es : List (Slot × Item)) → is_some (find slot_cmp e.0 (e ∷ es)) ≡ true
 has_head e es = ap (λ r. is_some (cond (is_eq r) (Some e.1) (find slot_cmp e.0 es))) (tied_itself slot_cmp_total e.0)
@@ -113,8 +106,7 @@ skipped k (tile ∷ next ∷ tiles) (suc i) t p =
 -- a walk may begin at the tablet of the slot's row, since those before have nothing after it
 from_start : (after : Option Slot) (tiles : List Tile) (i : ℕ) → AreTiled tiles → IsStart tiles i (option_map (λ s. s.cell) after)
     → entries_after after (all_entries tiles) ≡ entries_after after (all_entries (drop i tiles))
-from_start None tiles i t start = ap (λ n. all_entries (drop n tiles)) (sym start)
-from_start (Some k) tiles i t start = skipped k tiles i t start
+from_start after tiles i t start = grind (arith, skipped)
 
 -- the first of two lists together is that of the first list, where it has one
 head_front : {E : Type 0} (xs ys : List E) (x : E) → Some x ≡ slice_get xs 0 → slice_get (xs ++ ys) 0 ≡ Some x
@@ -127,8 +119,7 @@ head_back [] ys p = refl
 head_back (y ∷ xs) ys p = cc
 
 none_of_none : (after : Option Slot) → slice_get (entries_after {X = Item} after []) 0 ≡ None
-none_of_none None = refl
-none_of_none (Some k) = refl
+none_of_none after = grind arith
 
 module _ {T : Type 0} (c : T → Contents) (parts : List (Row × T)) (after : Option Slot) where
   -- the first entry after the slot in the tablets from i on

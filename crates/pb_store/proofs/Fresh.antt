@@ -1,6 +1,5 @@
 -- Tablets that hold nothing, side by side.
-use Rattle.std.proofs.Common.{◌≡◌, ℕ, ◌<◌, Bool, true, false, cond, ◌&&◌, ◌==◌, List, [], ◌∷◌, ◌++◌, None, Some, refl, sym, ap, ◌∙◌, subst, arith, is_some, length, Ordering}
-use Rattle.std.proofs.lemmas.Bool.Decides.{nat_tests}
+use Rattle.std.proofs.Common.{◌≡◌, ℕ, ◌<◌, Bool, true, false, cond, ◌&&◌, ◌==◌, List, [], ◌∷◌, ◌++◌, Some, refl, sym, ap, ◌∙◌, subst, arith, is_some, length, Ordering}
 use Rattle.std.specs.FinMap as map
 use Rattle.pb_base.specs.Cell.{cell_cmp}
 use Rattle.pb_store.specs.Slot.{slot_cmp}
@@ -8,14 +7,13 @@ use Rattle.pb_store.specs.Contents.{Contents, nothing, is_nothing}
 use Rattle.pb_base.specs.declared.refusal.Reason.{Reason}
 use Rattle.pb_store.specs.Tiles.{Tile, IsTile, AreTiled, IsTiling, IsBelow, all_entries, all_marks, joined, rise, rise_from_zero, all_nothing, table_reason}
 use Rattle.pb_store.proofs.Joined.{joined-entries, joined-marks}
-use Rattle.pb_base.proofs.Logic.{empty_by_length as no_length, right_true, below_true}
+use Rattle.pb_base.proofs.Logic.{empty_by_length as no_length, right_true}
 
 left_true : (a b : Bool) → (a && b) ≡ true → a ≡ true
-left_true true b e = refl
-left_true false b e = e
+left_true a b e = grind arith
 
 same_true : (a b : ℕ) → (a == b) ≡ true → a ≡ b
-same_true a b e = grind (arith, nat_tests)
+same_true a b e = grind arith
 
 -- what passes the test for nothing is the one value without entry and mark
 pub nothing_from_test : (c : Contents) → is_nothing c ≡ true → c ≡ nothing
@@ -46,27 +44,15 @@ all_marks-nothing (tile ∷ tiles) e =
     ∙ all_marks-nothing tiles (right_true _ _ e)
 
 pub joined-nothing : (tiles : List Tile) → all_nothing tiles ≡ true → joined tiles ≡ nothing
-joined-nothing tiles e =
-    let m = joined-entries tiles ∙ ap (λ es. map.from_entries es) (all_entries-nothing tiles e) in
-    let n = joined-marks tiles ∙ ap (λ es. map.from_entries es) (all_marks-nothing tiles e) in
-    λ i. record { entries = m i; marks = n i }
+joined-nothing tiles e = grind (arith, joined-entries, all_entries-nothing, joined-marks, all_marks-nothing)
 
 -- rows that rise from one above low are all above low
 rises_below : (low : ℕ) (tiles : List Tile) → rise low tiles ≡ true → IsBelow low tiles
-rises_below low [] r = tt
-rises_below low (tile ∷ tiles) r = below_true low tile.0 (left_true _ _ r)
+rises_below low tiles r = grind arith
 
 -- an empty tablet keeps to whatever rows it has
 tile_of_nothing : (tile : Tile) (tiles : List Tile) → rise tile.0 tiles ≡ true → is_nothing tile.1 ≡ true → IsTile tile tiles
-tile_of_nothing tile tiles r e =
-    let c = nothing_from_test tile.1 e in
-    record {
-      rises = rises_below tile.0 tiles r;
-      from_first = λ q is. absurd (no_key slot_cmp tile.1.entries q (ap (λ (x : Contents). x.entries) c) is);
-      before_next = λ q is. absurd (no_key slot_cmp tile.1.entries q (ap (λ (x : Contents). x.entries) c) is);
-      marks_from_first = λ q is. absurd (no_key cell_cmp tile.1.marks q (ap (λ (x : Contents). x.marks) c) is);
-      marks_before_next = λ q is. absurd (no_key cell_cmp tile.1.marks q (ap (λ (x : Contents). x.marks) c) is);
-    }
+tile_of_nothing tile tiles r e = grind (arith, nothing_from_test, rises_below, no_key, tile.1.entries, tile.1.marks)
 
 -- and so do many, where their first rows rise
 tiled_nothing : (low : ℕ) (tiles : List Tile) → rise low tiles ≡ true → all_nothing tiles ≡ true → AreTiled tiles
@@ -76,13 +62,8 @@ tiled_nothing low (tile ∷ tiles) r e =
 
 -- empty tablets whose first rows rise from 0 make a table
 pub tiling_of_nothing : (tiles : List Tile) → rise_from_zero tiles ≡ true → all_nothing tiles ≡ true → IsTiling tiles
-tiling_of_nothing [] r e = absurd (subst (λ x. cond x (Unit {0}) ⊥) (sym r) tt)
-tiling_of_nothing (tile ∷ tiles) r e = record {
-  zero_first = same_true tile.0 0 (left_true _ _ r);
-  tiled = (tile_of_nothing tile tiles (right_true _ _ r) (left_true _ _ e), tiled_nothing tile.0 tiles (right_true _ _ r) (right_true _ _ e));
-}
+tiling_of_nothing tiles r e = grind (arith, same_true, left_true, tile_of_nothing, right_true, tiled_nothing)
 
 -- rows that don't rise from 0 are the reason that is told, whether or not the tablets are empty
 pub refused_unrisen : (tiles : List Tile) → 0 < length tiles → rise_from_zero tiles ≡ false → table_reason tiles ≡ Some Reason.RowsDontRise
-refused_unrisen [] lt e = absurd (omega arith)
-refused_unrisen (tile ∷ tiles) lt e = ap (λ b. cond b (cond (all_nothing (tile ∷ tiles)) None (Some Reason.NotEmpty)) (Some Reason.RowsDontRise)) e
+refused_unrisen tiles lt e = grind arith

@@ -1,5 +1,5 @@
 -- One half of what tablets contain, entries or marks: tablets side by side as one map.
-use Rattle.std.proofs.Common.{◌≡◌, ℕ, ◌<◌, ◌≤◌, Bool, true, false, cond, T, List, [], ◌∷◌, ◌++◌, Option, None, Some, refl, sym, ap, ◌∙◌, subst, arith, zero, suc, is_some, length, Ordering, Less, Equal, Greater}
+use Rattle.std.proofs.Common.{◌≡◌, ℕ, ◌<◌, ◌≤◌, Bool, true, false, cond, T, List, [], ◌∷◌, ◌++◌, Option, None, Some, refl, sym, ap, ◌∙◌, subst, arith, zero, suc, is_some, length, Ordering, Less, Equal}
 use Rattle.std.specs.Ordering.{eq_by_cmp, is_eq}
 use Rattle.std.specs.Cmp.{IsTotalOrder, tied_itself}
 use Rattle.std.specs.FinMap as map
@@ -19,9 +19,7 @@ pub record Half {K : Type 0} (R : K → K → Ordering) (X : Type 0) : Type 0 wh
 
 -- what tests as equal is `Equal`
 equal_of : (r : Ordering) → is_eq r ≡ true → r ≡ Equal
-equal_of Less e = cc
-equal_of Equal e = refl
-equal_of Greater e = cc
+equal_of r e = grind arith
 
 -- the first value, or the second where there is none
 abbrev or_else : {X : Type 0} → Option X → Option X → Option X
@@ -34,13 +32,11 @@ or_none (Some x) = refl
 
 -- what is not there by every reason to be there
 absent : {X : Type 0} (x : Option X) → (is_some x ≡ true → ⊥) → x ≡ None
-absent None never = refl
-absent (Some x) never = absurd (never refl)
+absent x never = grind arith
 
 -- a row below the next tile is below those behind it too, since first rows rise
 pub below_rest : (n : ℕ) (tile : Tile) (tiles : List Tile) → n < tile.0 → IsBelow tile.0 tiles → IsBelow n tiles
-below_rest n tile [] lt rises = tt
-below_rest n tile (next ∷ tiles) lt rises = omega arith
+below_rest n tile tiles lt rises = grind arith
 
 -- new contents in a tile change no first row
 pub still_below : (tiles : List Tile) (i : ℕ) (c : Contents) (n : ℕ) → IsBelow n tiles → IsBelow n (replace tiles i c)
@@ -66,11 +62,7 @@ module _ {K X : Type 0} {R : K → K → Ordering} (h : Half R X) where
 
   find-++ : (q : K) (es fs : List (K × X)) → map.find R q (es ++ fs) ≡ or_else (map.find R q es) (map.find R q fs)
   find-++ q [] fs = refl
-  find-++ q (e ∷ es) fs =
-      elim (eq_by_cmp R q e.0) as (λ b. cond b (Some e.1) (map.find R q (es ++ fs)) ≡ or_else (cond b (Some e.1) (map.find R q es)) (map.find R q fs)) [
-        | true ↦ refl
-        | false ↦ find-++ q es fs
-      ]
+  find-++ q (e ∷ es) fs = grind (arith, find-++ q es fs)
 
   -- no tile holds a key of a row before them all
   none_before : (q : K) (tiles : List Tile) → Kept tiles → IsBelow (h.row q) tiles → map.find R q (all_of tiles) ≡ None
@@ -212,30 +204,11 @@ module _ {K X : Type 0} {R : K → K → Ordering} (h : Half R X) where
       ∙ absent _ (λ is. not_below _ i tiles kept.1 place (subst (λ p. IsBelow (h.row p) tiles) (tied q k b) (kept.0.before_next q is))))
       ∙ ap (cond (eq_by_cmp R q k) w) (sym (find-++ q (map.entries (h.part tile.1)) (all_of tiles)))
 
-  -- what was there before, or the key itself
-  was_or_is : (b : Bool) (w x : Option X) (P : Type 0) → (b ≡ true → P) → (is_some x ≡ true → P) → is_some (cond b w x) ≡ true → P
-  was_or_is true w x P f g is = f refl
-  was_or_is false w x P f g is = g is
-
   Kept-replace : (k : K) (w : Option X) (c : Contents) (tiles : List Tile) (i : ℕ) → Kept tiles → IsPlace tiles i (h.row k)
       → ChangesAt k w (h.part c) (h.part (tile_at tiles i)) → Kept (replace tiles i c)
   Kept-replace k w c [] i kept place gets = tt
-  Kept-replace k w c (tile ∷ tiles) zero kept place gets = (
-    record {
-      rises = kept.0.rises;
-      from_first = λ q is. was_or_is (eq_by_cmp R q k) w _ (tile.0 ≤ h.row q) (λ b. subst (λ p. tile.0 ≤ h.row p) (sym (tied q k b)) place.0) (kept.0.from_first q) (ap is_some (sym (gets q)) ∙ is);
-      before_next = λ q is. was_or_is (eq_by_cmp R q k) w _ (IsBelow (h.row q) tiles) (λ b. subst (λ p. IsBelow (h.row p) tiles) (sym (tied q k b)) place.1) (kept.0.before_next q) (ap is_some (sym (gets q)) ∙ is);
-    },
-    kept.1,
-  )
-  Kept-replace k w c (tile ∷ tiles) (suc i) kept place gets = (
-    record {
-      rises = still_below tiles i c _ kept.0.rises;
-      from_first = kept.0.from_first;
-      before_next = λ q is. still_below tiles i c _ (kept.0.before_next q is);
-    },
-    Kept-replace k w c tiles i kept.1 place gets,
-  )
+  Kept-replace k w c (tile ∷ tiles) zero kept place gets = grind arith
+  Kept-replace k w c (tile ∷ tiles) (suc i) kept place gets = grind (arith, still_below, kept.0.rises, kept.0.from_first, kept.0.before_next, Kept-replace k w c tiles i kept.1 place gets)
 
   -- the half that an edit leaves alone
   pub all_of-replace_same : (c : Contents) (tiles : List Tile) (i : ℕ) → h.part c ≡ h.part (tile_at tiles i) → all_of (replace tiles i c) ≡ all_of tiles
@@ -245,22 +218,8 @@ module _ {K X : Type 0} {R : K → K → Ordering} (h : Half R X) where
 
   pub Kept-replace_same : (c : Contents) (tiles : List Tile) (i : ℕ) → Kept tiles → h.part c ≡ h.part (tile_at tiles i) → Kept (replace tiles i c)
   Kept-replace_same c [] i kept e = tt
-  Kept-replace_same c (tile ∷ tiles) zero kept e = (
-    record {
-      rises = kept.0.rises;
-      from_first = λ q is. kept.0.from_first q (ap (λ m. map.contains_key m q) (sym e) ∙ is);
-      before_next = λ q is. kept.0.before_next q (ap (λ m. map.contains_key m q) (sym e) ∙ is);
-    },
-    kept.1,
-  )
-  Kept-replace_same c (tile ∷ tiles) (suc i) kept e = (
-    record {
-      rises = still_below tiles i c _ kept.0.rises;
-      from_first = kept.0.from_first;
-      before_next = λ q is. still_below tiles i c _ (kept.0.before_next q is);
-    },
-    Kept-replace_same c tiles i kept.1 e,
-  )
+  Kept-replace_same c (tile ∷ tiles) zero kept e = grind arith
+  Kept-replace_same c (tile ∷ tiles) (suc i) kept e = grind (arith, still_below, kept.0.rises, kept.0.from_first, kept.0.before_next, Kept-replace_same c tiles i kept.1 e)
 
   from_entries-replace : (k : K) (w : Option X) (c : Contents) (tiles : List Tile) (i : ℕ) (m : map.FinMap R X) → Kept tiles → IsPlace tiles i (h.row k)
       → ChangesAt k w (h.part c) (h.part (tile_at tiles i)) → ChangesAt k w m (map.from_entries {R = R} (all_of tiles))

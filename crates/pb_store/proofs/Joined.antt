@@ -1,6 +1,5 @@
 -- What tablets contain together: look-ups and edits go to the tablet of the row.
-use Rattle.std.proofs.Common.{◌≡◌, ℕ, ◌+◌, ◌<◌, ◌==◌, ◌&&◌, Bool, true, false, List, [], ◌∷◌, ◌++◌, refl, sym, ap, ◌∙◌, subst, arith, zero, suc, length, length-append, Less}
-use Rattle.std.proofs.lemmas.Bool.Decides.{nat_tests}
+use Rattle.std.proofs.Common.{◌≡◌, ℕ, ◌+◌, ◌<◌, ◌==◌, ◌&&◌, Bool, List, [], ◌∷◌, ◌++◌, refl, sym, ap, ◌∙◌, subst, arith, zero, suc, length, length-append, Less}
 use Rattle.std.specs.Ordering.{nat_cmp, ordering_then}
 use Rattle.std.specs.Cmp.{nat_cmp_is}
 use Rattle.std.specs.FinMap as map
@@ -50,16 +49,7 @@ marks_kept (tile ∷ tiles) t = (record { rises = t.0.rises; from_first = t.0.ma
 -- and with both halves they do so as a whole
 tiled_from_kept : (tiles : List Tile) → Kept entry_half tiles → Kept mark_half tiles → AreTiled tiles
 tiled_from_kept [] e m = tt
-tiled_from_kept (tile ∷ tiles) e m = (
-  record {
-    rises = e.0.rises;
-    from_first = e.0.from_first;
-    before_next = e.0.before_next;
-    marks_from_first = m.0.from_first;
-    marks_before_next = m.0.before_next;
-  },
-  tiled_from_kept tiles e.1 m.1,
-)
+tiled_from_kept (tile ∷ tiles) e m = grind (arith, e.0.rises, e.0.from_first, e.0.before_next, m.0.from_first, m.0.before_next, tiled_from_kept tiles e.1 m.1)
 
 same_entries : (tiles : List Tile) → all_entries tiles ≡ all_of entry_half tiles
 same_entries [] = refl
@@ -91,13 +81,10 @@ marks-joined tiles tiled = ap map.entries (marks_joined tiles) ∙ entries-all_o
 
 -- ---- emptiness
 none_of_both : (a b : ℕ) → (a + b == 0) ≡ ((a == 0) && (b == 0))
-none_of_both a b = grind (arith, nat_tests)
+none_of_both a b = grind arith
 
 regroup : (a b c d : Bool) → ((a && b) && (c && d)) ≡ ((a && c) && (b && d))
-regroup true b true d = refl
-regroup true true false d = refl
-regroup true false false d = refl
-regroup false b c d = refl
+regroup a b c d = grind arith
 
 -- no tile lists an entry or a mark
 abbrev none_listed : List Tile → Bool
@@ -110,10 +97,7 @@ all_nothing-listed (tile ∷ tiles) =
     ap (λ n. n == 0) (length-append (map.entries tile.1.entries) (all_entries tiles)) ∙ none_of_both _ _ ∙ ap (λ n. (n == 0) && (length (all_entries tiles) == 0)) (sym (map.len-entries tile.1.entries)) in
     let m : (length (all_marks (tile ∷ tiles)) == 0) ≡ ((map.len tile.1.marks == 0) && (length (all_marks tiles) == 0)) =
     ap (λ n. n == 0) (length-append (map.entries tile.1.marks) (all_marks tiles)) ∙ none_of_both _ _ ∙ ap (λ n. (n == 0) && (length (all_marks tiles) == 0)) (sym (map.len-entries tile.1.marks)) in
-    ap (λ b. b && (length (all_marks (tile ∷ tiles)) == 0)) e
-    ∙ ap (λ b. ((map.len tile.1.entries == 0) && (length (all_entries tiles) == 0)) && b) m
-    ∙ regroup (map.len tile.1.entries == 0) (length (all_entries tiles) == 0) (map.len tile.1.marks == 0) (length (all_marks tiles) == 0)
-    ∙ ap (λ b. is_nothing tile.1 && b) (all_nothing-listed tiles)
+    grind (arith, regroup, tile.1.entries, tile.1.marks, all_nothing-listed tiles)
 
 pub is_nothing-joined : (tiles : List Tile) → AreTiled tiles → is_nothing (joined tiles) ≡ all_nothing tiles
 is_nothing-joined tiles tiled =
@@ -134,18 +118,7 @@ marks_left c tiles i e = marks_joined _ ∙ ap (λ es. map.from_entries es) (all
 
 joined-edit : (edit : Edit) (tiles : List Tile) (i : ℕ) → AreTiled tiles → IsPlace tiles i (edit_row edit)
     → joined (replace tiles i (after_edit edit (tile_at tiles i))) ≡ after_edit edit (joined tiles)
-joined-edit (Edit.Put slot item) tiles i t place = both_same _ _ _
-    (entries_joined _ ∙ from_entries-inserted entry_half slot item _ tiles i (entries_kept tiles t) place refl ∙ ap (λ m. map.insert m slot item) (sym (entries_joined tiles)))
-    (marks_left _ tiles i refl)
-joined-edit (Edit.Erase slot) tiles i t place = both_same _ _ _
-    (entries_joined _ ∙ from_entries-removed entry_half slot _ tiles i (entries_kept tiles t) place refl ∙ ap (λ m. map.remove m slot) (sym (entries_joined tiles)))
-    (marks_left _ tiles i refl)
-joined-edit (Edit.Mark cell) tiles i t place = both_same _ _ _
-    (entries_left _ tiles i refl)
-    (marks_joined _ ∙ from_entries-inserted mark_half cell tt _ tiles i (marks_kept tiles t) place refl ∙ ap (λ m. map.insert m cell tt) (sym (marks_joined tiles)))
-joined-edit (Edit.Unmark cell) tiles i t place = both_same _ _ _
-    (entries_left _ tiles i refl)
-    (marks_joined _ ∙ from_entries-removed mark_half cell _ tiles i (marks_kept tiles t) place refl ∙ ap (λ m. map.remove m cell) (sym (marks_joined tiles)))
+joined-edit edit tiles i t place = grind (arith, both_same, entries_joined, from_entries-inserted, entries_kept, marks_left, from_entries-removed, entries_left, marks_joined, marks_kept)
 
 -- an edit in the tile of its row leaves each tile with its own rows
 still_tiled : (edit : Edit) (tiles : List Tile) (i : ℕ) → AreTiled tiles → IsPlace tiles i (edit_row edit) → AreTiled (replace tiles i (after_edit edit (tile_at tiles i)))
@@ -163,9 +136,7 @@ still_tiled (Edit.Unmark cell) tiles i t place = tiled_from_kept _
     (Kept-removed mark_half cell _ tiles i (marks_kept tiles t) place refl)
 
 still_zero : (tiles : List Tile) (i : ℕ) (c : Contents) → BeginAtZero tiles → BeginAtZero (replace tiles i c)
-still_zero [] i c z = z
-still_zero (tile ∷ tiles) zero c z = z
-still_zero (tile ∷ tiles) (suc i) c z = z
+still_zero tiles i c z = grind arith
 
 -- other contents in any tile don't change which tile has a row
 still_place : (tiles : List Tile) (i j n : ℕ) (c : Contents) → IsPlace tiles i n → IsPlace (replace tiles j c) i n
@@ -197,7 +168,4 @@ edits_in_place (edit ∷ edits) row tiles i of t place =
     let at : tile_at (replace tiles i c) i ≡ c = tile_at-replace tiles i row c place in
     let twice : replace (replace tiles i c) i (after_edits edits (tile_at (replace tiles i c) i)) ≡ replace tiles i (after_edits edits c) =
     replace-replace tiles i c _ ∙ ap (λ d. replace tiles i (after_edits edits d)) at in
-    record {
-      tiling = subst IsTiling twice rest.tiling;
-      same = ap joined (sym twice) ∙ rest.same ∙ ap (after_edits edits) (joined-edit edit tiles i t.tiled here);
-    }
+    grind (arith, joined-edit, t.tiled)

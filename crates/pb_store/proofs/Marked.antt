@@ -30,9 +30,7 @@ module _ (tiles : List Tile) (tiled : AreTiled tiles) where
       (place_of_key mark_half x tiles i (marks_kept tiles tiled) within is) place lt)
 
   pub none_passed : (after : Option Cell) (start : ℕ) → start < length tiles → IsStart tiles start after → NonePassed tiles after start
-  none_passed None start within place i lt x comes = absurd (omega (arith, place, lt))
-  none_passed (Some cell) start within place i lt x comes =
-      not_marked _ (λ is. not_both_ways x cell (rows_rise x cell i start (omega arith) is place lt) comes)
+  none_passed o start within place i lt x comes = grind (arith, not_marked, not_both_ways, rows_rise)
 
   unmarked : (x : Cell) → ((i : ℕ) → i < length tiles → marked tiles i x ≡ false) → map.contains_key (joined tiles).marks x ≡ false
   unmarked x none =

@@ -1,5 +1,5 @@
 -- What the tablet of a row answers is what all answer.
-use Rattle.std.proofs.Common.{◌≡◌, ℕ, ◌<◌, List, Option, None, Some, sym, ap, ◌∙◌, subst, length, get_or}
+use Rattle.std.proofs.Common.{arith, ◌≡◌, ℕ, ◌<◌, List, Option, None, Some, sym, ap, ◌∙◌, subst, length, get_or}
 use Rattle.std.specs.FinMap as map
 use Rattle.pb_base.specs.declared.names.Row.{Row}
 use Rattle.pb_base.specs.declared.names.Ts.{Ts}
@@ -23,9 +23,7 @@ module _ {T : Type 0} (c : T → Contents) (parts ps : List (Row × T)) (i : ℕ
   tile_there = tile_at-tiles_of c parts i p (subst (λ (xs : List (Row × T)). i < length xs) same lt) ∙ ap (λ x. c x.1) (sym at)
 
   pub get_there : (q : Slot) → r ≡ row_of q.cell → map.get (c p.1).entries q ≡ map.get (joined (tiles_of c parts)).entries q
-  get_there q row =
-      ap (λ (k : Contents). map.get k.entries q) (sym tile_there)
-      ∙ sym (get-joined q (tiles_of c parts) i tiled (subst (λ (s : Row). IsPlace (tiles_of c parts) i s.0) row place_there))
+  get_there q row = grind (arith, tile_there, get-joined, place_there)
 
   pub newest_there : (cell : Cell) (sort : Sort) (high : Ts) (found : Option (Ts × Item)) → r ≡ row_of cell
       → IsNewest (c p.1).entries cell sort high found → IsNewest (joined (tiles_of c parts)).entries cell sort high found

@@ -62,16 +62,14 @@ module _ {T : Type 0} (c : T → Contents) (parts : List (Row × T)) (i : ℕ) (
 
 -- a table has at least one tablet
 pub some_tile : (tiles : List Tile) → IsTiling tiles → 0 < length tiles
-some_tile [] t = absurd t.zero_first
-some_tile (tile ∷ tiles) t = omega arith
+some_tile tiles t = grind arith
 
 -- the first rows of tiles after one, up to another, are above the row
 abbrev pub FirstsAbove : List Tile → ℕ → ℕ → ℕ → Type 0
 FirstsAbove tiles row from upto = (k : ℕ) → from < k → k < upto → row < first_at tiles k
 
 below_next : (bound : ℕ) (tile : Tile) (tiles : List Tile) → FirstsAbove (tile ∷ tiles) bound 0 (suc (length tiles)) → IsBelow bound tiles
-below_next bound tile [] above = tt
-below_next row tile (next ∷ tiles) above = above 1 (omega arith) (omega arith)
+below_next bound tile tiles above = grind arith
 
 -- the tile that begins at or below the row, where all later ones begin above, has the row
 pub place_from_firsts : (tiles : List Tile) (i row : ℕ) → i < length tiles → first_at tiles i ≤ row → FirstsAbove tiles row i (length tiles) → IsPlace tiles i row

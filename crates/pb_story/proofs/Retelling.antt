@@ -10,7 +10,7 @@ use Rattle.pb_script.specs.declared.fault.ReportFault.{ReportFault}
 use Rattle.pb_base.specs.Taking.{Taking, TookAll, TookPart}
 use Rattle.pb_script.specs.TableReports.{Reports}
 use Rattle.pb_story.specs.declared.fault.StoryFault.{StoryFault}
-use Rattle.pb_story.specs.Stories.{Recounts, IsTold, IsAtFault, EventEnds, AreTold, LinesEnd, StoryEnds}
+use Rattle.pb_story.specs.Stories.{Recounts, IsTold, EventEnds, AreTold, LinesEnd, StoryEnds}
 
 -- ---- one event more
 
@@ -71,16 +71,7 @@ told_to w es i v u e old mid now was failed StoryFault.Output is t end =
     record { count = i + 1; within = within; lines = t.lines ++ end.0; recounts = lines; taken = part_took old mid now was failed t.lines end.0 t.taken end.2 }
 told_to w es i v u e old mid now was failed StoryFault.NoMemory is t end =
     record { count = i; before = v; told = told_still w (take i es) v old mid now was failed t end.1.0 end.1.1; rest = inr (e, is, end.0) }
-told_to w es i v u e old mid now was failed (StoryFault.Event f) is t end =
-    let at : i ≡ f.event = sym end.0.0 in
-    let same : v ≡ u = sym end.0.2 in
-    let told = told_still w (take i es) v old mid now was failed t end.1.0 end.1.1 in
-    record {
-      told = subst (λ x. AreTold w (take f.event es) x (took old now failed)) same (subst (λ k. AreTold w (take k es) v (took old now failed)) at told);
-      event = e;
-      there = subst (λ k. slice_get es k ≡ Some e) at is;
-      at_fault = subst (λ x. IsAtFault x e f.code) same end.0.1;
-    }
+told_to w es i v u e old mid now was failed (StoryFault.Event f) is t end = grind arith
 
 -- ---- the story
 

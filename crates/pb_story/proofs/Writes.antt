@@ -1,5 +1,5 @@
 -- The writes that are still to be told.
-use Rattle.std.proofs.Common.{◌≡◌, ℕ, suc, ◌+◌, List, ◌∷◌, ◌++◌, drop, Some, sym, ap, ◌∙◌, append_assoc, add-one, drop-cons, slice_get, flat_map}
+use Rattle.std.proofs.Common.{arith, ◌≡◌, ℕ, suc, ◌+◌, List, ◌∷◌, ◌++◌, drop, Some, ap, ◌∙◌, append_assoc, add-one, drop-cons, slice_get, flat_map}
 use Rattle.std.proofs.lemmas.Option.{slice_get_within, get_or_from_slice_get}
 use Rattle.pb_base.specs.declared.cell.Cell.{Cell}
 use Rattle.pb_base.specs.declared.content.Content.{Content}
@@ -14,6 +14,4 @@ drop_next ws i w h =
 -- the text grew by the write of this place
 pub tell_next : (f : Cell × Content → List ℕ) (ws : Writes) (i : ℕ) (w : Cell × Content) (before text all : List ℕ)
     → slice_get ws i ≡ Some w → text ≡ before ++ f w → before ++ flat_map f (drop i ws) ≡ all → text ++ flat_map f (drop (i + 1) ws) ≡ all
-tell_next f ws i w before text all h grew is =
-    ap (λ (t : List ℕ). t ++ flat_map f (drop (i + 1) ws)) grew ∙ append_assoc before (f w) (flat_map f (drop (i + 1) ws))
-    ∙ ap (λ (xs : Writes). before ++ flat_map f xs) (sym (drop_next ws i w h)) ∙ is
+tell_next f ws i w before text all h grew is = grind (arith, append_assoc, drop_next)

@@ -1,9 +1,8 @@
 -- A command line that `clap` takes asks for something.
-use Rattle.std.proofs.Common.{◌≡◌, ℕ, Bool, true, false, cond, List, [], ◌∷◌, Option, Some, None, refl, sym, ap, subst, ◌∙◌, inl, inr, codes, arith, ◌⊎◌, ◌||◌, not, fold, is_some, option_map, option_and_then, bytes_eq}
-use Rattle.clap.specs.Lexer.{long_of, short_of}
-use Rattle.clap.specs.Walk.{Text, Rule, Row, Held, Waiting, idle, option, positional, Outcome, done, waits, plain, refused, Step, Walk, Names, next, trailing, subcommand, value}
-use Rattle.clap.specs.Walk.{first_of, one_of, answers_to, arg_by_long, arg_by_index, long_met, bundle, plain_word, after_flag, short_or_plain, long_or_other, subcommand_met, subcommand_or_other, word_met, to_positional, after_step, walked_from, walked, walk_from, walk, finished, nothing_held, rows_after}
-use Rattle.clap.specs.Simple.{Shape, subcommand_of, built, built_leaf, inherited, with_leaf_noted, marked_built, argument_words, entered, names_of}
+use Rattle.std.proofs.Common.{◌≡◌, ℕ, Bool, true, false, cond, List, [], ◌∷◌, Option, Some, None, refl, sym, ap, subst, ◌∙◌, inl, inr, codes, arith, ◌⊎◌, ◌||◌, not, fold, is_some, option_map, option_and_then}
+use Rattle.clap.specs.Walk.{Text, Row, Held, Waiting, Step, Walk, Names, next, trailing, subcommand, value}
+use Rattle.clap.specs.Walk.{first_of, one_of, subcommand_met, subcommand_or_other, word_met, after_step, walked_from, walked, nothing_held, rows_after}
+use Rattle.clap.specs.Simple.{Shape, subcommand_of, built, built_leaf, inherited, with_leaf_noted, marked_built, entered, names_of}
 use Rattle.clap.specs.Kinds.{check_kinds}
 use Rattle.clap.specs.Takes.{is_given}
 use Rattle.clap.specs.Faults.{fault_of, entered_fault, check_fault, walk_fault, turn_fault, word_fault, other_fault}
@@ -46,67 +45,23 @@ abbrev name_if : Bool → Text → Option (Text × List Text) → Option (Text �
 name_if b name others = cond b (Some (name, [])) others
 
 named_by : (a b c d e f : Bool) → Named (option_map (λ (s : Text × List Text). s.0) (name_if a (codes "run") (name_if b (codes "replay") (name_if c (codes "asm") (name_if d (codes "dis") (name_if e (codes "check") (name_if f (codes "help") None)))))))
-named_by true b c d e f = inl (inl refl)
-named_by false true c d e f = inl (inr (inl refl))
-named_by false false true d e f = inl (inr (inr (inl refl)))
-named_by false false false true e f = inl (inr (inr (inr (inl refl))))
-named_by false false false false true f = inl (inr (inr (inr (inr refl))))
-named_by false false false false false true = inr refl
-named_by false false false false false false = tt
+named_by a b c d e f = grind arith
 
 named : (w : Waiting) (word : Text) → Named (subcommand_met names w word)
-named idle word = named_by (answers_to word (codes "run", [])) (answers_to word (codes "replay", [])) (answers_to word (codes "asm", [])) (answers_to word (codes "dis", [])) (answers_to word (codes "check", [])) (answers_to word (codes "help", []))
-named (option id) word = tt
-named positional word = tt
-
-step_if : (b : Bool) (x y : Held × Step) → StopStep x.1 → StopStep y.1 → StopStep (cond b x y).1
-step_if true x y f g = f
-step_if false x y f g = g
-
-plain_stops : (c : List Rule) (w : Waiting) (word : Text) (h : Held) → StopStep (plain_word c w word h).1
-plain_stops c idle word h = tt
-plain_stops c (option id) word h = tt
-plain_stops c positional word h = tt
-
-after_stops : (c : List Rule) (w : Waiting) (word : Text) (h : Held) (q : Outcome) → StopStep (after_flag c w word h q).1
-after_stops c w word h done = tt
-after_stops c w word h (waits id) = tt
-after_stops c w word h plain = plain_stops c w word h
-after_stops c w word h refused = plain_stops c w word h
-
-short_stops : (c : List Rule) (w : Waiting) (word : Text) (o : Option Text) (h : Held) → StopStep (short_or_plain c w word o h).1
-short_stops c w word None h = plain_stops c w word h
-short_stops c w word (Some flags) h = after_stops c w word (bundle c flags h).0 (bundle c flags h).1
-
-long_stops : (c : List Rule) (w : Waiting) (word : Text) (o : Option (Text × Option Text)) (h : Held) → StopStep (long_or_other c w word o h).1
-long_stops c w word None h = short_stops c w word (short_of word) h
-long_stops c w word (Some p) h = after_stops c w word (long_met c (arg_by_long c p.0) p.1 h).0 (long_met c (arg_by_long c p.0) p.1 h).1
+named idle1 word = grind (arith, named_by)
 
 other_stops : (o : Option Text) (w : Waiting) (position : ℕ) (word : Text) (h : Held) → Named o → other_fault top o word h ≡ [] → StopStep (subcommand_or_other top.rules o w position word h).1
-other_stops None w position word h n e = step_if (bytes_eq word (45 ∷ 45 ∷ [])) _ _ tt (long_stops top.rules w word (long_of word) h)
-other_stops (Some name) w position word h (inl known) e = known
-other_stops (Some name) w position word h (inr helps) e =
-    let k : other_fault top (Some (codes "help")) word h ≡ [] = subst (λ (n : Text). other_fault top (Some n) word h ≡ []) helps e in
-    absurd cc
+other_stops o w position word h n e = grind arith
 
 word_stops : (b : Bool) (w : Waiting) (position : ℕ) (word : Text) (h : Held) → word_fault top names b w word h ≡ [] → StopStep (word_met top.rules names b w position word h).1
-word_stops true w position word h e = tt
-word_stops false w position word h e = other_stops (subcommand_met names w word) w position word h (named w word) e
-
-positional_stops : (o : Option Rule) (word : Text) (w : Walk) (h : Held) → Stops w.stopped → Stops (to_positional top.rules o word w h).stopped
-positional_stops None word w h g = g
-positional_stops (Some a) word w h g = tt
+word_stops b w position word h e = grind (arith, other_stops, named)
 
 step_stops : (word : Text) (w : Walk) (h : Held) (s : Step) → StopStep s → Stops w.stopped → Stops (after_step top.rules word w h s).stopped
-step_stops word w h (next q) r g = g
-step_stops word w h (trailing p) r g = g
-step_stops word w h (subcommand name) r g = r
-step_stops word w h value r g = positional_stops (arg_by_index top.rules w.position) word w h g
+step_stops word w h value1 r g = grind arith
 
 -- a word, at a walk that has stopped there or not
 turn_stops : (o : Option (Text × List Text)) (w : Walk) (word : Text) → w.stopped ≡ o → Stops o → turn_fault top names w word ≡ [] → Stops (walked_from top.rules names o w word).stopped
-turn_stops (Some p) w word is g e = g
-turn_stops None w word is g e = step_stops word w _ _ (word_stops w.is_trailing w.waiting w.position word w.held (or_else_none _ _ (unless_stopped w.stopped _ is e)).0) (subst Stops (sym is) tt)
+turn_stops o w word is g e = grind (arith, step_stops, word_stops, or_else_none, unless_stopped)
 
 walk_stops : (words : List Text) (w : Walk) → Stops w.stopped → walk_fault top names w words ≡ [] → Stops (fold (walked top.rules names) w words).stopped
 unfolding walk_fault walked
@@ -122,20 +77,16 @@ abbrev leaf : Shape → Shape
 leaf s = built_leaf (inherited (with_leaf_noted (marked_built program_app.top)) s)
 
 checked : (b : Bool) → check_kinds false false b ≡ [] → b ≡ false
-checked true h = absurd cc
-checked false h = refl
+checked b h = grind arith
 
 one_given : (a : Bool) → (not a || false) ≡ false → a ≡ true
-one_given true h = refl
-one_given false h = absurd cc
+one_given a h = grind arith
 
 both_given : (a b : Bool) → (not a || (not b || false)) ≡ false → (a ≡ true) × (b ≡ true)
-both_given true b h = (refl, one_given b h)
-both_given false b h = absurd cc
+both_given a b h = grind arith
 
 all_given : (a b c : Bool) → (not a || (not b || (not c || false))) ≡ false → (a ≡ true) × (b ≡ true) × (c ≡ true)
-all_given true b c h = let rest = both_given b c h in (refl, rest.0, rest.1)
-all_given false b c h = absurd cc
+all_given a b c h = grind arith
 
 one_asks : (make : Text → Request) (id : Text) (rows : List Row) → Each HasValue rows → check_kinds false false (not (is_given id rows) || false) ≡ []
     → (r : Request) × (option_map make (first_of id rows) ≡ Some r)
@@ -322,11 +273,7 @@ asks_at (Some q) (inr (inr (inr (inl dis)))) e f = renamed q.0 (codes "dis") q.1
 asks_at (Some q) (inr (inr (inr (inr check)))) e f = renamed q.0 (codes "check") q.1 check (check_asks q.1) f
 
 has_one : (b : Bool) (rows : List Row) → check_fault top rows b ≡ [] → b ≡ true
-has_one true rows h = refl
-has_one false rows h = absurd cc
+has_one b rows h = grind arith
 
 pub asks : (words : List Text) → fault_of program_app words ≡ [] → has_plus (subcommand_of program_app words) ≡ false → (r : Request) × (command_of words ≡ Some r)
-asks words e no_plus =
-    let ws = argument_words (built program_app) words in
-    let c = level_none top names nothing_held ws _ _ e in
-    asks_at (walk top.rules names nothing_held ws).stopped (walk_stops ws (walk_from nothing_held) tt c.0) (has_one _ (finished top.rules (walk top.rules names nothing_held ws).held) c.3) c.1 no_plus
+asks words e no_plus = grind (arith, level_none, asks_at, walk_stops, has_one)

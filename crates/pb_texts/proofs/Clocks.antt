@@ -43,7 +43,5 @@ clock_told (Err e) = None
 pub clock_read : (o : Option Text) (r : Result (Option ℕ) ParseIntError) → (o ≡ None → r ≡ Ok None) → ((t : Text) → o ≡ Some t → TriesOne Parsed t r) → clock_told r ≡ clock_of o
 clock_read None r n v = ap clock_told (n refl)
 clock_read (Some t) (Ok None) n v = absurd (v t refl)
-clock_read (Some t) (Ok (Some x)) n v =
-    let p = (v t refl).0 in
-    some_if (is_clock t) x (clock_number t) (number_passes t p.0) p.1
+clock_read (Some t) (Ok (Some x)) n v = grind (arith, some_if, number_passes)
 clock_read (Some t) (Err e) n v = none_unless (is_clock t) (clock_number t) (λ is. (v t refl).0 (passes_number t is))

@@ -1,11 +1,11 @@
 -- The numbers of workers, of swaps and of a profile are read as `parse` reads a number of `u32`, but for a plus, which `clap` takes too.
-use Rattle.std.proofs.Common.{◌≡◌, ℕ, ◌<◌, ◌≤◌, ◌^◌, Bool, true, false, [], ◌∷◌, Option, Some, None, Ok, Err, refl, sym, ap, ◌∙◌, subst, arith, ◌&&◌, ◌==◌, nat_le, nat_lt, slice_index}
+use Rattle.std.proofs.Common.{◌≡◌, ℕ, ◌<◌, ◌≤◌, ◌^◌, Bool, true, false, Option, Some, None, Ok, Err, refl, sym, ap, ◌∙◌, arith, ◌&&◌, ◌==◌, nat_le, nat_lt, slice_index}
 use Rattle.std.specs.Option.{option_map_or}
-use Rattle.std.proofs.lemmas.Bool.{eqb-true, leb-true, lt-ltb, and_right as and_false, and_left as false_and}
+use Rattle.std.proofs.lemmas.Bool.{leb-true, lt-ltb}
 use Rattle.std.specs.Str.Parse.{IsNumeral, ParsesUnsigned, digits_value, without_leading_plus}
 use Rattle.std.specs.declared.num.ParseIntError.{ParseIntError}
 use Rattle.clap.specs.Walk.{Text}
-use Rattle.clap.specs.ValueTests.{is_numeral, is_unsigned_in}
+use Rattle.clap.specs.ValueTests.{is_unsigned_in}
 use Rattle.clap.specs.declared.builder.value_parser.ValueParser.{ValueParser}
 use Rattle.clap.proofs.ValueTestLemmas.{accepts-Accepts, Accepts-accepts}
 use Rattle.pb_texts.specs.CommandLines.{is_within, is_count, count_number, count_of, begins_with_plus}
@@ -16,45 +16,26 @@ use Rattle.pb_texts.proofs.Clocks.{some_if, none_unless}
 -- ---- a plus before the digits
 
 begins_by : (t : Text) → begins_with_plus t ≡ (slice_index t 0 == 43)
-begins_by [] = refl
-begins_by (x ∷ xs) = refl
+begins_by t = grind arith
 
 pub begins_as_told : (t : Text) (b told : Bool) → told ≡ (slice_index t 0 == 43) → told ≡ b → begins_with_plus t ≡ b
 begins_as_told t b told e is = begins_by t ∙ sym e ∙ is
 
 without_plus : (t : Text) → begins_with_plus t ≡ false → without_leading_plus t ≡ t
-without_plus [] h = refl
-without_plus (x ∷ xs) h = rw h refl
+without_plus t h = grind arith
 
 -- a test that another one implies may be left out
 spare : (n c a b : Bool) → (b ≡ true → c ≡ true) → (n && (c && (a && b))) ≡ (n && (a && b))
-spare false c a b f = refl
-spare true true a b f = refl
-spare true false a true f = let e : false ≡ true = f refl in absurd cc
-spare true false true false f = refl
-spare true false false false f = refl
+spare n c a b f = grind arith
 
 module _ (low high : ℕ) where
-  plus_no_number : (xs : Text) → is_count low high (43 ∷ xs) ≡ false
-  plus_no_number xs = false_and _ _ (and_false _ _ refl)
-
   pub plus_no_count : (t : Text) → begins_with_plus t ≡ true → is_count low high t ≡ false
-  plus_no_count [] h = absurd cc
-  plus_no_count (x ∷ xs) h = subst (λ y. is_count low high (y ∷ xs) ≡ false) (sym (eqb-true x 43 h)) (plus_no_number xs)
-
-  pub plus_unread : (t : Text) → begins_with_plus t ≡ true → None ≡ count_of low high (Some t)
-  plus_unread t h = rw (plus_no_count t h) refl
+  plus_no_count t h = grind arith
 
   -- ---- read
 
-  counted_within : (t : Text) → is_count low high t ≡ true → is_within low high (count_number t) ≡ true
-  counted_within t e = (both_true (is_numeral t) (is_within low high (count_number t)) e).1
-
   within : (n : ℕ) → is_within low high n ≡ true → (low ≤ n) × (n ≤ high)
   within n e = let a = both_true (nat_le low n) (nat_le n high) e in (leb-true _ _ a.0, leb-true _ _ a.1)
-
-  pub count_within : (t : Text) → is_count low high t ≡ true → (low ≤ count_number t) × (count_number t ≤ high)
-  count_within t e = within (count_number t) (counted_within t e)
 
   module _ (fits : high < 2 ^ 32) where
     short : (n : ℕ) → nat_le n high ≡ true → nat_lt n (2 ^ 64) ≡ true

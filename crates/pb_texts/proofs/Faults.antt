@@ -1,18 +1,16 @@
 -- A plus before the number of workers, of swaps, of a profile or of a version is a fault, and without one a run's numbers are in range.
-use Rattle.std.proofs.Common.{◌≡◌, ℕ, ◌≤◌, Bool, true, false, cond, List, [], ◌∷◌, Option, Some, None, refl, sym, ap, ◌∙◌, subst, arith, inl, inr, codes, ◌⊎◌, ◌||◌, option_and_then, option_map, bytes_eq}
+use Rattle.std.proofs.Common.{◌≡◌, ℕ, ◌≤◌, Bool, true, false, cond, List, [], ◌∷◌, Option, Some, None, refl, sym, ap, ◌∙◌, subst, arith, inl, codes, ◌⊎◌, ◌||◌, option_and_then, option_map, bytes_eq}
 use Rattle.std.specs.Option.{option_map_or}
 use Rattle.clap.specs.Walk.{Text, Row, first_of, one_of}
 use Rattle.clap.specs.Simple.{subcommand_of}
 use Rattle.clap.specs.Kinds.{Kinds, IsAmong, HasKind, or_else}
-use Rattle.clap.specs.Values.{kind_of}
 use Rattle.clap.specs.declared.error.Error.{Error}
 use Rattle.clap.specs.Faults.{fault_of}
 use Rattle.clap.specs.declared.error.kind.ErrorKind.{ErrorKind}
 use Rattle.pb_texts.specs.declared.words.choice.Options.{Options}
 use Rattle.pb_isa.specs.declared.profile.Profile.{Profile}
 use Rattle.pb_helpers.specs.declared.change.Version.{Version}
-use Rattle.pb_texts.specs.CommandLines.{most_workers, most_swaps, last_profile, program_app, Request, Run, Replay, Asm, Dis, Check, both, all_three, is_count, count_number, count_of, workers_of, clock_of, profile_numbered, profile_of, with_profile, last_version, version_numbered, version_of, with_version, asm_in, dis_in, check_in, command_in, command_of, begins_with_plus, has_plus, has_plus_at, request_of, IsInRange}
-use Rattle.pb_texts.proofs.Counts.{plus_unread, count_within}
+use Rattle.pb_texts.specs.CommandLines.{most_workers, most_swaps, last_profile, program_app, Request, Run, Asm, Dis, Check, both, count_of, workers_of, clock_of, profile_numbered, profile_of, with_profile, last_version, version_numbered, version_of, with_version, asm_in, dis_in, check_in, command_in, command_of, begins_with_plus, has_plus, has_plus_at, request_of, IsInRange}
 use Rattle.pb_texts.proofs.Asked.{run_with, run_by, replay_from, asks}
 use Rattle.std.proofs.lemmas.Bool.{true_from_ne_false as true_unless, false_from_ne_true as false_unless}
 use Rattle.pb_base.proofs.Logic.{or_cases as either}
@@ -20,20 +18,17 @@ use Rattle.pb_base.proofs.Logic.{or_cases as either}
 -- ---- the fault of a plus
 
 none_at : (low high : ℕ) (o : Option Text) → option_map_or begins_with_plus o false ≡ true → count_of low high o ≡ None
-none_at low high None h = absurd cc
-none_at low high (Some t) h = sym (plus_unread low high t h)
+none_at low high o h = grind arith
 
 plus_names_none : (low high : ℕ) (name : Text) (rows : List Row) → has_plus_at name rows ≡ true → count_of low high (first_of name rows) ≡ None
 plus_names_none low high name rows h = none_at low high (first_of name rows) h
 
 none_then : {A B : Type 0} (o : Option A) (f : A → Option B) → ((x : A) → f x ≡ None) → option_and_then f o ≡ None
-none_then None f h = refl
-none_then (Some x) f h = h x
+none_then o f h = grind arith
 
 -- a run with a plus before one of its numbers names none
 run_names_none : (rows : List Row) → (has_plus_at (codes "workers") rows ≡ true) ⊎ (has_plus_at (codes "swaps") rows ≡ true) → option_and_then (run_by rows) (workers_of (first_of (codes "workers") rows)) ≡ None
-run_names_none rows (inl workers) = ap (option_and_then (run_by rows)) (plus_names_none 1 most_workers (codes "workers") rows workers)
-run_names_none rows (inr swaps) = none_then (workers_of (first_of (codes "workers") rows)) (run_by rows) (λ workers. ap (option_and_then (run_with rows workers)) (plus_names_none 0 most_swaps (codes "swaps") rows swaps))
+run_names_none rows w = grind (arith, run_by, plus_names_none, none_then, run_with)
 
 -- nor does a subcommand with one before the number of a profile
 profile_names_none : (rows : List Row) (ask : Profile → Option Request) → has_plus_at (codes "profile") rows ≡ true → with_profile ask rows ≡ None
@@ -43,16 +38,13 @@ version_names_none : (rows : List Row) (ask : Version → Option Request) → ha
 version_names_none rows ask plus = ap (λ n. option_and_then ask (option_map version_numbered n)) (plus_names_none 1 last_version (codes "record") rows plus)
 
 check_names_none : (rows : List Row) → (has_plus_at (codes "profile") rows ≡ true) ⊎ (has_plus_at (codes "record") rows ≡ true) → check_in rows ≡ None
-check_names_none rows (inl profile) = profile_names_none rows _ profile
-check_names_none rows (inr version) = none_then (profile_of (first_of (codes "profile") rows)) _ (λ profile. version_names_none rows _ version)
+check_names_none rows w = grind (arith, profile_names_none, none_then, version_names_none)
 
 none_if : (b : Bool) (x y : Option Request) → x ≡ None → y ≡ None → cond b x y ≡ None
-none_if true x y e f = e
-none_if false x y e f = f
+none_if b x y e f = grind arith
 
 none_by : (b plus other : Bool) (x y : Option Request) → (plus ≡ true → x ≡ None) → (other ≡ true → y ≡ None) → cond b plus other ≡ true → cond b x y ≡ None
-none_by true plus other x y f g h = f h
-none_by false plus other x y f g h = g h
+none_by b plus other x y f g h = grind arith
 
 plus_asks_none : (q : Option (Text × List Row)) → has_plus q ≡ true → command_in q ≡ None
 plus_asks_none None h = absurd cc
@@ -83,13 +75,8 @@ faultless f b e is = rw (e, is) refl
 refused_by_plus : (f : Kinds) (b : Bool) → f ≡ [] → b ≡ true → IsAmong ErrorKind.ValueValidation (or_else f (plus_fault b))
 refused_by_plus f b e is = rw (e, is) (inl refl)
 
-still_among : (k : ErrorKind) (f g : Kinds) → IsAmong k f → IsAmong k (or_else f g)
-still_among k [] g h = absurd h
-still_among k (x ∷ xs) g h = h
-
 pub has_kind_still : (f g : Kinds) (e : Error) → HasKind f e → HasKind (or_else f g) e
-has_kind_still f g e (inl memory) = inl memory
-has_kind_still f g e (inr among) = inr (still_among (kind_of e) f g among)
+has_kind_still f g e w = grind arith
 
 pub asked_faultless : (words : List Text) (r : Request) → fault_of program_app words ≡ [] → command_of words ≡ Some r → or_else (fault_of program_app words) (plus_fault (has_plus (subcommand_of program_app words))) ≡ []
 asked_faultless words r f e = faultless _ _ f (some_has_no_plus (subcommand_of program_app words) r e)
@@ -108,45 +95,22 @@ IfAsked None = Unit {0}
 IfAsked (Some r) = InRange r
 
 asked_if : (b : Bool) (x y : Option Request) → IfAsked x → IfAsked y → IfAsked (cond b x y)
-asked_if true x y f g = f
-asked_if false x y f g = g
+asked_if b x y f g = grind arith
 
 both_in_range : (make : Text → Text → Request) (a b : Option Text) → ((m s : Text) → InRange (make m s)) → IfAsked (both make a b)
-both_in_range make None b f = tt
-both_in_range make (Some m) None f = tt
-both_in_range make (Some m) (Some s) f = f m s
-
-all_in_range : (make : Text → Text → Text → Request) (a b c : Option Text) → ((m s e : Text) → InRange (make m s e)) → IfAsked (all_three make a b c)
-all_in_range make None b c f = tt
-all_in_range make (Some m) b c f = both_in_range (make m) b c (f m)
-
--- what is asked for with a number is in range where it is so with each number of the range
-counted_if : (low high : ℕ) (ask : ℕ → Option Request) (b : Bool) (n : ℕ) → (b ≡ true → (low ≤ n) × (n ≤ high)) → ((m : ℕ) → (low ≤ m) × (m ≤ high) → IfAsked (ask m)) → IfAsked (option_and_then ask (cond b (Some n) None))
-counted_if low high ask true n is f = f n (is refl)
-counted_if low high ask false n is f = tt
-
-counted : (low high : ℕ) (ask : ℕ → Option Request) (o : Option Text) → low ≤ high → ((m : ℕ) → (low ≤ m) × (m ≤ high) → IfAsked (ask m)) → IfAsked (option_and_then ask (count_of low high o))
-counted low high ask None some f = f low (omega arith, some)
-counted low high ask (Some t) some f = counted_if low high ask (is_count low high t) (count_number t) (count_within low high t) f
+both_in_range make a b f = grind arith
 
 run_in_range : (rows : List Row) → IfAsked (option_and_then (run_by rows) (workers_of (first_of (codes "workers") rows)))
-run_in_range rows =
-    counted 1 most_workers (run_by rows) (first_of (codes "workers") rows) (omega arith)
-    (λ workers few. counted 0 most_swaps (run_with rows workers) (first_of (codes "swaps") rows) (omega arith)
-    (λ swaps some. both_in_range (λ m s. Run m s workers swaps) (first_of (codes "MANIFEST") rows) (first_of (codes "SCRIPT") rows) (λ m s. (few.0, few.1, some.1))))
+run_in_range rows = grind arith
 
 then_in_range : {A : Type 0} (ask : A → Option Request) (o : Option A) → ((x : A) → IfAsked (ask x)) → IfAsked (option_and_then ask o)
-then_in_range ask None f = tt
-then_in_range ask (Some x) f = f x
+then_in_range ask o f = grind arith
 
 replay_in_range : (rows : List Row) → IfAsked (option_and_then (replay_from rows) (clock_of (one_of (codes "clock") rows)))
-replay_in_range rows =
-    then_in_range (replay_from rows) (clock_of (one_of (codes "clock") rows))
-    (λ n. all_in_range (λ m s e. Replay m s e n) (first_of (codes "MANIFEST") rows) (first_of (codes "SCRIPT") rows) (first_of (codes "SCHEDULE") rows) (λ m s e. tt))
+replay_in_range rows = grind arith
 
 one_in_range : (make : Text → Request) (o : Option Text) → ((f : Text) → InRange (make f)) → IfAsked (option_map make o)
-one_in_range make None h = tt
-one_in_range make (Some f) h = h f
+one_in_range make o h = grind arith
 
 profile_in_range : (rows : List Row) (ask : Profile → Option Request) → ((p : Profile) → IfAsked (ask p)) → IfAsked (with_profile ask rows)
 profile_in_range rows ask f = then_in_range ask (profile_of (first_of (codes "profile") rows)) f
@@ -164,11 +128,7 @@ command_in_range (Some p) =
     (asked_if (bytes_eq p.0 (codes "check")) _ _ (profile_in_range p.1 _ (λ v. version_in_range p.1 _ (λ w. one_in_range (λ f. Check f v w) (first_of (codes "FILE") p.1) (λ f. tt)))) tt))))
 
 options_in_range : (o : Options) → InRange (request_of o) → IsInRange o
-options_in_range (Options.Run m s workers swaps) h = h
-options_in_range (Options.Replay files) h = tt
-options_in_range (Options.Asm i o profile) h = tt
-options_in_range (Options.Dis f profile) h = tt
-options_in_range (Options.Check file) h = tt
+options_in_range o h = grind arith
 
 pub asked_in_range : (words : List Text) (o : Options) → command_of words ≡ Some (request_of o) → IsInRange o
 asked_in_range words o e = options_in_range o (subst IfAsked e (command_in_range (subcommand_of program_app words)))

@@ -1,5 +1,5 @@
 -- Each row of a subcommand has a value, and that of an option that takes a number is one.
-use Rattle.std.proofs.Common.{◌≡◌, ℕ, ◌<◌, Bool, true, false, cond, List, [], ◌∷◌, ◌++◌, length, Option, Some, None, refl, sym, ◌∙◌, subst, arith, length-append, find, option_map, option_and_then, slice_get, bytes_eq}
+use Rattle.std.proofs.Common.{◌≡◌, ℕ, ◌<◌, Bool, true, false, cond, List, [], ◌∷◌, ◌++◌, length, Option, Some, None, refl, sym, ◌∙◌, arith, length-append, find, option_map, option_and_then, slice_get, bytes_eq}
 use Rattle.std.specs.Option.{option_map_or}
 use Rattle.std.proofs.lemmas.Slice.Eq.{bytes_eq-Decides}
 use Rattle.clap.specs.Facts.{explicit_source}
@@ -13,13 +13,11 @@ use Rattle.clap.specs.declared.builder.value_parser.Reading.{Reading}
 use Rattle.clap.specs.ValueTests.{is_unsigned_in}
 use Rattle.pb_texts.specs.CommandLines.{required_rule, number_rule}
 use Rattle.pb_texts.proofs.Kept.{Each, Keeps, or_else_none}
-use Rattle.pb_base.proofs.Logic.{same_some as some_same}
 
 -- ---- rows that change
 
 each_if : (P : Row → Type 0) (b : Bool) (xs ys : List Row) → (b ≡ true → Each P xs) → Each P ys → Each P (cond b xs ys)
-each_if P true xs ys f g = f refl
-each_if P false xs ys f g = g
+each_if x b xs ys f g = grind arith
 
 each_at : (P : Row → Type 0) (id : Text) (change : Row → List Row) (missing : List Row)
     → ((r : Row) (rs : List Row) → bytes_eq r.id id ≡ true → P r → Each P rs → Each P (change r ++ rs)) → Each P missing → (rows : List Row) → Each P rows → Each P (at_row id change missing rows)
@@ -66,12 +64,10 @@ value_set : (id : Text) (how : Reading) (v : Text) (vs : List Text) (rows : List
 value_set id how v vs rows g = each_set HasValue id how (v ∷ vs) (some_value v vs) (λ r e p. (longer r.values v vs p, tt)) rows g
 
 pub operand_has_value : (position : ℕ) (id : Text) → Keeps HasValue (operand position id)
-operand_has_value position id again [] rows e g = absurd cc
-operand_has_value position id again (v ∷ vs) rows e g = value_set id Reading.AsWritten v vs rows g
+operand_has_value position id again xs rows e g = grind (arith, value_set)
 
 pub number_has_value : (name : Text) (low high : ℕ) → Keeps HasValue (number name low high)
-number_has_value name low high again [] rows e g = absurd cc
-number_has_value name low high again (v ∷ vs) rows e g = value_set name Reading.AsWritten v vs rows g
+number_has_value name low high again xs rows e g = grind (arith, value_set)
 
 -- ---- numbers
 
@@ -101,22 +97,15 @@ first_still low high [] v vs is p = is
 first_still low high (x ∷ xs) v vs is p = p
 
 taken : (b : Bool) (k : ErrorKind) → cond b [] (k ∷ []) ≡ [] → b ≡ true
-taken true k e = refl
-taken false k e = absurd cc
+taken b k e = grind arith
 
 pub number_reads : (name : Text) (low high : ℕ) → Keeps (ReadsNumber name low high) (number name low high)
-number_reads name low high again [] rows e g = absurd cc
-number_reads name low high again (v ∷ vs) rows e g =
-    let a = or_else_none _ _ e in
-    let b = or_else_none _ _ a.1 in
-    let is : is_unsigned_in low high v ≡ true = taken (is_unsigned_in low high v) ErrorKind.ValueValidation (or_else_none _ _ b.1).0 in
-    each_set (ReadsNumber name low high) name Reading.AsWritten (v ∷ vs) (λ _. (refl, is)) (λ r same p. ((λ own. ((p own).0, first_still low high r.values v vs is (p own).1)), tt)) rows g
+number_reads name low high again xs rows e g = grind (arith, or_else_none, taken, each_set, first_still)
 
 -- ---- what is read of a row
 
 found_if : (P : Row → Type 0) (p : Row → Bool) (b : Bool) (x : Row) (later : Option Row) (r : Row) → P x → (later ≡ Some r → P r × (p r ≡ true)) → p x ≡ b → cond b (Some x) later ≡ Some r → P r × (p r ≡ true)
-found_if P p true x later r f g is h = subst (λ (y : Row). P y × (p y ≡ true)) (some_same x r h) (f, is)
-found_if P p false x later r f g is h = g h
+found_if x p b k later r f g is h = grind arith
 
 found_each : (P : Row → Type 0) (p : Row → Bool) (rows : List Row) (r : Row) → Each P rows → find p rows ≡ Some r → P r × (p r ≡ true)
 found_each P p [] r f h = absurd cc
@@ -128,8 +117,7 @@ first_value (v ∷ vs) h = (v, refl)
 
 first_in : (rows : List Row) (p : Row → Bool) (o : Option Row) → Each HasValue rows → find p rows ≡ o → option_map_or (λ r. explicit_source r.source) o false ≡ true
     → (t : Text) × (option_and_then (λ (r : Row). slice_get r.values 0) o ≡ Some t)
-first_in rows p None f e g = absurd cc
-first_in rows p (Some r) f e g = first_value r.values (found_each HasValue p rows r f e).0
+first_in rows p o f e g = grind (arith, first_value, found_each)
 
 -- a row that is given has a first value
 pub given_first : (id : Text) (rows : List Row) → Each HasValue rows → is_given id rows ≡ true → (t : Text) × (first_of id rows ≡ Some t)
@@ -137,21 +125,13 @@ given_first id rows f g = first_in rows (λ r. bytes_eq r.id id) (find (λ r. by
 
 module _ (name : Text) (low high : ℕ) where
   row_reads : (how : Reading) (o : Option Text) → how ≡ Reading.AsWritten → IsNumberIn low high o → IsNumberIn low high (option_map (read_as how) o)
-  row_reads how None e p = tt
-  row_reads how (Some text) e p = subst (λ (k : Reading). is_unsigned_in low high (read_as k text) ≡ true) (sym e) p
+  row_reads how o e p = grind arith
 
   first_found : (rows : List Row) (o : Option Row) → Each (ReadsNumber name low high) rows → find (λ r. bytes_eq r.id name) rows ≡ o → IsNumberIn low high (option_and_then (λ (r : Row). slice_get r.values 0) o)
-  first_found rows None f e = tt
-  first_found rows (Some r) f e =
-      let found = found_each (ReadsNumber name low high) (λ r. bytes_eq r.id name) rows r f e in
-      (found.0 (same_id r.id name found.1)).1
+  first_found rows o f e = grind (arith, found_each, same_id)
 
   one_found : (rows : List Row) (o : Option Row) → Each (ReadsNumber name low high) rows → find (λ r. bytes_eq r.id name) rows ≡ o → IsNumberIn low high (option_and_then row_text o)
-  one_found rows None f e = tt
-  one_found rows (Some r) f e =
-      let found = found_each (ReadsNumber name low high) (λ r. bytes_eq r.id name) rows r f e in
-      let reads = found.0 (same_id r.id name found.1) in
-      row_reads r.reading (slice_get r.values 0) reads.0 reads.1
+  one_found rows o f e = grind (arith, found_each, same_id, row_reads)
 
   pub first_number : (rows : List Row) → Each (ReadsNumber name low high) rows → IsNumberIn low high (first_of name rows)
   first_number rows f = first_found rows (find (λ r. bytes_eq r.id name) rows) f refl

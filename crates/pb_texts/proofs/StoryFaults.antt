@@ -1,14 +1,9 @@
 -- What `clap` takes of the story program's words is a fault exactly where it asks for nothing.
-use Rattle.std.proofs.Common.{◌≡◌, List, [], Some, None, refl, inl}
+use Rattle.std.proofs.Common.{◌≡◌, List, [], Some, refl}
 use Rattle.clap.specs.Walk.{Text}
-use Rattle.clap.specs.Kinds.{IsAmong}
 use Rattle.clap.specs.Faults.{fault_of}
-use Rattle.clap.specs.declared.error.kind.ErrorKind.{ErrorKind}
 use Rattle.pb_texts.specs.CommandLines.{Request}
 use Rattle.pb_texts.specs.StoryLines.{story_app, story_of, story_fault}
 
 pub asked_faultless : (words : List Text) (r : Request) → fault_of story_app words ≡ [] → story_of words ≡ Some r → story_fault words ≡ []
 asked_faultless words r f e = rw (f, e) refl
-
-pub unasked_fault : (words : List Text) → fault_of story_app words ≡ [] → story_of words ≡ None → IsAmong ErrorKind.ValueValidation (story_fault words)
-unasked_fault words f e = rw (f, e) (inl refl)

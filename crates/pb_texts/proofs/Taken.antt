@@ -1,6 +1,6 @@
 -- The plain forms of the subcommands are taken.
-use Rattle.std.proofs.Common.{◌≡◌, ℕ, ◌<◌, ◌^◌, Bool, true, false, cond, [], ◌∷◌, Some, None, refl, sym, ◌∙◌, subst, arith, ◌==◌, ◌||◌, not, option_map, option_and_then, bytes_eq}
-use Rattle.std.proofs.lemmas.Bool.{eqb-true, and_right as and_false, and_left as false_and, false_from_ne_true as false_unless}
+use Rattle.std.proofs.Common.{◌≡◌, ℕ, ◌<◌, ◌^◌, Bool, true, false, cond, [], ◌∷◌, Some, None, refl, ◌∙◌, arith, ◌||◌, option_map, option_and_then, bytes_eq}
+use Rattle.std.proofs.lemmas.Bool.{and_right as and_false, and_left as false_and, false_from_ne_true as false_unless}
 use Rattle.clap.specs.Lexer.{strip_byte}
 use Rattle.clap.specs.Walk.{Text}
 use Rattle.clap.specs.Kinds.{Kinds, or_else}
@@ -11,15 +11,13 @@ use Rattle.pb_isa.specs.declared.profile.Profile.{Profile}
 use Rattle.pb_helpers.specs.declared.change.Version.{Version}
 use Rattle.pb_texts.specs.CommandLines.{most_workers, most_swaps, last_profile, is_plain_word, is_count, is_workers, is_swaps, is_profile, profile_numbered, count_number, begins_with_plus, is_clock, clock_number, run_words, workers_words, swaps_words, replay_words, clock_words, asm_words, dis_words, check_words, profile_words, Run, Replay, Asm, Dis, Check, Request, AskFor, HaveBadValue, TakeProfiles, RefuseOtherProfiles, last_version, is_version, version_numbered, record_words, TakeVersions, RefuseOtherVersions}
 use Rattle.pb_texts.proofs.Counts.{plus_no_count, plain_count}
-use Rattle.pb_base.proofs.Logic.{false_if_not as not_true, not_both as true_not_false}
+use Rattle.pb_base.proofs.Logic.{not_both as true_not_false}
 
 no_hyphen : (w : Text) → is_plain_word w ≡ true → strip_byte 45 w ≡ None
-no_hyphen [] h = refl
-no_hyphen (x ∷ xs) h = rw (not_true (x == 45) h) refl
+no_hyphen w h = grind arith
 
 no_hyphens : (w : Text) → is_plain_word w ≡ true → bytes_eq w (45 ∷ 45 ∷ []) ≡ false
-no_hyphens [] h = refl
-no_hyphens (x ∷ xs) h = rw (not_true (x == 45) h) refl
+no_hyphens w h = grind arith
 
 abbrev NoHyphen : Text → Type 0
 NoHyphen w = (strip_byte 45 w ≡ None) × (bytes_eq w (45 ∷ 45 ∷ []) ≡ false)
@@ -30,14 +28,9 @@ plain_word w h = (no_hyphen w h, no_hyphens w h)
 hyphen_no_clock : (xs : Text) → is_clock (45 ∷ xs) ≡ false
 hyphen_no_clock xs = false_and _ _ (and_false _ _ refl)
 
-plain_if : (b : Bool) → (b ≡ true → ⊥) → not b ≡ true
-plain_if true f = absurd (f refl)
-plain_if false f = refl
-
 -- a word of a kind that no word with a hyphen is of is plain
 plain_of : (is : Text → Bool) → is [] ≡ false → ((xs : Text) → is (45 ∷ xs) ≡ false) → (t : Text) → is t ≡ true → is_plain_word t ≡ true
-plain_of is none hyphen [] h = absurd (true_not_false (is []) h none)
-plain_of is none hyphen (x ∷ xs) h = plain_if (x == 45) (λ e. true_not_false (is (x ∷ xs)) h (subst (λ y. is (y ∷ xs) ≡ false) (sym (eqb-true x 45 e)) (hyphen xs)))
+plain_of is none hyphen t h = grind arith
 
 -- a clock begins with a digit or a plus
 clock_plain : (t : Text) → is_clock t ≡ true → is_plain_word t ≡ true
@@ -59,18 +52,13 @@ abbrev plus_or_value_fault : Bool → Bool → Kinds
 plus_or_value_fault b plus = or_else (value_fault b) (cond plus (ErrorKind.ValueValidation ∷ []) [])
 
 no_fault : (b plus : Bool) → b ≡ true → plus ≡ false → plus_or_value_fault b plus ≡ []
-no_fault true false e f = refl
-no_fault true true e f = absurd cc
-no_fault false plus e f = absurd cc
+no_fault b plus e f = grind arith
 
 bad_value : (b plus : Bool) → (plus ≡ false → b ≡ false) → plus_or_value_fault b plus ≡ ErrorKind.ValueValidation ∷ []
-bad_value true true f = refl
-bad_value true false f = absurd (true_not_false true refl (f refl))
-bad_value false plus f = refl
+bad_value b plus f = grind arith
 
 with_value : (b : Bool) (make : ℕ → Request) (n : ℕ) → b ≡ true → option_and_then (λ m. Some (make m)) (cond b (Some n) None) ≡ Some (make n)
-with_value true make n is = refl
-with_value false make n is = absurd cc
+with_value b make n is = grind arith
 
 no_plus : (low high : ℕ) (t : Text) → is_count low high t ≡ true → begins_with_plus t ≡ false
 no_plus low high t is = false_unless (begins_with_plus t) (λ h. true_not_false (is_count low high t) is (plus_no_count low high t h))
@@ -87,12 +75,10 @@ some : most_swaps < 2 ^ 32
 some = omega arith
 
 or_nothing : (b : Bool) → b ≡ false → (b || false) ≡ false
-or_nothing true h = absurd cc
-or_nothing false h = refl
+or_nothing b h = grind arith
 
 nothing_or : (b : Bool) → (b || false) ≡ false → b ≡ false
-nothing_or true h = absurd cc
-nothing_or false h = refl
+nothing_or b h = grind arith
 
 workers_by : (program m s t : Text) → NoHyphen m → NoHyphen s → NoHyphen t → is_workers t ≡ true → AskFor (workers_words program m s t) (Run m s (count_number t) 0)
 unfolding clap_on_literals
@@ -152,9 +138,7 @@ module _ (t : Text) where
   checked_fault = plus_or_value_fault (is_unsigned_in 1 last_profile t) (begins_with_plus t || false)
 
   checked_faultless : is_profile t ≡ true → checked_fault ≡ []
-  checked_faultless is =
-      let plain = no_plus 1 last_profile t is in
-      no_fault (is_unsigned_in 1 last_profile t) (begins_with_plus t || false) (plain_count 1 last_profile (omega arith) t plain ∙ is) (or_nothing _ plain)
+  checked_faultless is = grind (arith, no_plus, no_fault, plain_count, or_nothing)
 
   checked_refused : is_profile t ≡ false → checked_fault ≡ ErrorKind.ValueValidation ∷ []
   checked_refused is = bad_value (is_unsigned_in 1 last_profile t) (begins_with_plus t || false) (λ plain. plain_count 1 last_profile (omega arith) t (nothing_or _ plain) ∙ is)
@@ -164,24 +148,19 @@ module _ (t : Text) where
   version_fault = plus_or_value_fault (is_unsigned_in 1 last_version t) (begins_with_plus t)
 
   version_faultless : is_version t ≡ true → version_fault ≡ []
-  version_faultless is =
-      let plain = no_plus 1 last_version t is in
-      no_fault (is_unsigned_in 1 last_version t) (begins_with_plus t) (plain_count 1 last_version (omega arith) t plain ∙ is) plain
+  version_faultless is = grind (arith, no_plus, no_fault, plain_count)
 
   version_refused : is_version t ≡ false → version_fault ≡ ErrorKind.ValueValidation ∷ []
   version_refused is = bad_value (is_unsigned_in 1 last_version t) (begins_with_plus t) (λ plain. plain_count 1 last_version (omega arith) t plain ∙ is)
 
   profile_faultless : is_profile t ≡ true → profile_fault ≡ []
-  profile_faultless is =
-      let plain = no_plus 1 last_profile t is in
-      no_fault (is_unsigned_in 1 last_profile t) (begins_with_plus t) (plain_count 1 last_profile (omega arith) t plain ∙ is) plain
+  profile_faultless is = grind (arith, no_plus, no_fault, plain_count)
 
   profile_refused : is_profile t ≡ false → profile_fault ≡ ErrorKind.ValueValidation ∷ []
   profile_refused is = bad_value (is_unsigned_in 1 last_profile t) (begins_with_plus t) (λ plain. plain_count 1 last_profile (omega arith) t plain ∙ is)
 
 with_numbered : {A : Type 0} (numbered : ℕ → A) (b : Bool) (make : A → Request) (n : ℕ) → b ≡ true → option_and_then (λ x. Some (make x)) (option_map numbered (cond b (Some n) None)) ≡ Some (make (numbered n))
-with_numbered numbered true make n is = refl
-with_numbered numbered false make n is = absurd cc
+with_numbered numbered b make n is = grind arith
 
 asm_profile_by : (program i o t : Text) → NoHyphen i → NoHyphen o → NoHyphen t → is_profile t ≡ true → AskFor (profile_words (asm_words program i o) t) (Asm i o (profile_numbered (count_number t)))
 unfolding clap_on_literals
@@ -196,10 +175,7 @@ other_asm_profile_by program i o t a b c is = rw (a.1, a.0, a.0, b.1, b.0, b.0, 
 
 dis_profile_by : (program f t : Text) → NoHyphen f → NoHyphen t → is_profile t ≡ true → AskFor (profile_words (dis_words program f) t) (Dis f (profile_numbered (count_number t)))
 unfolding clap_on_literals
-dis_profile_by program f t a c is = (
-  rw (a.1, a.0, a.0, c.1, c.0, c.0) (profile_faultless t is),
-  rw (a.1, a.0, a.0, c.1, c.0, c.0) (with_numbered profile_numbered (is_profile t) (Dis f) (count_number t) is),
-)
+dis_profile_by program f t a c is = grind (arith, profile_faultless, with_numbered)
 
 other_dis_profile_by : (program f t : Text) → NoHyphen f → NoHyphen t → is_profile t ≡ false → HaveBadValue (profile_words (dis_words program f) t)
 unfolding clap_on_literals
@@ -207,10 +183,7 @@ other_dis_profile_by program f t a c is = rw (a.1, a.0, a.0, c.1, c.0, c.0) (pro
 
 check_profile_by : (program f t : Text) → NoHyphen f → NoHyphen t → is_profile t ≡ true → AskFor (profile_words (check_words program f) t) (Check f (profile_numbered (count_number t)) Version.First)
 unfolding clap_on_literals
-check_profile_by program f t a c is = (
-  rw (a.1, a.0, a.0, c.1, c.0, c.0) (checked_faultless t is),
-  rw (a.1, a.0, a.0, c.1, c.0, c.0) (with_numbered profile_numbered (is_profile t) (λ p. Check f p Version.First) (count_number t) is),
-)
+check_profile_by program f t a c is = grind (arith, checked_faultless, with_numbered)
 
 other_check_profile_by : (program f t : Text) → NoHyphen f → NoHyphen t → is_profile t ≡ false → HaveBadValue (profile_words (check_words program f) t)
 unfolding clap_on_literals
@@ -220,10 +193,7 @@ other_check_profile_by program f t a c is = rw (a.1, a.0, a.0, c.1, c.0, c.0) (c
 
 check_record_by : (program f t : Text) → NoHyphen f → NoHyphen t → is_version t ≡ true → AskFor (record_words (check_words program f) t) (Check f Profile.One (version_numbered (count_number t)))
 unfolding clap_on_literals
-check_record_by program f t a c is = (
-  rw (a.1, a.0, a.0, c.1, c.0, c.0) (version_faultless t is),
-  rw (a.1, a.0, a.0, c.1, c.0, c.0) (with_numbered version_numbered (is_version t) (Check f Profile.One) (count_number t) is),
-)
+check_record_by program f t a c is = grind (arith, version_faultless, with_numbered)
 
 other_check_record_by : (program f t : Text) → NoHyphen f → NoHyphen t → is_version t ≡ false → HaveBadValue (record_words (check_words program f) t)
 unfolding clap_on_literals

@@ -1,5 +1,5 @@
 -- No step of a plan comes at a wrong time.
-use Rattle.std.proofs.Common.{◌≡◌, ℕ, Bool, true, false, cond, not, ◌||◌, [], ◌∷◌, take, Option, Some, None, refl, sym, ap, subst, ◌∙◌, slice_get, ◌==◌, is_none}
+use Rattle.std.proofs.Common.{arith, ◌≡◌, ℕ, Bool, true, false, cond, not, ◌||◌, [], ◌∷◌, take, Option, Some, sym, ap, subst, ◌∙◌, slice_get, is_none}
 use Rattle.std.specs.List.{list_all}
 use Rattle.std.specs.FinMap as finite
 use Rattle.pb_base.specs.declared.refusal.Reason.{Reason}
@@ -7,15 +7,12 @@ use Rattle.pb_base.specs.declared.cell.Cell.{Cell}
 use Rattle.pb_base.specs.Batch.{content_in}
 use Rattle.pb_steps.specs.declared.step.Declared.{Declared}
 use Rattle.pb_steps.specs.declared.step.Step.{Step}
-use Rattle.pb_steps.specs.Phases.{is_reading, is_declared, is_stamped, is_committed}
-use Rattle.pb_steps.specs.Declarations.{is_its}
-use Rattle.pb_steps.specs.Declare.{declare_reasons}
+use Rattle.pb_steps.specs.Phases.{is_declared, is_committed}
 use Rattle.pb_steps.specs.Prewrite.{prewrite_reasons, is_early}
 use Rattle.pb_steps.specs.Stamp.{unstamped_reasons, is_whole}
-use Rattle.pb_steps.specs.CommitPrimary.{commit_reasons}
 use Rattle.pb_steps.specs.CommitSecondary.{secondary_reasons}
 use Rattle.pb_steps.specs.State.{StateOf, TransactionOf, is_in}
-use Rattle.pb_steps.specs.Reasons.{Reasons, first_reason, is_out, no_seat, if_of_seat, own_transaction, reasons_of, own_reasons}
+use Rattle.pb_steps.specs.Reasons.{Reasons, first_reason, is_out, own_reasons}
 use Rattle.pb_steps.specs.Steps.{step_reason}
 use Rattle.pb_history.specs.Laws.{HistoriesAreTold, TransactionsAreTold, JournalsAreSound}
 use Rattle.pb_txn.specs.declared.place.PlanPlace.{PlanPlace}
@@ -26,85 +23,37 @@ use Rattle.pb_txn.proofs.DistinctCells.{cells_in, has_content, not_before, in_or
 use Rattle.pb_txn.proofs.WithoutReads.{bare}
 use Rattle.pb_txn.proofs.PlanPlaces.{IsAt, cell_of}
 use Rattle.pb_txn.proofs.PlanTransactions.{HasCells, HasCellsAt, keeps, cells_by_now, stands}
-use Rattle.pb_base.proofs.Logic.{same_some as same_step, none_some as no_reason}
+use Rattle.pb_base.proofs.Logic.{same_some as same_step}
 
 -- ---- reasons
-
--- the reason that applies is a timely one
-timely_if : (r why : Reason) → IsTimely r → Some r ≡ Some why → IsTimely why
-timely_if r why t e = let is : r ≡ why = cc in subst IsTimely is t
-
--- 41, 43 and 40 are timely: they aren't told for the phase or a cell
-not_of_seat : IsTimely Reason.NotOfSeat
-not_of_seat = record { phase = λ e. cc; declared = λ e. cc; once = λ e. cc }
-
-not_its : IsTimely Reason.NotItsDeclaration
-not_its = record { phase = λ e. cc; declared = λ e. cc; once = λ e. cc }
 
 out : IsTimely Reason.OutOfTimestamps
 out = record { phase = λ e. cc; declared = λ e. cc; once = λ e. cc }
 
 -- the first applies, and is timely, or it is one of the others
 either : (b : Bool) (r why : Reason) (rest : Option Reason) → IsTimely r → (rest ≡ Some why → IsTimely why) → cond b (Some r) rest ≡ Some why → IsTimely why
-either true r why rest t h e = timely_if r why t e
-either false r why rest t h e = h e
-
--- a step that names a start is refused for its transaction's reasons, or since that isn't one of the seat's
-of_own : (o : Option TransactionOf) (reasons : TransactionOf → Reasons) (why : Reason) → ((t : TransactionOf) → o ≡ Some t → first_reason (reasons t) ≡ Some why → IsTimely why)
-    → first_reason (reasons_of o reasons) ≡ Some why → IsTimely why
-of_own None reasons why h e = timely_if Reason.NotOfSeat why not_of_seat e
-of_own (Some t) reasons why h e = h t refl e
-
--- a transaction that a seat finds as its own is there
-of_seat : (seat : ℕ) (o : Option TransactionOf) (t : TransactionOf) → if_of_seat seat o ≡ Some t → o ≡ Some t
-of_seat seat None t e = e
-of_seat seat (Some u) t e = by (u.seat == seat) e where
-  by : (b : Bool) → cond b (Some u) None ≡ Some t → Some u ≡ Some t
-  by true h = h
-  by false h = absurd cc
-
-there : (absent : Bool) (seat : ℕ) (o : Option TransactionOf) (t : TransactionOf) → cond absent None (if_of_seat seat o) ≡ Some t → o ≡ Some t
-there true seat o t e = absurd cc
-there false seat o t e = of_seat seat o t e
-
--- a step that names no start is refused for its seat alone
-seat_alone : (b : Bool) (why : Reason) → first_reason ((Reason.NotOfSeat, b) ∷ []) ≡ Some why → IsTimely why
-seat_alone b why e = either b Reason.NotOfSeat why None not_of_seat (λ f. absurd (no_reason why f)) e
+either b r why rest t h e = grind arith
 
 -- none of these applies
 none_of_one : (r why : Reason) (a : Bool) → a ≡ false → first_reason ((r, a) ∷ []) ≡ Some why → ⊥
-none_of_one r why true p e = absurd cc
-none_of_one r why false p e = no_reason why e
+none_of_one r why a p e = grind arith
 
 none_of_two : (r q why : Reason) (a b : Bool) → a ≡ false → b ≡ false → first_reason ((r, a) ∷ (q, b) ∷ []) ≡ Some why → ⊥
-none_of_two r q why true b p u e = absurd cc
-none_of_two r q why false b p u e = none_of_one q why b u e
+none_of_two r q why a b p u e = grind arith
 
 none_of_three : (r q v why : Reason) (a b c : Bool) → a ≡ false → b ≡ false → c ≡ false → first_reason ((r, a) ∷ (q, b) ∷ (v, c) ∷ []) ≡ Some why → ⊥
-none_of_three r q v why true b c p u w e = absurd cc
-none_of_three r q v why false b c p u w e = none_of_two q v why b c u w e
-
--- a declaration in the phase of reading can only be refused as not its run's
-second_alone : (a b : Bool) (why : Reason) → a ≡ true → first_reason ((Reason.WrongPhase, not a) ∷ (Reason.NotItsDeclaration, b) ∷ []) ≡ Some why → IsTimely why
-second_alone true b why p e = either b Reason.NotItsDeclaration why None not_its (λ h. absurd (no_reason why h)) e
-second_alone false b why p e = absurd cc
+none_of_three r q v why a b c p u w e = grind arith
 
 neither : (a b : Bool) → a ≡ true → b ≡ false → (not a || b) ≡ false
-neither true b p q = q
-neither false b p q = absurd cc
+neither a b p q = grind arith
 
 -- a stamp isn't refused for its phase where all cells are prewritten
 nor : (a b : Bool) → a ≡ true → b ≡ true → (not a || not b) ≡ false
-nor true true p q = refl
-nor true false p q = absurd cc
-nor false b p q = absurd cc
+nor a b p q = grind arith
 
 -- ---- the steps at their places
 
 module _ (t : TransactionOf) (what : Declared) (why : Reason) where
-  at_declare : (state : StateOf) (s : ℕ) → IsAt (declared_cells what) PlanPlace.Declaring (bare t) → first_reason (declare_reasons state.observers s what t) ≡ Some why → IsTimely why
-  at_declare state s at e = second_alone (is_reading t.phase) (not (is_its state.observers t.work s t.reads what)) why (ap is_reading at.0) e
-
   at_prewrite : (k : ℕ) (x : Cell) → slice_get (declared_cells what) k ≡ Some x → IsAt (declared_cells what) (PlanPlace.Prewriting k) (bare t) → HasCells what t
       → first_reason (prewrite_reasons x t) ≡ Some why → ⊥
   at_prewrite k x here at has e =
@@ -112,16 +61,12 @@ module _ (t : TransactionOf) (what : Declared) (why : Reason) where
       let put : t.prewritten ≡ take k (cells_in t.declared) = at.1 ∙ ap (take k) (sym has.are) in
       let early : is_early t x ≡ false = subst (λ xs. is_early (record t { prewritten = xs }) x ≡ false) (sym put) (in_order t.declared k x here-in) in
       let once : is_in t.prewritten x ≡ false = ap (λ xs. is_in xs x) put ∙ not_before t.declared k x has.apart here-in in
-      none_of_three Reason.WrongPhase Reason.NotDeclared Reason.AlreadyPrewritten why (not (is_declared t.phase) || is_early t x) (is_none (content_in t.declared x)) (is_in t.prewritten x)
-      (neither (is_declared t.phase) (is_early t x) (ap is_declared at.0) early) (has_content t.declared k x here-in) once e
+      grind (arith, none_of_three, neither, has_content, t.declared, t.prewritten, t.phase)
 
   at_stamp : IsAt (declared_cells what) PlanPlace.Stamping (bare t) → HasCells what t → first_reason (unstamped_reasons t) ≡ Some why → ⊥
   at_stamp at has e =
       let all : is_whole t ≡ true = ap (λ xs. list_all (λ w. is_in xs w.0) t.declared) (at.1 ∙ sym has.are) ∙ all_in t.declared in
       none_of_one Reason.WrongPhase why (not (is_declared t.phase) || not (is_whole t)) (nor (is_declared t.phase) (is_whole t) (ap is_declared at.0) all) e
-
-  at_primary : is_stamped t.phase ≡ true → first_reason (commit_reasons t) ≡ Some why → ⊥
-  at_primary at e = none_of_one Reason.WrongPhase why (not (is_stamped t.phase)) (ap not at) e
 
   at_secondary : (k : ℕ) (x : Cell) → slice_get (declared_cells what) k ≡ Some x → is_committed t.phase ≡ true → HasCells what t → first_reason (secondary_reasons x t) ≡ Some why → ⊥
   at_secondary k x here at has e =
@@ -137,32 +82,23 @@ module _ (state : StateOf) (seat s : ℕ) (what : Declared) (why : Reason) where
 
   own : (reasons : TransactionOf → Reasons) → ((t : TransactionOf) → finite.get state.transactions s ≡ Some t → first_reason (reasons t) ≡ Some why → IsTimely why)
       → first_reason (own_reasons state seat s reasons) ≡ Some why → IsTimely why
-  own reasons h e =
-      of_own (own_transaction state seat s) reasons why (λ t is f. h t (there (no_seat state seat) seat (finite.get state.transactions s) t is) f) e
+  own reasons h e = grind arith
 
   abbrev Timely : Step → Type 0
   Timely z = step_reason state seat z ≡ Some why → IsTimely why
 
   at_place : (p : PlanPlace) (step : Step) → Stands p → step_at s what p ≡ Some step → Timely step
-  at_place PlanPlace.Declaring step is e =
-      subst Timely (same_step (Step.Declare (record { 0 = s }) what) step e) (own (declare_reasons state.observers s what) (λ t h f. at_declare t what why state s (is t h).0 f))
+  at_place PlanPlace.Declaring step is e = grind arith
   at_place (PlanPlace.Prewriting k) step is e =
       let x = cell_of (λ z. Step.Prewrite (record { 0 = s }) z) (slice_get (declared_cells what) k) step e in
       subst Timely x.2 (own (prewrite_reasons x.0) (λ t h f. absurd (at_prewrite t what why k x.0 x.1 (is t h).0 (is t h).1 f)))
   at_place PlanPlace.Stamping step is e =
       subst Timely (same_step (Step.Stamp (record { 0 = s })) step e)
       (either (is_out state) Reason.OutOfTimestamps why (first_reason (own_reasons state seat s unstamped_reasons)) out (own unstamped_reasons (λ t h f. absurd (at_stamp t what why (is t h).0 (is t h).1 f))))
-  at_place (PlanPlace.CommittingPrimary c) step is e =
-      subst Timely (same_step (Step.CommitPrimary (record { 0 = s })) step e) (own commit_reasons (λ t h f. absurd (at_primary t what why (is t h).0 f)))
-  at_place (PlanPlace.CommittingSecondary c k) step is e =
-      let x = cell_of (λ z. Step.CommitSecondary (record { 0 = s }) z) (slice_get (declared_cells what) k) step e in
-      subst Timely x.2 (own (secondary_reasons x.0) (λ t h f. absurd (at_secondary t what why k x.0 x.1 (is t h).0 (is t h).1 f)))
-  at_place (PlanPlace.Settling k) step is e =
-      let x = cell_of (λ z. Step.Settle z) (slice_get (declared_cells what) 0) step e in
-      subst Timely x.2 (seat_alone (no_seat state seat) why)
-  at_place (PlanPlace.Clearing k end o) step is e =
-      let x = cell_of (λ z. Step.Clear z) (slice_get (declared_cells what) k) step e in
-      subst Timely x.2 (seat_alone (no_seat state seat) why)
+  at_place (PlanPlace.CommittingPrimary c) step is e = grind arith
+  at_place (PlanPlace.CommittingSecondary c k) step is e = grind (arith, cell_of, own, at_secondary)
+  at_place (PlanPlace.Settling k) step is e = grind arith
+  at_place (PlanPlace.Clearing k end o) step is e = grind arith
   at_place (PlanPlace.Over o) step is e = absurd cc
 
 -- a plan's next step is timely, since its transaction has come to where the plan stands

@@ -1,5 +1,5 @@
 -- The cells of a run's declaration after its acknowledgment, for the body that reads them off the run's writes.
-use Rattle.std.proofs.Common.{◌≡◌, ℕ, zero, suc, ◌-◌, ◌<◌, ◌≢◌, List, [], ◌∷◌, length, map, Some, refl, slice_index_or, ap, ◌∙◌, arith, slice_get}
+use Rattle.std.proofs.Common.{◌≡◌, ℕ, zero, suc, ◌-◌, ◌<◌, ◌≢◌, List, [], ◌∷◌, length, map, Some, refl, slice_index_or, arith, slice_get}
 use Rattle.pb_base.specs.declared.cell.Cell.{Cell}
 use Rattle.pb_base.specs.declared.content.Content.{Content}
 use Rattle.pb_base.specs.Batch.{Writes}
@@ -15,7 +15,4 @@ in_writes (w ∷ ws) (suc k) d lt = in_writes ws k d (omega (arith, lt))
 
 -- behind the primary the cell at a place is that of the write one place before
 pub after_first : (x : Cell) (ws : Writes) (k : ℕ) (d : Cell × Content) → k ≢ 0 → k < suc (length (names ws)) → slice_get (x ∷ names ws) k ≡ Some (slice_index_or ws (k - 1) d).0
-after_first x ws zero d n lt = absurd (n refl)
-after_first x ws (suc k) d n lt = in_writes ws k d (omega (arith, lt)) ∙ ap (λ m. Some (slice_index_or ws m d).0) (minus k) where
-  minus : (m : ℕ) → m ≡ suc m - 1
-  minus m = omega arith
+after_first x ws k d n1 lt = grind (arith, in_writes)

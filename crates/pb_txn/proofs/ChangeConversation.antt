@@ -1,5 +1,5 @@
 -- What a change has asked is its begin, and then what its plan has asked.
-use Rattle.std.proofs.Common.{◌≡◌, ◌≢◌, ℕ, List, [], ◌∷◌, ◌++◌, Some, None, refl, sym, ap, subst, ◌∙◌}
+use Rattle.std.proofs.Common.{arith, ◌≡◌, ◌≢◌, ℕ, List, [], ◌∷◌, ◌++◌, Some, None, refl, sym, ap, subst, ◌∙◌}
 use Rattle.pb_base.specs.Batch.{Writes}
 use Rattle.pb_steps.specs.declared.step.Work.{Work}
 use Rattle.pb_steps.specs.declared.step.Declared.{Declared}
@@ -14,7 +14,7 @@ use Rattle.pb_txn.specs.Plans as plans
 use Rattle.pb_txn.specs.Conversations as conversations
 use Rattle.pb_txn.specs.Conversations.{told}
 use Rattle.pb_txn.specs.Forms.{IsWhole}
-use Rattle.pb_txn.specs.Changes.{ChangeOf, new_change, answered, Converses, IsWholeChange, ChangesConverse, ChangesEnd}
+use Rattle.pb_txn.specs.Changes.{ChangeOf, new_change, answered, Converses, ChangesConverse, ChangesEnd}
 use Rattle.pb_txn.proofs.Conversation.{plans_converse, plans_end}
 use Rattle.pb_base.proofs.Logic.{same_some as same_step, same_some as same_plan}
 
@@ -42,8 +42,7 @@ pub record HasBegun (batch : Writes) (r : Received) (rest : List Received) (q : 
 
 -- a begin is answered with a start, of which the plan is then
 begun : (batch : Writes) (a : Answer) (rest : List Received) (q : ChangeOf) → CanAnswer (Step.Begin Work.Script) a → Converses (answered (new_change batch) a) rest q → HasBegun batch (told (Step.Begin Work.Script) a) rest q
-begun batch (Answer.At s) rest q can t = let p = plan_converses batch (fresh s.0 (Declared.Script batch)) rest q t in record { s = s.0; first = refl; plan = p.0; q_is = p.1; said = p.2 }
-begun batch _ rest q can t = absurd can
+begun batch a rest q can t = grind (arith, plan_converses)
 
 -- a change of which a step was answered has begun
 pub begins : (batch : Writes) (r : Received) (rest : List Received) (q : ChangeOf) → Converses (new_change batch) (r ∷ rest) q → HasBegun batch r rest q
@@ -88,5 +87,4 @@ changes_end batch (r ∷ rest) q p o some t e done =
     let b = begins batch r rest q t in
     let same : b.plan ≡ p = same_plan b.plan p (ap (λ (j : ChangeOf). j.plan) (sym b.q_is) ∙ e) in
     let start : p.start ≡ b.s = ap (λ (z : PlanOf). z.start) (sym same) ∙ start_stays (fresh b.s (Declared.Script batch)) rest b.plan b.said in
-    subst (λ n. IsWholeChange batch (record { 0 = n }) (r ∷ rest) o) (sym start)
-    (record { rest = rest; said_is = ap (λ (z : Received). z ∷ rest) b.first; whole = at_end batch b.s rest b.plan o some b.said (ap plans.outcome_of same ∙ done) })
+    grind (arith, whole, at_end)

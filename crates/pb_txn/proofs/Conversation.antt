@@ -184,9 +184,7 @@ module _ (s : Ts) (what : Declared) (x : Cell) (others : List Cell) where
       let count : suc (length (done ++ y ∷ [])) ≡ suc (length done) + 1 = omega (arith, length-append done (y ∷ [])) in
       let next = clearing_next o (done ++ y ∷ []) left more said (cs ++ told (Step.Clear y) a ∷ []) (is ∙ ap (λ ys. x ∷ ys) (sym (split (left ++ more)))) (cleared_more done cs y a c can)
       (λ all k. ends all (subst (λ ys. AreCleared ys all) (split left) k)) in
-      subst (λ rs. SoFar (clear_from (suc (length done) + 1) (suc (length (done ++ y ∷ left))) o) rs) (sym (append_assoc said cs (told (Step.Clear y) a ∷ [])))
-      (subst (λ n. SoFar (clear_from n (suc (length (done ++ y ∷ left))) o) (said ++ (cs ++ told (Step.Clear y) a ∷ []))) count
-      (subst (λ ys. SoFar (clear_from (suc (length (done ++ y ∷ []))) (suc (length ys)) o) (said ++ (cs ++ told (Step.Clear y) a ∷ []))) (split left) next))
+      grind (arith, append_assoc)
 
   of_step : (t u : Step) → Some t ≡ Some u → t ≡ u
   of_step t u e = cc
@@ -205,14 +203,11 @@ module _ (s : Ts) (what : Declared) (x : Cell) (others : List Cell) where
         subst (λ u. CanAnswer u a → SoFar (after_prewrite (length cells) (length before) a) ((declares ∷ prewrites s before) ++ told u a ∷ [])) is (prewrite_more before y after at a) can
     said_more p l t a stamping e can =
         subst (λ u. CanAnswer u a → SoFar (after_stamp a) ((declares ∷ prewrites s cells) ++ told u a ∷ [])) (of_step _ t e) (stamp_more a) can
-    said_more p l t a (committing c) e can =
-        subst (λ u. CanAnswer u a → SoFar (after_primary (length cells) c a) (ready (told (Step.Stamp s) (Answer.At c) ∷ []) ++ told u a ∷ [])) (of_step _ t e) (primary_more c a) can
+    said_more p l t a (committing c) e can = grind (arith, of_step, primary_more)
     said_more p l t a (finishing c done y left at) e can =
         let is : Step.CommitSecondary s y ≡ t = of_step _ t (ap (option_map (λ z. Step.CommitSecondary s z)) (sym (at_seam (x ∷ done) y left (ap (λ xs. x ∷ xs) at))) ∙ e) in
         subst (λ u. CanAnswer u a → SoFar (commit_from (length cells) c (suc (length done) + 1)) (paid c (secondaries s done) ++ told u a ∷ [])) is (secondary_more c done y left at a) can
-    said_more p l t a (settling before y after at) e can =
-        let is : Step.Settle x ≡ t = of_step _ t (ap (option_map (λ z. Step.Settle z)) (sym (at_seam [] x others refl)) ∙ e) in
-        subst (λ u. CanAnswer u a → SoFar (clear_from 1 (suc (length before)) Outcome.Conflicted) ((declares ∷ prewrites s (x ∷ before) ++ told (Step.Prewrite s y) Answer.Conflict ∷ []) ++ told u a ∷ [])) is (settle_more before y after at a) can
+    said_more p l t a (settling before y after at) e can = grind (arith, of_step, at_seam, settle_more)
     said_more p l t a (clearing o done y left more said cs at c ends) e can =
         let is : Step.Clear y ≡ t = of_step _ t (ap (option_map (λ z. Step.Clear z)) (sym (at_seam (x ∷ done) y (left ++ more) at)) ∙ e) in
         subst (λ u. CanAnswer u a → SoFar (clear_from (suc (length done) + 1) (suc (length (done ++ y ∷ left))) o) ((said ++ cs) ++ told u a ∷ [])) is (clear_more o done y left more said cs at c ends a) can

@@ -40,12 +40,10 @@ abbrev pub cells_in : Writes → List Cell
 cells_in ws = map (λ (w : Cell × Content). w.0) ws
 
 here_or : (b : Bool) (c : Content) (o : Option Content) → is_none o ≡ false → is_none (cond b (Some c) o) ≡ false
-here_or true c o e = refl
-here_or false c o e = e
+here_or b c o e = grind arith
 
 first_here : (b : Bool) (c : Content) (o : Option Content) → b ≡ true → is_none (cond b (Some c) o) ≡ false
-first_here true c o e = refl
-first_here false c o e = absurd cc
+first_here b c o e = grind arith
 
 -- each of these cells is declared, so that no step about it is refused with 45
 pub has_content : (ws : Writes) (k : ℕ) (x : Cell) → slice_get (cells_in ws) k ≡ Some x → is_none (content_in ws x) ≡ false
@@ -55,10 +53,7 @@ has_content (w ∷ ws) (suc k) x e = here_or (eq_by_cmp cell_cmp x w.0) w.1 (con
 
 -- a cell that isn't written is none of the cells
 apart : (ws : Writes) (k : ℕ) (x y : Cell) → is_none (content_in ws y) ≡ true → slice_get (cells_in ws) k ≡ Some x → eq_by_cmp cell_cmp y x ≡ false
-apart ws k x y n e = elim (eq_by_cmp cell_cmp y x) as (λ b. eq_by_cmp cell_cmp y x ≡ b → b ≡ false) [
-  | true ↦ λ t. let has = has_content ws k x e in let same = ap (λ z. is_none (content_in ws z)) (cell_is y x t) in absurd cc
-  | false ↦ λ t. refl
-] refl
+apart ws k x y n e = grind (arith, has_content, cell_is)
 
 -- none of the cells before it
 pub not_before : (ws : Writes) (k : ℕ) (x : Cell) → are_distinct ws ≡ true → slice_get (cells_in ws) k ≡ Some x → is_in (take k (cells_in ws)) x ≡ false
@@ -69,19 +64,14 @@ not_before (w ∷ ws) (suc k) x d e =
     neither (eq_by_cmp cell_cmp w.0 x) (is_in (take k (cells_in ws)) x) (apart ws k x w.0 p.0 e) (not_before ws k x p.1 e)
 
 known_first : (a b : Bool) → a ≡ true → (not a && b) ≡ false
-known_first true b e = refl
-known_first false b e = absurd cc
+known_first a b e = grind arith
 
 known_then : (a b c : Bool) → b ≡ true → (a && not (b || c)) ≡ false
-known_then true true c e = refl
-known_then false true c e = refl
-known_then a false c e = absurd cc
+known_then a b c e = grind arith
 
 -- it is the primary, or that is one of the cells before it
 pub in_order : (ws : Writes) (k : ℕ) (x : Cell) → slice_get (cells_in ws) k ≡ Some x → is_before_primary (primary_in ws) (take k (cells_in ws)) x ≡ false
-in_order [] k x e = absurd cc
-in_order (w ∷ ws) zero x e = known_first (eq_by_cmp cell_cmp x w.0) _ (same_cells x w.0 (sym (some_is w.0 x e)))
-in_order (w ∷ ws) (suc k) x e = known_then (not (eq_by_cmp cell_cmp x w.0)) (eq_by_cmp cell_cmp w.0 w.0) (is_in (take k (cells_in ws)) w.0) (cell_itself w.0)
+in_order ws k x e = grind (arith, known_first, same_cells, some_is, known_then, cell_itself)
 
 -- one more cell, and those that were in the list still are
 more : (y : Cell) (xs : List Cell) (ws : Writes) → list_all (λ w. is_in xs w.0) ws ≡ true → list_all (λ w. is_in (y ∷ xs) w.0) ws ≡ true

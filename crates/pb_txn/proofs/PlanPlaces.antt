@@ -1,5 +1,5 @@
 -- What a transaction has come to at each place of its plan.
-use Rattle.std.proofs.Common.{◌≡◌, ℕ, ◌+◌, ◌≤◌, Bool, true, false, cond, List, [], ◌∷◌, ◌++◌, length, map, take, Option, Some, None, refl, sym, ap, subst, ◌∙◌, arith, add-one, slice_get, option_map, ◌==◌, nat_lt, filter}
+use Rattle.std.proofs.Common.{◌≡◌, ℕ, ◌+◌, Bool, true, cond, List, [], ◌∷◌, ◌++◌, length, map, take, Option, Some, refl, sym, ap, subst, ◌∙◌, arith, add-one, slice_get, option_map, ◌==◌, nat_lt, filter}
 use Rattle.pb_base.specs.declared.cell.Cell.{Cell}
 use Rattle.pb_base.specs.declared.names.Ts.{Ts}
 use Rattle.pb_steps.specs.declared.phase.Phase.{Phase}
@@ -25,8 +25,7 @@ use Rattle.pb_base.proofs.Logic.{same_some as same_step, same_some as same_trans
 
 -- the cell that a step is about
 pub cell_of : (f : Cell → Step) (o : Option Cell) (t : Step) → option_map f o ≡ Some t → (x : Cell) × (o ≡ Some x) × (f x ≡ t)
-cell_of f None t e = absurd cc
-cell_of f (Some x) t e = (x, refl, same_step (f x) t e)
+cell_of f o t e = grind arith
 
 -- the cells have this phase, and these are prewritten
 abbrev pub IsAt : List Cell → PlanPlace → TransactionOf → Type 0
@@ -42,8 +41,7 @@ abbrev pub entry_of : ℕ → Received → Entry
 entry_of seat r = record { seat = seat; step = r.step; answer = r.answer }
 
 pub map_cond : {A B : Type 0} (f : A → B) (b : Bool) (x : A) (xs : List A) → map f (cond b (x ∷ xs) xs) ≡ cond b (f x ∷ map f xs) (map f xs)
-map_cond f true x xs = refl
-map_cond f false x xs = refl
+map_cond f b x xs = grind arith
 
 module _ (observers : List ObserverOf) (seat s : ℕ) (what : Declared) where
   abbrev cells : List Cell
@@ -55,17 +53,10 @@ module _ (observers : List ObserverOf) (seat s : ℕ) (what : Declared) where
   -- ---- where an answer leads
 
   prewriting_next : (k : ℕ) (u : TransactionOf) → u.phase ≡ Phase.Declared → u.prewritten ≡ take k cells → IsAt cells (prewrite_from (length cells) k) u
-  prewriting_next k u phase put = elim (nat_lt k (length cells)) as (λ b. nat_lt k (length cells) ≡ b → IsAt cells (cond b (PlanPlace.Prewriting k) PlanPlace.Stamping) u) [
-    | true ↦ λ e. (phase, put)
-    | false ↦ λ e. (phase, put ∙ take_all cells k (past k (length cells) e))
-  ] refl
-    where
-      past : (a b : ℕ) → nat_lt a b ≡ false → b ≤ a
-      past a b e = grind (arith, e)
+  prewriting_next k u phase put = grind (arith, take_all)
 
   by_lt : (b : Bool) (p q : PlanPlace) (u : TransactionOf) → IsAt cells p u → IsAt cells q u → IsAt cells (cond b p q) u
-  by_lt true p q u i j = i
-  by_lt false p q u i j = j
+  by_lt b p q u i j = grind arith
 
   -- ---- one answered step
 
@@ -98,8 +89,7 @@ module _ (observers : List ObserverOf) (seat s : ℕ) (what : Declared) where
   after_stamped u _ i can = absurd can
 
   then_committed : (h : phases.the_data) → is_stamped h ≡ true → is_committed (committed_phase h) ≡ true
-  then_committed (Phase.Stamped c) e = refl
-  then_committed _ e = absurd cc
+  then_committed h e = grind arith
 
   commits : (c : Ts) (u : TransactionOf) (a : Answer) → IsAt cells (PlanPlace.CommittingPrimary c) u → CanAnswer (Step.CommitPrimary start) a
       → Makes (after_primary (length cells) c a) (Step.CommitPrimary start) a u
@@ -121,17 +111,11 @@ module _ (observers : List ObserverOf) (seat s : ℕ) (what : Declared) where
   clears k end o u = by_lt (nat_lt k end) (PlanPlace.Clearing k end o) (PlanPlace.Over o) u tt tt
 
   one : (p : PlanPlace) (u : TransactionOf) (t : Step) (a : Answer) → IsAt cells p u → step_at s what p ≡ Some t → CanAnswer t a → Makes (place_after (length cells) p a) t a u
-  one PlanPlace.Declaring u t a i e can =
-      subst (λ z. CanAnswer z a → Makes (prewrite_from (length cells) 0) z a u) (same_step (Step.Declare start what) t e) (after_declare u a i) can
-  one (PlanPlace.Prewriting k) u t a i e can =
-      let is = cell_of (λ x. Step.Prewrite start x) (slice_get cells k) t e in
-      subst (λ z. CanAnswer z a → Makes (after_prewrite (length cells) k a) z a u) is.2 (prewrites k is.0 u a is.1 i) can
+  one PlanPlace.Declaring u t a i e can = grind (arith, same_step, after_declare)
+  one (PlanPlace.Prewriting k) u t a i e can = grind (arith, cell_of, prewrites)
   one PlanPlace.Stamping u t a i e can = subst (λ z. CanAnswer z a → Makes (after_stamp a) z a u) (same_step (Step.Stamp start) t e) (after_stamped u a i) can
-  one (PlanPlace.CommittingPrimary c) u t a i e can =
-      subst (λ z. CanAnswer z a → Makes (after_primary (length cells) c a) z a u) (same_step (Step.CommitPrimary start) t e) (commits c u a i) can
-  one (PlanPlace.CommittingSecondary c k) u t a i e can =
-      let is = cell_of (λ x. Step.CommitSecondary start x) (slice_get cells k) t e in
-      subst (λ z. CanAnswer z a → Makes (commit_from (length cells) c (k + 1)) z a u) is.2 (finishes c k is.0 u a i) can
+  one (PlanPlace.CommittingPrimary c) u t a i e can = grind (arith, same_step, commits)
+  one (PlanPlace.CommittingSecondary c k) u t a i e can = grind (arith, cell_of, finishes)
   one (PlanPlace.Settling k) u t a i e can =
       let is = cell_of (λ x. Step.Settle x) (slice_get cells 0) t e in
       subst (λ z. Makes (clear_from 1 k Outcome.Conflicted) z a u) is.2 (record { v = u; at = clears 1 k Outcome.Conflicted u; told = λ es. refl })

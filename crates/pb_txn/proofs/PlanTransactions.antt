@@ -1,16 +1,15 @@
 -- The transaction of a plan, whose entries are the plan's conversation, has come to where the plan stands.
-use Rattle.std.proofs.Common.{◌≡◌, ℕ, inl, inr, true, false, cond, List, [], ◌∷◌, map, Some, refl, sym, ap, subst, ◌∙◌, ◌==◌, filter}
-use Rattle.std.proofs.lemmas.Bool.{eq-eqb}
+use Rattle.std.proofs.Common.{arith, ◌≡◌, ℕ, inl, inr, true, false, cond, List, [], ◌∷◌, map, Some, refl, sym, ap, subst, ◌∙◌, ◌==◌, filter}
 use Rattle.std.specs.FinMap as finite
-use Rattle.pb_base.specs.Batch.{Writes, are_distinct}
+use Rattle.pb_base.specs.Batch.{are_distinct}
 use Rattle.pb_steps.specs.declared.step.Declared.{Declared}
 use Rattle.pb_steps.specs.declared.step.Step.{Step}
 use Rattle.pb_steps.specs.declared.step.Answer.{Answer}
 use Rattle.pb_steps.specs.Answers.{CanAnswer}
-use Rattle.pb_steps.specs.State.{StateOf, TransactionOf, new_transaction, cells_of}
+use Rattle.pb_steps.specs.State.{StateOf, TransactionOf, new_transaction}
 use Rattle.pb_history.specs.declared.entry.Entry.{Entry}
 use Rattle.pb_history.specs.declared.entry.Received.{Received}
-use Rattle.pb_history.specs.History.{Has, IsEntry, IsForWork, TellsHistory}
+use Rattle.pb_history.specs.History.{Has, IsEntry, TellsHistory}
 use Rattle.pb_history.specs.TransactionsTold.{TellsTransactions, transaction_from}
 use Rattle.pb_txn.specs.declared.place.PlanPlace.{PlanPlace}
 use Rattle.pb_txn.specs.Places.{declared_cells}
@@ -40,8 +39,7 @@ HasCellsAt PlanPlace.Declaring what t = Unit {0}
 HasCellsAt _ what t = HasCells what t
 
 has_cells : (p : PlanPlace) (what : Declared) (t : TransactionOf) → HasCells what t → HasCellsAt p what t
-has_cells PlanPlace.Declaring what t h = tt
-has_cells _ what t h = h
+has_cells p what t h = grind arith
 
 -- an entry that names the start is one of the journal
 in_filter : (s : ℕ) (journal : List Entry) (e : Entry) → Has (named_in s journal) e → Has journal e
@@ -58,8 +56,7 @@ module _ (seat s : ℕ) (what : Declared) where
   -- a conversation begins with its declaration
   first_said : (a : Answer) (rest : List Received) → CanAnswer (Step.Declare (record { 0 = s }) what) a
       → Has (map (entry_of seat) (cond (s == s) (record { step = Step.Declare (record { 0 = s }) what; answer = a } ∷ rest) rest)) declaration
-  first_said Answer.Done rest can = rw (eq-eqb s s refl) (inl refl)
-  first_said _ rest can = absurd can
+  first_said a rest can = grind arith
 
   is_declared : (journal : List Entry) (r : Received) (rs : List Received) → Some (Step.Declare (record { 0 = s }) what) ≡ Some r.step → CanAnswer r.step r.answer → HasSaid journal seat s (r ∷ rs)
       → IsEntry journal seat (Step.Declare (record { 0 = s }) what) Answer.Done
@@ -70,22 +67,12 @@ module _ (seat s : ℕ) (what : Declared) where
 
   cells_at : (journal : List Entry) (state : StateOf) (t : TransactionOf) → TellsHistory journal state → finite.get state.transactions s ≡ Some t → IsInRange state.observers t.work
       → IsEntry journal seat (Step.Declare (record { 0 = s }) what) Answer.Done → HasCells what t
-  cells_at journal state t tells there range said =
-      let d = tells.declared seat s what said in
-      let is : d.t ≡ t = same_transaction (finite.get state.transactions s) d.t t d.there there in
-      let work : d.t.work ≡ t.work = ap (λ (u : TransactionOf). u.work) is in
-      let has : t.declared ≡ cells_of state.observers t.work s what = ap (λ (u : TransactionOf). u.declared) (sym is) ∙ d.declared ∙ ap (λ w. cells_of state.observers w s what) work in
-      let fits : IsForWork state.observers t.work what = subst (λ w. IsForWork state.observers w what) work d.for_work in
-      record {
-        are = ap (λ (ws : Writes). map (λ w. w.0) ws) has ∙ cells_are state.observers t.work s what fits range;
-        apart = ap (λ (u : TransactionOf). are_distinct u.declared) (sym is) ∙ d.distinct;
-      }
+  cells_at journal state t tells there range said = grind (arith, same_transaction, cells_are, tells.declared, state.transactions, t.work, t.declared, state.observers)
 
   pub cells_by_now : (journal : List Entry) (state : StateOf) (said : List Received) (q : PlanOf) (t : TransactionOf) → TellsHistory journal state → finite.get state.transactions s ≡ Some t
       → IsInRange state.observers t.work → Converses (fresh s what) said q → HasSaid journal seat s said → HasCellsAt q.place what t
   cells_by_now journal state [] q t tells there range talk has = subst (λ (z : PlanOf). HasCellsAt z.place what t) (sym talk) tt
-  cells_by_now journal state (r ∷ rs) q t tells there range talk has =
-      has_cells q.place what t (cells_at journal state t tells there range (is_declared journal r rs talk.0 talk.1 has))
+  cells_by_now journal state (r ∷ rs) q t tells there range talk has = grind (arith, has_cells, cells_at, is_declared, q.place)
 
 -- ---- where it stands
 

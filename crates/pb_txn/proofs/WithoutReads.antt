@@ -1,18 +1,14 @@
 -- What the table keeps of a transaction, its reads aside, follows from the entries that name its start, reads aside.
-use Rattle.std.proofs.Common.{◌≡◌, ℕ, Bool, true, false, cond, ◌||◌, List, [], ◌∷◌, Option, Some, None, refl, sym, ap, ◌∙◌, option_map}
+use Rattle.std.proofs.Common.{arith, ◌≡◌, ℕ, Bool, true, false, cond, ◌||◌, List, [], ◌∷◌, Option, Some, None, refl, sym, ap, ◌∙◌, option_map}
 use Rattle.std.specs.List.{filter, list_any}
-use Rattle.pb_base.specs.declared.cell.Cell.{Cell}
-use Rattle.pb_base.specs.declared.names.Ts.{Ts}
 use Rattle.pb_steps.specs.declared.step.Work.{Work}
 use Rattle.pb_steps.specs.declared.step.Step.{Step}
 use Rattle.pb_steps.specs.declared.step.Answer.{Answer}
 use Rattle.pb_verify.specs.Observers.{ObserverOf}
 use Rattle.pb_steps.specs.State.{TransactionOf, new_transaction}
-use Rattle.pb_steps.specs.Read.{with_read}
 use Rattle.pb_history.specs.declared.entry.Entry.{Entry}
 use Rattle.pb_history.specs.TransactionsTold.{names_start, entries_naming, transaction_after, transaction_from, transaction_by, is_begin, BeginsOnce}
 use Rattle.pb_txn.specs.Allowed.{names}
-use Rattle.pb_base.proofs.Logic.{same_both}
 
 -- all but the reads
 abbrev pub bare : TransactionOf → TransactionOf
@@ -20,20 +16,6 @@ bare t = record t { reads = [] }
 
 abbrev bare_if : Option TransactionOf → Option TransactionOf
 bare_if o = option_map (λ t. bare t) o
-
--- a read that is recorded leaves all else as it was
-read_leaves : (x : Cell) (at : Option Ts) (a : Answer) (t : Option TransactionOf) → bare_if (option_map (λ (u : TransactionOf). with_read u x at a) t) ≡ bare_if t
-read_leaves x at a None = refl
-read_leaves x at a (Some t) = refl
-
--- a change that looks at no reads may come before they are left out, or after
-apart_from_reads : (f : TransactionOf → TransactionOf) → ((u : TransactionOf) → bare (f u) ≡ f (bare u)) → (t : Option TransactionOf) → bare_if (option_map f t) ≡ option_map f (bare_if t)
-apart_from_reads f h None = refl
-apart_from_reads f h (Some u) = ap Some (h u)
-
-named : {A : Type 0} (b : Bool) (x y z : A) → b ≡ true → x ≡ y → x ≡ cond b y z
-named true x y z is e = e
-named false x y z is e = absurd cc
 
 -- the entries that name a start, reads aside
 abbrev pub named_in : ℕ → List Entry → List Entry
@@ -43,44 +25,18 @@ module _ (observers : List ObserverOf) (s : ℕ) where
   -- one entry
   one : (seat : ℕ) (step : Step) (answer : Answer) (t : Option TransactionOf) → is_begin step ≡ false → names_start s step answer ≡ true
       → bare_if (transaction_after observers seat step answer t) ≡ cond (names s step) (transaction_after observers seat step answer (bare_if t)) (bare_if t)
-  one seat (Step.Begin work) answer t b n = absurd cc
-  one seat (Step.Read m x) (Answer.Found start commit content) t b n = read_leaves x None (Answer.Found start commit content) t
-  one seat (Step.Read m x) Answer.Absent t b n = read_leaves x None Answer.Absent t
-  one seat (Step.Read m x) _ t b n = refl
-  one seat (Step.ReadAt m x at) (Answer.Found start commit content) t b n = read_leaves x (Some at) (Answer.Found start commit content) t
-  one seat (Step.ReadAt m x at) Answer.Absent t b n = read_leaves x (Some at) Answer.Absent t
-  one seat (Step.ReadAt m x at) _ t b n = refl
-  one seat (Step.Declare m what) Answer.Done t b n = named _ _ _ _ n (apart_from_reads _ (λ u. refl) t)
-  one seat (Step.Prewrite m x) Answer.Done t b n = named _ _ _ _ n (apart_from_reads _ (λ u. refl) t)
-  one seat (Step.Prewrite m x) Answer.Conflict t b n = named _ _ _ _ n (apart_from_reads _ (λ u. refl) t)
-  one seat (Step.Stamp m) (Answer.At c) t b n = named _ _ _ _ n (apart_from_reads _ (λ u. refl) t)
-  one seat (Step.CommitPrimary m) Answer.Committed t b n = named _ _ _ _ n (apart_from_reads _ (λ u. refl) t)
-  one seat (Step.CommitPrimary m) Answer.Lost t b n = named _ _ _ _ n (apart_from_reads _ (λ u. refl) t)
-  one seat step answer t b n = same_both (names s step) (bare_if t)
+  one seat step answer t b n = grind arith
 
   -- what names no start, or another, is left out either way
   named_no : (step : Step) (answer : Answer) → names_start s step answer ≡ false → names s step ≡ false
-  named_no (Step.Begin work) answer n = refl
-  named_no (Step.Read m x) answer n = refl
-  named_no (Step.ReadAt m x at) answer n = refl
-  named_no (Step.Declare m what) answer n = n
-  named_no (Step.Prewrite m x) answer n = n
-  named_no (Step.Stamp m) answer n = n
-  named_no (Step.CommitPrimary m) answer n = n
-  named_no (Step.CommitSecondary m x) answer n = n
-  named_no (Step.Settle x) answer n = refl
-  named_no (Step.Clear x) answer n = refl
-  named_no (Step.NextMark after) answer n = refl
-  named_no (Step.Sweep x) answer n = refl
+  named_no step answer n = grind arith
 
   from_first : (e : Entry) (es : List Entry) (t : Option TransactionOf) (b : Bool)
       → transaction_from observers (cond b (transaction_after observers e.seat e.step e.answer t) t) es ≡ transaction_from observers t (cond b (e ∷ es) es)
-  from_first e es t true = refl
-  from_first e es t false = refl
+  from_first e es t b = grind arith
 
   neither : (a b : Bool) → (a || b) ≡ false → (a ≡ false) × (b ≡ false)
-  neither true b e = absurd cc
-  neither false b e = (refl, e)
+  neither a b e = grind arith
 
   -- all entries after the begin
   folds : (journal : List Entry) (t : Option TransactionOf) → list_any (λ d. is_begin d.step) (entries_naming s journal) ≡ false

@@ -1,6 +1,6 @@
 -- The frame before a slot is the meet of the frames that are sent there. It is shown of any property that a join has
 -- exactly where both sides have it, since each fact that a frame says is such a property.
-use Rattle.std.proofs.Common.{◌≡◌, ℕ, zero, suc, ◌+◌, ◌<◌, Bool, true, false, List, [], ◌∷◌, ◌++◌, Option, Some, None, length, get_or, refl, sym, ◌∙◌, subst, arith, nat_eq, ◌↔◌, if◌then◌else◌, IfSome}
+use Rattle.std.proofs.Common.{◌≡◌, ℕ, zero, suc, ◌+◌, ◌<◌, false, List, [], ◌∷◌, ◌++◌, Option, Some, None, length, get_or, refl, sym, subst, arith, nat_eq, ◌↔◌, IfSome}
 use Rattle.std.proofs.lemmas.Bool.Decides.{leb_tells, nat_tests}
 use Rattle.std.proofs.Math.ListN.{get_or-append}
 use Rattle.std.proofs.Math.Seq.{get_or-append_seam}
@@ -11,8 +11,7 @@ use Rattle.pb_isa.specs.Slots.{insn_at}
 use Rattle.pb_kinds.specs.declared.frame.Frame.{Frame}
 use Rattle.pb_kinds.specs.Frames.{join, entry_frame}
 use Rattle.pb_kinds.specs.Meet.{JoinsAreMeets}
-use Rattle.pb_verify.specs.Following.{leads}
-use Rattle.pb_verify.specs.Arriving.{merge, if_leads, gather, frame_before, frame_after, has_slot, outs, in_at}
+use Rattle.pb_verify.specs.Arriving.{merge, if_leads, gather, frame_before, frame_after, outs, in_at}
 use Rattle.pb_verify.specs.Ways.{out_at, IsWay, Fact, HasKind, HasByte, Says, IsMeetOfWays}
 use Rattle.pb_verify.proofs.FramesAfter.{length-outs}
 
@@ -27,18 +26,11 @@ Meets P = (a b : Frame) → P (join a b) ↔ (P a × P b)
 
 -- so has what two ways say in common, also where one of them isn't there
 of_merge : (P : Frame → Type 0) → Meets P → (a b : Option Frame) → Of P (merge a b) ↔ (Of P a × Of P b)
-of_merge P meets None b = ((λ h. (tt, h)), (λ h. h.1))
-of_merge P meets (Some f) None = ((λ h. (h, tt)), (λ h. h.0))
-of_merge P meets (Some f) (Some g) = meets f g
+of_merge x meets a b = grind arith
 
 -- where there is no frame nothing is sent, which has every property
 none_sent : (P : Frame → Type 0) (i : Option Insn) (m n : ℕ) → Of P (if_leads i m n None)
-none_sent P None m n = tt
-none_sent P (Some i) m n = either P (has_slot (leads m i) n)
-  where
-    either : (P : Frame → Type 0) (t : Bool) → Of P (if t then None else None)
-    either P true = tt
-    either P false = tt
+none_sent x i m n = grind arith
 
 -- the frames that are sent to slot n from the slots from m on
 abbrev EachSent : (Frame → Type 0) → List Insn → ℕ → ℕ → List (Option Frame) → Type 0
@@ -65,11 +57,7 @@ of_gathered P meets p n m known (f ∷ fs) =
     )
 
 one_more : (n m : ℕ) (xs : List (Option Frame)) (x y : Option Frame) → length xs ≡ n → m < suc n → (m < n → get_or xs m None ≡ y) → (m ≡ n → x ≡ y) → get_or (xs ++ x ∷ []) m None ≡ y
-one_more n m xs x y l h before last =
-    elim (leb_tells (suc m) n) as (λ s. get_or (xs ++ x ∷ []) m None ≡ y) [
-      | inl t ↦ get_or-append xs (x ∷ []) None m (omega (arith, t.1)) ∙ before t.1
-      | inr t ↦ (let e : m ≡ length xs = omega (arith, t.1) in rw e (get_or-append_seam xs x [] None)) ∙ last (omega (arith, t.1))
-    ]
+one_more n m xs x y l h before last = grind (arith, leb_tells, inl, get_or-append, inr, get_or-append_seam)
 
 -- the frame after slot m stands at its place in the list
 out_in : (p : List Insn) (n m : ℕ) → m < n → get_or (outs p n) m None ≡ out_at p m
@@ -91,17 +79,11 @@ to_ways P p n k m g w =
 
 -- what is sent from an earlier slot is a way, if anything is
 way_or_none : (P : Frame → Type 0) (p : List Insn) (n m : ℕ) (s : Option Frame) → m < n → if_leads (insn_at p m) m n (out_at p m) ≡ s → ((m : ℕ) (g : Frame) → IsWay p n m g → P g) → Of P s
-way_or_none P p n m None l e k = tt
-way_or_none P p n m (Some g) l e k = k m g (record { earlier = l; leads = e })
+way_or_none x p n m s l e k = grind arith
 
 -- and what holds on every way holds of each frame that is sent
 from_ways : (P : Frame → Type 0) (p : List Insn) (n : ℕ) → ((m : ℕ) (g : Frame) → IsWay p n m g → P g) → EachSent P p n 0 (outs p n)
-from_ways P p n k j =
-    let e : 0 + j ≡ j = omega arith in
-    elim (leb_tells (suc j) n) as (λ s. Of P (if_leads (insn_at p (0 + j)) (0 + j) n (get_or (outs p n) j None))) [
-      | inl t ↦ rw (e, out_in p n j t.1) (way_or_none P p n j (if_leads (insn_at p j) j n (out_at p j)) t.1 refl k)
-      | inr t ↦ (let past : get_or (outs p n) j None ≡ None = get_or_past (outs p n) j None (let l = length-outs p n in omega (arith, t.1)) in rw past (none_sent P (insn_at p (0 + j)) (0 + j) n))
-    ]
+from_ways P p n k j = grind (arith, leb_tells, inl, out_in, way_or_none, inr, get_or_past, length-outs, none_sent)
 
 -- each fact stands in a join exactly where both sides say it
 says_meets : JoinsAreMeets → (x : Fact) → Meets (λ f. Says f x)
@@ -132,8 +114,4 @@ entry_first p = refl
 
 -- of every list of instructions, given the law of `pb_kinds` on joins
 pub frames_are_meets : JoinsAreMeets → (p : List Insn) → IsMeetOfWays p
-frames_are_meets joins p = record {
-  first = entry_first p;
-  later = λ n h. later joins p n (in_at p n) (in_later p n h);
-  none = no_way p;
-}
+frames_are_meets joins p = grind (arith, entry_first, later, in_later, no_way)

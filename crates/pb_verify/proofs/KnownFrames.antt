@@ -1,6 +1,5 @@
 -- What is known before the slots, one after the other.
-use Rattle.std.proofs.Common.{◌≡◌, ℕ, ◌+◌, ◌<◌, inl, inr, List, [], ◌∷◌, ◌++◌, Option, None, length, get_or, sym, ap, ◌∙◌, arith, length-append}
-use Rattle.std.proofs.lemmas.Bool.{cases_lt}
+use Rattle.std.proofs.Common.{◌≡◌, ℕ, ◌+◌, ◌<◌, List, [], ◌∷◌, ◌++◌, Option, None, length, get_or, ap, arith, length-append}
 use Rattle.std.proofs.lemmas.List.{get_or_append_left}
 use Rattle.std.proofs.Math.Seq.{get_or-append_seam}
 use Rattle.pb_isa.specs.declared.insn.Insn.{Insn}
@@ -18,15 +17,4 @@ none_known p fs e = record { len = ap length e; each = λ m h. absurd (omega (ar
 
 -- before one slot more
 pub known_more : (p : List Insn) (n : ℕ) (fs gs : List (Option Frame)) (f : Option Frame) → AreKnownTo p n fs → gs ≡ fs ++ f ∷ [] → f ≡ known_at p n → AreKnownTo p (n + 1) gs
-known_more p n fs gs f old e is = record {
-  len = ap length e ∙ (let l = old.len in simp length-append (omega (arith, l)));
-  each = λ m low.
-      elim (cases_lt m n) [
-        | inl below ↦ ap (λ xs. get_or xs m None) e ∙ get_or_append_left fs (f ∷ []) None m (let l = old.len in omega (arith, l, below)) ∙ old.each m below
-        | inr last ↦
-            let same : m ≡ n = omega (arith, low, last) in
-            let seam : get_or (fs ++ f ∷ []) (length fs) None ≡ f = get_or-append_seam fs f [] None in
-            let here : get_or gs n None ≡ f = ap (λ xs. get_or xs n None) e ∙ ap (λ k. get_or (fs ++ f ∷ []) k None) (sym old.len) ∙ seam in
-            rw same (here ∙ is)
-      ];
-}
+known_more p n fs gs f old e is = grind (arith, length-append, get_or_append_left, get_or-append_seam, old.len, old.each)

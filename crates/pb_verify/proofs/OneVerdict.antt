@@ -11,7 +11,7 @@ use Rattle.pb_verify.specs.Verdict.{HasOneVerdict}
 use Rattle.pb_base.proofs.Logic.{same_some}
 
 some_is_not_none : {A : Type 0} (x : A) → ¬ (Some x ≡ None)
-some_is_not_none x e = grind (arith, e)
+some_is_not_none x e = grind arith
 
 -- a slot that has a code has fault
 not_kept : (j : JudgedOf) (n : ℕ) (c : RuleCode) → lowest_code (faults j n) ≡ Some c → ¬ (faults j n ≡ [])
@@ -26,10 +26,7 @@ one : (j : JudgedOf) (n m : ℕ) (c d : RuleCode) → Refuses j n c → Refuses 
 one j n m c d r s =
     let le : ¬ (n < m) = not_before j n m c d r s in
     let ge : ¬ (m < n) = not_before j m n d c s r in
-    let e : n ≡ m = elim (leb_tells (suc n) m) as (λ t. n ≡ m) [
-      | inl t ↦ absurd (le t.1)
-      | inr t ↦ elim (leb_tells (suc m) n) as (λ u. n ≡ m) [ inl u ↦ absurd (ge u.1) | inr u ↦ omega (arith, t.1, u.1) ]
-    ] in
+    let e : n ≡ m = grind (arith, leb_tells, inl, inr) in
     (e, same_some c d (sym r.code ∙ (rw e s.code)))
 
 -- of the first n slots, all keep the rules, or one is the first that does not

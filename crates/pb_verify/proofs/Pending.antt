@@ -1,14 +1,13 @@
 -- What is known at later slots while the verifier goes along: the frame that waits there is the join of all that was
 -- sent so far.
-use Rattle.std.proofs.Common.{◌≡◌, ℕ, suc, ◌+◌, ◌<◌, Bool, true, false, List, [], ◌∷◌, ◌++◌, Option, Some, None, length, refl, ap, ◌∙◌, arith, nat_eq, if◌then◌else◌}
+use Rattle.std.proofs.Common.{◌≡◌, ℕ, suc, ◌+◌, ◌<◌, false, List, [], ◌∷◌, ◌++◌, Option, None, length, refl, arith, nat_eq}
 use Rattle.std.proofs.lemmas.Bool.Decides.{nat_tests}
 use Rattle.pb_isa.specs.declared.insn.Insn.{Insn}
 use Rattle.pb_isa.specs.Slots.{insn_at}
 use Rattle.pb_kinds.specs.declared.frame.Frame.{Frame}
 use Rattle.pb_helpers.specs.declared.code.RuleCode.{RuleCode}
 use Rattle.pb_helpers.specs.Codes.{lowest_code}
-use Rattle.pb_verify.specs.Following.{leads}
-use Rattle.pb_verify.specs.Arriving.{merge, has_slot, if_leads, gather, frame_before, frame_after, outs, in_at}
+use Rattle.pb_verify.specs.Arriving.{merge, if_leads, gather, frame_before, frame_after, outs, in_at}
 use Rattle.pb_verify.proofs.FramesAfter.{length-outs, outs_more}
 
 -- what is gathered of one frame more is what was gathered before, merged with that frame where it leads there
@@ -30,34 +29,23 @@ pub before_next : (p : List Insn) (n m : ℕ) (f : Option Frame) → m < n → f
 before_next p n m f h = rw (length-outs p m) at (before_more p n (outs p m) f (omega arith))
 
 pub merge_none : (f : Option Frame) → merge f None ≡ f
-merge_none None = refl
-merge_none (Some f) = refl
+merge_none f = grind arith
 
 -- a second slot brings nothing
 pub before_past : (p : List Insn) (n m : ℕ) → m < n → insn_at p m ≡ None → frame_before p n (outs p (m + 1)) ≡ frame_before p n (outs p m)
-before_past p n m h e =
-    let next = rw e at (before_next p n m None h) in
-    rw (outs_more p m, e) (next ∙ merge_none _)
+before_past p n m h e = grind (arith, before_next, outs_more, merge_none)
 
 -- where nothing is known after an instruction it sends nothing
 none_leads : (i : Option Insn) (m n : ℕ) → if_leads i m n None ≡ None
-none_leads None m n = refl
-none_leads (Some i) m n = either (has_slot (leads m i) n) None
-  where
-    either : (t : Bool) (f : Option Frame) → (if t then f else f) ≡ f
-    either true f = refl
-    either false f = refl
+none_leads i m n = grind arith
 
 -- nor does an instruction that nothing leads to
 pub before_unreached : (p : List Insn) (n m : ℕ) → m < n → frame_after (insn_at p m) (in_at p m) ≡ None → frame_before p n (outs p (m + 1)) ≡ frame_before p n (outs p m)
-before_unreached p n m h e =
-    let next = before_next p n m None h in
-    rw (outs_more p m, e) (next ∙ ap (λ f. merge (frame_before p n (outs p m)) f) (none_leads (insn_at p m) m n) ∙ merge_none _)
+before_unreached p n m h e = grind (arith, before_next, outs_more, none_leads, merge_none)
 
 pub not_here : (n m : ℕ) → n < m → nat_eq m n ≡ false
-not_here n m h = grind (arith, nat_tests)
+not_here n m h = grind arith
 
 -- where no code is found none is listed
 pub none_broken : (cs : List RuleCode) → lowest_code cs ≡ None → cs ≡ []
-none_broken [] e = refl
-none_broken (c ∷ cs) e = absurd (grind (arith, e))
+none_broken cs e = grind arith

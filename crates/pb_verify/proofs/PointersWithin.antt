@@ -1,27 +1,20 @@
 -- Pointers stay near: each instruction moves one by at most 2 ^ 31, and a join moves none. So no sum of the verifier
 -- leaves its 64 bits, also of a program that is refused.
-use Rattle.std.proofs.Common.{◌≡◌, ℕ, zero, suc, ◌+◌, ◌≤◌, Bool, true, false, cond, List, [], ◌∷◌, ◌++◌, Option, Some, None, set, get_or, arith, nat_eq, slice_index_or}
+use Rattle.std.proofs.Common.{◌≡◌, ℕ, zero, suc, ◌+◌, ◌≤◌, Bool, cond, List, [], ◌∷◌, ◌++◌, Option, None, set, get_or, arith, slice_index_or}
 use Rattle.pb_isa.specs.declared.insn.Insn.{Insn}
 use Rattle.pb_isa.specs.declared.insn.Reg.{Reg}
 use Rattle.pb_isa.specs.Registers.{number}
 use Rattle.pb_isa.specs.Slots.{insn_at}
 use Rattle.pb_kinds.specs.declared.frame.Kind.{Kind}
 use Rattle.pb_kinds.specs.declared.frame.Frame.{Frame}
-use Rattle.pb_kinds.specs.Frames.{kind_of, pointwise, meet, same_kind, join, entry_frame}
-use Rattle.pb_verify.specs.Following.{with_kind, leads}
-use Rattle.pb_verify.specs.Arriving.{merge, if_leads, gather, frame_before, has_slot}
+use Rattle.pb_kinds.specs.Frames.{pointwise, meet, same_kind, join, entry_frame}
+use Rattle.pb_verify.specs.Following.{with_kind}
+use Rattle.pb_verify.specs.Arriving.{merge, if_leads, gather, frame_before}
 use Rattle.pb_verify.specs.Within.{IsNear, IsWithin, IsWithinIf}
 
 -- no pointer is further than so far in any of the frames
 pub record AllWithin (b : ℕ) (fs : List (Option Frame)) : Type 0 where
   pub every : (k : ℕ) → IsWithinIf b (slice_index_or fs k None)
-
--- what is near is so within a larger distance
-pub near_more : (a b : ℕ) (k : Kind) → a ≤ b → IsNear a k → IsNear b k
-near_more a b Kind.Unset l h = tt
-near_more a b Kind.Number l h = tt
-near_more a b (Kind.Stack k) l h = omega arith
-near_more a b (Kind.Record k) l h = omega arith
 
 near_set : (b : ℕ) (ks : List Kind) (i : ℕ) (k : Kind) → ((r : ℕ) → IsNear b (get_or ks r Kind.Unset)) → IsNear b k → (r : ℕ) → IsNear b (get_or (set ks i k) r Kind.Unset)
 near_set b [] i k h n r = h r
@@ -34,18 +27,8 @@ near_set b (x ∷ ks) (suc i) k h n (suc r) = near_set b ks i k (λ j. h (suc j)
 pub within_kind : (b : ℕ) (f : Frame) (r : Reg) (k : Kind) → IsWithin b f → IsNear b k → IsWithin b (with_kind f r k)
 within_kind b f r k h n = record { each = near_set b f.kinds (number r) k h.each n }
 
-abbrev EachNear : ℕ → List Kind → Type 0
-EachNear b [] = Unit {0}
-EachNear b (k ∷ ks) = IsNear b k × EachNear b ks
-
-near_each : (b : ℕ) (ks : List Kind) → EachNear b ks → (r : ℕ) → IsNear b (get_or ks r Kind.Unset)
-near_each b [] h r = tt
-near_each b (k ∷ ks) h zero = h.0
-near_each b (k ∷ ks) h (suc r) = near_each b ks h.1 r
-
 near_meet : (b : ℕ) (t : Bool) (k : Kind) → IsNear b k → IsNear b (cond t k Kind.Unset)
-near_meet b true k h = h
-near_meet b false k h = tt
+near_meet b t k h = grind arith
 
 near_both : (b : ℕ) (ks ms : List Kind) → ((r : ℕ) → IsNear b (get_or ks r Kind.Unset)) → (r : ℕ) → IsNear b (get_or (pointwise meet ks ms) r Kind.Unset)
 near_both b [] ms h r = tt
@@ -61,23 +44,14 @@ within_join b f g h = record { each = near_both b f.kinds g.kinds h.each }
 -- at entry both pointers are where their regions begin and end
 within_entry : (b : ℕ) → IsWithin b entry_frame
 unfolding entry_frame
-within_entry b = record {
-  each = near_each b entry_frame.kinds (tt, (omega arith, (tt, (tt, (tt, (tt, (tt, (tt, (tt, (tt, (omega arith, tt)))))))))));
-}
+within_entry b = grind arith
 
 within_merge : (b : ℕ) (f g : Option Frame) → IsWithinIf b f → IsWithinIf b g → IsWithinIf b (merge f g)
-within_merge b None g h k = k
-within_merge b (Some f) None h k = h
-within_merge b (Some f) (Some g) h k = within_join b f g h
-
-within_cond : (b : ℕ) (t : Bool) (f : Option Frame) → IsWithinIf b f → IsWithinIf b (cond t f None)
-within_cond b true f h = h
-within_cond b false f h = tt
+within_merge b f g h k = grind (arith, within_join)
 
 -- what is sent on is as near as the frame after the instruction
 within_sent : (b : ℕ) (i : Option Insn) (m n : ℕ) (f : Option Frame) → IsWithinIf b f → IsWithinIf b (if_leads i m n f)
-within_sent b None m n f h = tt
-within_sent b (Some i) m n f h = within_cond b (has_slot (leads m i) n) f h
+within_sent b i m n f h = grind arith
 
 within_gathered : (p : List Insn) (b n m : ℕ) (known : Option Frame) (fs : List (Option Frame)) → IsWithinIf b known → ((k : ℕ) → IsWithinIf b (get_or fs k None)) → IsWithinIf b (gather p n m known fs)
 within_gathered p b n m known [] h all = h
@@ -85,17 +59,14 @@ within_gathered p b n m known (f ∷ fs) h all =
     within_gathered p b n (m + 1) _ fs (within_merge b known _ h (within_sent b (insn_at p m) m n f (all zero))) (λ k. all (suc k))
 
 within_choice : (b : ℕ) (t : Bool) (f g : Option Frame) → IsWithinIf b f → IsWithinIf b g → IsWithinIf b (cond t f g)
-within_choice b true f g h k = h
-within_choice b false f g h k = k
+within_choice b t f g h k = grind arith
 
 -- the frame before a slot is as near as the frames after all earlier ones
 pub within_arriving : (p : List Insn) (b n : ℕ) (fs : List (Option Frame)) → AllWithin b fs → IsWithinIf b (frame_before p n fs)
-within_arriving p b n fs h =
-    within_choice b (nat_eq n 0) (Some entry_frame) (gather p n 0 None fs) (within_entry b) (within_gathered p b n 0 None fs tt h.every)
+within_arriving p b n fs h = grind (arith, within_choice, within_entry, within_gathered, h.every)
 
 pub within_if_more : (a b : ℕ) (f : Option Frame) → a ≤ b → IsWithinIf a f → IsWithinIf b f
-within_if_more a b None l h = tt
-within_if_more a b (Some f) l h = record { each = λ r. near_more a b (kind_of f r) l (h.each r) }
+within_if_more a b f l h = grind arith
 
 all_push : (b : ℕ) (fs : List (Option Frame)) (f : Option Frame) → ((k : ℕ) → IsWithinIf b (get_or fs k None)) → IsWithinIf b f → (k : ℕ) → IsWithinIf b (get_or (fs ++ f ∷ []) k None)
 all_push b [] f h n zero = n

@@ -1,14 +1,14 @@
 -- Tries of a change, and changes, one after another.
-use Rattle.std.proofs.Common.{◌≡◌, ◌≢◌, ℕ, ◌+◌, ◌*◌, ◌<◌, ◌≤◌, Bool, true, false, List, [], ◌∷◌, ◌++◌, length, length-append, Some, inl, inr, ◌⊎◌, refl, sym, ap, subst, ◌∙◌, arith, slice_get}
+use Rattle.std.proofs.Common.{◌≡◌, ◌≢◌, ℕ, ◌+◌, ◌*◌, ◌<◌, Bool, true, false, List, [], ◌∷◌, ◌++◌, length, length-append, Some, inl, inr, ◌⊎◌, refl, sym, ap, subst, ◌∙◌, arith, slice_get}
 use Rattle.pb_base.specs.declared.refusal.Refusal.{Refusal}
 use Rattle.pb_base.specs.Batch.{Writes}
 use Rattle.pb_core.specs.Calls.{SeatOf}
 use Rattle.pb_txn.specs.Changes.{new_change, ChangesConverse}
 use Rattle.pb_worker.specs.declared.tries.TheConstants.{MAX_TRIES}
 use Rattle.pb_worker.specs.Gains.{Gains, IsWant}
-use Rattle.pb_worker.specs.Tries.{IsTry, AreVain, at_first, one_more, AreTries, AreTried, before_all, tried, AreAllTried}
+use Rattle.pb_worker.specs.Tries.{IsTry, AreVain, at_first, one_more, AreTries, AreTried, before_all, tried}
 use Rattle.pb_worker.specs.Stops.{TryStops, TriesStop, ChangesStop}
-use Rattle.pb_worker.proofs.Gaining.{gains_none, gains_as, gains_on, renumbered}
+use Rattle.pb_worker.proofs.Gaining.{gains_none, gains_on, renumbered}
 
 -- ---- one change
 
@@ -22,8 +22,7 @@ module _ (batch : Writes) (count : ℕ) (a b : SeatOf) (vain : Gains (AreVain ba
   in_vain c false is h = gains_on a b c vain h (λ said more v t. one_more count said more v t)
 
   pub done : count < MAX_TRIES → (c : SeatOf) (committed : Bool) → committed ≡ true → Gains (IsTry batch committed) b c → Gains (AreTries batch true) a c
-  done few c false is h = cc
-  done few c true is h = gains_on a b c vain h (λ said more v t. record { count = count; few = few; vain = said; tries = v; last = more; commits = t; said_is = refl })
+  done few c committed is h = grind (arith, gains_on)
 
   pub tries_stop : count < MAX_TRIES → (c : SeatOf) (committed : Bool) (r : Refusal) → Gains (TryStops b.number batch committed r) b c → Gains (TriesStop a.number batch committed r) a c
   tries_stop few c committed r h = gains_on a b c vain (renumbered (λ n. TryStops n batch committed r) b c b.number a.number vain.number h) (λ said more v t. record { count = count; few = few; vain = said; tries = v; part = more; stops = t; said_is = refl })
@@ -49,9 +48,7 @@ module _ (batches : List Writes) (n first : ℕ) (flags : List Bool) (a b : Seat
   one_change c committed h = gains_on a b c before h (λ said more t r. tried flags said batch committed more t at r)
 
   pub changes_stop : (c : SeatOf) (committed : Bool) (r : Refusal) (done : List Bool) → (done ≡ flags ++ committed ∷ []) ⊎ ((done ≡ flags) × (committed ≡ false)) → Gains (TriesStop b.number batch committed r) b c → Gains (ChangesStop a.number batches n first done r) a c
-  changes_stop c committed r done is h =
-      gains_on a b c before (renumbered (λ m. TriesStop m batch committed r) b c b.number a.number before.number h)
-      (λ said more t s. record { flags = flags; before = said; tried = t; batch = batch; next = at; committed = committed; part = more; stops = s; said_is = refl; done_is = is })
+  changes_stop c committed r done is h = grind (arith, gains_on, renumbered, b.number, a.number, before.number)
 
   pub no_room : ChangesConverse → batch ≢ [] → (r : Refusal) → IsWant r → Gains (ChangesStop a.number batches n first flags r) a b
   no_room law some r want =
@@ -64,7 +61,3 @@ module _ (batches : List Writes) (n first : ℕ) (flags : List Bool) (a b : Seat
         stops = record { told = refl; job = new_change batch; converses = refl; begins = law batch [] (new_change batch) some refl; stop = inl want };
         said_is = refl;
       }))
-
--- where the next number is beyond the changes all of the worker's were tried
-pub all_changes : (batches : List Writes) (n first next : ℕ) (flags : List Bool) (a b : SeatOf) → Gains (AreTried batches n first flags) a b → next ≡ first + length flags * n → length batches ≤ next → Gains (AreAllTried batches n first flags) a b
-all_changes batches n first next flags a b g is all = gains_as a b (λ said t. record { tried = t; all = subst (λ k. length batches ≤ k) is all }) g

@@ -1,5 +1,5 @@
 -- One pass along a journal, with a cursor in each seat's list.
-use Rattle.std.proofs.Common.{◌≡◌, ◌≢◌, ◌↔◌, ℕ, ◌+◌, ◌<◌, ◌≤◌, zero, suc, Bool, true, false, not, eqb, IsTrue, List, [], ◌∷◌, length, drop, replicate, Some, slice_set, slice_index_or, get_or-set_same, get_or-set_other, length-set, inl, inr, refl, sym, ◌∙◌, ap, subst, arith, eq-eqb, slice_get, ◌==◌}
+use Rattle.std.proofs.Common.{◌≡◌, ◌≢◌, ◌↔◌, ℕ, ◌+◌, ◌<◌, ◌≤◌, zero, suc, Bool, true, false, not, eqb, IsTrue, List, [], ◌∷◌, length, drop, replicate, Some, slice_set, slice_index_or, get_or-set_same, get_or-set_other, length-set, refl, sym, ◌∙◌, ap, subst, arith, eq-eqb, slice_get, ◌==◌}
 use Rattle.std.specs.List.{list_any}
 use Rattle.std.proofs.lemmas.Bool.{eqb-true, eqb-false, and_parts, not-true, both_ways, cases_lt}
 use Rattle.std.proofs.lemmas.List.{get_or_default, get_or-replicate, get_or_past, length-replicate}
@@ -19,11 +19,7 @@ use Rattle.pb_base.proofs.Logic.{same_some as same_place}
 apart : (seats : List SeatOf) → IsTrue (no_twice seats) → (i j : ℕ) (d : SeatOf) → i < j → j < length seats → (slice_index_or seats i d).number ≢ (slice_index_or seats j d).number
 apart [] once i j d lt in' = absurd (omega (arith, in'))
 apart (s ∷ ss) once i zero d lt in' = absurd (omega (arith, lt))
-apart (s ∷ ss) once zero (suc j) d lt in' =
-    let one : not (list_any (λ t. t.number == s.number) ss) ≡ true = (and_parts (not (list_any (λ t. t.number == s.number) ss)) (no_twice ss) once).0 in
-    let none : list_any (λ t. t.number == s.number) ss ≡ false = not-true (list_any (λ t. t.number == s.number) ss) one in
-    let at : slice_get ss j ≡ Some (slice_index_or ss j d) = slice_get-get_or ss j d (omega (arith, in')) in
-    λ same. both_ways (list_any (λ t. t.number == s.number) ss) none (any_passes_from_place (λ t. t.number == s.number) ss j (slice_index_or ss j d) at (eq-eqb (slice_index_or ss j d).number s.number (sym same)))
+apart (s ∷ ss) once zero (suc j) d lt in' = grind (arith, and_parts, not-true, slice_get-get_or, both_ways, any_passes_from_place, eq-eqb, s.number)
 apart (s ∷ ss) once (suc i) (suc j) d lt in' =
     apart ss (and_parts (not (list_any (λ t. t.number == s.number) ss)) (no_twice ss) once).1 i j d (omega (arith, lt)) (omega (arith, in'))
 
@@ -67,10 +63,7 @@ abbrev pub AreAlong : List Entry → ℕ → List SeatOf → List ℕ → Type 0
 AreAlong journal i seats cursors = (k : ℕ) (d : SeatOf) → k < length seats → IsAlong journal i (slice_index_or seats k d) (slice_index_or cursors k 0)
 
 zero_at : (n k : ℕ) → slice_index_or (replicate n zero) k zero ≡ zero
-zero_at n k = elim (cases_lt k n) [
-  | inl lt ↦ get_or-replicate n k zero zero lt
-  | inr le ↦ get_or_past (replicate n zero) k zero (omega (arith, le, length-replicate n zero))
-]
+zero_at n k = grind (arith, cases_lt, get_or-replicate, get_or_past, length-replicate)
 
 -- at first every cursor is at the beginning of its list, and the pass at that of the journal
 pub at_first : (j : List Entry) (seats : List SeatOf) (n : ℕ) → AreAlong j 0 seats (replicate n zero)
@@ -100,9 +93,7 @@ module _ (j : List Entry) (i : ℕ) (e : Entry) (lt : i < length j) (is : e ≡ 
 
       -- an entry that isn't its list's next
       pub off : (count : ℕ) → slice_get s.received (slice_index_or cursors place 0) ≢ Some (told_by e) → EachTold count j seats → ⊥
-      off count other told =
-          let whole : entries_of s.number j ≡ s.received = subst (λ (z : SeatOf). entries_of z.number j ≡ z.received) (sym s-is) (told place s at.within).same in
-          unlike s.number j s.received i (slice_index_or cursors place 0) e lt is own other (here.rests.0 whole)
+      off count other told = grind (arith, unlike, own, s.number, s.received, at.within)
 
       -- its list's next
       pub one_on : (places : List ℕ) (next : ℕ) → ArePlaces places seats → place < length cursors → slice_get s.received (slice_index_or cursors place 0) ≡ Some (told_by e) → next ≡ slice_index_or cursors place 0 + 1
@@ -119,10 +110,7 @@ module _ (j : List Entry) (i : ℕ) (e : Entry) (lt : i < length j) (is : e ≡ 
               let set-there : IsAlong j (i + 1) s (slice_index_or (slice_set cursors place next) place 0) = subst (λ c. IsAlong j (i + 1) s c) (sym (get_or-set_same cursors place next 0 room)) new in
               subst (λ m. IsAlong j (i + 1) (slice_index_or seats m d) (slice_index_or (slice_set cursors place next) m 0)) (sym same)
               (subst (λ z. IsAlong j (i + 1) z (slice_index_or (slice_set cursors place next) place 0)) (sym s-there) set-there)
-          by false b-is =
-              let other : k ≢ place = eqb-false k place b-is in
-              let not-own : e.seat ≢ (slice_index_or seats k d).number = λ h. other (same_place k place (sym (are k d in') ∙ (ap (slice_get places) (sym h ∙ sym (at.numbered d)) ∙ are place d at.within))) in
-              subst (λ c. IsAlong j (i + 1) (slice_index_or seats k d) c) (sym (get_or-set_other cursors place k next 0 other)) (passed (slice_index_or seats k d) (slice_index_or cursors k 0) not-own (along k d in'))
+          by false b-is = grind (arith, eqb-false, same_place, get_or-set_other, passed, e.seat, at.numbered, at.within)
 
 -- at the journal's end
 pub all_told : (j : List Entry) (i : ℕ) (seats : List SeatOf) (cursors : List ℕ) (count : ℕ) → length j ≤ i → AreBelow count seats → AreAlong j i seats cursors → AreAtEnd seats cursors ↔ EachTold count j seats

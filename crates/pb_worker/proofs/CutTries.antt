@@ -1,5 +1,5 @@
 -- A try that was left after its commit has committed.
-use Rattle.std.proofs.Common.{◌≡◌, ◌≢◌, ◌⊎◌, Bool, true, false, ◌||◌, List, [], ◌∷◌, ◌++◌, inl, inr, refl, sym, ap, subst, ◌∙◌}
+use Rattle.std.proofs.Common.{arith, ◌≡◌, ◌≢◌, ◌⊎◌, Bool, true, false, ◌||◌, List, [], ◌∷◌, ◌++◌, inl, inr, refl, sym, ap, subst, ◌∙◌}
 use Rattle.pb_base.specs.declared.names.Ts.{Ts}
 use Rattle.pb_base.specs.declared.cell.Cell.{Cell}
 use Rattle.pb_base.specs.Batch.{Writes}
@@ -96,14 +96,12 @@ cleared (x ∷ xs) (r ∷ rs) c = both_false (is_commit r.answer) (has_commit rs
 pub uncommitted : (s : Ts) (what : Declared) (cells : List Cell) (said : List Received) (o : Outcome) → is_committed o ≡ false → IsWhole s what cells said o → has_commit said ≡ false
 uncommitted s what cells said o otherwise (committed x others c) = cc
 uncommitted s what cells said o otherwise (conflicted_first x after) = refl
-uncommitted s what cells said o otherwise (conflicted_later x y before after a cs can c) =
-    none_after s (x ∷ before) (told (Step.Prewrite s y) Answer.Conflict ∷ told (Step.Settle x) a ∷ cs) (both_false (is_commit a) (has_commit cs) (settle_answer x a can) (cleared before cs c))
+uncommitted s what cells said o otherwise (conflicted_later x y before after a cs can c) = grind (arith, none_after, both_false, settle_answer, cleared)
 uncommitted s what cells said o otherwise (lost x others c cs k) = none_after s (x ∷ others) (told (Step.Stamp s) (Answer.At c) ∷ told (Step.CommitPrimary s) Answer.Lost ∷ cs) (cleared others cs k)
 
 -- a whole conversation has no commit, or clears nothing
 by_form : (s : Ts) (what : Declared) (cells : List Cell) (said : List Received) (o : Outcome) → IsWhole s what cells said o → (has_commit said ≡ false) ⊎ (has_clear said ≡ false)
-by_form s what cells said o (committed x others c) =
-    inr (clear_in (prewrites s (x ∷ others)) (told (Step.Stamp s) (Answer.At c) ∷ told (Step.CommitPrimary s) Answer.Committed ∷ secondaries s others) ∙ both_false (has_clear (prewrites s (x ∷ others))) (has_clear (secondaries s others)) (prewrites_clear s (x ∷ others)) (secondaries_clear s others))
+by_form s what cells said o (committed x others c) = grind (arith, clear_in, both_false, prewrites_clear, secondaries_clear)
 by_form s what cells said o (conflicted_first x after) = inl refl
 by_form s what cells said o (conflicted_later x y before after a cs can c) = inl (uncommitted s what _ _ _ refl (conflicted_later x y before after a cs can c))
 by_form s what cells said o (lost x others c cs k) = inl (uncommitted s what _ _ _ refl (lost x others c cs k))
@@ -137,16 +135,7 @@ module _ (s : Ts) (what : Declared) (x : Cell) (others : List Cell) where
   clearing_none o done y left said cs c ends e =
       let rest = clears (y ∷ left) in
       let w = ends (cs ++ rest) (are_cleared done (y ∷ left) cs c) in
-      elim (by_form s what (x ∷ others) (said ++ (cs ++ rest)) o w) [
-        | inl none ↦
-            let split : has_commit (said ++ (cs ++ rest)) ≡ (has_commit said || (has_commit cs || has_commit rest)) = commit_in said (cs ++ rest) ∙ ap (λ b. has_commit said || b) (commit_in cs rest) in
-            let joined : ((has_commit said || has_commit cs) || has_commit rest) ≡ false = sym (or_assoc (has_commit said) (has_commit cs) (has_commit rest)) ∙ sym split ∙ none in
-            not_both (has_commit (said ++ cs)) e (commit_in said cs ∙ left_false (has_commit said || has_commit cs) (has_commit rest) joined)
-        | inr none ↦
-            let some : has_clear (said ++ (cs ++ rest)) ≡ true =
-            clear_in said (cs ++ rest) ∙ true_right (has_clear said) (has_clear (cs ++ rest)) (clear_in cs rest ∙ true_right (has_clear cs) (has_clear rest) (clears_some y left)) in
-            not_both (has_clear (said ++ (cs ++ rest))) some none
-      ]
+      grind (arith, by_form, commit_in, or_assoc, not_both, left_false, clear_in, true_right, clears_some)
 
   at_place : (p : PlanPlace) (said : List Received) → SoFar s what x others p said → has_commit said ≡ true → Commits s what said
   at_place p said declaring e = cc

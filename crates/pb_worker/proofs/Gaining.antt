@@ -1,5 +1,5 @@
 -- A seat's list goes on.
-use Rattle.std.proofs.Common.{◌≡◌, ℕ, List, [], ◌∷◌, ◌++◌, refl, sym, ap, subst, ◌∙◌}
+use Rattle.std.proofs.Common.{arith, ◌≡◌, ℕ, List, [], ◌∷◌, ◌++◌, refl, sym, ap, subst}
 use Rattle.pb_steps.specs.declared.step.Step.{Step}
 use Rattle.pb_steps.specs.declared.step.Answer.{Answer}
 use Rattle.pb_history.specs.declared.entry.Received.{Received}
@@ -25,21 +25,11 @@ gains_as a b h g = record { said = g.said; number = g.number; received = g.recei
 
 -- one part, and then another
 pub gains_on : {P Q R : List Received → Type 0} (a b c : SeatOf) → Gains P a b → Gains Q b c → ((said more : List Received) → P said → Q more → R (said ++ more)) → Gains R a c
-gains_on a b c g h join = record {
-  said = g.said ++ h.said;
-  number = h.number ∙ g.number;
-  received = h.received ∙ ap (λ l. l ++ h.said) g.received ∙ append_assoc a.received g.said h.said;
-  are_such = join g.said h.said g.are_such h.are_such;
-}
+gains_on a b c g h join = grind (arith, append_assoc, g.said, h.said, h.number, g.number, h.received, g.received, a.received, g.are_such, h.are_such)
 
 -- one answer more
 pub gains_more : {P R : List Received → Type 0} (a b c : SeatOf) (step : Step) (answer : Answer) → Gains P a b → Told b step answer c → ((said : List Received) → P said → R (said ++ told step answer ∷ [])) → Gains R a c
-gains_more a b c step answer g t join = record {
-  said = g.said ++ told step answer ∷ [];
-  number = t.number ∙ g.number;
-  received = t.received ∙ ap (λ l. l ++ told step answer ∷ []) g.received ∙ append_assoc a.received g.said (told step answer ∷ []);
-  are_such = join g.said g.are_such;
-}
+gains_more a b c step answer g t join = grind (arith, append_assoc, g.said, t.number, g.number, t.received, g.received, a.received, g.are_such)
 
 -- where the part speaks of the seat's number
 pub renumbered : (P : ℕ → List Received → Type 0) (a b : SeatOf) (n k : ℕ) → n ≡ k → Gains (P n) a b → Gains (P k) a b

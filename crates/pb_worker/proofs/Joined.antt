@@ -1,5 +1,5 @@
 -- What all workers did, said of their seats.
-use Rattle.std.proofs.Common.{◌≡◌, ℕ, zero, suc, ◌+◌, ◌-◌, ◌<◌, Bool, List, [], ◌∷◌, length, map, Option, None, refl, sym, ap, subst, ◌∙◌, arith, slice_index_or}
+use Rattle.std.proofs.Common.{◌≡◌, ℕ, zero, suc, ◌+◌, ◌-◌, ◌<◌, List, [], ◌∷◌, length, map, Option, None, refl, sym, ap, subst, ◌∙◌, arith, slice_index_or}
 use Rattle.std.proofs.lemmas.List.{get_or-map}
 use Rattle.std.proofs.lemmas.Option.{slice_get-get_or}
 use Rattle.pb_base.specs.declared.refusal.Refusal.{Refusal}
@@ -10,15 +10,13 @@ use Rattle.pb_core.specs.Calls.{SeatOf, AreSeatsFrom}
 use Rattle.pb_worker.specs.declared.worker.Worker.{Worker}
 use Rattle.pb_worker.specs.Gains.{Gains}
 use Rattle.pb_worker.specs.Swaps.{Spare}
-use Rattle.pb_worker.specs.Work.{share_of, IsWork, IsLastDrain, AllWork, WorkedOn, AreFilled, seats_in, refusals_in, done_in, flags_in, is_done, undone_below}
+use Rattle.pb_worker.specs.Work.{share_of, IsWork, IsLastDrain, AllWork, WorkedOn, AreFilled, seats_in, refusals_in, flags_in, is_done, undone_below}
 
 -- all seats of a table, in order, have their places as numbers
 pub numbered : (from : ℕ) (journal : List Entry) (seats : List SeatOf) → AreSeatsFrom from journal seats → (k : ℕ) (d : SeatOf) → k < length seats → (slice_index_or seats k d).number ≡ from + k
 numbered from j [] a k d lt = absurd (omega (arith, lt))
 numbered from j (s ∷ ss) a zero d lt = a.0 ∙ omega arith
-numbered from j (s ∷ ss) a (suc k) d lt =
-    let next : (from + 1) + k ≡ from + suc k = omega arith in
-    numbered (from + 1) j ss a.2 k d (omega arith) ∙ next
+numbered from j (s ∷ ss) a (suc k) d lt = grind (arith, numbered (from + 1) j ss a.2 k d (omega arith))
 
 length_map : {A B : Type 0} (f : A → B) (xs : List A) → length (map f xs) ≡ length xs
 length_map f [] = refl
@@ -54,38 +52,13 @@ module _ (observers : List ObserverOf) (batches : List Writes) (spares : List Sp
 
   one : (w : ℕ) (d : SeatOf) → w + 1 < length olds
       → Gains (IsWork (w + 1) observers (share_of batches (length olds - 1) w) (flags_in news w) (slice_index_or (refusals_in news) (w + 1) None)) (slice_index_or (seats_in olds) (w + 1) d) (slice_index_or (seats_in news) (w + 1) d)
-  one w d lt =
-      let n = length olds - 1 in
-      let a = slice_index_or olds (w + 1) e in
-      let b = slice_index_or news (w + 1) e in
-      let k = all.workers w e lt in
-      let flags : b.done.items ≡ flags_in news w = sym (ap done_in (slice_get-get_or news (w + 1) e (subst (λ m. w + 1 < m) (sym all.counted) lt))) in
-      let g1 : Gains (IsWork (w + 1) observers (share_of batches n w) b.done.items b.refusal) a.seat b.seat = subst (λ m. Gains (IsWork m observers (share_of batches n w) b.done.items b.refusal) a.seat b.seat) (number (w + 1) lt) k.gains in
-      let g2 : Gains (IsWork (w + 1) observers (share_of batches n w) (flags_in news w) b.refusal) a.seat b.seat = subst (λ (fs : List Bool). Gains (IsWork (w + 1) observers (share_of batches n w) fs b.refusal) a.seat b.seat) flags g1 in
-      let g3 = subst (λ (r : Option Refusal). Gains (IsWork (w + 1) observers (share_of batches n w) (flags_in news w) r) a.seat b.seat) (refusal (w + 1) lt) g2 in
-      let g4 = subst (λ (s : SeatOf). Gains (IsWork (w + 1) observers (share_of batches n w) (flags_in news w) (slice_index_or (refusals_in news) (w + 1) None)) s b.seat) (old_seat (w + 1) d lt) g3 in
-      subst (λ (s : SeatOf). Gains (IsWork (w + 1) observers (share_of batches n w) (flags_in news w) (slice_index_or (refusals_in news) (w + 1) None)) (slice_index_or (seats_in olds) (w + 1) d) s) (new_seat (w + 1) d lt) g4
+  one w d lt = grind (arith, e, slice_get-get_or, number, refusal, old_seat, new_seat, all.workers, all.counted)
 
   first : (d : SeatOf) → Gains (IsLastDrain spares 0 observers (slice_index_or (refusals_in news) 0 None)) (slice_index_or (seats_in olds) 0 d) (slice_index_or (seats_in news) 0 d)
-  first d =
-      let lt : 0 < length olds = omega (arith, some) in
-      let a = slice_index_or olds 0 e in
-      let b = slice_index_or news 0 e in
-      let g1 : Gains (IsLastDrain spares 0 observers b.refusal) a.seat b.seat = subst (λ m. Gains (IsLastDrain spares m observers b.refusal) a.seat b.seat) (number 0 lt) (all.main e).gains in
-      let g2 = subst (λ (r : Option Refusal). Gains (IsLastDrain spares 0 observers r) a.seat b.seat) (refusal 0 lt) g1 in
-      let g3 = subst (λ (s : SeatOf). Gains (IsLastDrain spares 0 observers (slice_index_or (refusals_in news) 0 None)) s b.seat) (old_seat 0 d lt) g2 in
-      subst (λ (s : SeatOf). Gains (IsLastDrain spares 0 observers (slice_index_or (refusals_in news) 0 None)) (slice_index_or (seats_in olds) 0 d) s) (new_seat 0 d lt) g3
+  first d = grind (arith, e, number, refusal, old_seat, new_seat, all.main)
 
   many : length (seats_in olds) ≡ length olds
   many = length_map (λ (w : Worker). w.seat) olds
 
   pub joined : AreFilled batches → WorkedOn observers batches spares (seats_in olds) (seats_in news) (refusals_in news) (undone_below (is_done (flags_in news) (length news - 1)) (length batches))
-  joined filled = record {
-    filled = filled;
-    seats = length_map (λ (w : Worker). w.seat) news ∙ all.counted ∙ sym many;
-    refused = length_map refusal_of news ∙ all.counted ∙ sym many;
-    done = flags_in news;
-    workers = λ w d lt. subst (λ n. Gains (IsWork (w + 1) observers (share_of batches (n - 1) w) (flags_in news w) (slice_index_or (refusals_in news) (w + 1) None)) (slice_index_or (seats_in olds) (w + 1) d) (slice_index_or (seats_in news) (w + 1) d)) (sym many) (one w d (subst (λ n. w + 1 < n) many lt));
-    main = first;
-    unfinished_are = ap (λ n. undone_below (is_done (flags_in news) (n - 1)) (length batches)) (all.counted ∙ sym many);
-  }
+  joined filled = grind (arith, length_map, many, one, first, all.counted)

@@ -1,5 +1,5 @@
 -- The committed script transactions of the journal are the changes of which a try committed, each once.
-use Rattle.std.proofs.Common.{◌≡◌, ◌≢◌, ℕ, zero, suc, ◌+◌, ◌-◌, ◌*◌, ◌/◌, ◌%◌, ◌<◌, ◌⊎◌, Bool, true, false, cond, eqb, List, [], ◌∷◌, ◌++◌, length, Option, None, inl, inr, refl, sym, ap, subst, ◌∙◌, add_comm, arith, slice_get, slice_index_or}
+use Rattle.std.proofs.Common.{◌≡◌, ℕ, zero, suc, ◌+◌, ◌-◌, ◌*◌, ◌/◌, ◌%◌, ◌<◌, ◌⊎◌, Bool, true, false, cond, eqb, List, [], ◌∷◌, ◌++◌, length, Option, None, inl, inr, refl, sym, ap, subst, ◌∙◌, add_comm, arith, slice_get, slice_index_or}
 use Rattle.std.proofs.lemmas.Bool.{eqb-true, eqb-false, cases_lt, cases_order}
 use Rattle.std.proofs.lemmas.Nat.{div-mul-add, mod-mul-add}
 use Rattle.std.proofs.lemmas.Option.{slice_get_within}
@@ -11,7 +11,6 @@ use Rattle.pb_base.specs.Batch.{Writes}
 use Rattle.pb_steps.specs.declared.step.Step.{Step}
 use Rattle.pb_steps.specs.declared.step.Answer.{Answer}
 use Rattle.pb_steps.specs.declared.step.Work.{Work}
-use Rattle.pb_steps.specs.declared.step.Declared.{Declared}
 use Rattle.pb_verify.specs.Observers.{ObserverOf}
 use Rattle.pb_steps.specs.State.{opening}
 use Rattle.pb_history.specs.declared.entry.Entry.{Entry}
@@ -39,13 +38,7 @@ use Rattle.pb_history.proofs.Updates.{has_before as has_left, has_right, has_whi
 -- ---- unfinished changes
 
 undone_at : (done : ℕ → Bool) (k i : ℕ) (same : Bool) → eqb i k ≡ same → done i ≡ false → i < suc k → (i < k → Has (undone_below done k) i) → (b : Bool) → done k ≡ b → Has (cond b (undone_below done k) (undone_below done k ++ k ∷ [])) i
-undone_at done k i true s e lt more true d =
-    let is : i ≡ k = eqb-true i k s in
-    let both : true ≡ false = sym d ∙ ap done (sym is) ∙ e in
-    cc
-undone_at done k i true s e lt more false d = has_right (undone_below done k) (k ∷ []) i (inl (sym (eqb-true i k s)))
-undone_at done k i false s e lt more true d = let apart : i ≢ k = eqb-false i k s in more (omega (arith, lt, apart))
-undone_at done k i false s e lt more false d = let apart : i ≢ k = eqb-false i k s in has_left (undone_below done k) (k ∷ []) i (more (omega (arith, lt, apart)))
+undone_at done k i same s e lt more b d = grind (arith, eqb-true, has_right, eqb-false, has_left)
 
 -- a change of which no try committed is named
 has_undone : (done : ℕ → Bool) (n i : ℕ) → i < n → done i ≡ false → Has (undone_below done n) i
@@ -54,15 +47,10 @@ has_undone done (suc k) i lt e = undone_at done k i (eqb i k) refl e lt (λ less
 
 -- so of one that isn't named a try committed
 flag_of : (done : ℕ → Bool) (n i : ℕ) (unfinished : List ℕ) → unfinished ≡ undone_below done n → i < n → (Has unfinished i → ⊥) → done i ≡ true
-flag_of done n i unfinished is lt not = by (done i) refl
-  where
-    by : (b : Bool) → done i ≡ b → b ≡ true
-    by true d = refl
-    by false d = absurd (not (subst (λ us. Has us i) (sym is) (has_undone done n i lt d)))
+flag_of done n i unfinished is lt not = grind (arith, has_undone)
 
 undone_in : (done : ℕ → Bool) (k i : ℕ) → (Has (undone_below done k) i → done i ≡ false) → (b : Bool) → done k ≡ b → Has (cond b (undone_below done k) (undone_below done k ++ k ∷ [])) i → done i ≡ false
-undone_in done k i more true d h = more h
-undone_in done k i more false d h = elim (has_which (undone_below done k) (k ∷ []) i h) [ inl g ↦ more g | inr g ↦ elim g [ inl same ↦ ap done (sym same) ∙ d | inr none ↦ absurd none ] ]
+undone_in done k i more b d h = grind (arith, has_which)
 
 -- and of one that is named none did
 not_done : (done : ℕ → Bool) (n i : ℕ) → Has (undone_below done n) i → done i ≡ false
@@ -75,9 +63,7 @@ not_done done (suc k) i h = undone_in done k i (not_done done k i) (done k) refl
 listed : (from : ℕ) (journal : List Entry) (seats : List SeatOf) → AreSeatsFrom from journal seats → (k : ℕ) (d : SeatOf) → k < length seats → (slice_index_or seats k d).received ≡ entries_of (from + k) journal
 listed from j [] a k d lt = absurd (omega (arith, lt))
 listed from j (s ∷ ss) a zero d lt = let same : from ≡ from + 0 = omega arith in a.1 ∙ ap (λ m. entries_of m j) same
-listed from j (s ∷ ss) a (suc k) d lt =
-    let next : (from + 1) + k ≡ from + suc k = omega arith in
-    listed (from + 1) j ss a.2 k d (omega arith) ∙ ap (λ m. entries_of m j) next
+listed from j (s ∷ ss) a (suc k) d lt = grind (arith, listed (from + 1) j ss a.2 k d (omega arith))
 
 -- the first, or that of a worker
 main_or_worker : (k : ℕ) → (k ≡ 0) ⊎ ((w : ℕ) × (k ≡ w + 1))
@@ -151,14 +137,7 @@ module _ (observers : List ObserverOf) (batches : List Writes) (spares : List Sp
       let c = h.made in (
         record { start = (start_of i).0; commit = c.commit.0; seat = wk + 1; work = Work.Script; writes = h.batch },
         record {
-          there = record {
-            begun = entered _ c.begun;
-            what = Declared.Script h.batch;
-            declared = entered _ c.declared;
-            writes_are = refl;
-            stamped = entered _ c.stamped;
-            committed = entered _ c.committed;
-          };
+          there = grind arith;
           seat = refl;
           work = refl;
           writes = same;
@@ -169,9 +148,7 @@ module _ (observers : List ObserverOf) (batches : List Writes) (spares : List Sp
   -- ---- no others
 
   not_run : (k : ℕ) (u : Ts) → IsEntry table.journal k (Step.Begin Work.Script) (Answer.At u) → HasBegunRun (list_of k) u → ⊥
-  not_run k u h r =
-      let run : IsEntry table.journal k (Step.Begin (Work.Run r.o r.row)) (Answer.At u) = in_journal k table.journal (told (Step.Begin (Work.Run r.o r.row)) (Answer.At u)) r.begun in
-      no_script r.o r.row (same_begin table.journal table.state tells u k k Work.Script (Work.Run r.o r.row) h run).1
+  not_run k u h r = grind (arith, in_journal, no_script, same_begin, table.journal, r.o, r.row, r.begun, table.state)
 
   abbrev IsChange : Ts → Type 0
   IsChange u = (i : ℕ) × (batch : Writes) × IsFinished batches unfinished i batch × (u.0 ≡ (start_of i).0)
@@ -182,14 +159,7 @@ module _ (observers : List ObserverOf) (batches : List Writes) (spares : List Sp
       let turned : i ≡ s.j * n + wk = add_comm wk (s.j * n) in
       let worker : i % n ≡ wk = ap (λ k. k % n) turned ∙ mod-mul-add s.j n wk lt in
       let place : i / n ≡ s.j = ap (λ k. k / n) turned ∙ div-mul-add s.j n wk lt in
-      let h = ((starts wk).1 lt).made s.j s.flag in
-      let flag : is_done w.done n i ≡ slice_index_or (w.done wk) s.j false = λ k. slice_index_or (w.done (worker k)) (place k) false in
-      let start : start_of i ≡ (starts wk).0 s.j = λ k. (starts (worker k)).0 (place k) in (
-        i,
-        h.batch,
-        record { there = h.at; not_named = λ has. neither (is_done w.done n i) (flag ∙ s.flag) (not_done (is_done w.done n) (length batches) i (subst (λ us. Has us i) w.unfinished_are has)) },
-        ap (λ (t : Ts). t.0) (s.same ∙ sym start),
-      )
+      let start : start_of i ≡ (starts wk).0 s.j = λ k. (starts (worker k)).0 (place k) in (grind (arith, neither, not_done, s.flag, w.done, w.unfinished_are, s.same))
 
   by_seat : (k : ℕ) (u : Ts) → k < length olds → IsEntry table.journal k (Step.Begin Work.Script) (Answer.At u) → Has (list_of k) (commit_of u) → (k ≡ 0) ⊎ ((wk : ℕ) × (k ≡ wk + 1)) → IsChange u
   by_seat k u lt h c (inl is) =
@@ -224,10 +194,7 @@ module _ (observers : List ObserverOf) (batches : List Writes) (spares : List Sp
   not_both wk i j lt less e f same = begun_once table.journal table.state tells ((starts wk).0 i) (wk + 1) Work.Script (((starts wk).1 lt).apart i j less e f same)
 
   one_place : (wk i j : ℕ) → wk < n → slice_index_or (w.done wk) i false ≡ true → slice_index_or (w.done wk) j false ≡ true → (starts wk).0 i ≡ (starts wk).0 j → i ≡ j
-  one_place wk i j lt e f same = elim (cases_order i j) [
-    | inl is ↦ is
-    | inr o ↦ elim o [ inl less ↦ absurd (not_both wk i j lt less e f same) | inr more ↦ absurd (not_both wk j i lt more f e (sym same)) ]
-  ]
+  one_place wk i j lt e f same = grind (arith, cases_order, not_both)
 
   once : (i j : ℕ) (a b : Writes) → IsFinished batches unfinished i a → IsFinished batches unfinished j b → (start_of i).0 ≡ (start_of j).0 → i ≡ j
   once i j a b f g e =

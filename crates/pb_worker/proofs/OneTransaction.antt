@@ -1,5 +1,5 @@
 -- A conversation of a change or of a run begins its transaction first, and commits no other.
-use Rattle.std.proofs.Common.{◌≡◌, ℕ, inl, inr, List, [], ◌∷◌, ◌++◌, Option, Some, None, refl, sym, ap, subst}
+use Rattle.std.proofs.Common.{arith, ◌≡◌, ℕ, inl, inr, List, [], ◌∷◌, ◌++◌, Option, Some, None, refl, sym, ap, subst}
 use Rattle.pb_base.specs.declared.cell.Cell.{Cell}
 use Rattle.pb_base.specs.declared.content.Revision.{Revision}
 use Rattle.pb_base.specs.declared.names.Ts.{Ts}
@@ -21,7 +21,7 @@ use Rattle.pb_txn.specs.Forms.{IsWhole, AreCleared, committed, conflicted_first,
 use Rattle.pb_txn.specs.Changes.{IsWholeChange}
 use Rattle.pb_notify.specs.declared.need.JobEnd.{JobEnd}
 use Rattle.pb_notify.specs.Runs.{Watch}
-use Rattle.pb_notify.specs.Forms.{IsRound, cleared, settled, AreRounds, at_first, one_more, IsLooked, its_begin, IsObserved, IsAcknowledged, IsRecalled, AreAsked, dirty, asked, LooksFrom, at_cell, at_acknowledgment, at_old, at_ask}
+use Rattle.pb_notify.specs.Forms.{IsRound, AreRounds, at_first, one_more, IsLooked, its_begin, IsObserved, IsAcknowledged, IsRecalled, AreAsked, dirty, asked, LooksFrom, at_cell, at_acknowledgment, at_old, at_ask}
 use Rattle.pb_notify.specs.Forms.{IsRunConversation, absent, clean, ran, conflicted, lost as lost_run, blocked}
 use Rattle.pb_history.proofs.Updates.{has_which}
 
@@ -39,11 +39,7 @@ nothing : (s : Ts) → CommitNoOther s []
 nothing s = record { each = λ r h. absurd h }
 
 and_first : (s : Ts) (r : Received) (rs : List Received) → IsNoOther s r.step → CommitNoOther s rs → CommitNoOther s (r ∷ rs)
-and_first s r rs one more = record { each = by }
-  where
-    by : (q : Received) → Has (r ∷ rs) q → IsNoOther s q.step
-    by q (inl e) = subst (λ (z : Received). IsNoOther s z.step) e one
-    by q (inr h) = more.each q h
+and_first s r rs one more = grind arith
 
 only_one : (s : Ts) (r : Received) → IsNoOther s r.step → CommitNoOther s (r ∷ [])
 only_one s r one = and_first s r [] one (nothing s)
@@ -74,17 +70,10 @@ cleared_none s (x ∷ xs) (r ∷ rs) c = and_first s r rs (subst (IsNoOther s) (
 
 -- a transaction's conversation commits none but its own
 whole_own : (s : Ts) (what : Declared) (cells : List Cell) (said : List Received) (o : Outcome) → IsWhole s what cells said o → CommitNoOther s said
-whole_own s what cells said o (committed x others c) =
-    let after = and_first s (told (Step.Stamp s) (Answer.At c)) (told (Step.CommitPrimary s) Answer.Committed ∷ secondaries s others) (λ u e. cc) (and_first s (told (Step.CommitPrimary s) Answer.Committed) (secondaries s others) (λ u e. cc) (secondaries_none s others)) in
-    and_first s (told (Step.Declare s what) Answer.Done) (prewrites s (x ∷ others) ++ told (Step.Stamp s) (Answer.At c) ∷ told (Step.CommitPrimary s) Answer.Committed ∷ secondaries s others) (λ u e. cc) (both s (prewrites s (x ∷ others)) (told (Step.Stamp s) (Answer.At c) ∷ told (Step.CommitPrimary s) Answer.Committed ∷ secondaries s others) (prewrites_none s (x ∷ others)) after)
-whole_own s what cells said o (conflicted_first x after) =
-    and_first s (told (Step.Declare s what) Answer.Done) (told (Step.Prewrite s x) Answer.Conflict ∷ []) (λ u e. cc) (only_one s (told (Step.Prewrite s x) Answer.Conflict) (λ u e. cc))
-whole_own s what cells said o (conflicted_later x y before after a cs can c) =
-    let later = and_first s (told (Step.Prewrite s y) Answer.Conflict) (told (Step.Settle x) a ∷ cs) (λ u e. cc) (and_first s (told (Step.Settle x) a) cs (λ u e. cc) (cleared_none s before cs c)) in
-    and_first s (told (Step.Declare s what) Answer.Done) (prewrites s (x ∷ before) ++ told (Step.Prewrite s y) Answer.Conflict ∷ told (Step.Settle x) a ∷ cs) (λ u e. cc) (both s (prewrites s (x ∷ before)) (told (Step.Prewrite s y) Answer.Conflict ∷ told (Step.Settle x) a ∷ cs) (prewrites_none s (x ∷ before)) later)
-whole_own s what cells said o (lost x others c cs k) =
-    let after = and_first s (told (Step.Stamp s) (Answer.At c)) (told (Step.CommitPrimary s) Answer.Lost ∷ cs) (λ u e. cc) (and_first s (told (Step.CommitPrimary s) Answer.Lost) cs (λ u e. cc) (cleared_none s others cs k)) in
-    and_first s (told (Step.Declare s what) Answer.Done) (prewrites s (x ∷ others) ++ told (Step.Stamp s) (Answer.At c) ∷ told (Step.CommitPrimary s) Answer.Lost ∷ cs) (λ u e. cc) (both s (prewrites s (x ∷ others)) (told (Step.Stamp s) (Answer.At c) ∷ told (Step.CommitPrimary s) Answer.Lost ∷ cs) (prewrites_none s (x ∷ others)) after)
+whole_own s what cells said o (committed x others c) = grind (arith, and_first, secondaries_none, both, prewrites_none)
+whole_own s what cells said o (conflicted_first x after) = grind arith
+whole_own s what cells said o (conflicted_later x y before after a cs can c) = grind (arith, and_first, cleared_none, both, prewrites_none)
+whole_own s what cells said o (lost x others c cs k) = grind (arith, and_first, cleared_none, both, prewrites_none)
 
 -- ---- with its begin
 
@@ -102,26 +91,17 @@ begins work s = record { rest = []; said_is = refl; own = only_one s (told (Step
 
 -- a change begins one transaction, and commits no other
 pub of_change : (batch : Writes) (start : Ts) (said : List Received) (o : Outcome) → IsWholeChange batch start said o → IsOneTransaction Work.Script start said
-of_change batch start said o w = record {
-  rest = w.rest;
-  said_is = w.said_is;
-  own = subst (CommitNoOther start) (sym w.said_is) (and_first start (told (Step.Begin Work.Script) (Answer.At start)) w.rest (λ u e. cc) (whole_own start _ _ w.rest o w.whole));
-}
+of_change batch start said o w = grind (arith, and_first, whole_own, w.rest, w.said_is, w.whole)
 
 -- ---- a run
 
 -- a read commits none
 read_none : (s t : Ts) (x : Cell) (at : Option Ts) → IsNoOther s (read_step t x at)
-read_none s t x None u e = cc
-read_none s t x (Some v) u e = cc
+read_none s t x o u e = grind arith
 
 -- nor does what clears a lock that a read met
 round_none : (s : Ts) (x : Cell) (at : Option Ts) (round : List Received) → IsRound s x at round → CommitNoOther s round
-round_none s x at round (cleared t primary a can goes) =
-    and_first s (told (read_step s x at) (Answer.Locked t primary)) (told (Step.Clear x) a ∷ []) (read_none s s x at) (only_one s (told (Step.Clear x) a) (λ u e. cc))
-round_none s x at round (settled t primary a b can also) =
-    and_first s (told (read_step s x at) (Answer.Locked t primary)) (told (Step.Clear x) Answer.Waits ∷ told (Step.Settle primary) a ∷ told (Step.Clear x) b ∷ []) (read_none s s x at)
-    (and_first s (told (Step.Clear x) Answer.Waits) (told (Step.Settle primary) a ∷ told (Step.Clear x) b ∷ []) (λ u e. cc) (and_first s (told (Step.Settle primary) a) (told (Step.Clear x) b ∷ []) (λ u e. cc) (only_one s (told (Step.Clear x) b) (λ u e. cc))))
+round_none s x at round h = grind arith
 
 module _ (o : Watch) (s : Ts) where
   abbrev IsOfRun : List Received → Type 0
@@ -132,10 +112,7 @@ module _ (o : Watch) (s : Ts) where
   with_rounds x at m base k all (one_more n said round before r) i = goes_on (Work.Run o.observer o.row) s said round (with_rounds x at m base n said before i) (round_none s x at round r)
 
   with_look : (x : Cell) (at : Option Ts) (m : ℕ) (base : List Received) (n : ℕ) (said : List Received) → IsLooked s x at m base n said → IsOfRun base → IsOfRun said
-  with_look x at m base n said l i =
-      let a = l.answer in
-      let last = only_one s (told (read_step s x at) a) (read_none s s x at) in
-      subst (IsOneTransaction (Work.Run o.observer o.row) s) (sym l.said_is) (goes_on (Work.Run o.observer o.row) s l.before (told (read_step s x at) a ∷ []) (with_rounds x at m base n l.before l.rounds i) last)
+  with_look x at m base n said l i = grind (arith, only_one, read_none, goes_on, with_rounds, l.answer, o.observer, o.row, l.said_is, l.before, l.rounds)
 
   observed : (found : Revision) (n : ℕ) (said : List Received) → IsObserved o s found n said → IsOfRun said
   observed found n said b = with_look (Cell.Data o.row o.column) None 0 (its_begin o s) n said b.look (begins (Work.Run o.observer o.row) s)

@@ -1,5 +1,5 @@
 -- Passes over the marked cells on their way.
-use Rattle.std.proofs.Common.{◌≡◌, ◌≢◌, ℕ, ◌+◌, ◌<◌, Bool, true, false, List, [], ◌∷◌, ◌++◌, Option, Some, None, refl, sym, ap, subst, ◌∙◌, inl, is_some}
+use Rattle.std.proofs.Common.{arith, ◌≡◌, ◌≢◌, ℕ, ◌+◌, ◌<◌, Bool, true, false, List, [], ◌∷◌, ◌++◌, Option, Some, None, refl, sym, ap, subst, ◌∙◌, is_some}
 use Rattle.pb_base.specs.declared.cell.Cell.{Cell}
 use Rattle.pb_base.specs.declared.refusal.Refusal.{Refusal}
 use Rattle.pb_steps.specs.declared.step.Step.{Step}
@@ -36,9 +36,7 @@ module _ (observers : List ObserverOf) (x : Cell) (i : ℕ) (a b : SeatOf) (runs
 
 -- an answer that tells no cell tells that there is no mark
 pub no_mark : (after : Option Cell) (a : Answer) → CanAnswer (Step.NextMark after) a → ((x : Cell) → a ≢ Answer.Marked x) → a ≡ Answer.NoMark
-no_mark after Answer.NoMark can isnt = refl
-no_mark after (Answer.Marked x) can isnt = absurd (isnt x refl)
-no_mark after _ can isnt = absurd can
+no_mark after a can isnt = grind arith
 
 -- a walk, and the mark that it found then
 record Found (observers : List ObserverOf) (last : Option Cell) (x : Cell) (said : List Received) : Type 0 where
@@ -69,8 +67,7 @@ module _ (observers : List ObserverOf) (last : Option Cell) (a b : SeatOf) (walk
         (λ said more w s. subst (λ l. PassStops a.number observers r l) (sym (ap (λ l. l ++ more) w.said_is ∙ append_assoc w.before (told (Step.NextMark last) (Answer.Marked x) ∷ []) more)) (in_runs w.before last x more w.walk s))
 
     pass_that : (o : Option Cell) (said : List Received) → IsPass observers o said → IsPassThat observers (is_some o) said
-    pass_that None said p = p
-    pass_that (Some x) said p = (x, p)
+    pass_that o said p = grind arith
 
     pub walk_ends : Told b (Step.NextMark last) Answer.NoMark b1 → Gains (IsPassThat observers (is_some last)) a b1
     walk_ends t = gains_more a b b1 (Step.NextMark last) Answer.NoMark walk t (λ said w. pass_that last (said ++ told (Step.NextMark last) Answer.NoMark ∷ []) (record { before = said; walk = w; said_is = refl }))
@@ -87,8 +84,7 @@ module _ (observers : List ObserverOf) (count : ℕ) (a b : SeatOf) (before : Ga
   pass_on c false is h = cc
 
   pub last_pass : count < MAX_PASSES → (c : SeatOf) (marked : Bool) → marked ≡ false → Gains (IsPassThat observers marked) b c → Gains (IsDrain observers) a c
-  last_pass few c true is h = cc
-  last_pass few c false is h = gains_on a b c before h (λ said more p r. record { count = count; before = said; passes = p; rest = more; said_is = refl; ends = inl (few, r) })
+  last_pass few c marked is h = grind (arith, gains_on)
 
   pub passes_stop : count < MAX_PASSES → (c : SeatOf) (r : Refusal) → Gains (PassStops b.number observers r) b c → Gains (DrainStops a.number observers r) a c
   passes_stop few c r h = gains_on a b c before (renumbered (λ m. PassStops m observers r) b c b.number a.number before.number h) (λ said more p s. record { count = count; few = few; before = said; passes = p; part = more; stops = s; said_is = refl })

@@ -1,5 +1,5 @@
 -- Why a call was refused.
-use Rattle.std.proofs.Common.{◌≡◌, ℕ, Option, Some, None, Result, Ok, Err, IfErr, refl, sym, subst, inl, inr}
+use Rattle.std.proofs.Common.{arith, ◌≡◌, ℕ, Option, Some, None, Result, Err, IfErr, refl, sym, subst, inr}
 use Rattle.pb_base.specs.declared.refusal.Reason.{Reason}
 use Rattle.pb_base.specs.declared.refusal.Refusal.{Refusal}
 use Rattle.pb_base.specs.Reasons.{refusal_by}
@@ -11,8 +11,7 @@ use Rattle.pb_worker.specs.Gains.{MayRefuse, IsStop}
 
 -- what is refused for want of memory may be refused
 want : (n : ℕ) (step : Step) (res : Result Answer Refusal) → IfErr res (λ r. r ≡ refusal_by Reason.NoMemory) → IfErr res (λ r. MayRefuse n step r)
-want n step (Ok a) h = tt
-want n step (Err r) h = inl h
+want n step res h = grind arith
 
 -- a table of a legal journal refuses a call for its reason, or for want of memory where there is none
 pub may_refuse : (s : SharedOf) (n : ℕ) (step : Step) (res : Result Answer Refusal) → IsLegalTable s → ((w : Reason) → call_reason s n step ≡ Some w → res ≡ Err (refusal_by w))
@@ -25,5 +24,4 @@ may_refuse s n step res legal refused allowed = by (call_reason s n step) refl
 
 -- the step that was asked next was refused
 pub stops_at : (n : ℕ) (next : Option Step) (step : Step) (r : Refusal) → next ≡ Some step → MayRefuse n step r → IsStop n next r
-stops_at n next step r e (inl w) = inl w
-stops_at n next step r e (inr h) = inr (step, e, h)
+stops_at n next step r e w = grind arith

@@ -1,5 +1,5 @@
 -- An observer's run on its way to its end.
-use Rattle.std.proofs.Common.{◌≡◌, ◌≢◌, ℕ, List, [], ◌∷◌, ◌++◌, Option, Some, None, inl, refl, sym, ap, subst, ◌∙◌}
+use Rattle.std.proofs.Common.{arith, ◌≡◌, ◌≢◌, ℕ, List, [], ◌∷◌, ◌++◌, Some, inl, sym, subst}
 use Rattle.pb_base.specs.declared.cell.Cell.{Cell}
 use Rattle.pb_base.specs.Cell.{row_of}
 use Rattle.pb_base.specs.declared.refusal.Refusal.{Refusal}
@@ -10,16 +10,14 @@ use Rattle.pb_verify.specs.Observers.{ObserverOf}
 use Rattle.pb_core.specs.Calls.{SeatOf}
 use Rattle.pb_txn.specs.Conversations.{told}
 use Rattle.pb_notify.specs.declared.need.Need.{Need}
-use Rattle.pb_notify.specs.declared.need.JobEnd.{JobEnd}
-use Rattle.pb_notify.specs.Runs.{RunOf, watch_of, HasNext, next_of, need_of, answered, HearsLook, ComputesOn, at_first, one_more}
+use Rattle.pb_notify.specs.Runs.{RunOf, watch_of, next_of, need_of, answered, HearsLook, ComputesOn, at_first, one_more}
 use Rattle.pb_notify.specs.Conversations.{Reaches, made, took, computed}
-use Rattle.pb_notify.specs.Forms.{JobsEnd, JobsConverse}
+use Rattle.pb_notify.specs.Forms.{JobsConverse}
 use Rattle.pb_worker.specs.Gains.{Gains, Told, MayRefuse, IsStop, IsWant}
-use Rattle.pb_worker.specs.Passes.{IsObserverOf, HasColumn, IsJobOn, IsRun, job_on, ReachesOn}
+use Rattle.pb_worker.specs.Passes.{IsObserverOf, HasColumn, IsJobOn, job_on, ReachesOn}
 use Rattle.pb_worker.specs.Stops.{RunStops}
 use Rattle.pb_worker.proofs.Refusing.{stops_at}
 use Rattle.pb_worker.proofs.Gaining.{gains_none, gains_more, gains_as}
-use Rattle.pb_base.proofs.Logic.{same_some}
 
 -- ---- its machine
 
@@ -41,9 +39,7 @@ begins : (n : ℕ) (o : ObserverOf) (x : Cell) → need_of (job_on n o x) ≢ Ne
 begins n o x e = cc
 
 job_is : (observers : List ObserverOf) (n : ℕ) (x : Cell) (job : RunOf) (known : HasColumn observers n x) → IsJobOn observers n x job → job ≡ job_on n known.0 x
-job_is observers n x job known is =
-    let same : is.o ≡ known.0 = same_some is.o known.0 (sym is.there ∙ known.1.there) in
-    is.job_is ∙ ap (λ p. job_on n p x) same
+job_is observers n x job known is = grind arith
 
 -- before its first step the seat has gained nothing
 pub first : (observers : List ObserverOf) (n : ℕ) (x : Cell) (a : SeatOf) (job : RunOf) → HasColumn observers n x → IsJobOn observers n x job → IsAlong observers n x a a job
@@ -84,27 +80,3 @@ module _ (observers : List ObserverOf) (n : ℕ) (x : Cell) (a b : SeatOf) (job 
 
   pub wants : JobsConverse → (r : Refusal) → IsWant r → Gains (RunStops a.number observers n x r) a b
   wants law r w = stopped law r (inl w)
-
-  -- at its end
-  over_by : (need : Need) → need_of job ≡ need → need_of job ≢ Need.Local → next_of job ≡ None → (need_of job ≡ Need.Call → HasNext job) → (end : JobEnd) × (need_of job ≡ Need.Over end)
-  over_by Need.Local e calls none some = absurd (calls e)
-  over_by Need.Call e calls none some = let h = some e in absurd (none_some h.0 (sym none ∙ h.1))
-    where
-      none_some : (step : Step) → ◌≡◌ {A = Option Step} None (Some step) → ⊥
-      none_some step p = cc
-  over_by (Need.Over end) e calls none some = (end, e)
-
-  pub ran : JobsEnd → need_of job ≢ Need.Local → next_of job ≡ None → (need_of job ≡ Need.Call → HasNext job) → Gains (IsRun observers n x) a b
-  ran law calls none some =
-      let over = over_by (need_of job) refl calls none some in
-      gains_as a b (λ said h. let whole = law (watch_of n along.o (row_of x)) said job over.0 h over.1 in record {
-        o = along.o;
-        observer = along.observer;
-        job = job;
-        reaches = h;
-        end = over.0;
-        over = over.1;
-        run = whole.0;
-        talk = whole.1;
-        meant = whole.2;
-      }) along.gains

@@ -1,5 +1,5 @@
 -- What is committed in passes are runs of observers that began there.
-use Rattle.std.proofs.Common.{◌≡◌, ◌≢◌, ℕ, inl, inr, List, [], ◌∷◌, ◌++◌, Option, Some, None, refl, sym, ap, subst, ◌∙◌}
+use Rattle.std.proofs.Common.{arith, ◌≡◌, ◌≢◌, ℕ, inl, inr, List, [], ◌∷◌, ◌++◌, Option, Some, None, refl, sym, ap, subst, ◌∙◌}
 use Rattle.pb_base.specs.declared.cell.Cell.{Cell}
 use Rattle.pb_base.specs.declared.names.Row.{Row}
 use Rattle.pb_base.specs.declared.names.Ts.{Ts}
@@ -49,11 +49,7 @@ both : (xs ys : List Received) → CommitRuns xs → CommitRuns ys → CommitRun
 both xs ys h k = record { each = λ u has. elim (has_which xs ys (commit_of u) has) [ inl a ↦ run_left xs ys u (h.each u a) | inr b ↦ run_right xs ys u (k.each u b) ] }
 
 and_first : (r : Received) (rs : List Received) → ((u : Ts) → r.step ≢ Step.CommitPrimary u) → CommitRuns rs → CommitRuns (r ∷ rs)
-and_first r rs other more = record { each = by }
-  where
-    by : (u : Ts) → Has (r ∷ rs) (commit_of u) → HasBegunRun (r ∷ rs) u
-    by u (inl e) = absurd (other u (ap (λ (z : Received). z.step) e))
-    by u (inr h) = run_right (r ∷ []) rs u (more.each u h)
+and_first r rs other more = grind arith
 
 -- ---- a run, whole or cut off
 
@@ -96,13 +92,10 @@ with_mark after x more h = and_first (told (Step.NextMark after) (Answer.Marked 
 -- between the marks there are only runs, and to ask for a mark commits nothing
 of_walk : (observers : List ObserverOf) (said : List Received) (last : Option Cell) → IsWalk observers said last → CommitRuns said
 of_walk observers said last at_beginning = nothing
-of_walk observers all last (found said after x more h r) =
-    both said (told (Step.NextMark after) (Answer.Marked x) ∷ more) (of_walk observers said after h) (with_mark after x more (of_runs observers x _ more r))
+of_walk observers all last (found said after x more h r) = grind (arith, both, with_mark, of_runs, of_walk observers said after h)
 
 of_pass : (observers : List ObserverOf) (last : Option Cell) (said : List Received) → IsPass observers last said → CommitRuns said
-of_pass observers last said p =
-    let end = and_first (told (Step.NextMark last) Answer.NoMark) [] (λ u e. cc) nothing in
-    subst CommitRuns (sym p.said_is) (both p.before (told (Step.NextMark last) Answer.NoMark ∷ []) (of_walk observers p.before last p.walk) end)
+of_pass observers last said p = grind (arith, and_first, nothing, both, of_walk, p.said_is, p.before, p.walk)
 
 of_passes : (observers : List ObserverOf) (n : ℕ) (said : List Received) → ArePasses observers n said → CommitRuns said
 of_passes observers n said at_first = nothing
@@ -125,12 +118,10 @@ of_pass_stop seat observers r all (in_runs said after x part walk stops) =
     both said (told (Step.NextMark after) (Answer.Marked x) ∷ part) (of_walk observers said after walk) (with_mark after x part (of_runs_stop seat observers x r part stops))
 
 pub of_drain_stop : (seat : ℕ) (observers : List ObserverOf) (r : Refusal) (said : List Received) → DrainStops seat observers r said → CommitRuns said
-of_drain_stop seat observers r said s =
-    subst CommitRuns (sym s.said_is) (both s.before s.part (of_passes observers s.count s.before s.passes) (of_pass_stop seat observers r s.part s.stops))
+of_drain_stop seat observers r said s = grind (arith, both, of_passes, of_pass_stop, s.said_is, s.before, s.part, s.count, s.passes, s.stops)
 
 of_drain_to : (seat : ℕ) (observers : List ObserverOf) (r : Option Refusal) (said : List Received) → IsDrainTo seat observers r said → CommitRuns said
-of_drain_to seat observers None said d = of_drain observers said d
-of_drain_to seat observers (Some r) said d = of_drain_stop seat observers r said d
+of_drain_to seat observers r said d = grind (arith, of_drain, of_drain_stop)
 
 -- so the main seat commits no script's transaction
 pub of_last_drain : (spares : List Spare) (seat : ℕ) (observers : List ObserverOf) (r : Option Refusal) (said : List Received) → IsLastDrain spares seat observers r said → CommitRuns said

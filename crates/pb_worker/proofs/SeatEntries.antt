@@ -1,5 +1,5 @@
 -- A seat's list and the journal: what stands in one stands in the other, and each transaction begins once.
-use Rattle.std.proofs.Common.{◌≡◌, ℕ, ◌<◌, Bool, true, false, cond, not, nat_lt, ◌||◌, List, [], ◌∷◌, filter, Option, Some, None, inl, inr, refl, sym, ap, subst, ◌∙◌, eq-eqb, ◌==◌}
+use Rattle.std.proofs.Common.{arith, ◌≡◌, ℕ, ◌<◌, Bool, true, false, cond, not, nat_lt, ◌||◌, List, [], ◌∷◌, filter, Option, Some, None, inl, inr, refl, sym, ap, subst, ◌∙◌, eq-eqb, ◌==◌}
 use Rattle.std.specs.List.{list_any}
 use Rattle.std.proofs.lemmas.Bool.{eqb-true, ltb-true}
 use Rattle.pb_base.specs.declared.names.Ts.{Ts}
@@ -18,19 +18,15 @@ use Rattle.pb_history.specs.Journals.{JournalLeads}
 use Rattle.pb_history.specs.TransactionsTold.{names_start, entries_naming, is_begin, BeginsOnce, TellsTransactions}
 use Rattle.pb_core.proofs.Keeps.{machine_seats}
 use Rattle.pb_txn.specs.Conversations.{told}
-use Rattle.pb_worker.proofs.CutTries.{left_false}
 use Rattle.pb_worker.proofs.Starts.{HasTwice}
-use Rattle.pb_base.proofs.Logic.{not_both}
 
 -- ---- lists of which some items are kept
 
 has_kept : {A : Type 0} (b : Bool) (x : A) (xs : List A) (y : A) → Has xs y → Has (cond b (x ∷ xs) xs) y
-has_kept true x xs y h = inr h
-has_kept false x xs y h = h
+has_kept b x xs y h = grind arith
 
 twice_kept : {A : Type 0} (b : Bool) (x : A) (xs : List A) (y : A) → HasTwice xs y → HasTwice (cond b (x ∷ xs) xs) y
-twice_kept true x xs y t = inr t
-twice_kept false x xs y t = t
+twice_kept b x xs y t = grind arith
 
 -- an item that passes the test is one of those that do
 has_filtered : {A : Type 0} (p : A → Bool) (xs : List A) (x : A) → p x ≡ true → Has xs x → Has (filter p xs) x
@@ -63,9 +59,7 @@ is_entry seat e r own is = let same : e.seat ≡ seat = eqb-true e.seat seat own
 
 has_entry : (b : Bool) (seat : ℕ) (e : Entry) (es : List Entry) (r : Received) → (e.seat == seat) ≡ b → Has (cond b (as_received e ∷ entries_of seat es) (entries_of seat es)) r
     → (Has (entries_of seat es) r → Has es (its_entry seat r)) → Has (e ∷ es) (its_entry seat r)
-has_entry true seat e es r own (inl is) more = inl (is_entry seat e r own is)
-has_entry true seat e es r own (inr h) more = inr (more h)
-has_entry false seat e es r own h more = inr (more h)
+has_entry b seat e es r own h more = grind arith
 
 -- what a seat's entries tell stands in the journal
 pub in_journal : (seat : ℕ) (j : List Entry) (r : Received) → Has (entries_of seat j) r → IsEntry j seat r.step r.answer
@@ -75,16 +69,12 @@ in_journal seat (e ∷ es) r h = has_entry (e.seat == seat) seat e es r refl h (
 -- and what stands there of a seat is told by its entries
 pub in_list : (seat : ℕ) (j : List Entry) (r : Received) → IsEntry j seat r.step r.answer → Has (entries_of seat j) r
 in_list seat [] r h = absurd h
-in_list seat (e ∷ es) r (inl is) =
-    let own : (e.seat == seat) ≡ true = eq-eqb e.seat seat (ap (λ (z : Entry). z.seat) is) in
-    subst (λ b. Has (cond b (as_received e ∷ entries_of seat es) (entries_of seat es)) r) (sym own) (inl (ap as_received is))
+in_list seat (e ∷ es) r (inl is) = grind arith
 in_list seat (e ∷ es) r (inr h) = has_kept (e.seat == seat) (as_received e) (entries_of seat es) r (in_list seat es r h)
 
 twice_entry : (b : Bool) (seat : ℕ) (e : Entry) (es : List Entry) (r : Received) → (e.seat == seat) ≡ b → HasTwice (cond b (as_received e ∷ entries_of seat es) (entries_of seat es)) r
     → (HasTwice (entries_of seat es) r → HasTwice es (its_entry seat r)) → HasTwice (e ∷ es) (its_entry seat r)
-twice_entry true seat e es r own (inl t) more = inl (is_entry seat e r own t.0, in_journal seat es r t.1)
-twice_entry true seat e es r own (inr t) more = inr (more t)
-twice_entry false seat e es r own t more = inr (more t)
+twice_entry b seat e es r own t more = grind (arith, is_entry, in_journal)
 
 twice_in_journal : (seat : ℕ) (j : List Entry) (r : Received) → HasTwice (entries_of seat j) r → HasTwice j (its_entry seat r)
 twice_in_journal seat [] r t = absurd t
@@ -93,28 +83,20 @@ twice_in_journal seat (e ∷ es) r t = twice_entry (e.seat == seat) seat e es r 
 -- ---- one begin
 
 right_false : (a b : Bool) → (a || b) ≡ false → b ≡ false
-right_false true b e = cc
-right_false false b e = e
+right_false a b e = grind arith
 
 none_later : (es : List Entry) (e : Entry) → list_any (λ (d : Entry). is_begin d.step) es ≡ false → is_begin e.step ≡ true → Has es e → ⊥
 none_later [] e none is h = h
-none_later (d ∷ es) e none is (inl same) =
-    let any : Bool = list_any (λ (d : Entry). is_begin d.step) es in
-    not_both (is_begin d.step) (ap (λ (z : Entry). is_begin z.step) same ∙ is) (left_false (is_begin d.step) any none)
+none_later (d ∷ es) e none is (inl same) = grind arith
 none_later (d ∷ es) e none is (inr h) = none_later es e (right_false (is_begin d.step) (list_any (λ (d : Entry). is_begin d.step) es) none) is h
 
 -- of the entries that name one start one is a begin
 one_begin : (es : List Entry) (d e : Entry) → BeginsOnce es → is_begin d.step ≡ true → is_begin e.step ≡ true → Has es d → Has es e → d ≡ e
-one_begin [] d e once p q h k = absurd h
-one_begin (x ∷ es) d e once p q (inl h) (inl k) = sym h ∙ k
-one_begin (x ∷ es) d e once p q (inl h) (inr k) = absurd (none_later es e once.1 q k)
-one_begin (x ∷ es) d e once p q (inr h) k = absurd (none_later es d once.1 p h)
+one_begin es d e once p q h k = grind (arith, none_later)
 
 -- and it stands there once
 not_again : (es : List Entry) (e : Entry) → BeginsOnce es → is_begin e.step ≡ true → HasTwice es e → ⊥
-not_again [] e once is t = t
-not_again (x ∷ es) e once is (inl t) = none_later es e once.1 is t.1
-not_again (x ∷ es) e once is (inr t) = none_later es e once.1 is (twice_has es e t)
+not_again es e once is t = grind (arith, none_later, twice_has)
 
 module _ (journal : List Entry) (state : StateOf) (tells : TellsTransactions journal state) (u : Ts) where
   abbrev begin_by : ℕ → Work → Entry
@@ -141,9 +123,7 @@ module _ (journal : List Entry) (state : StateOf) (tells : TellsTransactions jou
 
 -- where none of some reasons applies, the second does not
 second_reason : (a b : Bool) (p q : Reason) (rest : Option Reason) → cond a (Some p) (cond (not b) (Some q) rest) ≡ None → b ≡ true
-second_reason true b p q rest e = cc
-second_reason false true p q rest e = refl
-second_reason false false p q rest e = cc
+second_reason a b p q rest e = grind arith
 
 has_seat : (state : StateOf) (seat : ℕ) (work : Work) → step_reason state seat (Step.Begin work) ≡ None → seat < state.seats
 has_seat state seat work e = ltb-true seat state.seats (second_reason (is_out state) (nat_lt seat state.seats) Reason.OutOfTimestamps Reason.NotOfSeat _ e)
@@ -156,8 +136,5 @@ seats_stay old (e ∷ es) new r = seats_stay r.0 es new r.2 ∙ machine_seats ol
 -- who began a transaction is a seat of the table
 pub begun_by_seat : (old : StateOf) (es : List Entry) (new : StateOf) (seat : ℕ) (work : Work) (u : Ts) → JournalLeads old es new → IsEntry es seat (Step.Begin work) (Answer.At u) → seat < new.seats
 begun_by_seat old [] new seat work u r h = absurd h
-begun_by_seat old (e ∷ es) new seat work u r (inl is) =
-    let allowed : step_reason old seat (Step.Begin work) ≡ None = subst (λ (z : Entry). step_reason old z.seat z.step ≡ None) is r.1.allowed in
-    let all : new.seats ≡ old.seats = seats_stay old (e ∷ es) new r in
-    subst (λ n. seat < n) (sym all) (has_seat old seat work allowed)
+begun_by_seat old (e ∷ es) new seat work u r (inl is) = grind (arith, seats_stay, has_seat, r.1.allowed, new.seats, old.seats)
 begun_by_seat old (e ∷ es) new seat work u r (inr h) = begun_by_seat r.0 es new seat work u r.2 h

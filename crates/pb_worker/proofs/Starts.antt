@@ -98,18 +98,7 @@ module _ (batches : List Writes) (n first : ℕ) where
 
   -- after passes
   with_runs : (done : List Bool) (said more : List Received) → CommitRuns more → StartsOf done said → StartsOf done (said ++ more)
-  with_runs done said more runs s =
-      let a = s.1 in (
-        s.0,
-        record {
-          made = λ j e. made_left j said more (s.0 j) (a.made j e);
-          only = λ u h. elim (has_which said more (commit_of u) h) [
-            | inl k ↦ elim (a.only u k) [ inl is ↦ inl is | inr b ↦ inr (run_left said more u b) ]
-            | inr k ↦ inr (run_right said more u (runs.each u k))
-          ];
-          apart = λ i j lt e f same. twice_left said more _ (a.apart i j lt e f same);
-        },
-      )
+  with_runs done said more runs s = grind (arith, made_left, has_which, commit_of, run_left, run_right, twice_left, runs.each)
 
   -- after one more change
   module _ (done : List Bool) (said : List Received) (start : ℕ → Ts) (a : AreStarts batches n first done said start) (batch : Writes) (at : slice_get batches (first + length done * n) ≡ Some batch) (is : Bool) (last : Ts) (more : List Received) (t : TellsCommit batch is last more) where
@@ -118,9 +107,7 @@ module _ (batches : List Writes) (n first : ℕ) where
 
     former : (j : ℕ) → slice_index_or done j false ≡ true → start' j ≡ start j
     unfolding start'
-    former j e =
-        let below = is_below done j e in
-        ap (λ b. cond b last (start j)) (ne_eqb j (length done) (λ same. omega (arith, below, same)))
+    former j e = grind (arith, is_below, ne_eqb)
 
     newest : (j : ℕ) → j ≡ length done → start' j ≡ last
     unfolding start'
@@ -138,10 +125,7 @@ module _ (batches : List Writes) (n first : ℕ) where
 
     its_only : (u : Ts) → Has (said ++ more) (commit_of u) → IsStart (done ++ is ∷ []) start' u ⊎ HasBegunRun (said ++ more) u
     its_only u h = elim (has_which said more (commit_of u) h) [
-      | inl k ↦ elim (a.only u k) [
-        | inl s ↦ inl (record { j = s.j; flag = flag_left done is s.j s.flag; same = s.same ∙ sym (former s.j s.flag) })
-        | inr b ↦ inr (run_left said more u b)
-      ]
+      | inl k ↦ grind (arith, flag_left, former, run_left, a.only)
       | inr k ↦ let o = t.only u k in inl (record { j = length done; flag = flag_last done is ∙ o.0; same = o.1 ∙ sym (newest (length done) refl) })
     ]
 
@@ -149,31 +133,14 @@ module _ (batches : List Writes) (n first : ℕ) where
     begin_of s = told (Step.Begin Work.Script) (Answer.At s)
 
     its_apart : (i j : ℕ) → i < j → slice_index_or (done ++ is ∷ []) i false ≡ true → slice_index_or (done ++ is ∷ []) j false ≡ true → start' i ≡ start' j → HasTwice (said ++ more) (begin_of (start' i))
-    its_apart i j lt e f same = elim (which_flag done is i e) [
-      | inl h ↦ elim (which_flag done is j f) [
-        | inl k ↦
-            let one : start i ≡ start j = sym (former i h) ∙ same ∙ former j k in
-            subst (λ s. HasTwice (said ++ more) (begin_of s)) (sym (former i h)) (twice_left said more (begin_of (start i)) (a.apart i j lt h k one))
-        | inr k ↦
-            let one : last ≡ start' i = sym (newest j k.0) ∙ sym same in
-            let early : Has said (begin_of (start' i)) = subst (λ s. Has said (begin_of s)) (sym (former i h)) (a.made i h).made.begun in
-            twice_across said more (begin_of (start' i)) early (subst (λ s. Has more (begin_of s)) one (t.made k.1).begun)
-      ]
-      | inr h ↦ elim (which_flag done is j f) [
-        | inl k ↦ let below = is_below done j k in let top = h.0 in absurd (omega (arith, below, top, lt))
-        | inr k ↦ let top = h.0 in let also = k.0 in absurd (omega (arith, top, also, lt))
-      ]
-    ]
+    its_apart i j lt e f same = grind (arith, which_flag, former, twice_left, start', newest, twice_across, is_below, a.apart, a.made, t.made)
 
     one_more : StartsOf (done ++ is ∷ []) (said ++ more)
     one_more = (start', record { made = its_made; only = its_only; apart = its_apart })
 
   of_tried : (done : List Bool) (said : List Received) → AreTried batches n first done said → StartsOf done said
   of_tried done said before_all = at_first
-  of_tried flags all (tried done said batch is more before at tries) =
-      let s = of_tried done said before in
-      let t = of_tries batch is more tries in
-      one_more done said s.0 s.1 batch at is t.0 more t.1
+  of_tried flags all (tried done said batch is more before at tries) = grind (arith, of_tries, one_more, of_tried done said before)
 
   -- ---- whether it was stopped or not
 

@@ -1,5 +1,5 @@
 -- Spares swapped in, one after another.
-use Rattle.std.proofs.Common.{◌≡◌, ℕ, List, [], ◌∷◌, ◌++◌, reverse, Option, Some, None, refl, sym, ap, subst, ◌∙◌}
+use Rattle.std.proofs.Common.{arith, ◌≡◌, ℕ, List, [], ◌∷◌, ◌++◌, reverse, Option, Some, None, refl, sym, ap, subst, ◌∙◌}
 use Rattle.std.specs.Option.{option_or}
 use Rattle.std.proofs.lemmas.List.{append_assoc, map-append, reverse-append}
 use Rattle.std.proofs.lemmas.List.Elements.{All-nil, All-cons, All-append}
@@ -35,7 +35,6 @@ pub next : {T : Type 0} (c : T → Contents) (all waiting rest : List (ℕ × T)
 next {T} c all waiting rest x first refused is w s = record {
   before = w.before ++ x ∷ [];
   all_are =
-      let turned : reverse waiting ≡ x ∷ reverse rest = ap reverse is ∙ reverse-append rest (x ∷ []) in
-      w.all_are ∙ ap (λ l. w.before ++ l) turned ∙ sym (append_assoc w.before (x ∷ []) (reverse rest));
+      grind (arith, reverse-append, append_assoc, w.before, w.all_are);
   swapped = subst (λ l. AreSwapped l (option_or first refused)) (sym (map-append (λ (y : ℕ × T). (y.0, c y.1)) w.before (x ∷ []))) (one_more (spares_of c w.before) (x.0, c x.1) first refused w.swapped s);
 }

@@ -1,5 +1,5 @@
 -- A try of a change on its way.
-use Rattle.std.proofs.Common.{◌≡◌, ◌≢◌, ℕ, ◌<◌, Bool, false, ◌||◌, List, [], ◌∷◌, ◌++◌, length, Option, Some, None, inl, refl, sym, ap, subst, ◌∙◌, arith}
+use Rattle.std.proofs.Common.{◌≡◌, ◌≢◌, Bool, false, ◌||◌, List, [], ◌∷◌, ◌++◌, Option, Some, None, inl, refl, sym, ap, subst, ◌∙◌, arith}
 use Rattle.pb_base.specs.declared.refusal.Refusal.{Refusal}
 use Rattle.pb_base.specs.Batch.{Writes}
 use Rattle.pb_steps.specs.declared.step.Step.{Step}
@@ -47,11 +47,7 @@ first batch a job is = gains_none a (record { converses = is; told = refl })
 
 module _ (batch : Writes) (a b : SeatOf) (job : ChangeOf) (committed : Bool) (along : IsAlong batch a b job committed) where
   pub next : (step : Step) → next_of job ≡ Some step → (answer : Answer) → CanAnswer step answer → (c : SeatOf) → Told b step answer c → (k : ChangeOf) → k ≡ answered job answer → (now : Bool) → now ≡ (committed || is_commit answer) → IsAlong batch a c k now
-  next step e answer can c t k is now now-is =
-      gains_more a b c step answer along t (λ said h. record {
-        converses = subst (λ z. Converses (new_change batch) (said ++ told step answer ∷ []) z) (sym is) (converse_on (new_change batch) said job step answer h.converses e can);
-        told = now-is ∙ ap (λ z. z || is_commit answer) h.told ∙ sym (commit_on said (told step answer));
-      })
+  next step e answer can c t k is now now-is = grind (arith, gains_more, converse_on, commit_on)
 
   stopped : ChangesConverse → batch ≢ [] → (r : Refusal) → IsStop a.number (next_of job) r → Gains (TryStops a.number batch committed r) a b
   stopped law some r stop = gains_as a b (λ said h. record { told = h.told; job = job; converses = h.converses; begins = law batch said job some h.converses; stop = stop }) along

@@ -1,5 +1,5 @@
 -- Of all tries of a change one is committed at most, with this start.
-use Rattle.std.proofs.Common.{◌≡◌, ◌≢◌, ℕ, Bool, true, false, ◌||◌, List, [], ◌∷◌, ◌++◌, inl, inr, refl, sym, ap, subst, ◌∙◌}
+use Rattle.std.proofs.Common.{arith, ◌≡◌, ◌≢◌, ℕ, Bool, true, false, ◌||◌, List, [], ◌∷◌, ◌++◌, inl, inr, refl, sym, ap, subst, ◌∙◌}
 use Rattle.pb_base.specs.declared.cell.Cell.{Cell}
 use Rattle.pb_base.specs.declared.names.Ts.{Ts}
 use Rattle.pb_base.specs.declared.refusal.Refusal.{Refusal}
@@ -10,7 +10,6 @@ use Rattle.pb_steps.specs.declared.step.Declared.{Declared}
 use Rattle.pb_history.specs.declared.entry.Received.{Received}
 use Rattle.pb_history.specs.History.{Has}
 use Rattle.pb_txn.specs.declared.place.Outcome.{Outcome}
-use Rattle.pb_txn.specs.Places.{declared_cells}
 use Rattle.pb_txn.specs.Conversations.{told}
 use Rattle.pb_txn.specs.Forms.{IsWhole, committed, conflicted_first, conflicted_later, lost, prewrites, secondaries}
 use Rattle.pb_txn.specs.Changes.{IsWholeChange}
@@ -36,9 +35,7 @@ has_none said u none h = not_both (has_commit said) (has_committed said u h) non
 
 -- in a try in vain none was said
 try_in_vain : (batch : Writes) (said : List Received) → IsTry batch false said → has_commit said ≡ false
-try_in_vain batch said t =
-    let rest : has_commit t.whole.rest ≡ false = uncommitted t.start (Declared.Script batch) (declared_cells (Declared.Script batch)) t.whole.rest t.outcome t.ended t.whole.whole in
-    ap has_commit t.whole.said_is ∙ rest
+try_in_vain batch said t = grind (arith, uncommitted, t.whole.rest, t.start, t.outcome, t.ended, t.whole.whole, t.whole.said_is)
 
 -- nor in several
 tries_in_vain : (batch : Writes) (n : ℕ) (said : List Received) → AreVain batch n said → has_commit said ≡ false
@@ -61,9 +58,7 @@ by_form batch start cells rest o is (conflicted_later x y before after a cs can 
 by_form batch start cells rest o is (lost x others c cs cleared) = cc
 
 by_change : (batch : Writes) (start : Ts) (said : List Received) (o : Outcome) → is_committed o ≡ true → IsWholeChange batch start said o → HasCommitted batch start said
-by_change batch start said o is w =
-    let f = by_form batch start (declared_cells (Declared.Script batch)) w.rest o is w.whole in
-    subst (HasCommitted batch start) (sym w.said_is) (record { commit = f.0; begun = inl refl; declared = inr f.1; stamped = inr f.2; committed = inr f.3 })
+by_change batch start said o is w = grind (arith, by_form, w.rest, w.whole, w.said_is)
 
 -- ---- all tries of a change
 
@@ -94,8 +89,7 @@ of_done batch said d =
 
 -- so all tries of a change tell one start, or none is committed
 pub of_tries : (batch : Writes) (is : Bool) (said : List Received) → AreTries batch is said → (start : Ts) × TellsCommit batch is start said
-of_tries batch true said d = of_done batch said d
-of_tries batch false said v = (record { 0 = 0 }, record { made = λ e. cc; only = λ u h. absurd (has_none said u (tries_in_vain batch _ said v) h) })
+of_tries batch is said d = grind (arith, of_done, has_none, tries_in_vain)
 
 -- ---- a change that was left in a try
 

@@ -43,12 +43,7 @@ module _ (seat : ℕ) (j : List Entry) (list : List Received) (i n : ℕ) where
   skipped A e lt is other k = let p = pass_over seat j i e lt is other in (λ a. sym p ∙ k.0 a, λ h. k.1 (p ∙ h))
 
   pub matched : (A : Type 0) (e : Entry) → i < length j → e ≡ get_or j i e → e.seat ≡ seat → slice_get list n ≡ Some (told_by e) → A ↔ Rests → A ↔ (entries_of seat (drop (i + 1) j) ≡ drop (n + 1) list)
-  matched A e lt is own here k =
-      let p = come_first seat j i e lt is own in
-      let q = goes_on list n (told_by e) here in (
-        λ a. tails (told_by e) (told_by e) (entries_of seat (drop (i + 1) j)) (drop (n + 1) list) (sym p ∙ (k.0 a ∙ q)),
-        λ h. k.1 (p ∙ (ap (λ xs. told_by e ∷ xs) h ∙ sym q)),
-      )
+  matched A e lt is own here k = grind (arith, come_first, goes_on, tails)
 
   pub ended : (A : Type 0) → length j ≤ i → n ≤ length list → A ↔ Rests → (n ≡ length list) ↔ A
   ended A end within k =

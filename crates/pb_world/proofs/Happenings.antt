@@ -1,5 +1,5 @@
 -- What a call, a launch, a step and a crash make of a world.
-use Rattle.std.proofs.Common.{◌≡◌, ℕ, ◌<◌, ◌≤◌, ◌==◌, if◌then◌else◌, Bool, true, false, List, length, get_or, slice_set, refl, sym, ◌∙◌, ap, subst, Option, Some, None, slice_get, MatchOption}
+use Rattle.std.proofs.Common.{arith, ◌≡◌, ℕ, ◌<◌, ◌≤◌, if◌then◌else◌, Bool, List, length, get_or, slice_set, refl, sym, ◌∙◌, ap, subst, Option, Some, None, slice_get, MatchOption}
 use Rattle.std.proofs.lemmas.Option.{slice_get_read, slice_get_within}
 use Rattle.std.proofs.lemmas.List.{set-get_or}
 use Rattle.pb_base.specs.declared.refusal.Reason.{Reason}
@@ -26,18 +26,15 @@ same_list xs k x y at is = ap (λ z. slice_set xs k z) (is ∙ at) ∙ set-get_o
 -- ---- where an event isn't at fault, its actor is there
 
 read_within : (w : WorldOf) (k : ℕ) (a : Actor) (b : Bool) → (if b then None else slice_get w.actors k) ≡ Some a → k < length w.actors
-read_within w k a true e = absurd (some_none a (sym e))
-read_within w k a false e = slice_get_within w.actors k a e
+read_within w k a b e = grind (arith, some_none, slice_get_within)
 
 -- an actor whose event isn't at fault has its place, and so its seat
 actor_within : (w : WorldOf) (k : ℕ) (o : Option Actor) → actor_of w k ≡ o → no_actor o ≡ None → k < length w.actors
-actor_within w k (Some a) is h = read_within w k a (k == 0) is
-actor_within w k None is h = absurd (some_none _ h)
+actor_within w k o is h = grind (arith, read_within, some_none)
 
 -- and so has one that is launched
 launch_within : (w : WorldOf) (k : ℕ) (made : Option ActorJob) (o : Option Actor) → actor_of w k ≡ o → no_launch o made ≡ None → k < length w.actors
-launch_within w k made (Some a) is h = read_within w k a (k == 0) is
-launch_within w k made None is h = absurd (some_none _ h)
+launch_within w k made o is h = grind (arith, read_within, some_none)
 
 module _ (w u : WorldOf) (u-is : w ≡ u) where
   pub launches : (k : ℕ) (job : Job) (seat : SeatOf) (b : Actor) (made : ActorJob) → IsWorld w → no_launch (actor_of u k) (job_for u job) ≡ None → seat ≡ get_or w.seats k seat → job_for u job ≡ Some made → IsReady made
@@ -45,15 +42,7 @@ module _ (w u : WorldOf) (u-is : w ≡ u) where
   launches k job seat b made i can at is ready b-is =
       let lt : k < length w.actors = launch_within w k (job_for w job) (actor_of w k) refl (subst (λ x. no_launch (actor_of x k) (job_for x job) ≡ None) (sym u-is) can) in
       let lt' : k < length w.seats = subst (λ n. k < n) i.seated lt in
-      let did : Launches w k job Note.Launched (with_actor w k b) = record {
-        seat = seat;
-        made = made;
-        its_seat = here w.seats k seat lt' at;
-        made_is = subst (λ x. job_for x job ≡ Some made) (sym u-is) is;
-        ready = ready;
-        note = refl;
-        after = ap (λ x. with_actor w k x) b-is;
-      } in
+      let did : Launches w k job Note.Launched (with_actor w k b) = grind (arith, here, w.seats) in
       subst (λ x. Launches x k job Note.Launched (with_actor w k b)) u-is did
 
   pub own_answers : (seat told : SeatOf) (t : SharedOf) (step : Step) (a : Answer) → 1 ≤ length w.seats → seat ≡ get_or w.seats 0 seat → call_reason w.shared seat.number step ≡ None → Calls w.shared seat step a t told
@@ -73,11 +62,7 @@ module _ (w u : WorldOf) (u-is : w ≡ u) where
       subst (λ x. OwnMayWant x step) u-is own
 
   pub step_wants : (k : ℕ) (seat : SeatOf) (a : Actor) → IsWorld w → no_actor (actor_of u k) ≡ None → seat ≡ get_or w.seats k seat → a ≡ get_or w.actors k a → ActorMayWant w.shared seat.number a → StepMayWant u k
-  step_wants k seat a i can at at' wants =
-      let lt : k < length w.actors = actor_within w k (actor_of w k) refl (subst (λ x. no_actor (actor_of x k) ≡ None) (sym u-is) can) in
-      let lt' : k < length w.seats = subst (λ m. k < m) i.seated lt in
-      let did : StepMayWant w k = record { seat = seat; actor = a; its_seat = here w.seats k seat lt' at; its_actor = here w.actors k a lt at'; wants = wants } in
-      subst (λ x. StepMayWant x k) u-is did
+  step_wants k seat a i can at at' wants = grind (arith, actor_within, here, w.actors, w.seats, i.seated)
 
   pub own_refused : (seat told : SeatOf) (t : SharedOf) (step : Step) (code : ℕ) → 1 ≤ length w.seats → seat ≡ get_or w.seats 0 seat → (why : Reason) × (call_reason w.shared seat.number step ≡ Some why) × (code ≡ reason_code why)
       → t ≡ w.shared → told ≡ seat → OwnCalls u step (Note.Refused code) (record w { shared = t; seats = slice_set w.seats 0 told })
@@ -98,12 +83,7 @@ module _ (w u : WorldOf) (u-is : w ≡ u) where
 
   pub step_same : (k : ℕ) (seat told : SeatOf) (a b : Actor) (t : SharedOf) → seat ≡ get_or w.seats k seat → a ≡ get_or w.actors k a → t ≡ w.shared → told ≡ seat → b ≡ a
       → record w { shared = t; seats = slice_set w.seats k told; actors = slice_set w.actors k b } ≡ u
-  step_same k seat told a b t at at' t-is told-is b-is =
-      ap (λ x. record w { shared = t; seats = x; actors = slice_set w.actors k b }) (same_list w.seats k seat told at told-is)
-      ∙ (ap (λ x. record w { shared = t; actors = x }) (same_list w.actors k a b at' b-is) ∙ (ap (λ x. record w { shared = x }) t-is ∙ u-is))
+  step_same k seat told a b t at at' t-is told-is b-is = grind (arith, same_list, w.actors, w.seats)
 
   pub crashes : (k : ℕ) (a b : Actor) (n : Note) → no_actor (actor_of u k) ≡ None → a ≡ get_or w.actors k a → n ≡ crash_note a.job → b ≡ crashed a → CrashesActor u k n (with_actor w k b)
-  crashes k a b n can at note b-is =
-      let lt : k < length w.actors = actor_within w k (actor_of w k) refl (subst (λ x. no_actor (actor_of x k) ≡ None) (sym u-is) can) in
-      let did : CrashesActor w k n (with_actor w k b) = record { actor = a; its_actor = here w.actors k a lt at; note = note; after = ap (λ x. with_actor w k x) b-is } in
-      subst (λ x. CrashesActor x k n (with_actor w k b)) u-is did
+  crashes k a b n can at note b-is = grind (arith, actor_within, here, w.actors)

@@ -1,6 +1,5 @@
 -- What holds in every sound world.
-use Rattle.std.proofs.Common.{◌≤◌, ◌≡◌, ◌≢◌, ℕ, List, [], length, slice_get, Some, sym, ap, subst, ◌∙◌, arith, inr, true, false}
-use Rattle.pb_base.specs.Batch.{Writes, is_batch}
+use Rattle.std.proofs.Common.{◌≤◌, ◌≡◌, ℕ, List, length, slice_get, Some, sym, ap, subst, ◌∙◌, arith, inr}
 use Rattle.pb_isa.specs.declared.limits.TheConstants.{MAX_RECORD_BYTES}
 use Rattle.pb_isa.specs.Programs.{JudgedOf}
 use Rattle.pb_isa.specs.Machine.{Placement, IsPlacement, State}
@@ -19,13 +18,6 @@ use Rattle.pb_world.specs.Events.{WorldOf}
 use Rattle.pb_world.specs.Sound.{ChangeCame, RunCame, Came, IsTied, IsSoundWorld}
 use Rattle.pb_world.specs.Headline.{IsNeverStuck, HoldsOfChange, HoldsOfRun, HoldsOfJob, HoldsOfActor}
 use Rattle.pb_world.proofs.SeatLists.{seat_list}
-
-false_true : false ≡ true → ⊥
-false_true e = cc
-
--- a batch has some cells
-not_empty : (batch : Writes) → is_batch batch ≡ true → batch ≢ []
-not_empty batch is e = false_true (subst (λ b. is_batch b ≡ true) e is)
 
 -- a placement of a record: the record first, and the stack after it
 some_placement : (n : ℕ) → n ≤ MAX_RECORD_BYTES → (a : Placement) × IsPlacement n a
@@ -47,9 +39,7 @@ never_stuck law v ok size led = record {
 
 -- what a change has said is a beginning of its conversation
 of_change : ChangesConverse → (w : WorldOf) (c : ChangeOf) (said : List Received) → ChangeCame w c said → HoldsOfChange w c said
-of_change law w c said m =
-    let t = law c.batch said c (not_empty c.batch m.is) m.converses in
-    record { number = m.number; there = m.there; start = t.0; rest = t.1; outcome = t.2; talk = t.3 }
+of_change law w c said m = grind arith
 
 -- and so is what a run has said, whose machine was led by it
 of_run : AcceptedAreNeverStuck → JobsConverse → MachinesAreLed → AsksAreOpen → EndedRunsMean → (w : WorldOf) (r : RunOf) (said : List Received) → RunCame w r said → HoldsOfRun w r said
@@ -70,8 +60,7 @@ of_run stuck converses led waits ended w r said m =
     }
 
 of_job : AcceptedAreNeverStuck → JobsConverse → MachinesAreLed → AsksAreOpen → EndedRunsMean → ChangesConverse → (w : WorldOf) (j : ActorJob) (said : List Received) → Came w j said → HoldsOfJob w j said
-of_job stuck converses led waits ended changes w (ActorJob.Change c) said m = of_change changes w c said m
-of_job stuck converses led waits ended changes w (ActorJob.Run r) said m = of_run stuck converses led waits ended w r said m
+of_job stuck converses led waits ended changes w j said m = grind (arith, of_change, of_run)
 
 -- of an actor in a sound world the headline holds
 pub of_actor : AcceptedAreNeverStuck → JobsConverse → MachinesAreLed → AsksAreOpen → EndedRunsMean → ChangesConverse → (w : WorldOf) (k n : ℕ) (seat : SeatOf) (j : ActorJob) → IsSoundWorld w → slice_get w.seats k ≡ Some seat → IsTied w seat n j → HoldsOfActor w k n seat j

@@ -1,5 +1,5 @@
 -- A world is sound as it is opened.
-use Rattle.std.proofs.Common.{◌≡◌, ℕ, zero, suc, length, slice_get, Some, None, sym, ap, subst, ◌∙◌}
+use Rattle.std.proofs.Common.{arith, ◌≡◌, ℕ, zero, suc, slice_get, Some, None, sym, ap}
 use Rattle.pb_world.specs.declared.actor.Actor.{Actor}
 use Rattle.pb_world.specs.Events.{WorldOf, idle_actors}
 use Rattle.pb_world.specs.Headline.{IsOpened}
@@ -14,9 +14,4 @@ idle (suc n) (suc k) a e = idle n k a e
 
 -- without jobs it is enough that the journal is legal and the seats have their entries
 pub opened_sound : (w : WorldOf) → IsOpened w → IsSoundWorld w
-opened_sound w o = record {
-  legal = o.legal;
-  seats = o.seats;
-  own = λ a is. idle (length w.seats) 0 a (subst (λ xs. slice_get xs 0 ≡ Some a) o.actors is);
-  tied = λ k a seat j is its job. absurd (none_some j (sym (idle (length w.seats) k a (subst (λ xs. slice_get xs k ≡ Some a) o.actors is)) ∙ job));
-}
+opened_sound w o = grind (arith, idle, none_some, o.legal, o.seats, w.seats, o.actors)

@@ -1,11 +1,11 @@
 -- Whatever events happen, a world stays sound.
-use Rattle.std.proofs.Common.{◌≡◌, ◌≢◌, ℕ, ◌<◌, Bool, true, false, eqb, List, [], ◌∷◌, ◌++◌, length, get_or, slice_set, refl, sym, ◌∙◌, ap, subst, arith, Option, Some, None, slice_get, MatchBool, MatchOption, get_or-set_same, get_or-set_other, length-set, ◌==◌, if◌then◌else◌, option_map}
+use Rattle.std.proofs.Common.{◌≡◌, ◌≢◌, ℕ, ◌<◌, Bool, true, false, eqb, List, [], ◌∷◌, ◌++◌, length, get_or, slice_set, refl, sym, ◌∙◌, ap, subst, arith, Option, Some, None, slice_get, MatchBool, MatchOption, get_or-set_same, get_or-set_other, length-set, option_map}
 use Rattle.std.proofs.lemmas.Bool.{eqb-false, eqb-true}
 use Rattle.std.proofs.lemmas.List.{set-get_or}
 use Rattle.std.proofs.lemmas.Option.{slice_get_within, slice_get-get_or, get_or_from_slice_get}
 use Rattle.pb_base.specs.declared.refusal.Reason.{Reason}
 use Rattle.pb_base.specs.Reasons.{reason_code}
-use Rattle.pb_base.specs.Batch.{Writes, is_batch}
+use Rattle.pb_base.specs.Batch.{Writes}
 use Rattle.pb_base.specs.declared.names.Row.{Row}
 use Rattle.pb_steps.specs.declared.step.Step.{Step}
 use Rattle.pb_steps.specs.declared.step.Answer.{Answer}
@@ -28,12 +28,12 @@ use Rattle.pb_parse.specs.declared.event.Job.{Job}
 use Rattle.pb_world.specs.declared.actor.Actor.{Actor}
 use Rattle.pb_world.specs.declared.job.ActorJob.{ActorJob}
 use Rattle.pb_world.specs.declared.note.Note.{Note}
-use Rattle.pb_world.specs.Jobs.{next_of, is_local, is_local_need, is_over, Takes, Computes, RulesAccept, IsReady}
+use Rattle.pb_world.specs.Jobs.{next_of, is_local, is_local_need, Takes, Computes, RulesAccept, IsReady}
 use Rattle.pb_world.specs.Actors.{Stepped, AnswersJob, RefusesJob, CallSteps, Instructs, IsIdle, JobSteps, StepsTo, launched, crashed}
 use Rattle.pb_world.specs.Events.{WorldOf, change_of, job_for, with_actor, actor_of, no_actor, no_launch, fault_of, Launches, StepsActor, CrashesActor, OwnAnswers, OwnCalls, Does}
 use Rattle.pb_world.specs.Sound.{HasObserver, ChangeCame, RunCame, Came, IsTied, IsSoundWorld, EventsKeepSound}
 use Rattle.pb_world.proofs.SeatLists.{called, append-none}
-use Rattle.pb_base.proofs.Logic.{same_some as some_same, none_some as some_none, some_none as none_some}
+use Rattle.pb_base.proofs.Logic.{same_some as some_same, none_some as some_none}
 use Rattle.pb_history.proofs.JournalParts.{one_more as leads_more}
 
 -- ---- lists
@@ -74,8 +74,7 @@ call_legal s seat told st a t l c =
     let e : Entry = record { seat = seat.number; step = st; answer = a } in
     let more : JournalLeads (opening s.state.observers s.state.seats s.opened) (s.journal ++ e ∷ []) t.state = leads_more (opening s.state.observers s.state.seats s.opened) s.journal s.state e t.state l.run c.machine in
     let l' : IsLegal s.state.observers s.state.seats s.opened t.journal t.state = record { fits = l.fits; run = subst (λ j. JournalLeads (opening s.state.observers s.state.seats s.opened) j t.state) (sym c.journal) more } in
-    subst (λ o. IsLegal t.state.observers t.state.seats o t.journal t.state) (sym c.opened)
-    (subst (λ os. IsLegal os t.state.seats s.opened t.journal t.state) (sym c.observers) (subst (λ n. IsLegal s.state.observers n s.opened t.journal t.state) (sym c.seats) l'))
+    grind (arith, s.state.observers, s.opened, t.state, t.journal, t.state.observers, t.state.seats, c.opened, c.observers, c.seats)
 
 -- ---- jobs
 
@@ -103,9 +102,7 @@ came_on w (ActorJob.Run r) k said st a m next can takes =
     subst (λ x. Came w x (said ++ record { step = st; answer = a } ∷ [])) (sym takes.1) (run_goes_on w r l said (said ++ record { step = st; answer = a } ∷ []) same m reaches)
 
 local_by : (n : Need) → is_local_need n ≡ true → n ≡ Need.Local
-local_by Need.Local e = refl
-local_by Need.Call e = cc
-local_by (Need.Over end) e = cc
+local_by n e = grind arith
 
 -- an instruction leaves what it was told
 came_by : (w : WorldOf) (j k : ActorJob) (said : List Received) → Came w j said → is_local j ≡ true → Computes j k → Came w k said
@@ -118,17 +115,11 @@ came_by w (ActorJob.Run r) k said m local did =
 
 -- what a job came by depends on the observers and the changes alone
 came_in : (w v : WorldOf) (j : ActorJob) (said : List Received) → v.shared.state.observers ≡ w.shared.state.observers → v.batches ≡ w.batches → Came w j said → Came v j said
-came_in w v (ActorJob.Change c) said os bs m = record { number = m.number; there = subst (λ x. change_of x m.number ≡ Some c.batch) (sym bs) m.there; is = m.is; converses = m.converses }
-came_in w v (ActorJob.Run r) said os bs m = record { its = record { observer = m.its.observer; there = subst (λ x. slice_get x r.watch.observer ≡ Some m.its.observer) (sym os) m.its.there; program = m.its.program; column = m.its.column }; accepted = m.accepted; reaches = m.reaches }
+came_in w v j said os bs m = grind arith
 
 -- a job stays tied while the observers and the changes stay
 tied_in : (w v : WorldOf) (seat : SeatOf) (n : ℕ) (j : ActorJob) → v.shared.state.observers ≡ w.shared.state.observers → v.batches ≡ w.batches → IsTied w seat n j → IsTied v seat n j
 tied_in w v seat n j os bs t = record { before = t.before; said = t.said; counted = t.counted; received = t.received; came = came_in w v j t.said os bs t.came }
-
--- a job that is over is gone
-kept_is : (b : Bool) (k j : ActorJob) → Some j ≡ (if b then None else Some k) → j ≡ k
-kept_is true k j e = absurd (some_none j (sym e))
-kept_is false k j e = some_same j k e
 
 -- ---- what a step does to the table and to its seat
 
@@ -143,8 +134,7 @@ moves_legal s seat t told (stays t-is told-is) l = subst (λ x. IsLegalTable x) 
 moves_legal s seat t told (calls st a c) l = call_legal s seat told st a t l c
 
 moves_observers : (s : SharedOf) (seat : SeatOf) (t : SharedOf) (told : SeatOf) → Moves s seat t told → t.state.observers ≡ s.state.observers
-moves_observers s seat t told (stays t-is told-is) = ap (λ (x : SharedOf). x.state.observers) t-is
-moves_observers s seat t told (calls st a c) = c.observers
+moves_observers s seat t told x = grind arith
 
 set_same : {A : Type 0} (xs : List A) (k : ℕ) (x y : A) → slice_get xs k ≡ Some x → y ≡ x → slice_set xs k y ≡ xs
 set_same xs k x y is same =
@@ -169,10 +159,7 @@ none_left w told n rest none k some = absurd (some_none k (sym none ∙ some))
 instructed : (w : WorldOf) (seat : SeatOf) (n : ℕ) (j : ActorJob) (to : Stepped) → is_local j ≡ true → IsTied w seat n j → Instructs w.shared seat j to → IsSteppedTo w seat n to
 instructed w seat n j to local tie d = record {
   moves = stays d.same.table d.same.list;
-  tied = λ k is.
-      let same : d.after ≡ k = some_same d.after k (sym d.left ∙ is) in
-      let here : Came w k tie.said = subst (λ x. Came w x tie.said) same (came_by w j d.after tie.said tie.came local d.computes) in
-      record { before = tie.before; said = tie.said; counted = tie.counted; received = ap (λ (x : SeatOf). x.received) d.same.list ∙ tie.received; came = here };
+  tied = grind (arith, came_by, d.same.list, tie.came, d.computes, tie.before, tie.counted, tie.received);
 }
 
 idled : (w : WorldOf) (seat : SeatOf) (n : ℕ) (to : Stepped) → IsIdle w.shared seat to → IsSteppedTo w seat n to
@@ -181,11 +168,7 @@ idled w seat n to d = record { moves = stays d.same.table d.same.list; tied = no
 answered : (w : WorldOf) (seat : SeatOf) (n : ℕ) (j : ActorJob) (st : Step) (to : Stepped) → next_of j ≡ Some st → IsTied w seat n j → AnswersJob w.shared seat j st to → IsSteppedTo w seat n to
 answered w seat n j st to next tie d = record {
   moves = calls st d.answer d.calls;
-  tied = λ k is.
-      let r : Received = record { step = st; answer = d.answer } in
-      let same : k ≡ d.after = kept_is (is_over d.after) d.after k (sym is ∙ d.left) in
-      let here : Came w k (tie.said ++ r ∷ []) = subst (λ x. Came w x (tie.said ++ r ∷ [])) (sym same) (came_on w j d.after tie.said st d.answer tie.came next d.can d.takes) in
-      record { before = tie.before; said = tie.said ++ r ∷ []; counted = tie.counted; received = d.calls.received ∙ (ap (λ l. l ++ r ∷ []) tie.received ∙ append_assoc' tie.before tie.said (r ∷ [])); came = here };
+  tied = grind (arith, came_on, append_assoc', tie.came, d.can, d.takes, tie.before, tie.counted, d.calls.received, tie.received);
 }
 
 called_by : (w : WorldOf) (seat : SeatOf) (n : ℕ) (j : ActorJob) (st : Step) (to : Stepped) (why : Option Reason) → next_of j ≡ Some st → IsTied w seat n j
@@ -237,8 +220,7 @@ stepped w v k n some s d = subst (λ x. IsSoundWorld x) (sym d.after) here
     tie i a seat j (unchanged apart is) (unchanged apart' is') job = tied_in w u seat a.launched j observers refl (s.tied i a seat j is is' job)
 
     none : (a : Actor) → IsAfterSet w.actors k d.stepped 0 a → a.job ≡ None
-    none a (changed e a-is) = absurd (omega (arith, some, e))
-    none a (unchanged apart is) = s.own a is
+    none a x = grind arith
 
     here : IsSoundWorld u
     here = record {
@@ -273,12 +255,7 @@ crashed_sound w v k n some s d = subst (λ x. IsSoundWorld x) (sym d.after) (wit
 
 -- a job that is made has come there without a word
 change_made : (w : WorldOf) (k : ℕ) (o : Option Writes) (made : ActorJob) → change_of w.batches k ≡ o → option_map (λ batch. ActorJob.Change (new_change batch)) o ≡ Some made → IsReady made → Came w made []
-change_made w k None made is e ready = absurd (some_none made e)
-change_made w k (Some batch) made is e ready =
-    let same : ActorJob.Change (new_change batch) ≡ made = some_same (ActorJob.Change (new_change batch)) made e in
-    let fits : is_batch batch ≡ true = subst (λ x. IsReady x) (sym same) ready in
-    let here : ChangeCame w (new_change batch) [] = record { number = k; there = is; is = fits; converses = refl } in
-    subst (λ x. Came w x []) same here
+change_made w k o made is e ready = grind arith
 
 run_made : (w : WorldOf) (o : ℕ) (row : Row) (found : Option ObserverOf) (made : ActorJob) → slice_get w.shared.state.observers o ≡ found → option_map (λ (x : ObserverOf). ActorJob.Run (fresh (watch_of o x row))) found ≡ Some made → IsReady made → Came w made []
 run_made w o row None made is e ready = absurd (some_none made e)
@@ -332,27 +309,16 @@ own_sound w v st n s d = by (call_reason w.shared d.seat.number st) d.calls
     by None c = own_moved w v d.seat c.told s d.its_seat (calls st c.answer c.calls) c.after
     by (Some y) c = subst (λ x. IsSoundWorld x) (sym c.1) s
 
-read_some : (w : WorldOf) (k : ℕ) (a : Actor) (b : Bool) → (k == 0) ≡ b → (if b then None else slice_get w.actors k) ≡ Some a → 0 < k
-read_some w k a true same e = absurd (none_some a (sym e))
-read_some w k a false same e = let apart : k ≢ 0 = eqb-false k 0 same in omega (arith, apart)
-
 -- where an event isn't at fault its actor isn't the world's own
 not_own : (w : WorldOf) (k : ℕ) (o : Option Actor) → actor_of w k ≡ o → no_actor o ≡ None → 0 < k
-not_own w k None is h = absurd (none_some _ h)
-not_own w k (Some a) is h = read_some w k a (k == 0) refl is
+not_own w k o is h = grind arith
 
 not_own_launch : (w : WorldOf) (k : ℕ) (made : Option ActorJob) (o : Option Actor) → actor_of w k ≡ o → no_launch o made ≡ None → 0 < k
-not_own_launch w k made None is h = absurd (none_some _ h)
-not_own_launch w k made (Some a) is h = read_some w k a (k == 0) refl is
+not_own_launch w k made o is h = grind arith
 
 -- so any event keeps a world sound
 does_sound : (w : WorldOf) (e : Event) (n : Note) (v : WorldOf) → IsSoundWorld w → fault_of w e ≡ None → Does w e n v → IsSoundWorld v
-does_sound w (Event.Launch k job) n v s can d = launched_sound w v k job n (not_own_launch w k (job_for w job) (actor_of w k) refl can) s d
-does_sound w (Event.Step k) n v s can d = stepped w v k n (not_own w k (actor_of w k) refl can) s d
-does_sound w (Event.Crash k) n v s can d = crashed_sound w v k n (not_own w k (actor_of w k) refl can) s d
-does_sound w (Event.Settle x) n v s can d = own_sound w v (Step.Settle x) n s d
-does_sound w (Event.Clear x) n v s can d = own_sound w v (Step.Clear x) n s d
-does_sound w (Event.Sweep x) n v s can d = own_sound w v (Step.Sweep x) n s d
+does_sound w e n v s can d = grind (arith, launched_sound, not_own_launch, stepped, not_own, crashed_sound, own_sound)
 
 -- and any list of events
 pub events_keep_sound : EventsKeepSound

@@ -1,4 +1,4 @@
-use Rattle.std.proofs.Common.{rules, Ok}
+use Rattle.std.proofs.Common.{arith, rules, Ok}
 use Rattle.pb_command.specs.Files.{IsKnownAs}
 use Rattle.pb_command.specs.Commands.{IsAllDone}
 use Rattle.pb_command.proofs.carry.run_files.Goals as goal
@@ -11,11 +11,5 @@ returns-then-is_all_done-clause-ran g c =
     record {
       left = c.in_ok-ran.ran;
       all_done = done;
-      ran = record {
-        manifest_text = c.deref.result.now;
-        script_text = c.deref-2.result.now;
-        manifest_held = manifest;
-        script_held = script;
-        ran = c.in_ok-ran.ensures;
-      };
+      ran = grind (arith, c.deref.result.now, c.deref-2.result.now, c.in_ok-ran.ensures);
     }

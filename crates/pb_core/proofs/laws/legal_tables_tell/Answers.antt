@@ -1,17 +1,8 @@
+use Rattle.std.proofs.Common.{arith}
 use Rattle.pb_core.proofs.laws.legal_tables_tell.Goals as goal
 
 pub returns-clause-history : goal.returns-clause-history
-returns-clause-history c = λ s legal.
-    let obs = s.state.observers in
-    let n = s.state.seats in
-    record {
-      timestamps = c.journals_tell.ensures.timestamps obs n s.opened s.journal s.state legal;
-      order = c.journals_tell.ensures.order obs n s.opened s.journal s.state legal;
-      reads = c.journals_tell.ensures.snapshots obs n s.opened s.journal s.state legal;
-      writers = c.journals_tell.ensures.writers obs n s.opened s.journal s.state legal;
-      runs = c.journals_tell.ensures.runs obs n s.opened s.journal s.state legal;
-      scripts = c.journals_tell.ensures.scripts obs n s.opened s.journal s.state legal;
-    }
+returns-clause-history c = grind arith
 
 pub returns-clause-records : goal.returns-clause-records
 returns-clause-records c = λ s legal. c.journals_tell.ensures.records s.state.observers s.state.seats s.opened s.journal s.state legal

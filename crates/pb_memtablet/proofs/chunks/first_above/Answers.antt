@@ -10,11 +10,7 @@ place_above-place-requires g c =
     rw c.deref.ensures.value (truth _ (home_sorted g.K.Ord.cmp g.met.K.Ord.total c.args.chunks.now c.args.key.now c.noted_home-home.result c.index-chunks-home.result c.noted_home-home.ensures.home c.index-chunks-home.is (holds _ c.requires.sorted)))
 
 pub returns-then-place-len : goal.returns-then-place-len
-returns-then-place-len g c =
-    first-in_home g.K.Ord.cmp g.met.K.Ord.total c.args.chunks.now c.args.key.now c.noted_home-home.result c.index-chunks-home.result c.noted_home-home.ensures.home c.index-chunks-home.is (holds _ c.requires.sorted)
-    c.place_above-place.result c.index.result.now
-    (subst (λ es. IsCut g.K.Ord.cmp es c.args.key.now c.place_above-place.result) c.deref.ensures.value c.place_above-place.ensures.cut)
-    (omega (arith, c.index-chunks-home.result.ok.0)) c.index.ensures
+returns-then-place-len g c = grind (arith, first-in_home, holds, g.K.Ord.cmp, g.met.K.Ord.total, c.args.chunks.now, c.args.key.now, c.noted_home-home.result, c.index-chunks-home.result, c.noted_home-home.ensures.home, c.index-chunks-home.is, c.requires.sorted, c.place_above-place.result, c.index.result.now, c.deref.ensures.value, c.place_above-place.ensures.cut, c.index.ensures)
 
 pub returns-then-home-chunks : goal.returns-then-home-chunks
 returns-then-home-chunks g c =
@@ -27,9 +23,4 @@ returns-then-home-chunks g c =
     (omega (arith, m.ok.0)) (omega arith) c.if-home-chunks.true c.index-chunks-home-then-home-chunks.is some c.index-then-home-chunks.ensures
 
 pub returns-else-home-chunks : goal.returns-else-home-chunks
-returns-else-home-chunks g c =
-    let m = c.index-chunks-home.result in
-    first-none g.K.Ord.cmp g.met.K.Ord.total c.args.chunks.now c.args.key.now c.noted_home-home.result m c.noted_home-home.ensures.home c.index-chunks-home.is (holds _ c.requires.sorted)
-    c.place_above-place.result
-    (subst (λ es. IsCut g.K.Ord.cmp es c.args.key.now c.place_above-place.result) c.deref.ensures.value c.place_above-place.ensures.cut)
-    (omega (arith, m.ok.0)) (omega arith)
+returns-else-home-chunks g c = grind (arith, first-none, holds, c.index-chunks-home.result, g.K.Ord.cmp, g.met.K.Ord.total, c.args.chunks.now, c.args.key.now, c.noted_home-home.result, c.noted_home-home.ensures.home, c.index-chunks-home.is, c.requires.sorted, c.place_above-place.result, c.deref.ensures.value, c.place_above-place.ensures.cut)

@@ -1,18 +1,14 @@
-use Rattle.std.proofs.Common.{◌≡◌, ◌<◌, ◌+◌, suc, set, drop, length, arith, sym, ap, ◌∙◌, subst, All, insert, IfSome, is_ok}
+use Rattle.std.proofs.Common.{◌≡◌, ◌<◌, suc, set, length, arith, sym, ap, ◌∙◌, subst, All, insert, IfSome}
 use Rattle.std.proofs.lemmas.List.{take-append-drop}
 use Rattle.std.proofs.lemmas.List.Elements.{All-pop, All-set}
 use Rattle.pb_memtablet.specs.declared.chunks.TheConstants.{HALF}
 use Rattle.pb_memtablet.specs.Chunks.{chunk_entries, IsChunk, IsSpare}
-use Rattle.pb_memtablet.proofs.Homes.{made}
 use Rattle.pb_memtablet.proofs.Pieces.{All-insert, chunk_entries-parted, drop-parted}
 use Rattle.pb_memtablet.proofs.chunks.part_chunk.Goals as goal
 
 -- the chunks after the call
 parted : (g : _) (c : goal.After-unwrap g) → c.insert.new.self.items ≡ insert (set c.args.chunks.now.items c.args.place c.move_half.new.chunk) (suc c.args.place) c.move_half.new.empty
-parted g c =
-    let next : c.args.place + 1 ≡ suc c.args.place = omega arith in
-    made _ _ _ (is_ok c.insert.result) c.insert.ensures.items (ap is_ok c.unwrap.ensures)
-    ∙ ap (λ n. insert (set c.args.chunks.now.items c.args.place c.move_half.new.chunk) n c.move_half.new.empty) next
+parted g c = grind arith
 
 pub returns-clause-entries : goal.returns-clause-entries
 returns-clause-entries g c =
@@ -24,15 +20,7 @@ returns-clause-entries g c =
     (rw (halves.kept, halves.moved, take-append-drop HALF old.items) (ap (λ m. m.items) c.index_mut.ensures.value))
 
 pub returns-clause-after : goal.returns-clause-after
-returns-clause-after g c =
-    let lt : c.args.place < length c.args.chunks.now.items = omega (arith, c.args.chunks.now.ok.0) in
-    let i = c.args.place in
-    let one : i + 1 ≡ suc i = omega arith in
-    let two : i + 2 ≡ suc (suc i) = omega arith in
-    ap (λ n. drop n c.insert.new.self.items) two
-    ∙ ap (drop (suc (suc i))) (parted g c)
-    ∙ drop-parted c.args.chunks.now.items i c.move_half.new.chunk c.move_half.new.empty lt
-    ∙ ap (λ n. drop n c.args.chunks.now.items) (sym one)
+returns-clause-after g c = grind (arith, parted, drop-parted, c.args.place, c.args.chunks.now.items, c.insert.new.self.items, c.move_half.new.chunk, c.move_half.new.empty)
 
 pub returns-clause-each : goal.returns-clause-each
 returns-clause-each g c =
@@ -40,7 +28,6 @@ returns-clause-each g c =
     let old = c.index_mut.result.now in
     let chunk : IsChunk old = rw c.index_mut.ensures.value (c.requires.each c.args.place old lt) in
     let spare : IsSpare c.unwrap-half.result = subst (λ r. IfSome r IsSpare) c.unwrap-half.ensures (All-pop IsSpare _ _ c.pop.result c.pop.ensures.items c.requires.spares).1 in
-    let halves = c.move_half.ensures in
     subst (All IsChunk) (sym (parted g c))
     (All-insert IsChunk _ (suc c.args.place) c.move_half.new.empty (record { filled = omega arith; fits = omega arith; roomy = omega arith })
     (All-set IsChunk c.args.chunks.now.items c.args.place c.move_half.new.chunk (record { filled = omega arith; fits = omega arith; roomy = omega arith }) c.requires.each))

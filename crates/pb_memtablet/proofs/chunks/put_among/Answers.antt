@@ -1,4 +1,4 @@
-use Rattle.std.proofs.Common.{◌≡◌, get_or, ◌<◌, ◌+◌, cond, length, set, arith, sym, ap, ◌∙◌, subst, T, vec_len}
+use Rattle.std.proofs.Common.{◌≡◌, get_or, ◌<◌, ◌+◌, cond, length, set, arith, sym, ap, subst, T, vec_len}
 use Rattle.std.specs.FinMap.{put, is_sorted}
 use Rattle.std.specs.FinMap.Entries.{is_sorted-put}
 use Rattle.std.proofs.lemmas.List.Elements.{All-set}
@@ -20,11 +20,7 @@ put_in-is_new-requires-clause-sorted g c =
 
 -- all entries after the put, which changed one chunk
 entries_are : (g : _) (c : After-put_in-is_new g) → chunk_entries (set c.roomy_home-home.new.chunks.items c.roomy_home-home.result c.put_in-is_new.new.entries) ≡ put g.K.Ord.cmp c.args.key c.args.value (chunk_entries c.args.chunks.now.items)
-entries_are g c =
-    let R = g.K.Ord.cmp in
-    let home = c.roomy_home-home in
-    put-in_home R g.met.K.Ord.total home.new.chunks.items c.args.key c.args.value home.result c.index_mut.result.now c.put_in-is_new.new.entries home.ensures.home c.index_mut.ensures.value c.put_in-is_new.ensures.items
-    ∙ ap (put R c.args.key c.args.value) home.ensures.entries
+entries_are g c = grind (arith, put-in_home, g.K.Ord.cmp, c.roomy_home-home, g.met.K.Ord.total, c.args.key, c.args.value, c.index_mut.result.now, c.put_in-is_new.new.entries, c.index_mut.ensures.value, c.put_in-is_new.ensures.items)
 
 pub returns-clause-entries : goal.returns-clause-entries
 returns-clause-entries g c = entries_are g (goal.at.returns-clause-entries g c).After-put_in-is_new

@@ -24,10 +24,7 @@ put_both_in-are_put-requires-clause-sorted g c =
 entries_are : (g : _) (c : After-put_both_in-are_put g) → chunk_entries (set c.args.chunks.now.items c.noted_home-home.result c.put_both_in-are_put.new.entries)
     ≡ cond c.put_both_in-are_put.result (put g.K.Ord.cmp c.args.next c.args.next_value (put g.K.Ord.cmp c.args.key c.args.value (chunk_entries c.args.chunks.now.items))) (chunk_entries c.args.chunks.now.items)
 entries_are g c =
-    let home = subst (λ l. IsHome g.K.Ord.cmp l c.args.key c.noted_home-home.result) c.deref.ensures.value c.noted_home-home.ensures.home in
-    let next = subst (λ l. IsHome g.K.Ord.cmp l c.args.next c.noted_home-home.result) c.deref-else-len.ensures.value (c.is_home.ensures.home c.if-not-is_home.false) in
-    both-in_home g.K.Ord.cmp g.met.K.Ord.total c.args.chunks.now.items c.args.key c.args.next c.args.value c.args.next_value c.put_both_in-are_put.result c.noted_home-home.result c.index_mut.result.now c.put_both_in-are_put.new.entries home next
-    c.index_mut.ensures.value c.put_both_in-are_put.ensures.items
+    grind (arith, both-in_home, g.K.Ord.cmp, c.args.key, c.noted_home-home.result, c.args.next, g.met.K.Ord.total, c.args.chunks.now.items, c.args.value, c.args.next_value, c.put_both_in-are_put.result, c.index_mut.result.now, c.put_both_in-are_put.new.entries, c.index_mut.ensures.value, c.put_both_in-are_put.ensures.items)
 
 within : (g : _) (c : After-put_both_in-are_put g) → c.noted_home-home.result < length c.args.chunks.now.items
 within g c = subst (λ l. c.noted_home-home.result < length l) c.deref.ensures.value c.noted_home-home.ensures.home.within

@@ -56,7 +56,4 @@ returns-clause-chunks g c =
     }
 
 pub returns-clause-counts : goal.returns-clause-counts
-returns-clause-counts g c ns a =
-    let m = c.index_mut.result.now in
-    let n = c.replace_in.new.entries in
-    counts_same ns c.args.chunks.now.items c.args.likely m n (within g (goal.at.returns-clause-counts g c).After-replace_in) c.index_mut.ensures.value (omega (arith, m.ok.0, n.ok.0, c.replace_in.ensures.len)) a
+returns-clause-counts g c ns a = grind (arith, counts_same, within, c.index_mut.result.now, c.replace_in.new.entries, c.args.chunks.now.items, c.args.likely, c.index_mut.ensures.value, c.replace_in.ensures.len)

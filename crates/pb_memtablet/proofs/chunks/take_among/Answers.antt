@@ -20,10 +20,7 @@ take_from-taken-requires g c =
 
 -- all entries where the chunk still has some
 entries_else : (g : _) (c : Else-is_empty-2 g) → chunk_entries (set c.args.chunks.now.items c.noted_home-home.result c.take_from-taken.new.entries) ≡ without g.K.Ord.cmp c.args.key.now (chunk_entries c.args.chunks.now.items)
-entries_else g c =
-    let i = c.noted_home-home.result in
-    let h : IsHome g.K.Ord.cmp c.args.chunks.now.items c.args.key.now i = subst (λ l. IsHome g.K.Ord.cmp l c.args.key.now i) c.deref.ensures.value c.noted_home-home.ensures.home in
-    without-in_home g.K.Ord.cmp g.met.K.Ord.total c.args.chunks.now.items c.args.key.now i c.index_mut.result.now c.take_from-taken.new.entries h c.index_mut.ensures.value c.take_from-taken.ensures.items
+entries_else g c = grind (arith, without-in_home, c.noted_home-home.result, g.K.Ord.cmp, c.args.chunks.now.items, c.args.key.now, c.deref.ensures.value, c.noted_home-home.ensures.home, g.met.K.Ord.total, c.index_mut.result.now, c.take_from-taken.new.entries, c.index_mut.ensures.value, c.take_from-taken.ensures.items)
 
 pub returns-else-is_empty-2-clause-entries : goal.returns-else-is_empty-2-clause-entries
 returns-else-is_empty-2-clause-entries g c = entries_else g (goal.at.returns-else-is_empty-2-clause-entries g c).Else-is_empty-2

@@ -1,5 +1,4 @@
-use Rattle.std.proofs.Common.{ap, ◌∙◌}
-use Rattle.std.specs.FinMap.{find}
+use Rattle.std.proofs.Common.{arith}
 use Rattle.pb_memtablet.proofs.Spots.{holds}
 use Rattle.pb_memtablet.proofs.Pieces.{home_sorted, find-in_home}
 use Rattle.pb_memtablet.proofs.chunks.value_at.Goals as goal
@@ -10,7 +9,4 @@ look_up-requires g c =
     rw c.deref.ensures.value (truth _ (home_sorted g.K.Ord.cmp g.met.K.Ord.total c.args.chunks.now c.args.key.now c.noted_home.result c.index-chunks-noted_home.result c.noted_home.ensures.home c.index-chunks-noted_home.is (holds _ c.requires.sorted)))
 
 pub returns : goal.returns
-returns g c =
-    c.look_up.ensures
-    ∙ ap (find g.K.Ord.cmp c.args.key.now) c.deref.ensures.value
-    ∙ find-in_home g.K.Ord.cmp g.met.K.Ord.total c.args.chunks.now c.args.key.now c.noted_home.result c.index-chunks-noted_home.result c.noted_home.ensures.home c.index-chunks-noted_home.is
+returns g c = grind (arith, find-in_home, c.look_up.ensures, g.K.Ord.cmp, c.args.key.now, c.deref.ensures.value, g.met.K.Ord.total, c.args.chunks.now, c.noted_home.result, c.index-chunks-noted_home.result, c.noted_home.ensures.home, c.index-chunks-noted_home.is)

@@ -1,7 +1,5 @@
-use Rattle.std.proofs.Common.{◌≡◌, ◌+◌, ◌-◌, ◌*◌, sym, ap, ◌∙◌, drop, get_or, slice_get, subst, arith}
+use Rattle.std.proofs.Common.{◌≡◌, ◌+◌, ◌*◌, ap, ◌∙◌, drop, arith}
 use Rattle.std.proofs.lemmas.List.{drop-drop}
-use Rattle.pb_memtablet.specs.Chunks.{chunk_entries}
-use Rattle.pb_memtablet.specs.BlockCounts.{AreCounts}
 use Rattle.pb_memtablet.specs.declared.counts.TheConstants.{BLOCK}
 use Rattle.pb_memtablet.proofs.Counted.{first_count, past_block}
 use Rattle.pb_memtablet.proofs.counts.entry_at.Goals as goal
@@ -11,13 +9,6 @@ loop-block-preserved g c =
     let ns = c.args.counts.now in
     let i = c.loop-block.block in
     let cs = drop (i * BLOCK) c.args.chunks.now in
-    let left = c.loop-block.left in
     let first = first_count ns cs i 0 c.loop-block.invariant.counts c.loop-block-test.true in
     let behind : drop BLOCK cs ≡ drop ((i + 1) * BLOCK) c.args.chunks.now = drop-drop BLOCK (i * BLOCK) c.args.chunks.now ∙ ap (λ n. drop n c.args.chunks.now) {x = i * BLOCK + BLOCK} {y = (i + 1) * BLOCK} (omega arith) in
-    record {
-      counts = subst (AreCounts (drop (i + 1) ns)) behind first.1;
-      found =
-          ap (λ q. slice_get (chunk_entries q) (left - get_or ns i 0)) (sym behind)
-          ∙ past_block cs (get_or ns i 0) left first.0 c.if-left-count.false
-          ∙ c.loop-block.invariant.found;
-    }
+    grind (arith, past_block, c.if-left-count.false, c.loop-block.invariant.found)

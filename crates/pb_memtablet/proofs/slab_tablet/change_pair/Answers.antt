@@ -1,4 +1,4 @@
-use Rattle.std.proofs.Common.{◌≡◌, ◌∙◌, ap, subst, refl, drop, ◌∷◌}
+use Rattle.std.proofs.Common.{arith, ◌≡◌, subst, refl, drop, ◌∷◌}
 use Rattle.std.specs.FinMap.{put}
 use Rattle.pb_store.specs.Contents.{AllPutOfSort}
 use Rattle.pb_store.specs.Slot.{slot_cmp}
@@ -6,7 +6,7 @@ use Rattle.pb_store.specs.declared.slot.Edit.{Edit}
 use Rattle.pb_memtablet.specs.Listed.{EntryList}
 use Rattle.pb_memtablet.specs.Stored.{seen}
 use Rattle.pb_memtablet.proofs.Homes.{without}
-use Rattle.pb_memtablet.proofs.Edits.{IsDone, put_done, erase_done, first_two, both_done}
+use Rattle.pb_memtablet.proofs.Edits.{IsDone, put_done, erase_done, both_done}
 use Rattle.pb_memtablet.proofs.Kept.{sorted_keys}
 use Rattle.pb_memtablet.proofs.slab_tablet.change_pair.Goals as goal
 use Rattle.pb_memtablet.proofs.slab_tablet.change_pair.Goals.{After-renew_entry, After-put_both}
@@ -24,10 +24,7 @@ abbrev without_gone : After-renew_entry → EntryList
 without_gone c = without slot_cmp c.in-Erase-Put.gone (es c)
 
 edits_are : (c : After-renew_entry) → c.args.edits.now ≡ Edit.Erase c.in-Erase-Put.gone ∷ Edit.Put c.in-Erase-Put.slot c.in-Erase-Put.item ∷ drop 2 c.args.edits.now
-edits_are c =
-    first_two c.args.edits.now c.first-item.result c.second-item.result c.in-len2-up.len_at_least c.first-item.is c.second-item.is
-    ∙ ap (λ e. e ∷ c.second-item.result ∷ drop 2 c.args.edits.now) c.in-Erase-Put.is-0
-    ∙ ap (λ e. Edit.Erase c.in-Erase-Put.gone ∷ e ∷ drop 2 c.args.edits.now) c.in-Erase-Put.is-1
+edits_are c = grind arith
 
 removal : (c : After-renew_entry) → IsDone (without_gone c) c.args.marks.now.entries (Edit.Erase c.in-Erase-Put.gone) (es c) c.args.marks.now.entries
 removal c = erase_done (es c) c.args.marks.now.entries c.requires.kept.lists (without_gone c) c.in-Erase-Put.gone refl
@@ -55,10 +52,7 @@ abbrev put_once : After-put_both → EntryList
 put_once c = put slot_cmp c.in-Put-Put.slot c.in-Put-Put.item (listed c)
 
 puts_are : (c : After-put_both) → c.args.edits.now ≡ Edit.Put c.in-Put-Put.slot c.in-Put-Put.item ∷ Edit.Put c.in-Put-Put.next c.in-Put-Put.next_item ∷ drop 2 c.args.edits.now
-puts_are c =
-    first_two c.args.edits.now c.first-item.result c.second-item.result c.in-len2-up.len_at_least c.first-item.is c.second-item.is
-    ∙ ap (λ e. e ∷ c.second-item.result ∷ drop 2 c.args.edits.now) c.in-Put-Put.is-0
-    ∙ ap (λ e. Edit.Put c.in-Put-Put.slot c.in-Put-Put.item ∷ e ∷ drop 2 c.args.edits.now) c.in-Put-Put.is-1
+puts_are c = grind arith
 
 first_put : (c : After-put_both) → IsDone (put_once c) c.args.marks.now.entries (Edit.Put c.in-Put-Put.slot c.in-Put-Put.item) (listed c) c.args.marks.now.entries
 first_put c = put_done (listed c) c.args.marks.now.entries c.requires.kept.lists (put_once c) c.in-Put-Put.slot c.in-Put-Put.item refl (subst AllPutOfSort (puts_are c) c.requires.of_sort).0

@@ -1,4 +1,4 @@
-use Rattle.std.proofs.Common.{◌≡◌, None, sym, ◌∙◌}
+use Rattle.std.proofs.Common.{arith, ◌≡◌, None, sym, ◌∙◌}
 use Rattle.std.specs.List.{last_or}
 use Rattle.pb_store.specs.Slot.{slot_cmp, slot_cmp_total}
 use Rattle.pb_store.specs.Contents.{slot_at}
@@ -30,5 +30,4 @@ returns-then-is_beside c =
 pub returns-else-is_beside : goal.returns-else-is_beside
 returns-else-is_beside c =
     let last = found (goal.at.returns-else-is_beside c).In_ok-slot in
-    none_of_other (seen c.args.items.now.slots c.args.keys.now.entries) (holds _ c.requires.sorted) c.args.cell c.args.sort c.args.high last.place (c.in_ok-slot.slot, c.in_ok-slot.item) last.is last.within last.cut
-    (λ p q. let told = c.is_beside.ensures.1 (p, q) in cc)
+    grind (arith, none_of_other, holds, c.args.items.now.slots, c.args.keys.now.entries, c.requires.sorted, c.args.cell, c.args.sort, c.args.high, c.in_ok-slot.slot, c.in_ok-slot.item)

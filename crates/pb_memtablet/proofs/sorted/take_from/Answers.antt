@@ -1,5 +1,5 @@
-use Rattle.std.proofs.Common.{sym, subst}
-use Rattle.pb_memtablet.specs.Places.{IsFound, IsGap}
+use Rattle.std.proofs.Common.{arith, subst}
+use Rattle.pb_memtablet.specs.Places.{IsFound}
 use Rattle.pb_memtablet.proofs.Spots.{holds, without-removed, without-gap}
 use Rattle.pb_memtablet.proofs.sorted.take_from.Goals as goal
 
@@ -9,6 +9,4 @@ returns-in-Ok-clause-items g c =
     without-removed g.met.K.Ord.total c.args.entries.now.items c.remove.new.self.items c.args.key.now c.in-Ok.i (holds _ c.requires) found c.remove.ensures.items
 
 pub returns-in-Err-clause-items : goal.returns-in-Err-clause-items
-returns-in-Err-clause-items g c =
-    let gap = subst (λ es. IsGap g.K.Ord.cmp es c.args.key.now c.in-Err.field-0) c.deref.ensures.value c.in-Err.ensures.gap in
-    sym (without-gap g.met.K.Ord.total c.args.entries.now.items c.args.key.now c.in-Err.field-0 (holds _ c.requires) gap)
+returns-in-Err-clause-items g c = grind (arith, without-gap, holds, g.K.Ord.cmp, c.args.key.now, c.in-Err.field-0, c.deref.ensures.value, c.in-Err.ensures.gap, g.met.K.Ord.total, c.args.entries.now.items, c.requires)

@@ -1,4 +1,4 @@
-use Rattle.std.proofs.Common.{rules, ◌≡◌, sym, subst}
+use Rattle.std.proofs.Common.{arith, ◌≡◌, sym, subst}
 use Rattle.pb_vm.specs.MachineSlot.{IsAtSlot}
 use Rattle.pb_notify.specs.Machines.{exit_at, Leaves}
 use Rattle.pb_notify.proofs.machine.declare.Goals as goal
@@ -6,8 +6,5 @@ use Rattle.pb_notify.proofs.machine.declare.Goals.{in-Ok+in-Err-new+in-Run, in-E
 
 pub invariant_of-result : goal.invariant_of-result
 invariant_of-result c =
-    let same : c.match-new.left ≡ c.args.left = elim c.match-new.branch [
-      | in-Ok+in-Err-new+in-Run w ↦ search rules
-      | in-Err w ↦ search rules
-    ] in
+    let same : c.match-new.left ≡ c.args.left = grind (arith, in-Ok+in-Err-new+in-Run, in-Err, c.match-new.branch) in
     subst (λ f. Leaves (exit_at f c.args.taken) f × IsAtSlot (exit_at f c.args.taken) c.args.slot) (sym same) (c.requires.leaves, c.requires.at)

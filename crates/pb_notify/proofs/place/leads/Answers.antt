@@ -2,7 +2,7 @@ use Rattle.std.proofs.Common.{rules, sym, subst}
 use Rattle.pb_txn.specs.Plans.{PlanOf}
 use Rattle.pb_notify.specs.declared.place.RunPlace.{RunPlace}
 use Rattle.pb_notify.specs.Places.{Comes, goes, waits, declares}
-use Rattle.pb_notify.specs.Steps.{MovesOn, IsAtExit}
+use Rattle.pb_notify.specs.Steps.{MovesOn}
 use Rattle.pb_notify.proofs.place.leads.Goals as goal
 
 pub returns-in-Went-clause-ok : goal.returns-in-Went-clause-ok
@@ -25,5 +25,4 @@ pub returns-in_err-end-in-Ended-clause-same : goal.returns-in_err-end-in-Ended-c
 returns-in_err-end-in-Ended-clause-same c v m =
     let did = subst (λ x. MovesOn v x c.args.machine) c.in-Ended.is m in
     let same = c.in_err-end-in-Ended.ensures.same v c.in-Ended.field-0 did in
-    let at : IsAtExit v = (c.in-Ended.field-0, did.moves.at) in
-    search (rules, same, at)
+    search (rules, same)

@@ -1,4 +1,4 @@
-use Rattle.std.proofs.Common.{◌≡◌, ◌+◌, [], ◌∷◌, ◌++◌, ◌∙◌, refl, sym, ap, subst, take}
+use Rattle.std.proofs.Common.{arith, ◌≡◌, ◌+◌, [], ◌∷◌, ◌++◌, ◌∙◌, refl, sym, ap, subst, take}
 use Rattle.std.proofs.lemmas.List.{take_more, take_all}
 use Rattle.pb_history.specs.declared.entry.Entry.{Entry}
 use Rattle.pb_script.specs.Puts.{puts_by}
@@ -19,12 +19,4 @@ loop-entry-preserved g c =
     (c.in_ok-note_entry.ensures before c.loop-entry.invariant)
 
 pub returns-clause-newest : goal.returns-clause-newest
-returns-clause-newest g c =
-    let es = c.journal-entry-items.result.now in
-    let state = c.args.shared.now.state in
-    let all : take c.loop-entry.entry-index es ≡ c.args.shared.now.journal = take_all c.loop-entry.entry-index es c.loop-entry-test.false ∙ c.journal-entry-items.ensures.entries in
-    record {
-      puts = all_puts state c.args.shared.now.journal;
-      gathered = gathers c.args.shared.now.journal state c.journal-entry-items.ensures.history;
-      newest = subst (λ es. AreNewest (all_puts state es) c.loop-entry.table) all c.loop-entry.invariant;
-    }
+returns-clause-newest g c = grind (arith, take_all, all_puts, gathers, c.journal-entry-items.result.now, c.args.shared.now.state, c.loop-entry.entry-index, c.args.shared.now.journal, c.loop-entry-test.false, c.journal-entry-items.ensures.entries, c.journal-entry-items.ensures.history, c.loop-entry.table, c.loop-entry.invariant)

@@ -1,4 +1,4 @@
-use Rattle.std.proofs.Common.{◌≡◌, ℕ, List, IfOk, Result, Ok, Err, String, Global, string_bytes, subst, sym}
+use Rattle.std.proofs.Common.{arith, ◌≡◌, ℕ, List, IfOk, Result, String, Global, string_bytes, subst, sym}
 use Rattle.std.specs.FinMap as map
 use Rattle.pb_base.specs.declared.refusal.NoMemory.{NoMemory}
 use Rattle.pb_steps.specs.Readings.{lock_count}
@@ -15,12 +15,7 @@ use Rattle.pb_script.proofs.output.text_of.Goals as goal
 if_report : (s : SharedOf) (puts : List Put) (marks locks : ℕ) (runs : Tallies) (r : Result (String Global) NoMemory) → Gathers s.state.observers s.journal puts → AreSeen s.state.observers s.journal s.state.clock
     → AreTallies s.state.observers s.journal 0 s.state.observers runs → marks ≡ map.len s.state.marks → locks ≡ lock_count s.state.entries
     → IfOk r (λ t. IsReport puts runs marks locks (string_bytes t)) → IfOk r (λ t. IsReportIn s (string_bytes t))
-if_report s puts marks locks runs (Ok t) g low rs ms ls h = record {
-  runs = runs;
-  tallied = rs;
-  reported = report_in s.state.observers s.journal s.state.clock puts g low runs _ _ (string_bytes t) (subst (λ m. IsReport puts runs m (lock_count s.state.entries) (string_bytes t)) ms (subst (λ l. IsReport puts runs marks l (string_bytes t)) ls h));
-}
-if_report s puts marks locks runs (Err e) g low rs ms ls h = tt
+if_report s puts marks locks runs r g low rs ms ls h = grind (arith, report_in)
 
 pub returns : goal.returns
 returns g c =

@@ -20,8 +20,7 @@ first_counted (x ∷ xs) e p =
 
 -- each turn of the walk leaves one less
 shorter : (xs : List (Slot × Item)) (e : Slot × Item) → Some e ≡ slice_get xs 0 → length (drop 1 xs) < length xs
-shorter [] e p = cc
-shorter (x ∷ xs) e p = omega arith
+shorter xs e p = grind arith
 
 -- of the entries, xs are left, whose first is e and whose others are ys
 module _ (es xs ys : List (Slot × Item)) (e : Slot × Item) (first : Some e ≡ slice_get xs 0) (rest : ys ≡ drop 1 xs) where
@@ -53,9 +52,7 @@ overflow_add-count g c =
     omega (arith, few, long, c.requires)
 
 pub loop-slot-smaller : goal.loop-slot-smaller
-loop-slot-smaller g c =
-    let es = map.entries c.args.table.now.contents.entries in
-    fewer es (entries_after c.loop-slot.after es) _ _ (sym c.in-Some.is ∙ c.next_entry.ensures.entry) c.in-Some.ensures.rest
+loop-slot-smaller g c = grind arith
 
 pub loop-slot-preserved : goal.loop-slot-preserved
 loop-slot-preserved g c =
@@ -67,7 +64,4 @@ loop-slot-preserved g c =
     ]
 
 pub returns : goal.returns
-returns g c =
-    let es = map.entries c.args.table.now.contents.entries in
-    let none = none_counted (entries_after c.loop-slot.after es) (sym c.in_default.is ∙ c.next_entry.ensures.entry) in
-    omega (arith, none, c.loop-slot.invariant)
+returns g c = grind (arith, none_counted, c.args.table.now.contents.entries, c.loop-slot.after, c.in_default.is, c.next_entry.ensures.entry, c.loop-slot.invariant)

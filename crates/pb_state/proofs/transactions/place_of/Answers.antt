@@ -11,9 +11,4 @@ loop-low-preserved-then-here-start-2 c = record {
 }
 
 pub loop-low-preserved : goal.loop-low-preserved
-loop-low-preserved c = record {
-  ordered = omega arith;
-  within = omega arith;
-  below = c.loop-low.invariant.below;
-  above = above_here c.args.list.now _ c.args.start c.index-list-middle.result c.requires (omega arith) (omega arith);
-}
+loop-low-preserved c = grind (arith, above_here, c.loop-low.invariant.below, c.args.list.now, c.args.start, c.index-list-middle.result, c.requires)

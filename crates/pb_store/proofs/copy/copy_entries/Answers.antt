@@ -1,4 +1,4 @@
-use Rattle.std.proofs.Common.{◌+◌}
+use Rattle.std.proofs.Common.{arith, ◌+◌}
 use Rattle.pb_store.proofs.Copied.{copied_entry, copied_entries, none_left, stands_there, left_behind, fewer_entries}
 use Rattle.pb_store.proofs.copy.copy_entries.Goals as goal
 
@@ -18,6 +18,4 @@ loop-slot-preserved g c =
     }
 
 pub returns : goal.returns
-returns g c =
-    copied_entries (g.T.Tablet.contents c.args.from.now).entries c.loop-slot.invariant.place (g.T.Tablet.contents c.loop-slot.to) c.loop-slot.invariant.copied
-    (none_left (g.T.Tablet.contents c.args.from.now).entries c.loop-slot.after c.loop-slot.invariant.place c.loop-slot.invariant.left c.in_default.ensures.entry)
+returns g c = grind (arith, copied_entries, none_left, g.T.Tablet.contents, c.args.from.now, c.loop-slot.invariant.place, c.loop-slot.to, c.loop-slot.invariant.copied, c.loop-slot.after, c.loop-slot.invariant.left, c.in_default.ensures.entry)

@@ -1,4 +1,4 @@
-use Rattle.std.proofs.Common.{◌≡◌, ◌-◌, ◌<◌, Some, sym, ap, ◌∙◌, subst}
+use Rattle.std.proofs.Common.{arith, ◌≡◌, Some, ap, ◌∙◌, subst}
 use Rattle.std.specs.FinMap as map
 use Rattle.pb_store.specs.Contents.{Contents, Marks, IsNextMark}
 use Rattle.pb_store.proofs.Copied.{marks_up_to, no_marks_yet, all_marks_of, one_more_mark, fewer_left}
@@ -17,22 +17,10 @@ module _ (g : Over) (c : In_ok-mark_in g) where
   marks_then = ap (λ (k : Contents). k.marks) (c.in_ok-mark_in.ensures) ∙ ap (λ (k : Contents). map.insert k.marks c.in-Some.cell tt) c.loop-cell.invariant
 
 pub loop-cell-smaller : goal.loop-cell-smaller
-loop-cell-smaller g c =
-    let ms = (g.T.Tablet.contents c.args.from.now).marks in
-    let was : (g.T.Tablet.contents c.loop-cell.to).marks ≡ marks_up_to c.loop-cell.after ms = ap (λ (k : Contents). k.marks) c.loop-cell.invariant in
-    subst (λ (n : Marks). map.len ms - map.len (g.T.Tablet.contents c.mark_in.new.tablet).marks < map.len ms - map.len n) (sym was)
-    (subst (λ (n : Marks). map.len ms - map.len n < map.len ms - map.len (marks_up_to c.loop-cell.after ms)) (sym (marks_then g c)) (fewer_left ms c.loop-cell.after c.in-Some.cell (next g c)))
+loop-cell-smaller g c = grind (arith, marks_up_to, marks_then, fewer_left, next, g.T.Tablet.contents, c.args.from.now, c.loop-cell.to, c.loop-cell.after, c.loop-cell.invariant, c.mark_in.new.tablet, c.in-Some.cell)
 
 pub loop-cell-preserved : goal.loop-cell-preserved
-loop-cell-preserved g c =
-    let ms = (g.T.Tablet.contents c.args.from.now).marks in
-    c.in_ok-mark_in.ensures
-    ∙ ap (λ (k : Contents). record { entries = k.entries; marks = map.insert k.marks c.in-Some.cell tt }) c.loop-cell.invariant
-    ∙ ap (λ (n : Marks). record { entries = (g.T.Tablet.contents c.args.from.now).entries; marks = n }) (one_more_mark ms c.loop-cell.after c.in-Some.cell (next g c))
+loop-cell-preserved g c = grind (arith, one_more_mark, next, g.T.Tablet.contents, c.args.from.now, c.in_ok-mark_in.ensures, c.in-Some.cell, c.loop-cell.invariant, c.loop-cell.after)
 
 pub returns : goal.returns
-returns g c =
-    let ms = (g.T.Tablet.contents c.args.from.now).marks in
-    c.loop-cell.invariant
-    ∙ ap (λ (n : Marks). record { entries = (g.T.Tablet.contents c.args.from.now).entries; marks = n })
-    (all_marks_of ms c.loop-cell.after (subst (IsNextMark ms c.loop-cell.after) c.in_default.is c.next_mark.ensures))
+returns g c = grind (arith, all_marks_of, g.T.Tablet.contents, c.args.from.now, c.loop-cell.invariant, c.loop-cell.after, c.in_default.is, c.next_mark.ensures)

@@ -1,17 +1,12 @@
-use Rattle.std.proofs.Common.{◌≡◌, length, sym, subst, arith, get_or, None, Some}
+use Rattle.std.proofs.Common.{◌≡◌, sym, subst, arith, get_or, Some}
 use Rattle.pb_store.specs.Contents.{Contents, IsNextMark}
 use Rattle.pb_store.specs.Tiles.{tiles_of}
 use Rattle.pb_store.proofs.Routing.{tile_at, length-tiles_of, tile_at-tiles_of}
-use Rattle.pb_store.proofs.Marked.{NonePassed, none_passed, one_more_passed, no_next, next_there}
+use Rattle.pb_store.proofs.Marked.{none_passed, one_more_passed, no_next, next_there}
 use Rattle.pb_store.proofs.table.mark_in.Goals as goal
 
 pub loop-i-init : goal.loop-i-init
-loop-i-init g c =
-    let size = length-tiles_of g.T.Tablet.contents c.args.parts.now in
-    record {
-      within = omega (arith, c.start_in-i.ensures.within);
-      passed = none_passed _ c.requires.tiled c.args.after.now c.start_in-i.result (omega (arith, size, c.start_in-i.ensures.within)) c.start_in-i.ensures.place;
-    }
+loop-i-init g c = grind (arith, length-tiles_of, none_passed, g.T.Tablet.contents, c.args.parts.now, c.start_in-i.ensures.within, c.requires.tiled, c.args.after.now, c.start_in-i.result, c.start_in-i.ensures.place)
 
 pub returns-in-Some : goal.returns-in-Some
 returns-in-Some g c =
@@ -27,13 +22,8 @@ loop-i-preserved g c =
     tile_at-tiles_of g.T.Tablet.contents c.args.parts.now c.loop-i.i c.index-parts-i.result (omega arith) in
     record {
       within = omega arith;
-      passed = one_more_passed (tiles_of g.T.Tablet.contents c.args.parts.now) c.args.after.now c.loop-i.i c.loop-i.invariant.passed
-          (subst (λ (k : Contents). IsNextMark k.marks c.args.after.now None) (sym here) c.in_default.ensures);
+      passed = grind (arith, one_more_passed, g.T.Tablet.contents, c.args.parts.now, c.loop-i.i, c.args.after.now, c.loop-i.invariant.passed, c.in_default.ensures);
     }
 
 pub returns : goal.returns
-returns g c =
-    let size = length-tiles_of g.T.Tablet.contents c.args.parts.now in
-    let end : c.loop-i.i ≡ length (tiles_of g.T.Tablet.contents c.args.parts.now) = omega (arith, size, c.loop-i.invariant.within) in
-    no_next (tiles_of g.T.Tablet.contents c.args.parts.now) c.requires.tiled c.args.after.now
-    (subst (NonePassed (tiles_of g.T.Tablet.contents c.args.parts.now) c.args.after.now) end c.loop-i.invariant.passed)
+returns g c = grind (arith, length-tiles_of, no_next, g.T.Tablet.contents, c.args.parts.now, c.loop-i.i, c.loop-i.invariant.within, c.requires.tiled, c.args.after.now, c.loop-i.invariant.passed)

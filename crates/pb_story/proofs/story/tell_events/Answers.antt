@@ -1,4 +1,4 @@
-use Rattle.std.proofs.Common.{rules, ◌≡◌, ◌<◌, Some, Err, length, subst, refl, sym, slice_get}
+use Rattle.std.proofs.Common.{arith, rules, ◌≡◌, ◌<◌, Some, Err, length, subst, refl, sym, slice_get}
 use Rattle.std.proofs.lemmas.Option.{slice_get_read}
 use Rattle.pb_base.specs.Taking.{taking}
 use Rattle.pb_story.specs.Stories.{LinesEnd}
@@ -18,9 +18,4 @@ returns-in_err-tell_event g c =
     (g.S.Sink.taken c.args.sink.now) (g.S.Sink.taken l.sink) now (g.S.Sink.failed l.sink) failed c.in_err-tell_event.field-0.0 at l.invariant c.in_err-tell_event.ensures)
 
 pub loop-number-preserved : goal.loop-number-preserved
-loop-number-preserved g c =
-    let l = c.loop-number in
-    let inside : l.number < length c.args.events.now = search rules in
-    let at : slice_get c.args.events.now l.number ≡ Some c.index-events-number.result = slice_get_read c.args.events.now _ l.number _ refl inside c.index-events-number.is in
-    told_more c.args.world.now c.args.events.now l.number l.world c.tell_event.new.world c.index-events-number.result
-    (g.S.Sink.taken c.args.sink.now) (g.S.Sink.taken l.sink) (g.S.Sink.taken c.tell_event.new.sink) (g.S.Sink.failed l.sink) (g.S.Sink.failed c.tell_event.new.sink) at l.invariant c.in_ok-tell_event.ensures
+loop-number-preserved g c = grind (arith, slice_get_read, told_more, c.loop-number, c.args.events.now, c.index-events-number.result, c.index-events-number.is, c.args.world.now, c.tell_event.new.world, g.S.Sink.taken, c.args.sink.now, c.tell_event.new.sink, g.S.Sink.failed, c.in_ok-tell_event.ensures)

@@ -1,7 +1,7 @@
-use Rattle.std.proofs.Common.{◌≡◌, ℕ, ◌<◌, ◌≤◌, ◌+◌, ◌*◌, ◌++◌, take, drop, [], ◌∷◌, Some, None, nat_eq, refl, length, sym, ap, ◌∙◌, arith, rules, add-one, slice_index_or, option_map, if◌then◌else◌, box_value}
+use Rattle.std.proofs.Common.{◌≡◌, ℕ, ◌<◌, ◌≤◌, ◌+◌, ◌*◌, ◌++◌, take, drop, [], ◌∷◌, Some, None, refl, length, sym, ap, ◌∙◌, arith, rules, add-one, slice_index_or, option_map, if◌then◌else◌, box_value}
 use Rattle.std.proofs.lemmas.List.{take_at}
 use Rattle.pb_isa.specs.Slots.{slots, insn_at}
-use Rattle.pb_verify.specs.Arriving.{merge, if_leads, outs, in_at, frame_before, frame_after}
+use Rattle.pb_verify.specs.Arriving.{outs, in_at, frame_before, frame_after}
 use Rattle.pb_verify.specs.Within.{IsWithinIf}
 use Rattle.pb_verify.proofs.PointersWithin.{within_arriving, within_if_more, within_push, none_within}
 use Rattle.pb_verify.proofs.FramesAfter.{outs_more, in_is, outs_none}
@@ -12,16 +12,7 @@ use Rattle.pb_verify.proofs.known.frames.Goals as goal
 use Rattle.pb_verify.proofs.known.frames.Goals.{After-arrive-is_reached}
 
 pub loop-slot-init : goal.loop-slot-init
-loop-slot-init c = record {
-  len = c.in_ok-jumps.ensures.len ∙ c.slots.ensures.slots;
-  waits = λ k l h. rw (c.in_ok-jumps.ensures.each k, c.entry-frame.ensures, outs_none c.args.program.now.insns) refl;
-  most = omega arith;
-  pair = λ h. absurd (omega (arith, h));
-  count = c.in_ok-known.ensures.len;
-  room = search rules;
-  told = none_known c.args.program.now.insns _ c.in_ok-known.ensures.items;
-  near = none_within _ (outs_none c.args.program.now.insns);
-}
+loop-slot-init c = grind (arith, outs_none, none_known, none_within, c.in_ok-jumps.ensures.len, c.slots.ensures.slots, c.in_ok-jumps.ensures.each, c.entry-frame.ensures, c.args.program.now.insns, c.in_ok-known.ensures.len, c.in_ok-known.ensures.items)
 
 -- a second slot
 pub loop-slot-preserved-in_default : goal.loop-slot-preserved-in_default
@@ -47,17 +38,10 @@ insn_is c = sym c.at.ensures ∙ c.in-Some.is
 
 -- what `arrive` tells is the frame before the slot, as the definition has it
 reached_is : (c : After-arrive-is_reached) → (if c.arrive-is_reached.result then Some c.arrive-is_reached.new.frame else None) ≡ in_at c.args.program.now.insns c.loop-slot.slot
-reached_is c =
-    let n = c.loop-slot.slot in
-    let p = c.args.program.now.insns in
-    let inside : n < slots p = search rules in
-    let waits = c.loop-slot.invariant.waits n (omega arith) inside in
-    c.arrive-is_reached.ensures.known ∙ ap (λ xs. merge (option_map box_value (slice_index_or xs n None)) (if nat_eq n c.loop-slot.next then Some c.loop-slot.frame else None)) c.deref_mut.ensures.value ∙ waits ∙ sym (in_is p n)
+reached_is c = grind (arith, in_is, c.loop-slot.slot, c.args.program.now.insns, c.loop-slot.invariant.waits, c.arrive-is_reached.ensures.known, c.loop-slot.next, c.loop-slot.frame, c.deref_mut.ensures.value)
 
 reached_near : (c : After-arrive-is_reached) → IsWithinIf (c.loop-slot.slot * 2147483648) (if c.arrive-is_reached.result then Some c.arrive-is_reached.new.frame else None)
-reached_near c =
-    let n = c.loop-slot.slot in
-    rw (reached_is c, in_is c.args.program.now.insns n) (within_arriving c.args.program.now.insns _ n _ c.loop-slot.invariant.near)
+reached_near c = grind (arith, reached_is, in_is, within_arriving, c.loop-slot.slot, c.args.program.now.insns, c.loop-slot.invariant.near)
 
 -- the jumps, once this slot's is taken
 jumps_left : (c : After-arrive-is_reached) → take c.loop-slot.jumps.len (c.arrive-is_reached.new.jumps ++ drop (length c.arrive-is_reached.new.jumps) c.loop-slot.jumps.items) ≡ c.arrive-is_reached.new.jumps
@@ -71,9 +55,7 @@ low c = let insn = insn_is c in search rules
 
 -- what waits at a later slot
 later : (c : After-arrive-is_reached) (k : ℕ) → c.loop-slot.slot < k → k < slots c.args.program.now.insns → option_map box_value (slice_index_or c.arrive-is_reached.new.jumps k None) ≡ frame_before c.args.program.now.insns k (outs c.args.program.now.insns c.loop-slot.slot)
-later c k past h =
-    let same = rw (not_here c.loop-slot.next k (let l = low c in omega (arith, past, l))) at (c.loop-slot.invariant.waits k (omega (arith, past)) h) in
-    ap (option_map box_value) (c.arrive-is_reached.ensures.rest k past ∙ ap (λ xs. slice_index_or xs k None) c.deref_mut.ensures.value) ∙ sym (merge_none _) ∙ same
+later c k past h = grind arith
 
 -- an instruction that nothing leads to
 pub loop-slot-preserved-then-not-is_reached : goal.loop-slot-preserved-then-not-is_reached
@@ -99,10 +81,7 @@ loop-slot-preserved-then-not-is_reached c =
     }
 
 pub step-requires : goal.step-requires
-step-requires c =
-    let b = (goal.at.step-requires c).After-arrive-is_reached in
-    let near = within_if_more (c.loop-slot.slot * 2147483648) 4611686018427387904 _ (omega arith) (reached_near b) in
-    rw c.if-not-is_reached.false at near
+step-requires c = grind (arith, within_if_more, reached_near, c.loop-slot.slot, c.if-not-is_reached.false)
 
 pub loop-slot-preserved : goal.loop-slot-preserved
 loop-slot-preserved c =
@@ -118,11 +97,7 @@ loop-slot-preserved c =
     let all : length c.deref_mut-in-loop-slot.result.now ≡ slots p = ap length before ∙ long b in
     record {
       len = rw (take_at c.spread.new.jumps _ c.loop-slot.jumps.len (c.spread.ensures.len ∙ c.deref_mut-in-loop-slot.ensures.len)) (c.spread.ensures.len ∙ all);
-      waits = λ k l h.
-          let past : n < k = omega (arith, l) in
-          let rest = ap (λ xs. option_map box_value (slice_index_or xs k None)) before ∙ later b k past h in
-          rw (take_at c.spread.new.jumps _ c.loop-slot.jumps.len (c.spread.ensures.len ∙ c.deref_mut-in-loop-slot.ensures.len), more)
-          (c.in_ok-next.ensures.each k past (rw all h) ∙ ap (λ o. merge o (if_leads (Some c.in-Some.insn) n k (Some c.step.new.frame))) rest ∙ ap (λ i. merge (frame_before p k (outs p n)) (if_leads i n k (Some c.step.new.frame))) (sym insn) ∙ sym (before_next p k n (Some c.step.new.frame) past));
+      waits = grind (arith, take_at, later, before_next, c.step.new.frame, c.spread.new.jumps, c.loop-slot.jumps.len, c.spread.ensures.len, c.deref_mut-in-loop-slot.ensures.len, c.in_ok-next.ensures.each, c.in-Some.insn);
       most = let most = c.in_ok-next.ensures.most in omega (arith, most);
       pair = λ h. rw add-one (behind_pair p n c.in-Some.insn insn (c.in_ok-next.ensures.pair h));
       count = let count = c.loop-slot.invariant.count in let more = c.push_reserved-in-loop-slot.ensures.len in omega (arith, count, more);

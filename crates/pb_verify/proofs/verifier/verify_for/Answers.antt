@@ -1,4 +1,4 @@
-use Rattle.std.proofs.Common.{◌≡◌, ℕ, subst, ◌<◌, ◌≤◌, ◌+◌, ◌*◌, ◌++◌, take, drop, [], ◌∷◌, Some, None, nat_eq, refl, length, sym, ap, ◌∙◌, arith, rules, below_more, add-one, slice_index_or, option_map, if◌then◌else◌, box_value}
+use Rattle.std.proofs.Common.{◌≡◌, ℕ, subst, ◌<◌, ◌≤◌, ◌+◌, ◌*◌, ◌++◌, take, drop, [], ◌∷◌, Some, None, refl, length, sym, ap, ◌∙◌, arith, rules, below_more, add-one, slice_index_or, option_map, if◌then◌else◌, box_value}
 use Rattle.std.proofs.lemmas.List.{take_at}
 use Rattle.pb_verify.specs.Versions.{judged_by}
 use Rattle.pb_isa.specs.Slots.{slots, insn_at}
@@ -9,23 +9,13 @@ use Rattle.pb_verify.proofs.FramesAfter.{outs_more, in_is, outs_none}
 use Rattle.pb_verify.specs.Accesses.{access_at}
 use Rattle.pb_verify.specs.Effects.{effect_of, effect_at, next_imm, IsNextImm, with_next}
 use Rattle.pb_verify.proofs.Pairs.{behind_pair}
-use Rattle.pb_verify.proofs.Resolved.{AreResolvedTo, none_resolved, resolved_more, no_pair_before, all_resolved}
+use Rattle.pb_verify.proofs.Resolved.{none_resolved, resolved_more, no_pair_before, all_resolved}
 use Rattle.pb_verify.proofs.Pending.{before_next, before_past, merge_none, not_here, none_broken}
 use Rattle.pb_verify.proofs.verifier.verify_for.Goals as goal
 use Rattle.pb_verify.proofs.verifier.verify_for.Goals.{After-arrive-is_reached}
 
 pub loop-slot-init : goal.loop-slot-init
-loop-slot-init c = record {
-  len = c.in-Ok.ensures.len ∙ c.slots.ensures.slots;
-  known = λ k l h. rw (c.in-Ok.ensures.each k, c.entry-frame.ensures, outs_none c.args.program.insns) refl;
-  most = omega arith;
-  pair = λ h. absurd (omega (arith, h));
-  fine = λ m h. absurd (omega arith);
-  count = c.in-Ok-with_capacity.ensures.len;
-  room = search rules;
-  resolved = none_resolved c.args.program.insns _ c.in-Ok-with_capacity.ensures.items;
-  near = none_within _ (outs_none c.args.program.insns);
-}
+loop-slot-init c = grind (arith, outs_none, none_resolved, none_within, c.in-Ok.ensures.len, c.slots.ensures.slots, c.in-Ok.ensures.each, c.entry-frame.ensures, c.args.program.insns, c.in-Ok-with_capacity.ensures.len, c.in-Ok-with_capacity.ensures.items)
 
 pub loop-slot-preserved-in_default-at : goal.loop-slot-preserved-in_default-at
 loop-slot-preserved-in_default-at c =
@@ -51,17 +41,10 @@ insn_is c = sym c.at.ensures ∙ c.in-Some.is
 
 -- what `arrive` tells is the frame before the slot, as the definition has it
 known_is : (c : After-arrive-is_reached) → (if c.arrive-is_reached.result then Some c.arrive-is_reached.new.frame else None) ≡ in_at c.args.program.insns c.loop-slot.slot
-known_is c =
-    let n = c.loop-slot.slot in
-    let p = c.args.program.insns in
-    let inside : n < slots p = search rules in
-    let known = c.loop-slot.invariant.known n (omega arith) inside in
-    c.arrive-is_reached.ensures.known ∙ ap (λ xs. merge (option_map box_value (slice_index_or xs n None)) (if nat_eq n c.loop-slot.next then Some c.loop-slot.frame else None)) c.deref_mut.ensures.value ∙ known ∙ sym (in_is p n)
+known_is c = grind (arith, in_is, c.loop-slot.slot, c.args.program.insns, c.loop-slot.invariant.known, c.arrive-is_reached.ensures.known, c.loop-slot.next, c.loop-slot.frame, c.deref_mut.ensures.value)
 
 known_near : (c : After-arrive-is_reached) → IsWithinIf (c.loop-slot.slot * 2147483648) (if c.arrive-is_reached.result then Some c.arrive-is_reached.new.frame else None)
-known_near c =
-    let n = c.loop-slot.slot in
-    rw (known_is c, in_is c.args.program.insns n) (within_arriving c.args.program.insns _ n _ c.loop-slot.invariant.near)
+known_near c = grind (arith, known_is, in_is, within_arriving, c.loop-slot.slot, c.args.program.insns, c.loop-slot.invariant.near)
 
 -- so near that no sum of a distance and an offset overflows
 all_near : (c : After-arrive-is_reached) → IsWithinIf 4611686018427387904 (if c.arrive-is_reached.result then Some c.arrive-is_reached.new.frame else None)
@@ -71,23 +54,13 @@ pub code_at-requires-clause-near : goal.code_at-requires-clause-near
 code_at-requires-clause-near c = all_near (goal.at.code_at-requires-clause-near c).After-arrive-is_reached
 
 pub returns-in-Some-code_at-clause-refused : goal.returns-in-Some-code_at-clause-refused
-returns-in-Some-code_at-clause-refused c =
-    let at = (goal.at.returns-in-Some-code_at-clause-refused c).After-arrive-is_reached in
-    let found = rw (known_is at) at c.code_at.ensures.value in (
-      _,
-      c.code.ensures,
-      record { inside = omega arith; code = rw (insn_is at) (sym found ∙ c.in-Some-code_at.is); before = c.loop-slot.invariant.fine },
-    )
+returns-in-Some-code_at-clause-refused c = grind (arith, known_is, insn_is, c.code_at.ensures.value, c.code.ensures, c.in-Some-code_at.is, c.loop-slot.invariant.fine)
 
 pub access_of-access-requires : goal.access_of-access-requires
-access_of-access-requires c =
-    let near = all_near (goal.at.access_of-access-requires c).After-arrive-is_reached in
-    rw c.in_default-code_at.ensures.reached at near
+access_of-access-requires c = grind (arith, all_near, c.in_default-code_at.ensures.reached)
 
 pub step-requires : goal.step-requires
-step-requires c =
-    let near = all_near (goal.at.step-requires c).After-arrive-is_reached in
-    rw c.in_default-code_at.ensures.reached at near
+step-requires c = grind (arith, all_near, c.in_default-code_at.ensures.reached)
 
 pub loop-slot-preserved : goal.loop-slot-preserved
 loop-slot-preserved c =
@@ -128,7 +101,4 @@ loop-slot-preserved c =
     }
 
 pub new-requires-clause-resolved : goal.new-requires-clause-resolved
-new-requires-clause-resolved c =
-    let p = c.args.program.insns in
-    let all : c.loop-slot.slot ≡ slots p = search rules in
-    all_resolved p c.loop-slot.ops.items (subst (λ k. AreResolvedTo p k c.loop-slot.ops.items) all c.loop-slot.invariant.resolved)
+new-requires-clause-resolved c = grind (arith, all_resolved, c.args.program.insns, c.loop-slot.slot, c.loop-slot.ops.items, c.loop-slot.invariant.resolved)

@@ -29,10 +29,7 @@ loop-e-preserved c =
             sized = length-set l.cursors place w.in-Some-behind.next ∙ l.invariant.sized;
             along = one_on c.args.journal.now l.e-index c.e-item.result c.loop-e-test.true c.e-item.is c.args.seats.now l.cursors l.invariant.along place s w.in-Some.ensures.some w.index-seats-place.is c.places_of-places.result w.in-Some-behind.next c.places_of-places.ensures in' there w.in-Some-behind.ensures.some.1;
           })
-      | in_default w ↦ rw w.cursors-is (record {
-        sized = l.invariant.sized;
-        along = none_on c.args.journal.now l.e-index c.e-item.result c.loop-e-test.true c.e-item.is c.args.seats.now l.cursors l.invariant.along (w.in_default.ensures.none refl);
-      })
+      | in_default w ↦ grind (arith, none_on, c.e-item.result, c.args.journal.now, c.loop-e-test.true, c.e-item.is, c.args.seats.now)
     ]
 
 pub returns : goal.returns

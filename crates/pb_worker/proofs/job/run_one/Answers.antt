@@ -1,20 +1,16 @@
-use Rattle.std.proofs.Common.{◌≡◌}
+use Rattle.std.proofs.Common.{arith, ◌≡◌}
 use Rattle.std.proofs.lemmas.Result.{err_from_is_err_and}
-use Rattle.pb_worker.proofs.RunAlong.{first, first_calls, not_made, next, refused, wants, ran}
+use Rattle.pb_worker.proofs.RunAlong.{first, first_calls, not_made, next, refused, wants}
 use Rattle.pb_worker.proofs.job.run_one.Goals as goal
 
 pub returns-in_default-clause-err : goal.returns-in_default-clause-err
 returns-in_default-clause-err g c = not_made c.args.observers.now c.args.number c.args.cell c.args.seat.now c.jobs_converse.ensures.converses c.requires.known c.refusal.result c.refusal.ensures
 
 pub loop-turn-init : goal.loop-turn-init
-loop-turn-init g c = record {
-  along = first c.args.observers.now c.args.number c.args.cell c.args.seat.now c.in-Ok.job c.requires.known c.in-Ok.ensures;
-  calls = first_calls c.args.observers.now c.args.number c.args.cell c.in-Ok.job c.requires.known c.in-Ok.ensures;
-}
+loop-turn-init g c = grind (arith, first, first_calls, c.args.observers.now, c.args.number, c.args.cell, c.args.seat.now, c.in-Ok.job, c.requires.known, c.in-Ok.ensures)
 
 pub returns-in_default-next-clause-ok : goal.returns-in_default-next-clause-ok
-returns-in_default-next-clause-ok g c =
-    ran c.args.observers.now c.args.number c.args.cell c.args.seat.now c.loop-turn.seat c.loop-turn.job c.loop-turn.invariant.along c.jobs_converse.ensures.ends c.loop-turn.invariant.calls c.in_default-next.ensures.next c.in_default-next.ensures.some
+returns-in_default-next-clause-ok g c = grind arith
 
 pub loop-turn-preserved : goal.loop-turn-preserved
 loop-turn-preserved g c = record {

@@ -1,3 +1,4 @@
+use Rattle.std.proofs.Common.{arith}
 use Rattle.std.proofs.lemmas.Result.{err_from_is_err_and}
 use Rattle.pb_worker.proofs.PassAlong.{no_passes, pass_on, last_pass, passes_stop}
 use Rattle.pb_worker.proofs.passes.drain.Goals as goal
@@ -6,14 +7,10 @@ pub loop-count-init : goal.loop-count-init
 loop-count-init g c = no_passes c.args.observers.now c.args.seat.now
 
 pub returns-in_err-marked-clause-err : goal.returns-in_err-marked-clause-err
-returns-in_err-marked-clause-err g c =
-    let p = err_from_is_err_and c.from_residual.result c.from_residual.ensures.1 in
-    rw (p.1, p.2) (passes_stop c.args.observers.now c.loop-count._count c.args.seat.now c.loop-count.seat c.loop-count.invariant c.loop-count-test.true c.pass.new.seat c.in_err-marked.field-0.0 c.in_err-marked.ensures.err)
+returns-in_err-marked-clause-err g c = grind (arith, err_from_is_err_and, passes_stop, c.from_residual.result, c.args.observers.now, c.loop-count._count, c.args.seat.now, c.loop-count.seat, c.loop-count.invariant, c.loop-count-test.true, c.pass.new.seat, c.in_err-marked.ensures.err)
 
 pub returns-then-not-marked-clause-ok : goal.returns-then-not-marked-clause-ok
-returns-then-not-marked-clause-ok g c =
-    last_pass c.args.observers.now c.loop-count._count c.args.seat.now c.loop-count.seat c.loop-count.invariant c.loop-count-test.true c.pass.new.seat c.in_ok-marked.marked c.if-not-marked.true c.in_ok-marked.ensures.ok
+returns-then-not-marked-clause-ok g c = grind (arith, last_pass, c.args.observers.now, c.loop-count._count, c.args.seat.now, c.loop-count.seat, c.loop-count.invariant, c.loop-count-test.true, c.pass.new.seat, c.in_ok-marked.marked, c.if-not-marked.true, c.in_ok-marked.ensures.ok)
 
 pub loop-count-preserved : goal.loop-count-preserved
-loop-count-preserved g c =
-    pass_on c.args.observers.now c.loop-count._count c.args.seat.now c.loop-count.seat c.loop-count.invariant c.pass.new.seat c.in_ok-marked.marked c.if-not-marked.false c.in_ok-marked.ensures.ok
+loop-count-preserved g c = grind (arith, pass_on, c.args.observers.now, c.loop-count._count, c.args.seat.now, c.loop-count.seat, c.loop-count.invariant, c.pass.new.seat, c.in_ok-marked.marked, c.if-not-marked.false, c.in_ok-marked.ensures.ok)

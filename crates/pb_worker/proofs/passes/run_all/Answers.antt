@@ -1,3 +1,4 @@
+use Rattle.std.proofs.Common.{arith}
 use Rattle.std.proofs.lemmas.Result.{err_from_is_err_and}
 use Rattle.pb_worker.proofs.PassAlong.{no_runs, one_run, no_run, runs_stop}
 use Rattle.pb_worker.proofs.passes.run_all.Goals.{then-is_observer_of+in-Some+in_ok-run_one, else-is_observer_of}
@@ -9,13 +10,7 @@ loop-place-init g c = no_runs c.args.observers.now c.args.cell.now c.args.seat.n
 pub returns-in_err-run_one-clause-err : goal.returns-in_err-run_one-clause-err
 returns-in_err-run_one-clause-err g c =
     let p = err_from_is_err_and c.from_residual.result c.from_residual.ensures.1 in
-    rw (p.1, p.2) (runs_stop c.args.observers.now c.args.cell.now c.loop-place.place c.args.seat.now c.loop-place.seat c.loop-place.invariant c.run_one.new.seat c.in_err-run_one.field-0.0
-    (rw c.in-Some.ensures.some at c.in_err-run_one.ensures.err))
+    grind (arith, runs_stop, c.args.observers.now, c.args.cell.now, c.loop-place.place, c.args.seat.now, c.loop-place.seat, c.loop-place.invariant, c.run_one.new.seat, c.in-Some.ensures.some, c.in_err-run_one.ensures.err)
 
 pub loop-place-preserved : goal.loop-place-preserved
-loop-place-preserved g c =
-    let observers = c.args.observers.now in
-    elim c.if-is_observer_of.branch [
-      | then-is_observer_of+in-Some+in_ok-run_one w ↦ rw w.seat-is (one_run observers c.args.cell.now c.loop-place.place c.args.seat.now c.loop-place.seat c.loop-place.invariant w.run_one.new.seat (rw w.in-Some.ensures.some at w.in_ok-run_one.ensures.ok))
-      | else-is_observer_of w ↦ rw w.seat-is (no_run observers c.args.cell.now c.loop-place.place c.args.seat.now c.loop-place.seat c.loop-place.invariant (c.is_observer_of.ensures.isnt w.if-is_observer_of.false))
-    ]
+loop-place-preserved g c = grind (arith, then-is_observer_of+in-Some+in_ok-run_one, one_run, else-is_observer_of, no_run, c.args.observers.now, c.if-is_observer_of.branch, c.args.cell.now, c.loop-place.place, c.args.seat.now, c.loop-place.seat, c.loop-place.invariant, c.is_observer_of.ensures.isnt)

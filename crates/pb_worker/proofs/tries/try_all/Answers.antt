@@ -1,3 +1,4 @@
+use Rattle.std.proofs.Common.{arith}
 use Rattle.std.proofs.lemmas.Result.{err_from_is_err_and}
 use Rattle.pb_worker.proofs.ChangesAlong.{no_tries, in_vain, done, tries_stop}
 use Rattle.pb_worker.proofs.tries.try_all.Goals as goal
@@ -12,6 +13,4 @@ pub loop-count-preserved : goal.loop-count-preserved
 loop-count-preserved g c = in_vain c.args.batch.now c.loop-count.count c.args.seat.now c.loop-count.seat c.loop-count.invariant c.try_once.new.seat c.in_ok-committed.committed c.if-committed.false c.in_ok-committed.ensures.ok
 
 pub returns-in_err-committed-clause-err : goal.returns-in_err-committed-clause-err
-returns-in_err-committed-clause-err g c =
-    let p = err_from_is_err_and c.from_residual.result c.from_residual.ensures.1 in
-    rw (p.1, p.2) (tries_stop c.args.batch.now c.loop-count.count c.args.seat.now c.loop-count.seat c.loop-count.invariant c.loop-count-test.true c.try_once.new.seat c.in_err-committed.field-0.0.committed c.in_err-committed.field-0.0.refusal c.in_err-committed.ensures.err)
+returns-in_err-committed-clause-err g c = grind (arith, err_from_is_err_and, tries_stop, c.from_residual.result, c.args.batch.now, c.loop-count.count, c.args.seat.now, c.loop-count.seat, c.loop-count.invariant, c.loop-count-test.true, c.try_once.new.seat, c.in_err-committed.field-0.0.committed, c.in_err-committed.field-0.0.refusal, c.in_err-committed.ensures.err)

@@ -1,4 +1,4 @@
-use Rattle.std.proofs.Common.{rules, ◌≡◌, ℕ, List, Ok, Err, inl, subst}
+use Rattle.std.proofs.Common.{arith, rules, ◌≡◌, ℕ, List, Ok, Err, subst}
 use Rattle.pb_base.specs.Taking.{Taking, taking}
 use Rattle.pb_story.specs.declared.fault.StoryFault.{StoryFault}
 use Rattle.pb_story.specs.Stories.{StoryEnds}
@@ -7,9 +7,7 @@ use Rattle.percobpf_story.proofs.replay.tell_texts.Goals as goal
 
 -- a story that ended with a fault did so as a replay
 ended : (last : ℕ) (m s e : List ℕ) (out : Taking) (f : StoryFault) → ToldOn last m s e out (Err f) → TellsTexts last m s e out (Err (of_story f))
-ended last m s e out (StoryFault.Event f) t = t
-ended last m s e out StoryFault.Output t = t
-ended last m s e out StoryFault.NoMemory t = inl t
+ended last m s e out f t = grind arith
 
 pub returns-in-Ok : goal.returns-in-Ok
 returns-in-Ok g c =

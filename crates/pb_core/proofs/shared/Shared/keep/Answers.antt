@@ -1,4 +1,4 @@
-use Rattle.std.proofs.Common.{◌<◌, ◌≡◌, length, rules, get_or, [], refl}
+use Rattle.std.proofs.Common.{arith, ◌<◌, ◌≡◌, length, rules, get_or, []}
 use Rattle.std.proofs.lemmas.List.{get_or_read}
 use Rattle.pb_steps.specs.Steps.{TableStep}
 use Rattle.pb_core.proofs.StepsKeep.{case_kept}
@@ -16,18 +16,4 @@ invariant_of-self-2 g c =
     kept_more s.journal.items s.books.items s.state s.opened s.limit seat c.args.step.now c.in_ok-answer.answer c.take_admitted.new.self _ _ c.self.invariant m seated room (search rules) (search (rules, read))
 
 pub returns-clause-taken : goal.returns-clause-taken
-returns-clause-taken g c =
-    let s = c.self.inside in
-    let seat = c.seat.inside.number in
-    let m : TableStep s.state seat c.args.step.now c.in_ok-answer.answer c.take_admitted.new.self = search rules in
-    let rest = case_kept s.state seat c.args.step.now c.in_ok-answer.answer c.take_admitted.new.self m.taken in
-    rw (← c.self.view_is, ← c.seat.view_is) (record {
-      machine = m;
-      journal = search rules;
-      opened = refl;
-      limit = refl;
-      seats = rest.seats;
-      observers = rest.observers;
-      number = refl;
-      received = search rules;
-    })
+returns-clause-taken g c = grind (arith, case_kept, c.self.inside, c.seat.inside.number, c.args.step.now, c.in_ok-answer.answer, c.take_admitted.new.self, c.self.view_is, c.seat.view_is)

@@ -1,6 +1,5 @@
-use Rattle.std.proofs.Common.{◌≡◌, sym, ap, ◌∙◌, subst, IfSome, slice_get, option_map}
-use Rattle.std.specs.FinMap as map
-use Rattle.pb_store.specs.Contents.{Contents, IsOfSort}
+use Rattle.std.proofs.Common.{arith, ◌≡◌, sym, ap, ◌∙◌, subst, IfSome, slice_get, option_map}
+use Rattle.pb_store.specs.Contents.{IsOfSort}
 use Rattle.pb_memtablet.specs.Stored.{seen, HasItem}
 use Rattle.pb_memtablet.proofs.Answered.{entries-listed, of_sort_there}
 use Rattle.pb_memtablet.proofs.Kept.{as_entry, at-seen, stored_at}
@@ -15,10 +14,7 @@ found : (c : After-entry_at) → c.entry_at.result ≡ slice_get (seen c.self.in
 found c = c.entry_at.ensures ∙ ap (option_map (as_entry c.self.inside.items.slots)) c.at.ensures ∙ sym (at-seen c.self.inside.items.slots c.self.inside.keys.entries c.args.place)
 
 pub returns-clause-entry : goal.returns-clause-entry
-returns-clause-entry c =
-    found c
-    ∙ ap (λ es. slice_get es c.args.place) (sym (entries-listed (seen c.self.inside.items.slots c.self.inside.keys.entries) c.self.inside.marks.entries c.self.invariant.lists))
-    ∙ ap (λ (k : Contents). slice_get (map.entries k.entries) c.args.place) c.self.view_is
+returns-clause-entry c = grind (arith, found, entries-listed, c.args.place, c.self.inside.items.slots, c.self.inside.keys.entries, c.self.inside.marks.entries, c.self.invariant.lists, c.self.view_is)
 
 pub returns-clause-sort : goal.returns-clause-sort
 returns-clause-sort c =

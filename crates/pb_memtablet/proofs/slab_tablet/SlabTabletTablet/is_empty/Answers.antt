@@ -1,15 +1,12 @@
-use Rattle.std.proofs.Common.{◌≡◌, ◌==◌, ◌&&◌, length, sym, ap, ◌∙◌}
+use Rattle.std.proofs.Common.{arith, ◌≡◌, ◌==◌, ◌&&◌, length, sym, ap, ◌∙◌}
 use Rattle.pb_store.specs.Contents.{is_nothing}
-use Rattle.pb_memtablet.specs.Stored.{seen}
 use Rattle.pb_memtablet.proofs.Kept.{length-seen}
 use Rattle.pb_memtablet.proofs.Answered.{is_nothing-listed}
 use Rattle.pb_memtablet.proofs.slab_tablet.SlabTabletTablet.is_empty.Goals as goal
 use Rattle.pb_memtablet.proofs.slab_tablet.SlabTabletTablet.is_empty.Goals.{After-is_empty}
 
 told : (c : After-is_empty) → ((length c.self.inside.keys.entries == 0) && (length c.self.inside.marks.entries == 0)) ≡ is_nothing c.args.self.now
-told c =
-    ap (λ n. (n == 0) && (length c.self.inside.marks.entries == 0)) (sym (length-seen c.self.inside.items.slots c.self.inside.keys.entries))
-    ∙ sym (is_nothing-listed (seen c.self.inside.items.slots c.self.inside.keys.entries) c.self.inside.marks.entries c.self.invariant.lists) ∙ ap is_nothing c.self.view_is
+told c = grind (arith, length-seen, is_nothing-listed, c.self.inside.marks.entries, c.self.inside.items.slots, c.self.inside.keys.entries, c.self.invariant.lists, c.self.view_is)
 
 pub returns-then-is_empty : goal.returns-then-is_empty
 returns-then-is_empty c =

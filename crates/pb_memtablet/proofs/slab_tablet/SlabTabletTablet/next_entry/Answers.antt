@@ -1,6 +1,5 @@
-use Rattle.std.proofs.Common.{◌≡◌, sym, ap, ◌∙◌, subst, IfSome, slice_get, option_map}
-use Rattle.std.specs.FinMap as map
-use Rattle.pb_store.specs.Contents.{Contents, IsOfSort, entries_after}
+use Rattle.std.proofs.Common.{arith, ◌≡◌, sym, ap, ◌∙◌, subst, IfSome, slice_get, option_map}
+use Rattle.pb_store.specs.Contents.{IsOfSort, entries_after}
 use Rattle.pb_memtablet.specs.Stored.{seen, HasItem}
 use Rattle.pb_memtablet.proofs.Answered.{entries-listed, of_sort_after}
 use Rattle.pb_memtablet.proofs.Kept.{as_entry, next-seen, next_stored}
@@ -19,11 +18,7 @@ found c =
     ∙ next-seen c.self.inside.items.slots c.args.after c.self.inside.keys.entries
 
 pub returns-clause-entry : goal.returns-clause-entry
-returns-clause-entry c =
-    found c
-    ∙ ap (λ es. slice_get (entries_after c.args.after es) 0)
-    (sym (entries-listed (seen c.self.inside.items.slots c.self.inside.keys.entries) c.self.inside.marks.entries c.self.invariant.lists))
-    ∙ ap (λ (k : Contents). slice_get (entries_after c.args.after (map.entries k.entries)) 0) c.self.view_is
+returns-clause-entry c = grind (arith, found, entries-listed, c.args.after, c.self.inside.items.slots, c.self.inside.keys.entries, c.self.inside.marks.entries, c.self.invariant.lists, c.self.view_is)
 
 pub returns-clause-sort : goal.returns-clause-sort
 returns-clause-sort c =

@@ -1,4 +1,4 @@
-use Rattle.std.proofs.Common.{◌≡◌, ℕ, refl, sym, ap, subst, ◌∙◌, rules}
+use Rattle.std.proofs.Common.{arith, ◌≡◌, ℕ, refl, sym, subst, rules}
 use Rattle.pb_base.specs.declared.cell.Cell.{Cell}
 use Rattle.pb_base.specs.declared.names.Ts.{Ts}
 use Rattle.pb_isa.specs.Programs.{JudgedOf}
@@ -6,7 +6,7 @@ use Rattle.pb_vm.specs.Position.{Position}
 use Rattle.pb_steps.specs.declared.seen.Seen.{Seen}
 use Rattle.pb_notify.specs.declared.need.Need.{Need}
 use Rattle.pb_notify.specs.declared.place.RunPlace.{RunPlace}
-use Rattle.pb_notify.specs.Places.{Comes, goes, waits, declares, ComesFrom, GrowsAt, AtPlace}
+use Rattle.pb_notify.specs.Places.{Comes, goes, ComesFrom, AtPlace}
 use Rattle.pb_notify.specs.Runs.{RunOf, need_at, IsJob, ComputesOn, at_first, one_more}
 use Rattle.pb_notify.specs.Steps.{Proceeds}
 use Rattle.pb_notify.specs.Steps as steps
@@ -30,26 +30,18 @@ joined j k l on (one_more m n to is_next last) = one_more m n (joined j k m on t
 
 -- from a job that came so far, and is this one with its machine here, the machine's instructions lead on
 goes_on : (k m j : RunOf) (place : RunPlace) (s : Ts) (v w : Position) → ComputesOn k m → job_at j place ≡ m → place ≡ RunPlace.Computing s v → Proceeds v w → ComputesOn k (job_at j (RunPlace.Computing s w))
-goes_on k m j place s v w so_far is at p =
-    let here : ComputesOn k (job_at j place) = subst (λ (i : RunOf). ComputesOn k i) (sym is) so_far in
-    joined k _ _ (subst (λ q. ComputesOn k (job_at j q)) at here) (on_computing j s v w p)
+goes_on k m j place s v w so_far is at p = grind (arith, joined, on_computing)
 
 -- where another instruction is next, a machine was left that goes on
 went_local : (o : ℕ) (s : Ts) (v : Position) (place : RunPlace) → Comes o s v place → need_at place ≡ Need.Local → (t : Ts) × (w : Position) × (place ≡ RunPlace.Computing t w)
-went_local o s v place (goes w st) e = (s, w, refl)
-went_local o s v place (waits w q st) e = absurd cc
-went_local o s v place (declares r what st) e = absurd cc
+went_local o s v place x e = grind arith
 
 came_local : (o : ℕ) (judged : JudgedOf) (x : Cell) (before after : RunPlace) → ComesFrom o judged x before after → need_at after ≡ Need.Local → (t : Ts) × (w : Position) × (after ≡ RunPlace.Computing t w)
-came_local o judged x (RunPlace.Starting s seen) after c e = went_local o s _ after c.comes e
-came_local o judged x (RunPlace.Computing s v) after c e = went_local o s v after c e
-came_local o judged x _ after c e = absurd c
+came_local o judged x before after c e = grind arith
 
 -- and where it is started
 started_local : (place : RunPlace) → ((s : Ts) (seen : Seen) → place ≡ RunPlace.Starting s seen → ⊥) → need_at place ≡ Need.Local → (t : Ts) × (w : Position) × (place ≡ RunPlace.Computing t w)
-started_local (RunPlace.Starting s seen) isnt e = absurd (isnt s seen refl)
-started_local (RunPlace.Computing s v) isnt e = (s, v, refl)
-started_local _ isnt e = absurd cc
+started_local place isnt e = grind arith
 
 pub returns-in_err-local-clause-on : goal.returns-in_err-local-clause-on
 returns-in_err-local-clause-on c = subst (λ (k : RunOf). ComputesOn c.args.self.now k) (sym c.in_err-local.ensures.same) at_first
@@ -80,8 +72,7 @@ pub returns-in_err-leave-clause-err : goal.returns-in_err-leave-clause-err
 returns-in_err-leave-clause-err c =
     let f = c.follow-moved.ensures in
     let back = c.in_err-leave.ensures.same c.in-Computing.field-0 f.last (c.follow-moved.new.self, refl, f.moves) in
-    let grows : GrowsAt c.leave.new.place = subst GrowsAt (sym back.0) back.1 in
-    search (rules, grows)
+    search rules
 
 pub invariant_of-self-in-Computing : goal.invariant_of-self-in-Computing
 invariant_of-self-in-Computing c =
@@ -110,18 +101,4 @@ returns-in_default-place c =
       | in-Starting+in_ok-local w ↦ rw w.self-is (one_more c.args.self.now w.local.new.self at_first c.requires w.in_ok-local.ensures.ok)
       | in_default w ↦ rw w.self-is at_first
     ] in
-    record {
-      on = subst (λ (k : RunOf). ComputesOn c.args.self.now k) (sym c.self-2.view_is) so_far;
-      ok = λ need. elim c.match-self.branch [
-        | in-Starting+in_ok-local w ↦
-            let is = ap (λ (j : RunOf). j.place) (c.self-2.view_is ∙ w.self-is) in
-            let did = w.in_ok-local.ensures.ok in
-            let here = came_local c.args.self.now.watch.observer c.args.self.now.watch.judged _ c.args.self.now.place w.local.new.self.place did.comes (subst (λ p. need_at p ≡ Need.Local) is need) in
-            c.in_default-place.not-Computing here.0 here.1 (is ∙ here.2)
-        | in_default w ↦
-            let is = ap (λ (j : RunOf). j.place) (c.self-2.view_is ∙ w.self-is ∙ sym c.self.view_is) in
-            let here = started_local c.self.inside.place w.in_default.not-Starting (subst (λ p. need_at p ≡ Need.Local) is need) in
-            c.in_default-place.not-Computing here.0 here.1 (is ∙ here.2)
-      ];
-      err = tt;
-    }
+    grind (arith, in-Starting+in_ok-local, in_default, came_local, started_local, c.args.self.now, c.match-self.branch, c.self-2.view_is, c.args.self.now.watch.observer, c.args.self.now.watch.judged, c.args.self.now.place, c.in_default-place.not-Computing, c.self.view_is, c.self.inside.place)

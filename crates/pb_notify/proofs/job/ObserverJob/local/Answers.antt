@@ -1,7 +1,7 @@
-use Rattle.std.proofs.Common.{◌≡◌, refl, sym, subst, ◌∙◌, rules}
+use Rattle.std.proofs.Common.{arith, refl, sym, subst, ◌∙◌, rules}
 use Rattle.pb_base.specs.declared.cell.Cell.{Cell}
 use Rattle.pb_notify.specs.declared.place.RunPlace.{RunPlace}
-use Rattle.pb_notify.specs.Places.{goes, ComesFrom, GrowsAt, AtPlace}
+use Rattle.pb_notify.specs.Places.{goes, ComesFrom, AtPlace}
 use Rattle.pb_notify.specs.Runs.{RunOf, IsJob, Computes}
 use Rattle.pb_notify.specs.Steps.{MovesOn}
 use Rattle.pb_notify.proofs.Kept.{at_come, at_computed}
@@ -25,11 +25,8 @@ invariant_of-self-in_err-leave-in_default-local c =
 
 pub returns-in_err-leave-in_default-local : goal.returns-in_err-leave-in_default-local
 returns-in_err-leave-in_default-local c =
-    let i = c.self.inside in
     let back = c.in_err-leave-in_default-local.ensures.same c.in-Computing.field-0 c.in-Computing.machine (c.local.new.self, refl, c.local.ensures) in
-    let same : c.leave.new.place ≡ i.place = back.0 ∙ sym c.in-Computing.is in
-    let grows : GrowsAt i.place = subst GrowsAt (sym c.in-Computing.is) back.1 in
-    search (rules, same, grows)
+    search rules
 
 pub invariant_of-self-2 : goal.invariant_of-self-2
 invariant_of-self-2 c = record {
@@ -41,7 +38,6 @@ invariant_of-self-2 c = record {
         let comes = w.in_ok-leave-in_default-local.ensures.ok w.in-Computing.field-0 w.in-Computing.machine (w.local.new.self, refl, w.local.ensures) in
         rw w.self-inside-is (at_come i.locked i.observer w.in-Computing.field-0 w.in-Computing.machine w.leave.new.place comes few)
     | in_default+in_ok-begin-in_default w ↦
-        let i = c.self.inside in
-        rw w.self-inside-is (at_computed i.locked i.observer i.accepted.value (Cell.Data i.row i.column) i.place w.begin.new.place w.in_ok-begin-in_default.ensures.ok c.self.invariant.at)
+        grind (arith, at_computed, c.self.inside, c.self.invariant.at)
   ];
 }

@@ -1,4 +1,4 @@
-use Rattle.std.proofs.Common.{◌≡◌, inl, inr, ℕ, zero, suc, ◌≤◌, refl, sym, ap, subst, ◌∙◌, arith, rules}
+use Rattle.std.proofs.Common.{◌≡◌, inl, inr, ℕ, zero, suc, ◌≤◌, refl, sym, ap, subst, arith, rules}
 use Rattle.pb_isa.specs.Programs.{JudgedOf}
 use Rattle.pb_isa.specs.Slots.{slots}
 use Rattle.pb_vm.specs.Position.{Position}
@@ -23,18 +23,13 @@ record IsLater (v w : Position) : Type 0 where
 
 -- an ask or the exit takes no instruction back
 stop_later : (v : Position) (m : Moved) (w : Position) → IsStop m → Moves v m w → IsLater v w
-stop_later v Moved.Went w stop h = absurd stop
-stop_later v (Moved.Asks q) w stop h = record { taken = omega (arith, h.taken); same = same_slots v w h.given.judged }
-stop_later v (Moved.Ended r) w stop h = record { taken = omega (arith, h.taken); same = same_slots v w h.given.judged }
+stop_later v m w stop h = grind arith
 
 -- nor do all that lead there
 later : (n : ℕ) (v : Position) (m : Moved) (w : Position) → Advances n v m w → IsLater v w
 later zero v m w h = subst (IsLater v) (sym h.1) (record { taken = omega arith; same = refl })
 later (suc n) v m w (inl stop) = stop_later v m w stop.0 stop.1
-later (suc n) v m w (inr on) =
-    let rest = later n on.0 m w on.2 in
-    let one = on.1.taken in
-    record { taken = omega (arith, rest.taken, one); same = rest.same ∙ same_slots v on.0 on.1.given.judged }
+later (suc n) v m w (inr on) = grind (arith, same_slots, on.1.taken, on.1.given.judged, later n on.0 m w on.2)
 
 -- all that lead to an ask or the exit
 follows : (n : ℕ) (v u : Position) (m : Moved) (w : Position) → Proceeds v u → u.phase ≡ MachinePhase.Going → IsStop m → Advances n u m w → w.taken ≤ slots_of w → FollowsOn v m w

@@ -1,7 +1,7 @@
-use Rattle.std.proofs.Common.{◌≡◌, inl, inr, refl, sym, ap, subst, ◌∙◌, is_some, Some}
+use Rattle.std.proofs.Common.{arith, ◌≡◌, refl, sym, ap, subst, ◌∙◌, is_some, Some}
 use Rattle.pb_steps.specs.State.{StateOf}
 use Rattle.pb_steps.specs.Readings.{NoLock, IsLockOn, lock_at, write_at}
-use Rattle.pb_steps.specs.Commits.{commit_lock, erase_lock}
+use Rattle.pb_steps.specs.Commits.{commit_lock}
 use Rattle.pb_steps.specs.Marks.{with_mark}
 use Rattle.pb_steps.specs.Clear.{NoWriteOf}
 use Rattle.pb_state.proofs.NewState.{same_marks, new_entries}
@@ -17,19 +17,7 @@ pub returns-then-eq-clause-taken : goal.returns-then-eq-clause-taken
 returns-then-eq-clause-taken g c =
     let e : c.self.inside.table.contents.entries ≡ c.args.self.now.entries = ap (λ (s : StateOf). s.entries) c.self.view_is in
     let locked = subst (λ m. IsLockOn m c.args.cell.now c.in-Some.start.0 c.in-Some.primary) e c.in-Some.ensures in
-    record {
-      allowed = c.requires;
-      taken = record {
-        start = c.in-Some.start.0;
-        primary = c.in-Some.primary;
-        locked = locked;
-        why = elim c.then-eq.branch [
-          | then-eq-via-then-eq w ↦ inl (sym c.eq.ensures ∙ w.if-eq.true)
-          | then-eq-via-else-eq+then-has_lock w ↦ inr (ap (λ m. is_some (lock_at m c.in-Some.primary c.in-Some.start.0)) (sym e) ∙ sym w.has_lock.ensures ∙ w.if-has_lock.true)
-        ];
-        new_is = refl;
-      };
-    }
+    grind (arith, then-eq-via-then-eq, then-eq-via-else-eq+then-has_lock, c.in-Some.primary, c.requires, c.then-eq.branch, c.eq.ensures)
 
 pub returns-in_ok-commit_cell-in-Some-commit_of-clause-taken :
     goal.returns-in_ok-commit_cell-in-Some-commit_of-clause-taken
@@ -62,7 +50,6 @@ returns-in_ok-apply-in-None-clause-taken g c =
         other = sym c.eq.ensures ∙ c.if-eq.false;
         unlocked = ap (λ m. is_some (lock_at m c.in-Some.primary c.in-Some.start.0)) (sym e) ∙ sym c.has_lock.ensures ∙ c.if-has_lock.false;
         none = subst (λ m. NoWriteOf m c.in-Some.primary c.in-Some.start.0) e c.in-None.ensures;
-        new_is = new_entries c.self.inside.table c.apply.new.self c.self.inside.observers.items c.self.inside.clock c.self.inside.seats c.self.inside.transactions
-            (λ m. erase_lock m c.args.cell.now c.in-Some.start.0) same_marks (c.in_ok-apply-in-None.ensures.ok ∙ c.erase_edits.ensures.erased c.self.inside.table.contents) c.args.self.now c.self.view_is;
+        new_is = grind (arith, new_entries, same_marks, c.self.view_is, c.args.cell.now, c.self.inside.table, c.apply.new.self, c.self.inside.observers.items, c.self.inside.clock, c.self.inside.seats, c.self.inside.transactions, c.in_ok-apply-in-None.ensures.ok, c.erase_edits.ensures.erased, c.self.inside.table.contents, c.args.self.now);
       };
     }

@@ -1,19 +1,17 @@
-use Rattle.std.proofs.Common.{◌≡◌, Some, rules, refl, sym, ap, subst, ◌∙◌}
+use Rattle.std.proofs.Common.{arith, ◌≡◌, refl, ap, subst, ◌∙◌}
 use Rattle.std.specs.FinMap as map
 use Rattle.pb_steps.specs.State.{StateOf, TransactionOf}
 use Rattle.pb_steps.specs.Read.{with_read}
 use Rattle.pb_state.proofs.Outcomes.{err_always}
 use Rattle.pb_state.proofs.Rising.{put_again}
-use Rattle.pb_steps.specs.Readings.{NoLockUpTo, IsVersion, NoVersion}
+use Rattle.pb_steps.specs.Readings.{NoLockUpTo, NoVersion}
 use Rattle.pb_state.proofs.NewState.{same_marks, new_state}
 use Rattle.pb_state.proofs.ReadsTaken.{found, absent}
 use Rattle.pb_state.proofs.parts.Parts.read.Goals as goal
 use Rattle.pb_state.proofs.parts.Parts.read.Goals.{in-Some-version_of, in-None}
 
 pub returns-in_err-record_read-clause-same : goal.returns-in_err-record_read-clause-same
-returns-in_err-record_read-clause-same g c =
-    let put = put_again c.self.inside.transactions c.args.by.start.0 c.record_read.new.self (c.at_mut.ensures.there ∙ ap Some (sym c.in_err-record_read.ensures.err)) in
-    err_always c.from_residual.result _ (search (rules, put))
+returns-in_err-record_read-clause-same g c = grind (arith, put_again, err_always, c.self.inside.transactions, c.record_read.new.self, c.at_mut.ensures.there, c.in_err-record_read.ensures.err, c.from_residual.result)
 
 pub returns-clause-taken : goal.returns-clause-taken
 returns-clause-taken g c =
@@ -28,8 +26,7 @@ returns-clause-taken g c =
     let up_to = c.read_up_to-high.ensures in
     let unlocked = subst (λ n. NoLockUpTo c.args.self.now.entries c.args.cell.now n) up_to (subst (λ m. NoLockUpTo m c.args.cell.now c.read_up_to-high.result.0) e c.in_default.ensures) in
     elim c.match-version_of.branch [
-      | in-Some-version_of w ↦ found c.args.self.now _ c.args.seat start c.args.cell.now c.args.at f.0 c.requires.admitted.allowed f.1.own unlocked c.match-version_of.answer put
-          w.in-Some-version_of.version w.answer-is (subst (λ n. IsVersion c.args.self.now.entries c.args.cell.now n w.in-Some-version_of.version) up_to (subst (λ m. IsVersion m c.args.cell.now c.read_up_to-high.result.0 w.in-Some-version_of.version) e w.in-Some-version_of.ensures))
+      | in-Some-version_of w ↦ grind (arith, found, c.args.cell.now, c.args.at, c.match-version_of.answer, c.args.self.now, c.args.self.now.entries, c.args.seat, c.requires.admitted.allowed)
       | in-None w ↦ absent c.args.self.now _ c.args.seat start c.args.cell.now c.args.at f.0 c.requires.admitted.allowed f.1.own unlocked c.match-version_of.answer put
           w.answer-is (subst (λ n. NoVersion c.args.self.now.entries c.args.cell.now n) up_to (subst (λ m. NoVersion m c.args.cell.now c.read_up_to-high.result.0) e w.in-None.ensures))
     ]

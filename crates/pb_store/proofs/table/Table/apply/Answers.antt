@@ -1,23 +1,20 @@
-use Rattle.std.proofs.Common.{◌≡◌, ◌<◌, length, sym, ap, ◌∙◌, subst}
-use Rattle.pb_store.specs.Contents.{after_edits, AreOfRow, edit_row}
+use Rattle.std.proofs.Common.{arith, ◌≡◌, ◌<◌, length, sym, ap, ◌∙◌, subst}
+use Rattle.pb_store.specs.Contents.{after_edits, AreOfRow}
 use Rattle.pb_store.specs.TableOf.{TableOf}
 use Rattle.pb_store.specs.Tiles.{tiles_of, joined, IsTiling, IsPlace}
 use Rattle.pb_store.proofs.Routing.{tiles_kept, firsts_kept}
-use Rattle.pb_store.proofs.Applying.{result_cases, err_then, all_of_first, tiling_after, joined_after}
+use Rattle.pb_store.proofs.Applying.{result_cases, err_then, tiling_after, joined_after}
 use Rattle.pb_store.proofs.table.Table.apply.Given.{Over}
 use Rattle.pb_store.proofs.table.Table.apply.Goals as goal
 use Rattle.pb_store.proofs.table.Table.apply.Goals.{After-apply}
-use Rattle.pb_base.proofs.Logic.{positive, ok_then}
+use Rattle.pb_base.proofs.Logic.{ok_then}
 
 module _ (g : Over) (c : After-apply g) where
   within : c.place_in-i.result < length c.self.inside.parts.items
   within = subst (λ ps. c.place_in-i.result < length ps) c.deref.ensures.value c.place_in-i.ensures.within
 
   of_row : AreOfRow c.row.result.0 c.args.edits.now
-  of_row =
-      let some : 0 < length c.args.edits.now = positive (length c.args.edits.now) (sym c.if-is_empty.ensures) in
-      subst (λ r. AreOfRow r c.args.edits.now) (ap edit_row (sym c.index-edits-0.is) ∙ sym c.row.ensures)
-      (all_of_first c.args.edits.now c.index-edits-0.result some c.requires.of_row)
+  of_row = grind arith
 
   place : IsPlace (tiles_of g.T.Tablet.contents c.self.inside.parts.items) c.place_in-i.result c.row.result.0
   place = subst (λ ps. IsPlace (tiles_of g.T.Tablet.contents ps) c.place_in-i.result c.row.result.0) c.deref.ensures.value c.place_in-i.ensures.place
@@ -44,15 +41,7 @@ returns-clause-ok g c =
     c.apply.ensures.ok
 
 pub returns-clause-err : goal.returns-clause-err
-returns-clause-err g c =
-    let at = (goal.at.returns-clause-err g c).After-apply in
-    err_then c.apply.result _ _
-    (λ same. ap joined (tiles_kept g.T.Tablet.contents c.self.inside.parts.items c.place_in-i.result c.index_mut-part.result.now c.apply.new.self
-    (within g at) c.index_mut-part.ensures.value same) ∙ held g at)
-    c.apply.ensures.err
+returns-clause-err g c = grind (arith, err_then, tiles_kept, within, held, c.apply.result, g.T.Tablet.contents, c.self.inside.parts.items, c.place_in-i.result, c.index_mut-part.result.now, c.apply.new.self, c.index_mut-part.ensures.value, c.apply.ensures.err)
 
 pub returns-clause-firsts : goal.returns-clause-firsts
-returns-clause-firsts g c =
-    let at = (goal.at.returns-clause-firsts g c).After-apply in
-    firsts_kept c.self.inside.parts.items c.place_in-i.result c.index_mut-part.result.now c.apply.new.self (within g at) c.index_mut-part.ensures.value
-    ∙ ap (λ (h : TableOf). h.firsts) c.self.view_is
+returns-clause-firsts g c = grind (arith, firsts_kept, within, c.self.inside.parts.items, c.place_in-i.result, c.index_mut-part.result.now, c.apply.new.self, c.index_mut-part.ensures.value, c.self.view_is)

@@ -1,6 +1,6 @@
-use Rattle.std.proofs.Common.{◌≡◌, ◌<◌, length, sym, ap, ◌∙◌, subst, set, arith}
+use Rattle.std.proofs.Common.{◌≡◌, ◌<◌, length, sym, ◌∙◌, subst, set, arith}
 use Rattle.std.proofs.lemmas.List.{get_or_default}
-use Rattle.pb_store.specs.TableOf.{TableOf, firsts_of}
+use Rattle.pb_store.specs.TableOf.{firsts_of}
 use Rattle.pb_store.specs.Tiles.{tiles_of, joined, IsTiling}
 use Rattle.pb_store.proofs.Fresh.{nothing_from_test}
 use Rattle.pb_store.proofs.Routing.{tiles_kept, firsts_kept, length-firsts_of}
@@ -14,18 +14,13 @@ copy_all-requires g c = nothing_from_test (g.T.Tablet.contents c.args.tablet) (s
 
 module _ (g : Over) (c : After-emptied-2 g) where
   within : c.args.place < length c.self.inside.parts.items
-  within =
-      let many : c.places-places.result ≡ length (firsts_of c.self.inside.parts.items) = c.places-places.ensures.places ∙ ap (λ (h : TableOf). length h.firsts) (sym c.self.view_is) in
-      omega (arith, many, length-firsts_of c.self.inside.parts.items, c.if-place-places.false)
+  within = grind (arith, length-firsts_of, c.places-places.result, c.self.inside.parts.items, c.places-places.ensures.places, c.self.view_is, c.if-place-places.false)
 
   one : c.index.result.now ≡ c.index_mut-part.result.now
   one = c.index.ensures ∙ get_or_default c.self.inside.parts.items c.args.place c.index.result.now c.index_mut-part.result.now within ∙ sym c.index_mut-part.ensures.value
 
   copied : g.T.Tablet.contents c.replace-old.new.dest ≡ g.T.Tablet.contents c.index_mut-part.result.now.1
-  copied =
-      ap g.T.Tablet.contents c.replace-old.ensures.after
-      ∙ ok_holds c.copy_all.result _ c.if-is_err.ensures.value c.copy_all.ensures
-      ∙ ap (λ p. g.T.Tablet.contents p.1) one
+  copied = grind (arith, ok_holds, one, g.T.Tablet.contents, c.replace-old.ensures.after, c.copy_all.result, c.if-is_err.ensures.value, c.copy_all.ensures)
 
   same : tiles_of g.T.Tablet.contents (set c.self.inside.parts.items c.args.place (c.index_mut-part.result.now.0, c.replace-old.new.dest)) ≡ tiles_of g.T.Tablet.contents c.self.inside.parts.items
   same = tiles_kept g.T.Tablet.contents c.self.inside.parts.items c.args.place c.index_mut-part.result.now c.replace-old.new.dest within c.index_mut-part.ensures.value copied

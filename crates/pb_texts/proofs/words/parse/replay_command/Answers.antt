@@ -1,7 +1,6 @@
-use Rattle.std.proofs.Common.{ap₂, codes, false, ◌≡◌, ◌∙◌, ◌||◌}
+use Rattle.std.proofs.Common.{arith, ap₂, codes, ◌≡◌, ◌∙◌}
 use Rattle.std.proofs.lemmas.Result.{IfOk-weaker}
 use Rattle.clap.specs.Words.{app_of, new_app, with_rule}
-use Rattle.clap.specs.declared.builder.command.Command.TheViews.{out-Command as fields_of}
 use Rattle.pb_texts.proofs.words.parse.replay_command.Goals as goal
 
 pub returns-clause-app : goal.returns-clause-app
@@ -13,9 +12,4 @@ returns-clause-app c =
     IfOk-weaker c.arg-4.result _ _ (λ r h. h.shape c.clock_option.ensures.local ∙ ap₂ with_rule three c.clock_option.ensures.rule) c.arg-4.ensures
 
 pub returns-clause-local : goal.returns-clause-local
-returns-clause-local c =
-    let bare : (fields_of c.bare_command-bare.result).has_globals ≡ false = c.bare_command-bare.ensures.local in
-    let one = c.in_ok-arg.ensures.globals ∙ ap₂ (λ a b. a || b) bare c.operand.ensures.local in
-    let two = c.in_ok-arg-2.ensures.globals ∙ ap₂ (λ a b. a || b) one c.operand-2.ensures.local in
-    let three = c.in_ok-arg-3.ensures.globals ∙ ap₂ (λ a b. a || b) two c.operand-3.ensures.local in
-    IfOk-weaker c.arg-4.result _ _ (λ r h. h.globals ∙ ap₂ (λ a b. a || b) three c.clock_option.ensures.local) c.arg-4.ensures
+returns-clause-local c = grind arith

@@ -1,22 +1,16 @@
-use Rattle.std.proofs.Common.{ap, sym, ◌∙◌, subst, inr}
-use Rattle.clap.specs.Words.{IsAmong}
-use Rattle.clap.specs.declared.error.kind.ErrorKind.{ErrorKind}
+use Rattle.std.proofs.Common.{arith, ap, sym, ◌∙◌}
 use Rattle.clap.proofs.KindLemmas.{fails_by_from}
 use Rattle.pb_reading.specs.Reading.{texts_of}
-use Rattle.pb_texts.specs.StoryLines.{story_in, story_fault}
+use Rattle.pb_texts.specs.StoryLines.{story_in}
 use Rattle.pb_texts.proofs.Faults.{has_kind_still}
-use Rattle.pb_texts.proofs.StoryFaults.{asked_faultless, unasked_fault}
+use Rattle.pb_texts.proofs.StoryFaults.{asked_faultless}
 use Rattle.pb_texts.proofs.words.story.story_options.Goals as goal
 
 pub returns-in_err-matches-clause-kinds : goal.returns-in_err-matches-clause-kinds
-returns-in_err-matches-clause-kinds c =
-    fails_by_from (story_fault (texts_of c.args.words.now)) c.from_residual.result c.in_err-matches.field-0.0
-    (has_kind_still _ _ c.in_err-matches.field-0.0 c.in_err-matches.ensures.kinds) c.from_residual.ensures.0 c.from_residual.ensures.1
+returns-in_err-matches-clause-kinds c = grind (arith, fails_by_from, has_kind_still, c.args.words.now, c.from_residual.result, c.in_err-matches.ensures.kinds)
 
 pub returns-in-Some-clause-kinds : goal.returns-in-Some-clause-kinds
 returns-in-Some-clause-kinds c = asked_faultless (texts_of c.args.words.now) _ c.in_ok-matches.ensures.kinds (ap story_in (sym c.in_ok-matches.ensures.subcommand) ∙ sym c.in-Some.ensures)
 
 pub returns-clause-kinds : goal.returns-clause-kinds
-returns-clause-kinds c =
-    inr (subst (λ (k : ErrorKind). IsAmong k (story_fault (texts_of c.args.words.now))) (sym c.in_ok-frames_plus_told-in-None.ensures)
-    (unasked_fault (texts_of c.args.words.now) c.in_ok-matches.ensures.kinds (ap story_in (sym c.in_ok-matches.ensures.subcommand) ∙ sym c.in-None.ensures)))
+returns-clause-kinds c = grind arith
