@@ -5,7 +5,7 @@ use Rattle.std.proofs.lemmas.List.{drop_all}
 use Rattle.pb_isa.specs.declared.insn.Insn.{Insn}
 use Rattle.pb_isa.specs.Helpers.{Helper}
 use Rattle.pb_isa.specs.Slots.{layout, slots, insn_at}
-use Rattle.pb_verify.specs.Needs.{called_by, calls_in, reads_by, writes_by, reads_from, writes_from}
+use Rattle.pb_verify.specs.Needs.{called_by, calls_in, reads_by, writes_by, reads_from, writes_from, NeedsFall}
 
 -- those of a slot, and those behind it
 pub calls_at : (count : Option Helper → ℕ) → count None ≡ 0 → (is : List (Option Insn)) (n : ℕ) → count (called_by (get_or is n None)) + calls_in count (drop (suc n) is) ≡ calls_in count (drop n is)
@@ -38,3 +38,7 @@ no_reads p n past = ap (calls_in reads_by) (drop_all n (layout p) past)
 -- nor is anything written or deleted there
 pub no_writes : (p : List Insn) (n : ℕ) → slots p ≤ n → writes_from p n ≡ 0
 no_writes p n past = ap (calls_in writes_by) (drop_all n (layout p) past)
+
+-- at a later slot there are no more of them
+pub needs_fall : NeedsFall
+needs_fall = grind (arith, reads_at, writes_at, fewer_calls)

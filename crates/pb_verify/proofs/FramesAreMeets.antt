@@ -10,9 +10,9 @@ use Rattle.pb_isa.specs.declared.insn.Insn.{Insn}
 use Rattle.pb_isa.specs.Slots.{insn_at}
 use Rattle.pb_kinds.specs.declared.frame.Frame.{Frame}
 use Rattle.pb_kinds.specs.Frames.{join, entry_frame}
-use Rattle.pb_kinds.specs.Meet.{JoinsAreMeets}
 use Rattle.pb_verify.specs.Arriving.{merge, if_leads, gather, frame_before, frame_after, outs, in_at}
-use Rattle.pb_verify.specs.Ways.{out_at, IsWay, Fact, HasKind, HasByte, Says, IsMeetOfWays}
+use Rattle.pb_verify.specs.Ways.{out_at, IsWay, Fact, HasKind, HasByte, Says, FramesAreMeets}
+use Rattle.pb_kinds.proofs.JoinIsMeet.{join_is_meet}
 use Rattle.pb_verify.proofs.FramesAfter.{length-outs}
 
 -- a property of the frame, where there is one
@@ -86,16 +86,16 @@ from_ways : (P : Frame → Type 0) (p : List Insn) (n : ℕ) → ((m : ℕ) (g :
 from_ways P p n k j = grind (arith, leb_tells, inl, out_in, way_or_none, inr, get_or_past, length-outs, none_sent)
 
 -- each fact stands in a join exactly where both sides say it
-says_meets : JoinsAreMeets → (x : Fact) → Meets (λ f. Says f x)
-says_meets joins (HasKind r k) a b = (joins a b).kinds r k
-says_meets joins (HasByte i) a b = (joins a b).bytes i
+says_meets : (x : Fact) → Meets (λ f. Says f x)
+says_meets (HasKind r k) a b = (join_is_meet a b).kinds r k
+says_meets (HasByte i) a b = (join_is_meet a b).bytes i
 
 -- the frame before a later slot says exactly what all ways there say
-later : JoinsAreMeets → (p : List Insn) (n : ℕ) (o : Option Frame) → o ≡ gather p n 0 None (outs p n) → IfSome o (λ f. (x : Fact) → Says f x ↔ ((m : ℕ) (g : Frame) → IsWay p n m g → Says g x))
-later joins p n None e = tt
-later joins p n (Some f) e = λ x.
+later : (p : List Insn) (n : ℕ) (o : Option Frame) → o ≡ gather p n 0 None (outs p n) → IfSome o (λ f. (x : Fact) → Says f x ↔ ((m : ℕ) (g : Frame) → IsWay p n m g → Says g x))
+later p n None e = tt
+later p n (Some f) e = λ x.
     let P : Frame → Type 0 = λ g. Says g x in
-    let all = of_gathered P (says_meets joins x) p n 0 None (outs p n) in (
+    let all = of_gathered P (says_meets x) p n 0 None (outs p n) in (
       (λ h. let o : Of P (gather p n 0 None (outs p n)) = rw (← e) h in to_ways P p n (all.0 o).1),
       (λ k. let o : Of P (gather p n 0 None (outs p n)) = all.1 (tt, from_ways P p n k) in subst (λ t. Of P t) (sym e) o),
     )
@@ -112,6 +112,6 @@ entry_first : (p : List Insn) → in_at p 0 ≡ Some entry_frame
 unfolding in_at
 entry_first p = refl
 
--- of every list of instructions, given the law of `pb_kinds` on joins
-pub frames_are_meets : JoinsAreMeets → (p : List Insn) → IsMeetOfWays p
-frames_are_meets joins p = grind (arith, entry_first, later, in_later, no_way)
+-- of every list of instructions
+pub frames_are_meets : FramesAreMeets
+frames_are_meets p = grind (arith, entry_first, later, in_later, no_way)

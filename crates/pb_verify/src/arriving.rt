@@ -9,7 +9,7 @@ ghost use Rattle.pb_verify.specs.Ways.{FramesAreMeets};
 
 use pb_base::NoMemory;
 use pb_isa::{Insn, MAX_SLOTS};
-use pb_kinds::{Frame, join, joins_are_meets};
+use pb_kinds::{Frame, join};
 use std::alloc::Global;
 use std::boxed::Box;
 
@@ -137,9 +137,7 @@ pub fn no_jumps(alloc: Global, slots: usize) -> Result<Vec<Option<Box<Frame>>>, 
 /// is so after each earlier instruction that leads there. To the first slot entry alone leads.
 pub fn frames_are_meets()
     ensures { FramesAreMeets }
-{
-    joins_are_meets();
-}
+{}
 
 /// An instruction leads to later slots alone, and the jumps of an accepted program go forward.
 pub fn jumps_lead_on()
