@@ -1,3 +1,3 @@
 mod Shift
-mod NextSlots
+pub mod NextSlots
 pub mod Instructions

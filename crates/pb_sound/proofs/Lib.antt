@@ -23,4 +23,5 @@ pub mod Silent
 pub mod RunWrites
 pub mod Placements
 pub mod Accesses
+pub mod AcceptedRuns
 pub mod ProfilesAgree

@@ -18,19 +18,12 @@ ghost use Rattle.pb_sound.specs.OneMeaning.{EachHasOneMeaning};
 ghost use Rattle.pb_sound.specs.Positions.{AcceptedCellsRun, EveryRunEnds};
 ghost use Rattle.pb_sound.specs.ProfilesAgree.{ProgramsOfOneAreOfTwo, SameAreAccepted, SameAreRefused, SameIsMeant};
 
-use pb_isa::next_slots_are_first;
-use pb_verify::{frames_are_meets, jumps_lead_on, needs_fall};
-
 /// An accepted program is never stuck: at every placement, with every record of the size that it is judged for, start and
 /// replies, each instruction that a run from entry comes to goes on to a later slot, asks, or is an exit; and the frame before
 /// its slot fits. So a run takes fewer instructions than the program has slots.
 pub fn accepted_are_never_stuck()
     ensures { AcceptedAreNeverStuck }
-{
-    frames_are_meets();
-    jumps_lead_on();
-    next_slots_are_first();
-}
+{}
 
 /// What a machine that tests nothing rests on, in one law. From entry on, a list of registers and one of bytes do what the
 /// definitions do with an accepted program, and each byte that an instruction reads or writes is there, so that nothing has
@@ -39,21 +32,12 @@ pub fn accepted_are_never_stuck()
 /// that it can be resolved once, at upload. And what a program can still ask for and write falls from slot to slot.
 pub fn accepted_programs_run()
     ensures { AcceptedRuns }
-{
-    frames_are_meets();
-    jumps_lead_on();
-    next_slots_are_first();
-    needs_fall();
-}
+{}
 
 /// What an accepted program ends with at one placement, it ends with at every one, after the same asks and replies.
 pub fn end_is_meaning()
     ensures { EndIsMeaning }
-{
-    frames_are_meets();
-    jumps_lead_on();
-    next_slots_are_first();
-}
+{}
 
 /// A program has one meaning: the same record, start, asks and replies mean one result and one list of writes.
 pub fn each_has_one_meaning()
@@ -64,29 +48,17 @@ pub fn each_has_one_meaning()
 /// program means.
 pub fn accepted_cells_run()
     ensures { AcceptedCellsRun }
-{
-    frames_are_meets();
-    jumps_lead_on();
-    next_slots_are_first();
-}
+{}
 
 /// Whatever is told, a run of an accepted program comes to an end, since each instruction leads to a later slot.
 pub fn every_run_ends()
     ensures { EveryRunEnds }
-{
-    frames_are_meets();
-    jumps_lead_on();
-    next_slots_are_first();
-}
+{}
 
 /// The slot that a run of an accepted program is at, at one placement, it is at, at every one.
 pub fn each_placement_has_the_slot()
     ensures { EachPlacementHasTheSlot }
-{
-    frames_are_meets();
-    jumps_lead_on();
-    next_slots_are_first();
-}
+{}
 
 /// A program that may call no helper asks nothing and writes nothing, since any call of it is stuck.
 pub fn without_helpers_silent()

@@ -8,7 +8,6 @@ ghost use Rattle.pb_vm.specs.Position.{talk_of};
 
 use pb_base::{Cell, Content, Ts, are_same_writes};
 use pb_helpers::{Ask, Record, Reply};
-use pb_sound::runs_write_batches;
 use pb_verify::Accepted;
 use std::marker::Model;
 use std::sync::Arc;
@@ -87,7 +86,6 @@ impl Finished {
         ensures meant { IsMeant self.now }
         ensures writes { AreRunWrites self.now.writes }
     {
-        runs_write_batches();
         // For the proof: opens the value, whose invariant says it.
         let _ = &self.end;
     }

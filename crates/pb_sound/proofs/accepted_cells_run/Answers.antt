@@ -1,8 +1,5 @@
-use Rattle.pb_sound.proofs.Reached.{Laws}
 use Rattle.pb_sound.proofs.Positions.{cells_run}
 use Rattle.pb_sound.proofs.accepted_cells_run.Goals as goal
 
 pub returns : goal.returns
-returns c =
-    let laws : Laws = record { meets = c.frames_are_meets.ensures; firsts = c.next_slots_are_first.ensures; later = c.jumps_lead_on.ensures.later; forward = c.jumps_lead_on.ensures.forward } in
-    cells_run laws
+returns c = cells_run
