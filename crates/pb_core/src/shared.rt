@@ -5,9 +5,7 @@ ghost use Rattle.pb_core.specs.Calls.{IsFresh, IsBlank};
 use crate::laws::legal_tables_tell;
 use crate::seat::{Book, Seat};
 use pb_base::{MAX_ENTRIES, MAX_OBSERVERS, MAX_SEATS, NoMemory, Reason, Refusal, Ts};
-use pb_history::{
-    AnswerRoom, Entry, KeptAnswer, Received, journals_tell, quiet_is_counted, steps_can_answer,
-};
+use pb_history::{AnswerRoom, Entry, KeptAnswer, Received, journals_tell, quiet_is_counted};
 use pb_state::{Admitted, State};
 use pb_steps::{Answer, Phase, Step};
 use pb_store::{Table, Tablet};
@@ -388,6 +386,7 @@ impl<T: Tablet> Shared<T> {
     /// The numbers 40 to 47 and 49 come before any growth; 1 comes only where a growth was refused. Refused, it leaves the
     /// table and the seat as they were. 44 comes exactly where the journal has as many entries as its limit. The journal that
     /// it is called on is legal.
+    #[tactic(auto, using(pb_history::proofs::StepsCanAnswer::steps_answer))]
     pub fn call(&mut self, seat: &mut Seat, step: &Step) -> Result<Answer, Refusal>
         ensures refused { (r : _) → call_reason self.old seat.old.number step.now ≡ Some r
             → result ≡ Err (refusal_by r) }
@@ -399,9 +398,8 @@ impl<T: Tablet> Shared<T> {
         ensures table { OnErr result (self.new ≡ self.old) }
         ensures seat { OnErr result (seat.new ≡ seat.old) }
     {
-        // For the proof: the journal is legal, and an answer is one of its step's.
+        // For the proof: the journal is legal.
         self.known();
-        steps_can_answer();
         match self.admit(seat.number, step) {
             Ok(admitted) => match self.keep(seat, step, &admitted) {
                 Ok(answer) => Ok(answer),

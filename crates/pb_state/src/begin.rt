@@ -9,7 +9,6 @@ use crate::admitted::Admitted;
 use crate::parts::Parts;
 use crate::transaction::Transaction;
 use pb_base::{NoMemory, Reason, Ts};
-use pb_history::sound_has_data;
 use pb_steps::{Answer, Step, Work};
 use pb_store::Tablet;
 use pb_verify::Observer;
@@ -45,8 +44,6 @@ impl<T: Tablet> Parts<T> {
         ensures taken { IfOk result (λ a. TableStep self.old seat (Step.Begin work) a self.new) }
         ensures same { OnErr result (self.new ≡ self.old) }
     {
-        // For the proof: no transaction began above the clock.
-        sound_has_data();
         let start = self.clock + 1;
         let transaction = Transaction::new(self.alloc, seat, work);
         self.transactions.add(Ts(start), transaction)?;

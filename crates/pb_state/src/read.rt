@@ -10,7 +10,6 @@ use crate::admitted::{Admitted, TransactionAt};
 use crate::parts::Parts;
 use crate::readings::{lock_on, version_of};
 use pb_base::{Cell, NoMemory, Reason, Ts};
-use pb_history::sound_has_data;
 use pb_steps::Answer;
 use pb_store::Tablet;
 
@@ -49,6 +48,7 @@ impl<T: Tablet> Parts<T> {
     }
 
     /// Reads up to the start, or up to this timestamp.
+    #[tactic(auto, using(pb_history::proofs::SoundHasData::keeps_data))]
     pub(crate) fn read(
         &mut self,
         seat: u32,
@@ -62,8 +62,6 @@ impl<T: Tablet> Parts<T> {
             (read_step by.start cell.now at) a self.new) }
         ensures same { OnErr result (self.new ≡ self.old) }
     {
-        // For the proof: a write record's data stand.
-        sound_has_data();
         let high = read_up_to(by.start, at);
         // Locks first, since a transaction with a lock up to here may still commit within the snapshot.
         if let Some((lock, primary)) = lock_on(&self.table, cell, high) {

@@ -6,7 +6,6 @@ use crate::parts::Parts;
 use crate::readings::{count_locks, count_marks};
 use crate::transactions::Transactions;
 use pb_base::{MAX_OBSERVERS, MAX_SEATS, NoMemory, Reason, Refusal, Ts};
-use pb_history::steps_keep_sound;
 use pb_steps::{Answer, Phase, Step};
 use pb_store::{Table, Tablet};
 use pb_verify::Observer;
@@ -61,8 +60,6 @@ impl<T: Tablet> State<T> {
         requires numbered { length observers.items ≤ MAX_OBSERVERS }
         ensures { result ≡ opening observers.items seats last.0 }
     {
-        // For the proof: the state is sound as it is opened.
-        steps_keep_sound();
         State {
             parts: Parts {
                 alloc,
@@ -171,14 +168,13 @@ impl<T: Tablet> State<T> {
     }
 
     /// Takes a step that the state admits, as `take` does, and looks nothing up that was found.
+    #[tactic(auto, using(pb_history::proofs::StepsKeepSound::steps_keep))]
     pub fn take_admitted(&mut self, seat: u32, admitted: &Admitted<'_>) -> Result<Answer, NoMemory>
         requires { Admits self.old seat admitted.now }
         ensures taken { IfOk result (λ a. TableStep self.old seat
             (step_of admitted.now) a self.new) }
         ensures same { OnErr result (self.new ≡ self.old) }
     {
-        // For the proof: every step keeps the table sound.
-        steps_keep_sound();
         self.parts.take(seat, admitted)
     }
 

@@ -11,7 +11,6 @@ ghost use Rattle.pb_state.specs.Behind.{IsNewestStamp, IsLate, IsOnTime, SomeLat
 use crate::parts::Parts;
 use crate::readings::{LAST, version_of};
 use pb_base::{Cell, Column, NoMemory, ObserverNo, Row, Ts};
-use pb_history::sound_has_data;
 use pb_steps::{Answer, Step, stamp_of};
 use pb_store::{Edit, Table, Tablet};
 use pb_verify::Observer;
@@ -45,7 +44,7 @@ fn is_marked<T: Tablet>(table: &Table<T>, cell: &Cell) -> bool
 }
 
 // The stamp of the newest version of an acknowledgment, 0 where it has none.
-fn acknowledged<T: Tablet>(table: &Table<T>, acknowledgment: &Cell) -> Ts
+fn newest_stamp<T: Tablet>(table: &Table<T>, acknowledgment: &Cell) -> Ts
     requires { HasData table.now.contents.entries }
     ensures { IsNewestStamp table.now.contents.entries acknowledgment.now result.0 }
 {
@@ -72,7 +71,7 @@ fn is_late<T: Tablet>(
     if observer.column != column {
         return false;
     }
-    let stamp = acknowledged(table, &Cell::Ack(number, row, column));
+    let stamp = newest_stamp(table, &Cell::Ack(number, row, column));
     if stamp.0 < commit.0 {
         return true;
     }
@@ -133,6 +132,7 @@ fn unmark_edits(cell: &Cell) -> [Edit; 1]
 }
 
 impl<T: Tablet> Parts<T> {
+    #[tactic(auto, using(pb_history::proofs::SoundHasData::keeps_data))]
     pub(crate) fn sweep(&mut self, seat: u32, cell: &Cell) -> Result<Answer, NoMemory>
         requires sound { IsSoundTable self.old }
         requires allowed { step_reason self.old seat (Step.Sweep cell.now) ≡ None }
@@ -140,8 +140,6 @@ impl<T: Tablet> Parts<T> {
             (Step.Sweep cell.now) a self.new) }
         ensures same { OnErr result (self.new ≡ self.old) }
     {
-        // For the proof: a write record's data stand.
-        sound_has_data();
         if !is_marked(&self.table, cell) {
             return Ok(Answer::NoMark);
         }
