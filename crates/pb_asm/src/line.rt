@@ -234,7 +234,7 @@ fn insn_of(words: &mut LineWords, profile: Profile) -> Result<Insn, AsmCode>
         (insn_of_words profile (words_left words.old.rest)) }
 {
     let first = words.next_word(AsmCode::Form)?;
-    match Word::named(profile, first) {
+    match Word::of_name(profile, first) {
         Some(word) => operands(words, word),
         None => Err(AsmCode::Word),
     }

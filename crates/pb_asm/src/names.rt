@@ -114,7 +114,7 @@ impl Word {
 
     /// The profile's word that is written so. A word of another profile is as unknown as any text.
     #[tactic(auto, unfolding(crate::specs::Names::words))]
-    pub fn named(profile: Profile, text: &str) -> Option<Word>
+    pub fn of_name(profile: Profile, text: &str) -> Option<Word>
         ensures { result ≡ word_named profile text.now }
     {
         let word = word_in(&WORDS, text)?;

@@ -182,7 +182,7 @@ fn whole_fault(profile: Profile, bytes: &[u8]) -> Option<DecodeCode>
 }
 
 // A fault at a slot.
-fn refused(slot: u16, code: DecodeCode) -> DecodeFault
+fn fault_at(slot: u16, code: DecodeCode) -> DecodeFault
     ensures { result ≡ told_as slot code }
 {
     let code = code.code();
@@ -205,7 +205,7 @@ fn insns_of(alloc: Global, profile: Profile, bytes: &[u8]) -> Result<Vec<Insn>, 
             Err(code) => {
                 // What is read so far took whole slots, so that the division leaves nothing.
                 let slot = (bytes.len() - rest.len()) / 8;
-                return Err(refused(slot as u16, code));
+                return Err(fault_at(slot as u16, code));
             }
         };
         insns.push(insn)?;
@@ -221,7 +221,7 @@ fn program_of(alloc: Global, profile: Profile, bytes: &[u8]) -> Result<Program, 
     ensures err { IfErr result (IsRefusal profile bytes.now) }
 {
     if let Some(code) = whole_fault(profile, bytes) {
-        return Err(refused(0, code));
+        return Err(fault_at(0, code));
     }
     match Program::new(alloc, profile, insns_of(alloc, profile, bytes)?) {
         Ok(program) => Ok(program),

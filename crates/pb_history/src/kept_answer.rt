@@ -82,7 +82,7 @@ impl AnswerRoom {
 }
 
 // Keeps what is told of a lock or of a version in the room.
-fn told(answer: Answer, room: &mut AnswerRoom) -> KeptForm
+fn told_form(answer: Answer, room: &mut AnswerRoom) -> KeptForm
     requires { room.old ≡ true }
     ensures { answer_of result ≡ answer }
 {
@@ -97,7 +97,7 @@ fn told(answer: Answer, room: &mut AnswerRoom) -> KeptForm
 }
 
 // A marked cell, by its parts.
-fn marked(cell: Cell) -> KeptForm
+fn marked_form(cell: Cell) -> KeptForm
     ensures { answer_of result ≡ Marked cell }
 {
     match cell {
@@ -116,7 +116,7 @@ impl KeptAnswer {
     {
         let form = match answer {
             Answer::At(at) => KeptForm::At(at),
-            Answer::Locked { .. } | Answer::Found { .. } => told(answer, room),
+            Answer::Locked { .. } | Answer::Found { .. } => told_form(answer, room),
             Answer::Absent => KeptForm::Absent,
             Answer::Done => KeptForm::Done,
             Answer::Conflict => KeptForm::Conflict,
@@ -125,7 +125,7 @@ impl KeptAnswer {
             Answer::RolledBack => KeptForm::RolledBack,
             Answer::Waits => KeptForm::Waits,
             Answer::CommittedAt(at) => KeptForm::CommittedAt(at),
-            Answer::Marked(cell) => marked(cell),
+            Answer::Marked(cell) => marked_form(cell),
             Answer::NoMark => KeptForm::NoMark,
             Answer::StillBehind => KeptForm::StillBehind,
         };

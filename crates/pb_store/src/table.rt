@@ -150,7 +150,7 @@ fn entry_after<T: Tablet>(parts: &[(Row, T)], after: &Option<Slot>) -> Option<(S
 }
 
 // The tablet with all entries and marks taken out, so that its owner may end it.
-fn emptied<T: Tablet>(tablet: T) -> T
+fn clear_tablet<T: Tablet>(tablet: T) -> T
     ensures { T.contents result ≡ nothing }
 {
     let mut tablet = tablet;
@@ -275,18 +275,18 @@ impl<T: Tablet> Table<T> {
         // refuses it.
         let places = self.places();
         if !tablet.is_empty() {
-            return Err((emptied(tablet), Reason::NotEmpty.refusal()));
+            return Err((clear_tablet(tablet), Reason::NotEmpty.refusal()));
         }
         if place >= places {
-            return Err((emptied(tablet), Reason::NoSuchPlace.refusal()));
+            return Err((clear_tablet(tablet), Reason::NoSuchPlace.refusal()));
         }
         let mut tablet = tablet;
         if copy_all(&self.parts[place].1, &mut tablet).is_err() {
-            return Err((emptied(tablet), Reason::NoMemory.refusal()));
+            return Err((clear_tablet(tablet), Reason::NoMemory.refusal()));
         }
         let part = &mut self.parts[place];
         let old = mem::replace(&mut part.1, tablet);
-        Ok(emptied(old))
+        Ok(clear_tablet(old))
     }
 
     /// Clears and ends all tablets.

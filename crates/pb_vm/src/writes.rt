@@ -25,7 +25,7 @@ fn place_in(writes: &[(Cell, Content)], cell: &Cell) -> usize
 
 /// The writes that stand after an end with this result: those made where it is 0, else none, so that an observer can
 /// give up after it has written.
-pub fn kept(end: u64, writes: Vec<(Cell, Content)>) -> Vec<(Cell, Content)>
+pub fn kept_writes(end: u64, writes: Vec<(Cell, Content)>) -> Vec<(Cell, Content)>
     ensures { result.items ≡ kept_writes end writes.items }
 {
     let mut writes = writes;

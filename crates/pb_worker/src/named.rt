@@ -85,7 +85,7 @@ pub(crate) fn hold<T: Tablet, J: Opening>(shared: Shared<T>) -> Mutex<Held<T, J>
 }
 
 /// The table, out of its lock.
-pub(crate) fn released<T: Tablet, J: Opening>(desk: Mutex<Held<T, J>>) -> Shared<T>
+pub(crate) fn into_shared<T: Tablet, J: Opening>(desk: Mutex<Held<T, J>>) -> Shared<T>
     ensures observers { result.state.observers ≡ J.observers }
     ensures seats { result.state.seats ≡ J.seats }
     ensures opened { result.opened ≡ J.opened }

@@ -7,7 +7,7 @@ ghost use Rattle.pb_worker.specs.Work.{Works, EachWorks, RestWork, AllWork, HasR
 
 use crate::desk::Callee;
 use crate::gate::Gate;
-use crate::named::{Held, Opening, hold, released};
+use crate::named::{Held, Opening, hold, into_shared};
 use crate::spares::work_beside_swaps;
 use crate::worker::{Worker, drain_last, work};
 use pb_base::{Batch, NoMemory, Refusal};
@@ -295,7 +295,7 @@ fn run_held<R: Threads + Wait + Sync, T: Tablet + Send, J: Opening + Send + Sync
     let workers = run_all(
         rt, alloc, &desk, workers, &observers, &batches, spares, gate,
     );
-    let shared = released(desk);
+    let shared = into_shared(desk);
     note_unfinished(&workers, batches.len(), &mut unfinished);
     part(workers, &mut back, &mut refusals);
     Ok(Worked {

@@ -76,20 +76,20 @@ struct AfterStep {
     job: Option<ActorJob>,
 }
 
-fn left(note: Result<Note, NoMemory>, job: Option<ActorJob>) -> AfterStep
+fn after_step(note: Result<Note, NoMemory>, job: Option<ActorJob>) -> AfterStep
     ensures { result ≡ record { note = note; job = job } }
 {
     AfterStep { note, job }
 }
 
-fn called(answer: &Answer) -> Note
+fn call_note(answer: &Answer) -> Note
     ensures { result ≡ Called answer.now }
 {
     Note::Called(*answer)
 }
 
 // A job that is over is gone, so that its actor can be launched again.
-fn kept(job: ActorJob) -> Option<ActorJob>
+fn keep_unless_over(job: ActorJob) -> Option<ActorJob>
     ensures { result ≡ kept job }
 {
     if job.is_over() { None } else { Some(job) }
@@ -115,20 +115,20 @@ fn step_job<T: Tablet>(
 {
     if job.is_local() {
         return match job.local(alloc) {
-            Ok(()) => left(Ok(Note::Instruction), Some(job)),
-            Err(e) => left(Err(e), Some(job)),
+            Ok(()) => after_step(Ok(Note::Instruction), Some(job)),
+            Err(e) => after_step(Err(e), Some(job)),
         };
     }
     match ask(shared, seat, &job) {
-        None => left(Ok(Note::Idle), None),
+        None => after_step(Ok(Note::Idle), None),
         Some(Ok(answer)) => {
-            let note = called(&answer);
+            let note = call_note(&answer);
             job.took(answer);
-            left(Ok(note), kept(job))
+            after_step(Ok(note), keep_unless_over(job))
         }
         // The job ends as by a crash: what its transaction left stays for others to clear.
-        Some(Err(NotCalled::Refused(code))) => left(Ok(Note::Refused(code)), None),
-        Some(Err(NotCalled::NoMemory)) => left(Err(NoMemory), Some(job)),
+        Some(Err(NotCalled::Refused(code))) => after_step(Ok(Note::Refused(code)), None),
+        Some(Err(NotCalled::NoMemory)) => after_step(Err(NoMemory), Some(job)),
     }
 }
 

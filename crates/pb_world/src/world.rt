@@ -341,12 +341,12 @@ impl<T: Tablet> World<T> {
         ensures err { IfErr result (λ f. StopsAtEvent self.old events.now f.event f.code self.new) }
     {
         let Ok(mut notes) = room_for(alloc, events.len()) else {
-            return Err(stopped(0, EventFault::NoMemory));
+            return Err(fault_at(0, EventFault::NoMemory));
         };
         for event in events {
             match self.event(alloc, event) {
                 Ok(note) => append(&mut notes, note),
-                Err(fault) => return Err(stopped(notes.len(), fault)),
+                Err(fault) => return Err(fault_at(notes.len(), fault)),
             }
         }
         Ok(notes)
@@ -354,7 +354,7 @@ impl<T: Tablet> World<T> {
 }
 
 // The fault of the event at this place of the list.
-fn stopped(event: usize, fault: EventFault) -> WorldFault
+fn fault_at(event: usize, fault: EventFault) -> WorldFault
     ensures { result ≡ record { event = event; code = fault_code fault } }
 {
     WorldFault {

@@ -14,7 +14,7 @@ pub struct Newest {
 }
 
 // The bytes without zeros at the end, but for the first, so that a value of zeros alone is told as `00`.
-fn trimmed(bytes: &[u8]) -> &[u8]
+fn trim_zeros(bytes: &[u8]) -> &[u8]
     ensures bytes { result.now ≡ trimmed bytes.now }
     ensures no_longer { length result.now ≤ length bytes.now }
 {
@@ -27,7 +27,7 @@ fn trimmed(bytes: &[u8]) -> &[u8]
     if front.is_empty() {
         return bytes;
     }
-    trimmed(front)
+    trim_zeros(front)
 }
 
 /// Two hexadecimal digits for each byte of a value, but for the zeros at its end; at least one byte is told. They are
@@ -35,7 +35,7 @@ fn trimmed(bytes: &[u8]) -> &[u8]
 pub fn digits_of<'a>(value: &Value, room: &'a mut [u8; 64]) -> &'a str
     ensures { result.now ≡ encode_lower (trimmed value.now) }
 {
-    let bytes = trimmed(value);
+    let bytes = trim_zeros(value);
     let digits = &mut room[..2 * bytes.len()];
     if hex::encode_to_slice(bytes, digits).is_err() {
         // The room has two digits for each byte, so that it fits.

@@ -5,7 +5,7 @@ use Rattle.pb_decode.proofs.reading.insns_of.Goals as goal
 pub returns-in-Err-clause-err : goal.returns-in-Err-clause-err
 returns-in-Err-clause-err c =
     let some : 0 < length c.loop-rest.rest.now = grind arith in
-    rw c.refused.ensures (c.in-Err.code, refl, fault_at c.args.profile c.args.bytes.now c.loop-rest.rest.now c.loop-rest.insns.items c.in-Err.code _ c.loop-rest.invariant.0 c.loop-rest.invariant.1 some c.in-Err.ensures refl)
+    rw c.fault_at.ensures (c.in-Err.code, refl, fault_at c.args.profile c.args.bytes.now c.loop-rest.rest.now c.loop-rest.insns.items c.in-Err.code _ c.loop-rest.invariant.0 c.loop-rest.invariant.1 some c.in-Err.ensures refl)
 
 pub loop-rest-smaller : goal.loop-rest-smaller
 loop-rest-smaller c =

@@ -6,5 +6,5 @@ use Rattle.pb_script.proofs.reports.lines.digits_of.Goals as goal
 
 pub unreachable-requires-in-Err : goal.unreachable-requires-in-Err
 unreachable-requires-in-Err c =
-    let written : c.encode_to_slice.new.output ≡ encode_lower c.trimmed-bytes.result.now = search rules in
-    c.in-Err.ensures.cases.0 (IsUtf8-from_ascii _ (rw written (digits_are_ascii c.trimmed-bytes.result.now)))
+    let written : c.encode_to_slice.new.output ≡ encode_lower c.trim_zeros-bytes.result.now = search rules in
+    c.in-Err.ensures.cases.0 (IsUtf8-from_ascii _ (rw written (digits_are_ascii c.trim_zeros-bytes.result.now)))

@@ -7,12 +7,12 @@ use Rattle.pb_store.proofs.Routing.{tiles_kept, firsts_kept, length-firsts_of}
 use Rattle.pb_store.proofs.Applying.{ok_holds}
 use Rattle.pb_store.proofs.table.Table.swap.Given.{Over}
 use Rattle.pb_store.proofs.table.Table.swap.Goals as goal
-use Rattle.pb_store.proofs.table.Table.swap.Goals.{After-emptied-2}
+use Rattle.pb_store.proofs.table.Table.swap.Goals.{After-clear_tablet-2}
 
 pub copy_all-requires : goal.copy_all-requires
 copy_all-requires g c = nothing_from_test (g.T.Tablet.contents c.args.tablet) (sym c.if-not-is_empty.ensures)
 
-module _ (g : Over) (c : After-emptied-2 g) where
+module _ (g : Over) (c : After-clear_tablet-2 g) where
   within : c.args.place < length c.self.inside.parts.items
   within = grind (arith, length-firsts_of, c.places-places.result, c.self.inside.parts.items, c.places-places.ensures.places, c.self.view_is, c.if-place-places.false)
 
