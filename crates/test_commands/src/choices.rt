@@ -27,7 +27,7 @@ const COPY: &str =
 const CHOICES: [[bool; 2]; 4] = [[false, false], [false, true], [true, false], [true, true]];
 
 // What a command leaves over tablets of these sorts.
-fn left<R: Threads + Wait + Abort + Sync>(
+fn outcome_of<R: Threads + Wait + Abort + Sync>(
     rt: &R,
     alloc: Global,
     options: &Options,
@@ -173,7 +173,7 @@ fn replays_print_the_same(rt: HostRuntime) -> Result<(), NoMemory> {
             clock: Ts(case.clock),
         });
         for slabs in CHOICES {
-            let outcome = left(&rt, alloc, &options, case.files(alloc), slabs)?;
+            let outcome = outcome_of(&rt, alloc, &options, case.files(alloc), slabs)?;
             assert!(rt;
                 outcome.status == 0 && outcome.err.is_empty(),
                 "{slabs:?} {case:?}"
@@ -188,7 +188,7 @@ fn replays_print_the_same(rt: HostRuntime) -> Result<(), NoMemory> {
 }
 
 // What a run by so many workers beside so many swaps prints, where nothing is left undone.
-fn printed<'a, R: Threads + Wait + Abort + Sync>(
+fn output_of<'a, R: Threads + Wait + Abort + Sync>(
     rt: &R,
     alloc: Global,
     manifest: &'a str,
@@ -213,7 +213,7 @@ fn printed<'a, R: Threads + Wait + Abort + Sync>(
         workers,
         swaps,
     };
-    let outcome = left(rt, alloc, &options, files, slabs)?;
+    let outcome = outcome_of(rt, alloc, &options, files, slabs)?;
     assert!(rt;
         outcome.status == 0 && outcome.err.is_empty(),
         "{slabs:?} {workers} {swaps}"
@@ -226,9 +226,9 @@ fn runs_by_one_worker_print_the_same(rt: HostRuntime) -> Result<(), NoMemory> {
     let copied = "cell 7 0 commit 2 value 2a\ncell 7 1 commit 4 value 2a\nruns copy 1\nquiet\n";
     for slabs in CHOICES {
         for swaps in [0u32, 1, 2, 7, 1000] {
-            let found = printed(&rt, rt.alloc(), COPY, CHANGE, 1, swaps, slabs)?;
+            let found = output_of(&rt, rt.alloc(), COPY, CHANGE, 1, swaps, slabs)?;
             assert!(rt; found.as_slice() == copied.as_bytes(), "{slabs:?} {swaps}");
-            let found = printed(&rt, rt.alloc(), NONE, "", 1, swaps, slabs)?;
+            let found = output_of(&rt, rt.alloc(), NONE, "", 1, swaps, slabs)?;
             assert!(rt;
                 found.as_slice() == b"quiet\n".as_slice(),
                 "{slabs:?} {swaps}"
@@ -244,7 +244,7 @@ fn runs_by_three_workers_copy_later(rt: HostRuntime) -> Result<(), NoMemory> {
     let before = b"cell 7 0 commit 2 value 2a\ncell 7 1 commit ";
     let behind = b" value 2a\nruns copy 1\nquiet\n";
     for slabs in CHOICES {
-        let found = printed(&rt, rt.alloc(), COPY, CHANGE, 3, 7, slabs)?;
+        let found = output_of(&rt, rt.alloc(), COPY, CHANGE, 3, 7, slabs)?;
         assert!(rt;
             found.starts_with(before) && found.ends_with(behind),
             "{slabs:?}"

@@ -42,16 +42,16 @@ impl<'a> Paths for Folder<'a> {
 
     fn read(&mut self, path: &str) -> Result<Vec<u8>, PathFault> {
         if path == "i" {
-            return copied(self.alloc, self.input?);
+            return copy_of(self.alloc, self.input?);
         }
         match &self.output {
-            Some(output) if path == "o" => copied(self.alloc, output),
+            Some(output) if path == "o" => copy_of(self.alloc, output),
             _ => Err(PathFault::Failed),
         }
     }
 
     fn write(&mut self, path: &str, bytes: &[u8]) -> Result<(), PathFault> {
-        match self.kept(path, bytes) {
+        match self.content_after(path, bytes) {
             Ok(output) => {
                 self.output = Some(output);
                 Ok(())
@@ -66,7 +66,7 @@ impl<'a> Paths for Folder<'a> {
 
 impl<'a> Folder<'a> {
     // What a write leaves at a path.
-    fn kept(&self, path: &str, bytes: &[u8]) -> Result<Vec<u8>, PathFault>
+    fn content_after(&self, path: &str, bytes: &[u8]) -> Result<Vec<u8>, PathFault>
         ensures { IfOk result (λ v. (bytes_eq path.now (111 ∷ []) ≡ true) × (v.items ≡ bytes.now)) }
     {
         if path != "o" {
@@ -74,12 +74,12 @@ impl<'a> Folder<'a> {
         }
         match self.refuses {
             Some(fault) => Err(fault),
-            None => copied(self.alloc, bytes),
+            None => copy_of(self.alloc, bytes),
         }
     }
 }
 
-fn copied(alloc: Global, bytes: &[u8]) -> Result<Vec<u8>, PathFault>
+fn copy_of(alloc: Global, bytes: &[u8]) -> Result<Vec<u8>, PathFault>
     ensures copy { IfOk result (λ v. v.items ≡ bytes.now) }
     ensures memory { IfErr result (λ f. f ≡ faults.NoMemory) }
 {

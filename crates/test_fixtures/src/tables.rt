@@ -58,7 +58,7 @@ pub fn spares_of(
 
 /// The table of one tablet, opened for these observers and as many seats, with `last` the last timestamp given out and room for
 /// `limit` entries.
-pub fn opened(
+pub fn open_table(
     alloc: Global,
     observers: Vec<Observer>,
     seats: u32,
@@ -72,11 +72,11 @@ pub fn opened(
     ensures fresh { IfOk result (λ s. s.0.journal ≡ []) }
     ensures seated { IfOk result (λ s. AreSeats s.0 s.1.items) }
 {
-    opened_over(alloc, table(alloc)?, observers, seats, last, limit)
+    open_table_over(alloc, table(alloc)?, observers, seats, last, limit)
 }
 
 /// The same over this table.
-pub fn opened_over<T: Tablet>(
+pub fn open_table_over<T: Tablet>(
     alloc: Global,
     table: Table<T>,
     observers: Vec<Observer>,

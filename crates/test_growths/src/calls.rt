@@ -4,7 +4,7 @@ use crate::refusals::Refusals;
 use crate::same::are_states_same;
 use crate::steps::steps;
 use crate::swaps::are_swapped;
-use crate::twins::{Twins, all_called, called, close, opened_twice, two_tables};
+use crate::twins::{Twins, call_all, call_both, close, open_twice, two_tables};
 use pb_base::{NoMemory, Ts};
 use pb_memtablet::EitherTablet;
 use pb_state::State;
@@ -17,7 +17,7 @@ fn is_filled(twins: &mut Twins, refusals: &mut Refusals) -> bool {
         if matches!(twins.shared.journal().len(), 4 | 8 | 16 | 32) {
             return true;
         }
-        if called(twins, &Step::NextMark(None), refusals).is_none() {
+        if call_both(twins, &Step::NextMark(None), refusals).is_none() {
             return false;
         }
     }
@@ -33,10 +33,10 @@ fn is_last_called(
     let Some((last, before)) = steps.split_last() else {
         return Ok(true);
     };
-    let mut twins = opened_twice(alloc, watchers(alloc)?, watchers(alloc)?)?;
-    let held = all_called(&mut twins, before, refusals)
+    let mut twins = open_twice(alloc, watchers(alloc)?, watchers(alloc)?)?;
+    let held = call_all(&mut twins, before, refusals)
         && is_filled(&mut twins, refusals)
-        && called(&mut twins, last, refusals).is_some();
+        && call_both(&mut twins, last, refusals).is_some();
     close(twins);
     Ok(held)
 }
@@ -44,8 +44,8 @@ fn is_last_called(
 /// `Shared::call` with each step in turn, and then `Shared::swap`.
 pub fn shared_calls(alloc: Global, refusals: &mut Refusals) -> Result<bool, NoMemory> {
     let steps = steps(alloc)?;
-    let mut twins = opened_twice(alloc, watchers(alloc)?, watchers(alloc)?)?;
-    let held = all_called(&mut twins, &steps, refusals)
+    let mut twins = open_twice(alloc, watchers(alloc)?, watchers(alloc)?)?;
+    let held = call_all(&mut twins, &steps, refusals)
         && are_swapped(
             alloc,
             &mut twins.shared,

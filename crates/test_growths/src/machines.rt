@@ -21,7 +21,7 @@ pub fn change(cell: Cell) -> Record {
 }
 
 // A machine of a program on that record, which is of its version, for a run at 3.
-fn started_once(alloc: Global, program: &Arc<Accepted>, cell: &Cell) -> Result<Vm, NoMemory> {
+fn start_once(alloc: Global, program: &Arc<Accepted>, cell: &Cell) -> Result<Vm, NoMemory> {
     let version = program.version();
     let record = change(*cell);
     if record.version() != version {
@@ -31,24 +31,24 @@ fn started_once(alloc: Global, program: &Arc<Accepted>, cell: &Cell) -> Result<V
 }
 
 /// A machine of a program on that record, for a run at 3. Where it is refused once, the same call again starts it.
-pub fn started(
+pub fn start_machine(
     alloc: Global,
     program: &Arc<Accepted>,
     cell: &Cell,
     refusals: &mut Refusals,
 ) -> Option<Vm> {
-    match started_once(alloc, program, cell) {
+    match start_once(alloc, program, cell) {
         Ok(vm) => Some(vm),
         Err(_) => {
             refusals.note("Vm::start");
-            started_once(alloc, program, cell).ok()
+            start_once(alloc, program, cell).ok()
         }
     }
 }
 
 /// What a machine leaves at its end, and after how many instructions, where each cell that it asks for is absent. It takes no
 /// memory.
-pub fn finished(vm: Vm) -> Option<(Finished, u16)> {
+pub fn run_to_end(vm: Vm) -> Option<(Finished, u16)> {
     let mut vm = vm;
     for _ in 0..1_024u32 {
         match vm.phase() {
@@ -91,7 +91,7 @@ fn started_in(
     };
     let program = program_in(rt, path)?;
     let cell = Cell::Data(Row(7), column);
-    Ok(started(rt.alloc(), &program, &cell, refusals))
+    Ok(start_machine(rt.alloc(), &program, &cell, refusals))
 }
 
 /// Whether a machine of the program in a file stands on entry.
@@ -116,7 +116,7 @@ pub fn file_runs(
     let Some(vm) = started_in(rt, path, refusals)? else {
         return Ok(false);
     };
-    match finished(vm) {
+    match run_to_end(vm) {
         Some((finished, taken)) => Ok(finished.start() == Ts(3) && taken == count),
         None => Ok(false),
     }

@@ -5,7 +5,7 @@ use crate::copies::is_declared;
 use crate::machines;
 use crate::refusals::Refusals;
 use crate::steps::{batch, column, column_of, declares};
-use crate::twins::{all_called, close, opened_twice};
+use crate::twins::{call_all, close, open_twice};
 use pb_base::{Cell, NoMemory, ObserverNo, Row, Ts};
 use pb_helpers::HelperTable;
 use pb_parse::{Event, Job, parse_schedule};
@@ -99,14 +99,14 @@ pub fn manifests_are_read(alloc: Global, refusals: &mut Refusals) -> Result<bool
 }
 
 /// The run of a program to its end, also where its start is refused once.
-pub fn finished(
+pub fn finished_run(
     alloc: Global,
     program: &Arc<Accepted>,
     cell: &Cell,
     refusals: &mut Refusals,
 ) -> Option<Finished> {
-    let vm = machines::started(alloc, program, cell, refusals)?;
-    let (finished, _) = machines::finished(vm)?;
+    let vm = machines::start_machine(alloc, program, cell, refusals)?;
+    let (finished, _) = machines::run_to_end(vm)?;
     Some(finished)
 }
 
@@ -114,7 +114,7 @@ pub fn finished(
 pub fn machines_start(alloc: Global, refusals: &mut Refusals) -> Result<bool, NoMemory> {
     let program = Arc::new(alloc, program(alloc)?)?;
     let cell = Cell::Data(Row(7), column()?);
-    match finished(alloc, &program, &cell, refusals) {
+    match finished_run(alloc, &program, &cell, refusals) {
         Some(finished) => Ok(
             finished.is_of(&program) && finished.start() == Ts(3) && finished.result() == 0,
         ),
@@ -185,7 +185,7 @@ pub fn schedules_are_read(alloc: Global, refusals: &mut Refusals) -> Result<bool
 }
 
 // A run as it is kept, also where that is refused once and hands the same back.
-fn ended(
+fn keep_run(
     alloc: Global,
     finished: Finished,
     same: &Finished,
@@ -208,14 +208,14 @@ pub fn runs_are_ended(alloc: Global, refusals: &mut Refusals) -> Result<bool, No
     let cell = Cell::Data(Row(7), column()?);
     let (Some(watch), Some(first), Some(second), Some(same)) = (
         ObserverNo::new(0),
-        finished(alloc, &program, &cell, refusals),
-        finished(alloc, &program, &cell, refusals),
-        finished(alloc, &program, &cell, refusals),
+        finished_run(alloc, &program, &cell, refusals),
+        finished_run(alloc, &program, &cell, refusals),
+        finished_run(alloc, &program, &cell, refusals),
     ) else {
         return Ok(false);
     };
     let other = EndedRun::new(alloc, second)?;
-    let Some(run) = ended(alloc, first, &same, refusals) else {
+    let Some(run) = keep_run(alloc, first, &same, refusals) else {
         return Ok(false);
     };
     let is_it = run.get().is_same(&same);
@@ -231,7 +231,7 @@ pub fn runs_are_declared(alloc: Global, refusals: &mut Refusals) -> Result<bool,
     let Some(watch) = ObserverNo::new(0) else {
         return Ok(false);
     };
-    let Some(finished) = finished(alloc, &program, &cell, refusals) else {
+    let Some(finished) = finished_run(alloc, &program, &cell, refusals) else {
         return Ok(false);
     };
     let ack = Cell::Ack(watch, Row(7), column()?);
@@ -256,8 +256,8 @@ pub fn runs_are_declared(alloc: Global, refusals: &mut Refusals) -> Result<bool,
     ];
     let first = observers(alloc, &program)?;
     let second = observers(alloc, &program)?;
-    let mut twins = opened_twice(alloc, first, second)?;
-    let held = all_called(&mut twins, &steps, refusals)
+    let mut twins = open_twice(alloc, first, second)?;
+    let held = call_all(&mut twins, &steps, refusals)
         && twins.shared.marks() == 0
         && twins.shared.locks() == 0;
     close(twins);

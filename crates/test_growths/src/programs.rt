@@ -29,7 +29,7 @@ fn insns(alloc: Global) -> Result<Vec<Insn>, NoMemory> {
 }
 
 // What `Program::new` answers of those instructions.
-fn made(alloc: Global) -> Result<Result<Program, NoProgram>, NoMemory> {
+fn make_program(alloc: Global) -> Result<Result<Program, NoProgram>, NoMemory> {
     let insns = insns(alloc)?;
     if !Profile::One.has_all(&insns) {
         return Ok(Err(NoProgram::NotInRange(insns)));
@@ -39,7 +39,7 @@ fn made(alloc: Global) -> Result<Result<Program, NoProgram>, NoMemory> {
 
 // The program of those instructions.
 fn program(alloc: Global) -> Result<Program, NoMemory> {
-    match made(alloc)? {
+    match make_program(alloc)? {
         Ok(program) => Ok(program),
         Err(_) => Err(NoMemory),
     }
@@ -60,7 +60,7 @@ fn is_it(program: &Program) -> bool {
 
 /// `Program::new`.
 pub fn programs_are_made(alloc: Global, refusals: &mut Refusals) -> Result<bool, NoMemory> {
-    match made(alloc)? {
+    match make_program(alloc)? {
         Ok(program) => Ok(is_it(&program)),
         Err(NoProgram::NotInRange(_)) => Ok(false),
         Err(NoProgram::NoMemory) => {

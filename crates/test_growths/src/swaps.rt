@@ -60,7 +60,7 @@ impl<T: Tablet> Swaps<T> for Shared<T> {
 const ROWS: [u64; 4] = [3, 7, 1000, 1001];
 
 // A table of two tablets with an entry and a mark in each row.
-fn filled(alloc: Global, slabs: [bool; 2]) -> Result<Table<EitherTablet>, NoMemory> {
+fn filled_table(alloc: Global, slabs: [bool; 2]) -> Result<Table<EitherTablet>, NoMemory> {
     let mut table = table_of(alloc, &slabs)?;
     match fill(&mut table, &ROWS) {
         Ok(()) => Ok(table),
@@ -132,8 +132,8 @@ pub fn are_swapped<S: Swaps<EitherTablet>>(
 
 // The same of two tables of these sorts.
 fn tables_take(alloc: Global, slabs: [bool; 2], refusals: &mut Refusals) -> Result<bool, NoMemory> {
-    let mut table = filled(alloc, slabs)?;
-    let other = match filled(alloc, slabs) {
+    let mut table = filled_table(alloc, slabs)?;
+    let other = match filled_table(alloc, slabs) {
         Ok(other) => other,
         Err(fault) => {
             table.close();

@@ -12,7 +12,7 @@ use pb_steps::{Answer, Step};
 use pb_store::Table;
 use pb_verify::Observer;
 use std::alloc::Global;
-use test_fixtures::{opened_over, table_of};
+use test_fixtures::{open_table_over, table_of};
 
 /// Of the two tablets of a table, the first is a list, and the second a slab.
 pub const SORTS: [bool; 2] = [false, true];
@@ -50,7 +50,7 @@ fn with_other(
     requires empty { table.contents ≡ nothing }
     requires few { length observers.items ≤ 32 }
 {
-    match opened_over(alloc, table, observers, 1, Ts(0), 100) {
+    match open_table_over(alloc, table, observers, 1, Ts(0), 100) {
         Ok((other, others)) => Ok(Twins {
             shared,
             seats,
@@ -65,7 +65,7 @@ fn with_other(
 }
 
 /// Two tables with one seat and these observers each.
-pub fn opened_twice(
+pub fn open_twice(
     alloc: Global,
     first: Vec<Observer>,
     second: Vec<Observer>,
@@ -74,7 +74,7 @@ pub fn opened_twice(
     requires as_few { length second.items ≤ 32 }
 {
     let (table, other) = two_tables(alloc)?;
-    match opened_over(alloc, table, first, 1, Ts(0), 100) {
+    match open_table_over(alloc, table, first, 1, Ts(0), 100) {
         Ok((shared, seats)) => with_other(alloc, shared, seats, other, second),
         Err(fault) => {
             other.close();
@@ -132,7 +132,7 @@ fn other_called(twins: &mut Twins, step: &Step, refusals: &mut Refusals) -> Opti
 
 /// The answer of both tables to the first seat's call. Where one is refused for memory, nothing of it has changed, and the
 /// same call again makes it what the other is.
-pub fn called(twins: &mut Twins, step: &Step, refusals: &mut Refusals) -> Option<Answer>
+pub fn call_both(twins: &mut Twins, step: &Step, refusals: &mut Refusals) -> Option<Answer>
     ensures can { IfSome result (CanAnswer step.now) }
 {
     let answer = first_called(twins, step, refusals)?;
@@ -150,9 +150,9 @@ pub fn called(twins: &mut Twins, step: &Step, refusals: &mut Refusals) -> Option
 }
 
 /// Whether each of these calls is answered.
-pub fn all_called(twins: &mut Twins, steps: &[Step], refusals: &mut Refusals) -> bool {
+pub fn call_all(twins: &mut Twins, steps: &[Step], refusals: &mut Refusals) -> bool {
     for step in steps {
-        if called(twins, step, refusals).is_none() {
+        if call_both(twins, step, refusals).is_none() {
             return false;
         }
     }

@@ -23,7 +23,7 @@ use pb_verify::Observer;
 use std::alloc::{AllocError, Global};
 use std::env;
 use std::process::ExitCode;
-use test_fixtures::opened;
+use test_fixtures::open_table;
 use turns::stopped_at;
 
 const WORDS: &str = "DIGITS FROM TASKS TURNS";
@@ -59,7 +59,7 @@ fn told_of(
 ) -> Option<String> {
     let mut jobs = jobs;
     let observers = observers_of(alloc, observer).ok()?;
-    let (mut shared, mut seats) = opened(alloc, observers, 3, Ts(0), 1000).ok()?;
+    let (mut shared, mut seats) = open_table(alloc, observers, 3, Ts(0), 1000).ok()?;
     let stopped = stopped_at(alloc, &mut shared, &mut seats, &mut jobs, turns);
     let told = table_text(alloc, &shared, from);
     shared.close();

@@ -72,7 +72,7 @@ fn frame_with(rt: &impl Abort, row: Kind, column: Kind, place: Kind) -> Frame {
 }
 
 // The code with which a call is refused where all helpers are declared, and 0 where there is none.
-fn told(frame: &Frame, helper: i32) -> u8 {
+fn call_code(frame: &Frame, helper: i32) -> u8 {
     match argument_code(HelperTable::all(), helper, frame) {
         Some(code) => code.code(),
         None => 0,
@@ -103,11 +103,20 @@ fn arguments(rt: HostRuntime) {
     ];
     for (row, column, place, read, write, delete) in table {
         let frame = frame_with(&rt, row, column, place);
-        assert!(rt; told(&frame, 1) == read, "{row:?} {column:?} {place:?}");
-        assert!(rt; told(&frame, 2) == write, "{row:?} {column:?} {place:?}");
-        assert!(rt; told(&frame, 3) == delete, "{row:?} {column:?} {place:?}");
-        assert!(rt; told(&frame, 4) == 0, "{row:?} {column:?} {place:?}");
-        assert!(rt; told(&frame, 5) == 30, "{row:?} {column:?} {place:?}");
+        assert!(rt;
+            call_code(&frame, 1) == read,
+            "{row:?} {column:?} {place:?}"
+        );
+        assert!(rt;
+            call_code(&frame, 2) == write,
+            "{row:?} {column:?} {place:?}"
+        );
+        assert!(rt;
+            call_code(&frame, 3) == delete,
+            "{row:?} {column:?} {place:?}"
+        );
+        assert!(rt; call_code(&frame, 4) == 0, "{row:?} {column:?} {place:?}");
+        assert!(rt; call_code(&frame, 5) == 30, "{row:?} {column:?} {place:?}");
     }
 }
 

@@ -13,10 +13,10 @@ use pb_txn::{ChangeJob, Outcome};
 use pb_verify::Accepted;
 use std::alloc::Global;
 use std::sync::Arc;
-use test_growths::observers::{finished, observers};
+use test_growths::observers::{finished_run, observers};
 use test_growths::refusals::Refusals;
 use test_growths::steps::{batch, column, column_of, declares, three_cells};
-use test_growths::twins::{Twins, all_called, called, close, opened_twice};
+use test_growths::twins::{Twins, call_all, call_both, close, open_twice};
 
 // It asks for cell 7 1 with its fifth instruction, deletes cell 5 15 with its eighth, and exits.
 const ASK_AND_DELETE: &[u8] =
@@ -55,7 +55,7 @@ fn changes(twins: &mut Twins, job: &mut ChangeJob, refusals: &mut Refusals) -> b
         let Some(step) = job.next() else {
             return true;
         };
-        match called(twins, step, refusals) {
+        match call_both(twins, step, refusals) {
             Some(answer) => job.took(answer),
             None => return false,
         }
@@ -71,7 +71,7 @@ pub fn changes_are_made(alloc: Global, refusals: &mut Refusals) -> Result<bool, 
         Step::Begin(Work::Script),
         declares(alloc, Ts(1), batch.copy()?)?,
     ];
-    let mut twins = opened_twice(alloc, Vec::new(alloc), Vec::new(alloc))?;
+    let mut twins = open_twice(alloc, Vec::new(alloc), Vec::new(alloc))?;
     let held = match job_of(alloc, batch, &same, refusals) {
         Some(job) => {
             let mut job = job;
@@ -91,7 +91,7 @@ fn answers(twins: &mut Twins, job: &mut ObserverJob, refusals: &mut Refusals) ->
     let Some(step) = job.next() else {
         return false;
     };
-    match called(twins, step, refusals) {
+    match call_both(twins, step, refusals) {
         Some(answer) => {
             job.took(answer);
             true
@@ -134,7 +134,7 @@ fn follows(alloc: Global, job: &mut ObserverJob, refusals: &mut Refusals) -> boo
 }
 
 // Follows a job to its end, and tells after how many calls for instructions it came there so, each instruction done once.
-fn followed(
+fn follow_to_end(
     alloc: Global,
     twins: &mut Twins,
     job: &mut ObserverJob,
@@ -177,7 +177,7 @@ fn steps_of(
     cell: Cell,
     refusals: &mut Refusals,
 ) -> Result<Vec<Step>, NoMemory> {
-    let Some(finished) = finished(alloc, program, &cell, refusals) else {
+    let Some(finished) = finished_run(alloc, program, &cell, refusals) else {
         return Err(NoMemory);
     };
     let what = Declared::Run(watch, EndedRun::new(alloc, finished)?);
@@ -225,9 +225,9 @@ fn observer_runs(
     let first = observers(alloc, &program)?;
     let second = observers(alloc, &program)?;
     let mut job = ObserverJob::new(watch, program, Row(7), column()?);
-    let mut twins = opened_twice(alloc, first, second)?;
-    let held = all_called(&mut twins, &steps[..5], refusals)
-        && followed(alloc, &mut twins, &mut job, pace, refusals) == Some(count)
+    let mut twins = open_twice(alloc, first, second)?;
+    let held = call_all(&mut twins, &steps[..5], refusals)
+        && follow_to_end(alloc, &mut twins, &mut job, pace, refusals) == Some(count)
         && job.needs() == Need::Over(JobEnd::Ran(0))
         && are_entries(twins.shared.journal(), &steps);
     close(twins);

@@ -111,7 +111,7 @@ fn held_in(
 }
 
 // Whether what the words behind the program's own ask for held; every check, where there are no such words.
-fn held<R: Threads + Wait + Sync>(
+fn checks_hold<R: Threads + Wait + Sync>(
     threads: &R,
     rt: &HostRuntime,
     refusals: &mut Refusals,
@@ -143,12 +143,12 @@ fn is_told(rt: &HostRuntime, refusals: &Refusals) -> bool {
 
 fn main(rt: HostRuntime) -> ExitCode {
     let mut refusals = Refusals::none();
-    let held = match held(&rt, &rt, &mut refusals) {
+    let held = match checks_hold(&rt, &rt, &mut refusals) {
         Ok(held) => held,
         // Only one request is refused: the second time neither a preparation is, nor a call.
         Err(_) => {
             refusals.note("a preparation");
-            held(&rt, &rt, &mut refusals) == Ok(true)
+            checks_hold(&rt, &rt, &mut refusals) == Ok(true)
         }
     };
     if held && refusals.are_few() && is_told(&rt, &refusals) {

@@ -11,7 +11,7 @@ use std::alloc::Global;
 use test_growths::observers::watchers;
 use test_growths::refusals::Refusals;
 use test_growths::steps::{batch, cell_of, declares, three_cells};
-use test_growths::twins::{all_called, close, opened_twice};
+use test_growths::twins::{call_all, close, open_twice};
 
 // A change of three cells, of which the last is locked still, and one that has locked its one cell.
 const REPORT: &[u8] =
@@ -48,9 +48,9 @@ pub fn tables_are_reported(alloc: Global, refusals: &mut Refusals) -> Result<boo
         declares(alloc, Ts(3), batch(alloc)?)?,
         Step::Prewrite(Ts(3), cell_of(0)?),
     ];
-    let mut twins = opened_twice(alloc, watchers(alloc)?, watchers(alloc)?)?;
+    let mut twins = open_twice(alloc, watchers(alloc)?, watchers(alloc)?)?;
     let mut page = Page::new();
-    let held = all_called(&mut twins, &steps, refusals)
+    let held = call_all(&mut twins, &steps, refusals)
         && is_reported(alloc, &twins.shared, &mut page, refusals)
         && page.holds(REPORT);
     close(twins);

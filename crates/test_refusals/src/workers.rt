@@ -51,7 +51,7 @@ fn batches(alloc: Global) -> Result<Vec<Batch>, NoMemory> {
 
 // A used table with an observer, and two seats. Its journal has room for all passes: the lock that a refused run leaves on cell
 // 5 15 is in the way of each later run, since nobody reads that cell.
-fn opened(alloc: Global) -> Result<(Shared<EitherTablet>, Vec<Seat>), NoMemory>
+fn open_used_table(alloc: Global) -> Result<(Shared<EitherTablet>, Vec<Seat>), NoMemory>
     ensures { IfOk result (λ s. AreSeats s.0 s.1.items) }
 {
     used(alloc, BEFORE, 2, MAX_ENTRIES)
@@ -80,7 +80,7 @@ fn are_handed_back(
 ) -> Result<bool, NoMemory> {
     let batches = batches(alloc)?;
     let spares = spares_of(alloc, SORTS, count)?;
-    let (shared, seats) = opened(alloc)?;
+    let (shared, seats) = open_used_table(alloc)?;
     let held = are_shared_same(&handed.shared, &shared)
         && are_all_seats_same(&handed.seats, &seats)
         && are_batches_same(&handed.batches, &batches)
@@ -103,7 +103,7 @@ fn committed_changes(shared: &Shared<EitherTablet>) -> usize {
 }
 
 // What an accepted table shows.
-fn shown(
+fn remains_of(
     alloc: Global,
     shared: &Shared<EitherTablet>,
     seats: &[Option<Refusal>],
@@ -146,7 +146,7 @@ fn left_by(alloc: Global, worked: Worked<EitherTablet>, refusals: &mut Refusals)
     } = worked;
     match finish(shared, seats) {
         Ok(ended) => {
-            let left = shown(alloc, ended.shared(), &told, &unfinished, refusals);
+            let left = remains_of(alloc, ended.shared(), &told, &unfinished, refusals);
             ended.close();
             left
         }
@@ -195,7 +195,7 @@ fn left_again<R: Threads + Wait + Sync>(
 }
 
 // What is left of the script, by one worker, beside so many swaps.
-fn left<R: Threads + Wait + Sync>(
+fn remains_of_script<R: Threads + Wait + Sync>(
     rt: &R,
     alloc: Global,
     count: usize,
@@ -203,7 +203,7 @@ fn left<R: Threads + Wait + Sync>(
 ) -> Result<Remains, NoMemory> {
     let batches = batches(alloc)?;
     let spares = spares_of(alloc, SORTS, count)?;
-    let (shared, seats) = opened(alloc)?;
+    let (shared, seats) = open_used_table(alloc)?;
     if seats.len() < 2 {
         shared.close();
         return Ok(Remains::Wrong);
@@ -225,9 +225,9 @@ pub fn workers_run<R: Threads + Wait + Sync>(
     count: usize,
     refusals: &mut Refusals,
 ) -> Result<bool, NoMemory> {
-    match left(rt, alloc, count, refusals)? {
+    match remains_of_script(rt, alloc, count, refusals)? {
         Remains::Whole => Ok(true),
-        Remains::Short => Ok(left(rt, alloc, count, refusals)? == Remains::Whole),
+        Remains::Short => Ok(remains_of_script(rt, alloc, count, refusals)? == Remains::Whole),
         Remains::Wrong => Ok(false),
     }
 }

@@ -12,7 +12,7 @@ use pb_memtablet::EitherTablet;
 use pb_parse::{Event, parse_schedule};
 use pb_world::{World, worlds_stay_sound};
 use std::alloc::Global;
-use test_fixtures::{opened_over, table_of};
+use test_fixtures::{open_table_over, table_of};
 use test_growths::observers::observers;
 use test_growths::refusals::Refusals;
 use test_growths::same::{are_all_seats_same, are_batches_same, are_shared_same};
@@ -87,7 +87,7 @@ pub fn used(
     let batches = batches(alloc)?;
     let observers = observers(alloc, &program(alloc)?)?;
     let table = table_of(alloc, &SORTS)?;
-    let (shared, seats) = opened_over(alloc, table, observers, seats, Ts(0), limit)?;
+    let (shared, seats) = open_table_over(alloc, table, observers, seats, Ts(0), limit)?;
     match World::open(alloc, shared, seats, batches) {
         Ok(world) => left_after(alloc, world, &events),
         Err((shared, _seats, _batches)) => {
@@ -131,7 +131,10 @@ fn reopened(
 }
 
 // A world over a used table, also where it is refused once and all is handed back.
-fn opened(alloc: Global, refusals: &mut Refusals) -> Result<Option<World<EitherTablet>>, NoMemory> {
+fn open_world(
+    alloc: Global,
+    refusals: &mut Refusals,
+) -> Result<Option<World<EitherTablet>>, NoMemory> {
     let batches = batches(alloc)?;
     let (shared, seats) = used(alloc, BEFORE, 4, 100)?;
     match World::open(alloc, shared, seats, batches) {
@@ -160,7 +163,7 @@ fn is_after(
     events: &[Event],
     refusals: &mut Refusals,
 ) -> Result<bool, NoMemory> {
-    let Some(other) = opened(alloc, refusals)? else {
+    let Some(other) = open_world(alloc, refusals)? else {
         return Ok(false);
     };
     let mut other = other;
@@ -228,10 +231,10 @@ fn happen_in_both(
 /// `World::open` and `World::run`: refused, they go on to what is left where nothing is refused.
 pub fn worlds_run(alloc: Global, refusals: &mut Refusals) -> Result<bool, NoMemory> {
     let events = events(alloc, SCHEDULE)?;
-    let Some(first) = opened(alloc, refusals)? else {
+    let Some(first) = open_world(alloc, refusals)? else {
         return Ok(false);
     };
-    match opened(alloc, refusals) {
+    match open_world(alloc, refusals) {
         Ok(Some(second)) => {
             let held = happen_in_both(alloc, first, second, &events, refusals)?;
             Ok(events.len() == EVENTS && held)

@@ -14,7 +14,7 @@ fn content_at(cells: &Cells, row: u64, column: u8) -> Option<Content> {
 }
 
 // What an observer's record tells of a content: a deletion is told as zeros.
-fn told(content: Content) -> Value {
+fn value_told(content: Content) -> Value {
     match content {
         Content::Value(value) => value,
         _ => [0; 32],
@@ -64,7 +64,7 @@ fn is_fed(cells: &Cells, journal: &[Entry], commits: &Commits, row: u64) -> bool
             .iter()
             .all(|column| content_at(cells, row, *column).is_none());
     };
-    let copied = Some(Content::Value(told(changed)));
+    let copied = Some(Content::Value(value_told(changed)));
     let counted = Some(Content::Value(number(runs_on(journal, commits, row, 15))));
     let copies = runs_on(journal, commits, row, 1);
     let counts = runs_on(journal, commits, row, 15);

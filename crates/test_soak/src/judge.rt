@@ -19,7 +19,7 @@ use std::fmt::{Display, Formatter, Write};
 use std::sync::Wait;
 use std::thread::Threads;
 use test_crew::worked_on;
-use test_fixtures::{batches_of, observers_of, opened};
+use test_fixtures::{batches_of, observers_of, open_table};
 
 /// What was met in some runs.
 #[derive(Drop)]
@@ -147,7 +147,11 @@ fn judge(
 }
 
 // The same, where `finish` accepts.
-fn judged(alloc: Global, worked: Worked<ListTablet>, batches: &[Batch]) -> Result<Met, Fault> {
+fn judge_accepted(
+    alloc: Global,
+    worked: Worked<ListTablet>,
+    batches: &[Batch],
+) -> Result<Met, Fault> {
     let Worked {
         shared,
         seats,
@@ -173,7 +177,7 @@ pub fn soak<R: Threads + Wait + Sync>(rt: &R, alloc: Global) -> Result<Met, Faul
     let same = batches_of(alloc, text.as_str())?;
     let observers = observers_of(alloc, MANIFEST)?;
     let all = batches_of(alloc, text.as_str())?;
-    let (shared, seats) = opened(alloc, observers, WORKERS + 1, Ts(0), MAX_ENTRIES)?;
+    let (shared, seats) = open_table(alloc, observers, WORKERS + 1, Ts(0), MAX_ENTRIES)?;
     let worked = worked_on(rt, alloc, shared, seats, all, Vec::new(alloc), &Open)?;
-    judged(alloc, worked, &same)
+    judge_accepted(alloc, worked, &same)
 }

@@ -28,7 +28,7 @@ use std::env;
 use std::process::ExitCode;
 use step::step_of;
 use tablets::{add_entries, add_refused, add_swap, parts_in};
-use test_fixtures::{observers_of, opened_over};
+use test_fixtures::{observers_of, open_table_over};
 use words::Words;
 
 const WORDS: &str = "TABLETS LAST LIMIT MANIFEST STEP..";
@@ -118,7 +118,7 @@ fn told_by(alloc: Global, words: &[String]) -> Option<String> {
     let mut text = String::new(alloc);
     let told = match Table::new(parts) {
         Ok(table) => {
-            let opened = opened_over(alloc, table, observers, 3, Ts(last), limit);
+            let opened = open_table_over(alloc, table, observers, 3, Ts(last), limit);
             let (mut shared, mut seats) = opened.ok()?;
             let told = add_lines(alloc, &mut text, &mut shared, &mut seats, steps);
             shared.close();

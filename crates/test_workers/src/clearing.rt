@@ -5,7 +5,7 @@ use pb_steps::Step;
 use pb_store::Tablet;
 
 // The number that a step of the main seat is refused with, or 0 where it is answered.
-fn called<T: Tablet>(shared: &mut Shared<T>, seats: &mut Vec<Seat>, step: &Step) -> u8 {
+fn code_of_call<T: Tablet>(shared: &mut Shared<T>, seats: &mut Vec<Seat>, step: &Step) -> u8 {
     let Some(main) = seats.first_mut() else {
         return 41;
     };
@@ -40,7 +40,7 @@ pub fn is_clearing_told<T: Tablet>(
     let steps = steps()?;
     print!(rt; "cleared").ok()?;
     for step in &steps {
-        let code = called(shared, seats, step);
+        let code = code_of_call(shared, seats, step);
         print!(rt; " {code}").ok()?;
     }
     Some(println!(rt; "").is_ok())

@@ -5,7 +5,7 @@
 use crate::account::is_end_told;
 use crate::tablets::place_of;
 use crate::task::Task;
-use crate::work::worked;
+use crate::work::do_work;
 use pb_core::{Seat, Shared};
 use pb_worker::{Open, Worked, finish};
 use std::alloc::Global;
@@ -77,7 +77,7 @@ fn lists_of(alloc: Global, seats: &[Seat]) -> Option<Vec<(u32, usize)>> {
 }
 
 // What is handed back, as it was, where `finish` refuses table and seats.
-fn refused(alloc: Global, moved: Moved) -> Option<Moved> {
+fn refuse_moved(alloc: Global, moved: Moved) -> Option<Moved> {
     let Moved {
         shared,
         seats,
@@ -109,7 +109,7 @@ fn refused(alloc: Global, moved: Moved) -> Option<Moved> {
 // What is there after an operation, if it was done.
 fn after(alloc: Global, moved: Moved, operation: &[u8]) -> Option<Moved> {
     if matches!(operation, [b'f']) {
-        return refused(alloc, moved);
+        return refuse_moved(alloc, moved);
     }
     let mut moved = moved;
     if is_done(&mut moved, operation) {
@@ -138,7 +138,7 @@ fn after_all(alloc: Global, moved: Moved, operations: &[String]) -> Option<Moved
 }
 
 // What two workers leave of a script, with the seats of two that did another.
-fn left<R: Threads + Wait + Sync>(
+fn work_of_two<R: Threads + Wait + Sync>(
     rt: &R,
     alloc: Global,
     first: &Task,
@@ -149,14 +149,14 @@ fn left<R: Threads + Wait + Sync>(
         seats: others,
         refusals: _,
         unfinished: _,
-    } = worked(rt, alloc, second, Vec::new(alloc), &Open).ok()?;
+    } = do_work(rt, alloc, second, Vec::new(alloc), &Open).ok()?;
     other.close();
     let Worked {
         shared,
         seats,
         refusals: _,
         unfinished: _,
-    } = worked(rt, alloc, first, Vec::new(alloc), &Open).ok()?;
+    } = do_work(rt, alloc, first, Vec::new(alloc), &Open).ok()?;
     Some(Moved {
         shared,
         seats,
@@ -175,7 +175,7 @@ pub fn are_told<R: Threads + Wait + Sync>(
     let first = Task::of_two(manifest, words.get(1)?.as_str());
     let second = Task::of_two(manifest, words.get(2)?.as_str());
     let operations = words.get(3..)?;
-    let moved = left(threads, rt.alloc(), &first, &second)?;
+    let moved = work_of_two(threads, rt.alloc(), &first, &second)?;
     let Moved {
         shared,
         seats,

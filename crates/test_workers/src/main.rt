@@ -29,7 +29,7 @@ use std::time::Clock;
 use tablets::{Count, Spares, spares_in};
 use task::Task;
 use turns::{Marks, Turns};
-use work::worked;
+use work::do_work;
 
 const WORDS: &str =
     "told|listed|cleared TURNS WORKERS LAST LIMIT SORTS REFUSED MANIFEST SCRIPT SPARE..
@@ -61,7 +61,7 @@ fn work_is_told<R: Threads + Wait + Clock + Sync>(
         rt: threads,
         marks: Marks::new(task.order),
     };
-    let worked = worked(threads, rt.alloc(), &task, parts, &turns).ok()?;
+    let worked = do_work(threads, rt.alloc(), &task, parts, &turns).ok()?;
     let is_told = is_told(rt, worked, how);
     let word = if turns.marks.are_in_time() {
         "kept"

@@ -13,7 +13,7 @@ use std::alloc::Global;
 use std::sync::Wait;
 use std::thread::Threads;
 use test_crew::worked_on;
-use test_fixtures::{CountedTablet, batches_of, observers_of, opened_over};
+use test_fixtures::{CountedTablet, batches_of, observers_of, open_table_over};
 
 fn table(parts: Vec<(Row, CountedTablet)>) -> Result<Table<CountedTablet>, NoMemory>
     ensures { IfOk result (λ t. t.contents ≡ nothing) }
@@ -25,7 +25,7 @@ fn table(parts: Vec<(Row, CountedTablet)>) -> Result<Table<CountedTablet>, NoMem
 }
 
 // A table that is opened for a task, and its seats.
-fn opened(alloc: Global, task: &Task) -> Result<(Shared<CountedTablet>, Vec<Seat>), NoMemory>
+fn open_for(alloc: Global, task: &Task) -> Result<(Shared<CountedTablet>, Vec<Seat>), NoMemory>
     ensures { IfOk result (λ s. AreSeats s.0 s.1.items) }
 {
     if task.workers < 1 || task.workers > 63 || task.limit > MAX_ENTRIES {
@@ -33,7 +33,7 @@ fn opened(alloc: Global, task: &Task) -> Result<(Shared<CountedTablet>, Vec<Seat
     }
     let observers = observers_of(alloc, task.manifest)?;
     let table = table(parts_of(alloc, task)?)?;
-    opened_over(
+    open_table_over(
         alloc,
         table,
         observers,
@@ -44,7 +44,7 @@ fn opened(alloc: Global, task: &Task) -> Result<(Shared<CountedTablet>, Vec<Seat
 }
 
 /// What workers leave who do a task, beside swaps of these spares.
-pub fn worked<R: Threads + Wait + Sync, G: Gate>(
+pub fn do_work<R: Threads + Wait + Sync, G: Gate>(
     rt: &R,
     alloc: Global,
     task: &Task,
@@ -52,6 +52,6 @@ pub fn worked<R: Threads + Wait + Sync, G: Gate>(
     gate: &G,
 ) -> Result<Worked<CountedTablet>, NoMemory> {
     let batches = batches_of(alloc, task.script)?;
-    let (shared, seats) = opened(alloc, task)?;
+    let (shared, seats) = open_for(alloc, task)?;
     worked_on(rt, alloc, shared, seats, batches, spares, gate)
 }

@@ -25,7 +25,7 @@ use pb_world::{Note, World};
 use std::alloc::{AllocError, Global};
 use std::env;
 use std::process::ExitCode;
-use test_fixtures::{batches_of, observers_of, opened};
+use test_fixtures::{batches_of, observers_of, open_table};
 
 const WORDS: &str = "SEATS LIMIT MANIFEST SCRIPT EVENTS..";
 
@@ -119,7 +119,7 @@ fn is_told(rt: &HostRuntime) -> Option<bool> {
     if seats < 1 || seats > MAX_SEATS || limit > MAX_ENTRIES {
         return None;
     }
-    let (shared, seats) = opened(alloc, observers, seats, Ts(0), limit).ok()?;
+    let (shared, seats) = open_table(alloc, observers, seats, Ts(0), limit).ok()?;
     Some(is_run(rt, shared, seats, batches, lists))
 }
 

@@ -67,14 +67,14 @@ fn bytes_of(alloc: Global, slots: u16) -> Result<Option<Vec<u8>>, NoMemory> {
 }
 
 // How many bytes the listing of this program has; none where the bytes are no program's.
-fn listed(alloc: Global, bytes: &[u8]) -> Option<usize> {
+fn listing_bytes(alloc: Global, bytes: &[u8]) -> Option<usize> {
     let program = decode_in(alloc, Profile::Two, bytes).ok()?;
     let listing = disassemble(alloc, &program).ok()?;
     Some(listing.len())
 }
 
 // How many slots this program has; none where the bytes are no accepted program's.
-fn verified(alloc: Global, bytes: &[u8]) -> Option<usize> {
+fn verified_slots(alloc: Global, bytes: &[u8]) -> Option<usize> {
     let program = decode_in(alloc, Profile::Two, bytes).ok()?;
     let accepted = verify(alloc, program, HelperTable::all()).ok()?;
     Some(accepted.slots())
@@ -83,7 +83,7 @@ fn verified(alloc: Global, bytes: &[u8]) -> Option<usize> {
 fn total_listed(alloc: Global, bytes: &[u8]) -> Option<u64> {
     let mut total: u64 = 0;
     for _ in 0..10_000 {
-        total = total.checked_add(listed(alloc, bytes)? as u64)?;
+        total = total.checked_add(listing_bytes(alloc, bytes)? as u64)?;
     }
     Some(total)
 }
@@ -91,7 +91,7 @@ fn total_listed(alloc: Global, bytes: &[u8]) -> Option<u64> {
 fn total_verified(alloc: Global, bytes: &[u8]) -> Option<u64> {
     let mut total: u64 = 0;
     for _ in 0..1_000 {
-        total = total.checked_add(verified(alloc, bytes)? as u64)?;
+        total = total.checked_add(verified_slots(alloc, bytes)? as u64)?;
     }
     Some(total)
 }

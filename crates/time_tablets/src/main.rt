@@ -131,7 +131,7 @@ fn walk_often<T: Tablet>(tablet: &T) -> usize {
     met
 }
 
-fn timed<T: Tablet>(tablet: T, word: &str, count: u32) -> Option<usize> {
+fn time_tablet<T: Tablet>(tablet: T, word: &str, count: u32) -> Option<usize> {
     let mut tablet = tablet;
     let done = if word == "change" {
         change(&mut tablet, count)
@@ -184,7 +184,7 @@ fn end_spares<T: Tablet>(mut spares: Vec<T>) {
     spares.destroy_empty();
 }
 
-fn copied<T: Tablet>(parts: Vec<(Row, T)>, spares: Vec<T>, count: u32) -> Option<usize> {
+fn fill_and_swap<T: Tablet>(parts: Vec<(Row, T)>, spares: Vec<T>, count: u32) -> Option<usize> {
     match Table::new(parts) {
         Ok(mut table) => {
             let done = fill(&mut table, count).is_ok();
@@ -219,10 +219,10 @@ fn copy(alloc: Global, is_list: bool, count: u32, times: u32) -> Result<Option<u
             spares.push(spare)?;
         }
     }
-    Ok(copied(parts, spares, count))
+    Ok(fill_and_swap(parts, spares, count))
 }
 
-fn told(rt: &HostRuntime) -> Option<usize> {
+fn do_words(rt: &HostRuntime) -> Option<usize> {
     let args = env::args(rt).ok()?;
     let words: Vec<String> = args.collect(rt.alloc()).ok()?;
     let is_list = words.get(1)?.as_str() == "list";
@@ -233,14 +233,14 @@ fn told(rt: &HostRuntime) -> Option<usize> {
         return copy(rt.alloc(), is_list, count, times).ok()?;
     }
     if is_list {
-        timed(ListTablet::new(rt.alloc()), word, count)
+        time_tablet(ListTablet::new(rt.alloc()), word, count)
     } else {
-        timed(SlabTablet::new(rt.alloc()), word, count)
+        time_tablet(SlabTablet::new(rt.alloc()), word, count)
     }
 }
 
 fn main(rt: HostRuntime) -> ExitCode {
-    match told(&rt) {
+    match do_words(&rt) {
         Some(count) => {
             let _ = println!(rt; "{count}");
             ExitCode::SUCCESS

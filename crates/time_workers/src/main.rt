@@ -18,7 +18,7 @@ use std::process::ExitCode;
 use std::sync::Wait;
 use std::thread::Threads;
 use test_crew::worked_on;
-use test_fixtures::{COPY, batches_of, observers_of, opened_over, spares_of, table_of};
+use test_fixtures::{COPY, batches_of, observers_of, open_table_over, spares_of, table_of};
 
 const NONE: &str = "{\"profile\":1,\"observers\":[]}";
 
@@ -100,7 +100,7 @@ fn do_task<R: Threads + Wait + Sync>(
     let batches = batches_of(alloc, &text)?;
     let spares = spares_of(alloc, [false, true], task.swaps as usize)?;
     let table = table_of(alloc, &[false, true])?;
-    let (shared, seats) = opened_over(
+    let (shared, seats) = open_table_over(
         alloc,
         table,
         observers,
@@ -138,7 +138,7 @@ fn task_in(words: &[String]) -> Option<Task> {
     })
 }
 
-fn timed<R: Threads + Wait + Sync>(rt: &R, alloc: Global, words: &[String]) -> Option<Met> {
+fn do_words<R: Threads + Wait + Sync>(rt: &R, alloc: Global, words: &[String]) -> Option<Met> {
     let task = task_in(words)?;
     do_task(rt, alloc, &task).ok()?
 }
@@ -151,7 +151,7 @@ fn main(rt: HostRuntime) -> ExitCode {
     let Ok(words) = words else {
         return ExitCode::FAILURE;
     };
-    match timed(&rt, rt.alloc(), &words) {
+    match do_words(&rt, rt.alloc(), &words) {
         Some(met) => {
             let (conflicts, unfinished) = (met.conflicts, met.unfinished);
             let _ = println!(rt; "{conflicts} {unfinished}");
