@@ -3,4 +3,5 @@ pub mod Sink
 pub mod Batch
 pub mod Same
 pub mod Reasons
+pub mod Refusals
 pub mod Taking

@@ -3,6 +3,7 @@ ghost use Rattle.std.specs.Prelude.{◌≡◌};
 ghost use Rattle.pb_base.specs.Reasons.{reason_code, refusal_by};
 
 use std::alloc::{AllocError, AllocFailed};
+use std::fmt;
 use thiserror::Error;
 
 /// A growth was refused: refusal 1.
@@ -96,9 +97,22 @@ impl Reason {
 pub struct Refusal(pub u8);
 
 /// The slot at which a program is refused, and the code.
-#[derive(Clone, Copy, Debug, PartialEq, Eq, Drop, Error)]
-#[error("refused slot {slot} code {code}")]
+#[derive(Clone, Copy, Debug, PartialEq, Eq, Drop)]
 pub struct Refused {
     pub slot: u16,
     pub code: u8,
 }
+
+impl fmt::Display for Refused {
+    ghost use Rattle.std.specs.Prelude.{Some};
+    ghost use Rattle.pb_base.specs.Refusals.{slot_and_code};
+
+    ghost output = { λ r. Some (slot_and_code r.slot r.code) };
+
+    fn fmt<W: fmt::Write>(&self, f: &mut fmt::Formatter<W>) -> fmt::Result {
+        let Refused { slot, code } = *self;
+        write!(f, "refused slot {slot} code {code}")
+    }
+}
+
+impl std::error::Error for Refused {}

@@ -2,37 +2,11 @@
 use Rattle.std.specs.Prelude.{ℕ, ◌+◌, ◌⊎◌, List, [], ◌++◌, codes, Option, Some, None, decimal}
 use Rattle.std.specs.List.{enumerate_from, flat_map}
 use Rattle.pb_base.specs.declared.refusal.Refusal.{Refusal}
-use Rattle.pb_registry.specs.FaultTexts.{fault_text}
+use Rattle.pb_reading.specs.Faults.{line_and_code}
 use Rattle.pb_base.specs.Taking.{Taking, TookAll, TookPart}
-use Rattle.pb_driver.specs.declared.fault.RunFault.{RunFault}
+use Rattle.pb_driver.specs.FaultTexts.{run_fault_text}
 use Rattle.pb_driver.specs.declared.run.Ran.{Ran}
 use Rattle.pb_command.specs.declared.fault.Fault.{Fault}
-
--- a line and the code of its fault
-abbrev pub place_line : ℕ → ℕ → List ℕ
-place_line line code = codes "line " ++ (decimal line ++ (codes " code " ++ (decimal code ++ codes "\n")))
-
--- a line of the script, from 1, and the code of its fault
-abbrev pub script_line : ℕ → ℕ → List ℕ
-script_line line code = codes "script: " ++ place_line line code
-
--- a line of the schedule, from 1, and the code of its fault
-abbrev pub schedule_line : ℕ → ℕ → List ℕ
-schedule_line line code = codes "schedule: " ++ place_line line code
-
--- an event, from 0, and the code of its fault
-abbrev pub event_line : ℕ → ℕ → List ℕ
-event_line event code = codes "event " ++ (decimal event ++ (codes " code " ++ (decimal code ++ codes "\n")))
-
--- the fault of a run or a replay
-abbrev pub run_fault_line : RunFault → List ℕ
-run_fault_line (RunFault.Manifest f) = codes "manifest: " ++ (fault_text f ++ codes "\n")
-run_fault_line (RunFault.Script f) = script_line f.line f.code
-run_fault_line (RunFault.Schedule f) = schedule_line f.line f.code
-run_fault_line (RunFault.Event f) = event_line f.event f.code
-run_fault_line RunFault.SeatsDiffer = codes "seats differ\n"
-run_fault_line RunFault.Output = codes "cannot write the output\n"
-run_fault_line RunFault.NoMemory = codes "no memory\n"
 
 -- a seat, the main one 0, and the code of its refusal; no line where it wasn't refused
 abbrev pub worker_line : ℕ → Option Refusal → List ℕ
@@ -61,8 +35,8 @@ fault_lines (Fault.Unreadable path) = codes "cannot read " ++ (path.now ++ codes
 fault_lines (Fault.TooLarge path) = codes "too large " ++ (path.now ++ codes "\n")
 fault_lines (Fault.NotText path) = codes "not text " ++ (path.now ++ codes "\n")
 fault_lines (Fault.Unwritable path) = codes "cannot write " ++ (path.now ++ codes "\n")
-fault_lines (Fault.Text f) = place_line f.line f.code
-fault_lines (Fault.Run f) = run_fault_line f
+fault_lines (Fault.Text f) = line_and_code f.line f.code ++ codes "\n"
+fault_lines (Fault.Run f) = run_fault_text f ++ codes "\n"
 fault_lines (Fault.Undone ran) = undone_lines ran
 fault_lines Fault.Output = codes "cannot write the output\n"
 fault_lines Fault.NoMemory = codes "no memory\n"

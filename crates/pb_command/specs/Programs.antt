@@ -12,6 +12,7 @@ use Rattle.pb_decode.specs.Encoding.{Encodes}
 use Rattle.pb_decode.specs.Faults.{AreRefusedAs}
 use Rattle.pb_reading.specs.declared.fault.TextFault.{TextFault}
 use Rattle.pb_asm.specs.Texts.{program_of_text}
+use Rattle.pb_base.specs.Refusals.{slot_and_code}
 use Rattle.pb_base.specs.Taking.{Taking, TookAll, TookPart, TookNothing}
 use Rattle.pb_command.specs.declared.answer.Verdict.{Verdict}
 use Rattle.pb_command.specs.declared.fault.Fault.{Fault}
@@ -70,7 +71,7 @@ AsmLeaves profile files input output (Err f) = AsmFails profile files input outp
 
 -- the line that tells where bytes are refused
 abbrev pub refusal_line : ℕ → ℕ → List ℕ
-refusal_line slot code = codes "refused slot " ++ (decimal slot ++ (codes " code " ++ (decimal code ++ codes "\n")))
+refusal_line slot code = slot_and_code slot code ++ codes "\n"
 
 -- how bytes are judged, and the text that tells it
 abbrev pub Judges : Type 1

@@ -1,14 +1,12 @@
 //! Why a command failed, and the lines that tell it, each made whole before it is written.
 ghost use Rattle.std.specs.Prelude.{◌≡◌, ◌+◌, false, IfOk, string_bytes};
 ghost use Rattle.pb_base.specs.Taking.{taking};
-ghost use Rattle.pb_command.specs.FaultLines.{place_line, script_line, schedule_line, event_line, run_fault_line, worker_line, worker_lines, change_line, change_lines, undone_lines, fault_lines, Tells};
+ghost use Rattle.pb_command.specs.FaultLines.{worker_line, worker_lines, change_line, change_lines, undone_lines, fault_lines, Tells};
 ghost use Rattle.pb_command.specs.declared.fault.Fault.TheVariants as faults;
 
 use pb_asm::AsmFault;
 use pb_base::{NoMemory, Refusal, Sink};
 use pb_driver::{Ran, RunFault};
-use pb_parse::ScriptFault;
-use pb_world::WorldFault;
 use std::alloc::{AllocError, Global};
 
 /// Why a command failed.
@@ -47,53 +45,6 @@ impl<'a> From<RunFault> for Fault<'a> {
 
     fn from(fault: RunFault) -> Fault<'a> {
         Fault::Run(fault)
-    }
-}
-
-// The line that tells the fault of a program's text.
-fn text_line(alloc: Global, fault: AsmFault) -> Result<String, AllocError>
-    ensures { IfOk result (λ s. string_bytes s ≡ place_line fault.line fault.code) }
-{
-    let AsmFault { line, code } = fault;
-    format!(in alloc; "line {line} code {code}\n")
-}
-
-// The line that tells the fault of a script.
-fn script_line(alloc: Global, fault: &ScriptFault) -> Result<String, AllocError>
-    ensures { IfOk result (λ s. string_bytes s ≡ script_line fault.now.line fault.now.code) }
-{
-    let ScriptFault { line, code } = *fault;
-    format!(in alloc; "script: line {line} code {code}\n")
-}
-
-// The line that tells the fault of a schedule.
-fn schedule_line(alloc: Global, fault: &ScriptFault) -> Result<String, AllocError>
-    ensures { IfOk result (λ s. string_bytes s ≡ schedule_line fault.now.line fault.now.code) }
-{
-    let ScriptFault { line, code } = *fault;
-    format!(in alloc; "schedule: line {line} code {code}\n")
-}
-
-// The line that tells which event was at fault.
-fn event_line(alloc: Global, fault: &WorldFault) -> Result<String, AllocError>
-    ensures { IfOk result (λ s. string_bytes s ≡ event_line fault.now.event fault.now.code) }
-{
-    let WorldFault { event, code } = *fault;
-    format!(in alloc; "event {event} code {code}\n")
-}
-
-// The line that tells the fault of a run or a replay.
-fn run_line(alloc: Global, fault: &RunFault) -> Result<String, AllocError>
-    ensures { IfOk result (λ s. string_bytes s ≡ run_fault_line fault.now) }
-{
-    match fault {
-        RunFault::Manifest(fault) => format!(in alloc; "manifest: {fault}\n"),
-        RunFault::Script(fault) => script_line(alloc, fault),
-        RunFault::Schedule(fault) => schedule_line(alloc, fault),
-        RunFault::Event(fault) => event_line(alloc, fault),
-        RunFault::SeatsDiffer => String::from_str(alloc, "seats differ\n"),
-        RunFault::Output => String::from_str(alloc, "cannot write the output\n"),
-        RunFault::NoMemory => String::from_str(alloc, "no memory\n"),
     }
 }
 
@@ -162,8 +113,8 @@ fn lines_of(alloc: Global, fault: &Fault) -> Result<String, AllocError>
         Fault::TooLarge(path) => format!(in alloc; "too large {path}\n"),
         Fault::NotText(path) => format!(in alloc; "not text {path}\n"),
         Fault::Unwritable(path) => format!(in alloc; "cannot write {path}\n"),
-        Fault::Text(fault) => text_line(alloc, *fault),
-        Fault::Run(fault) => run_line(alloc, fault),
+        Fault::Text(fault) => format!(in alloc; "{fault}\n"),
+        Fault::Run(fault) => format!(in alloc; "{fault}\n"),
         Fault::Undone(ran) => undone_lines(alloc, ran),
         Fault::Output => String::from_str(alloc, "cannot write the output\n"),
         Fault::NoMemory => String::from_str(alloc, "no memory\n"),

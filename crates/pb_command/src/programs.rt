@@ -22,7 +22,7 @@ use pb_isa::{Profile, Program};
 use pb_registry::accept_in;
 use pb_texts::ProgramFile;
 use pb_verify::VerifyFault;
-use std::alloc::{AllocError, Global};
+use std::alloc::Global;
 
 // The fault of a text. Want of memory has no line, so that it is told as such.
 fn text_fault<'a>(fault: AsmFault) -> Fault<'a>
@@ -74,14 +74,6 @@ pub fn assemble_file<'a, P: Paths>(
     }
 }
 
-// The line that tells where bytes are refused.
-fn refusal_line(alloc: Global, refused: Refused) -> Result<String, AllocError>
-    ensures { IfOk result (λ s. string_bytes s ≡ refusal_line refused.slot refused.code) }
-{
-    let Refused { slot, code } = refused;
-    format!(in alloc; "refused slot {slot} code {code}\n")
-}
-
 // A refusal, and the line that tells it.
 fn refusal_of<'a>(alloc: Global, refused: Refused) -> Result<VerdictText, Fault<'a>>
     ensures told { IfOk result
@@ -89,7 +81,7 @@ fn refusal_of<'a>(alloc: Global, refused: Refused) -> Result<VerdictText, Fault<
         × (string_bytes a.text ≡ refusal_line refused.slot refused.code)) }
     ensures fault { IfErr result IsMemoryFault }
 {
-    let text = refusal_line(alloc, refused)?;
+    let text = format!(in alloc; "{refused}\n")?;
     Ok(VerdictText {
         verdict: Verdict::Refused,
         text,

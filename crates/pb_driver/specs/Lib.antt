@@ -1,3 +1,4 @@
+pub mod FaultTexts
 pub mod Texts
 pub mod Replays
 pub mod Runs

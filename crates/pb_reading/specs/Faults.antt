@@ -1,6 +1,6 @@
 -- Which fault is told of a text: that of its first line at fault, by the line's number and the code's. Readers of
 -- programs' texts, scripts and schedules promise it by these words, and so do their laws.
-use Rattle.std.specs.Prelude.{◌≡◌, ◌⊎◌, ℕ, ◌+◌, List, ◌∷◌, ◌++◌, length, Result, Ok, Err}
+use Rattle.std.specs.Prelude.{◌≡◌, ◌⊎◌, ℕ, ◌+◌, List, ◌∷◌, ◌++◌, length, Result, Ok, Err, codes, decimal}
 use Rattle.pb_reading.specs.declared.fault.LineFault.{LineFault}
 use Rattle.pb_reading.specs.declared.fault.TextFault.{TextFault}
 use Rattle.pb_reading.specs.Reading.{lines_of, in_turn, numbered}
@@ -19,6 +19,10 @@ ReadsLine view (Err fault) read = Ends fault read
 -- how want of memory is told: no line has number 0, so that it is taken for no other
 abbrev pub no_memory_told : TextFault
 no_memory_told = record { line = 0; code = 1 }
+
+-- a fault's words, without a newline
+abbrev pub line_and_code : ℕ → ℕ → List ℕ
+line_and_code line code = codes "line " ++ (decimal line ++ (codes " code " ++ decimal code))
 
 -- what was returned of a text, seen by view, is what reading gives, unless memory ran out
 abbrev pub ReadsText : {X Y : Type 0} → (X → Y) → Result X TextFault → Result Y (ℕ × ℕ) → Type 0

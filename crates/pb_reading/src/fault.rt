@@ -4,7 +4,8 @@ ghost use Rattle.pb_reading.specs.Faults.{no_memory_told};
 ghost use Rattle.pb_reading.specs.declared.fault.LineFault.TheVariants.{NoMemory};
 
 use std::alloc::{AllocError, AllocFailed};
-use thiserror::Error;
+use std::error::Error;
+use std::fmt;
 
 /// Why a line wasn't taken. A format's codes have no case of memory, since no line is at fault for that.
 #[derive(Clone, Copy, Debug, PartialEq, Eq, Drop)]
@@ -33,8 +34,7 @@ impl<T: Drop, C> From<AllocFailed<T>> for LineFault<C> {
 
 /// A fault as it is told: the line, from 1, and the number of its code. What is no line's has line 0, as want of memory,
 /// which has code 1.
-#[derive(Clone, Copy, Debug, PartialEq, Eq, Drop, Error)]
-#[error("line {line} code {code}")]
+#[derive(Clone, Copy, Debug, PartialEq, Eq, Drop)]
 pub struct TextFault {
     pub line: usize,
     pub code: u8,
@@ -59,3 +59,17 @@ impl TextFault {
         TextFault { line: 0, code: 1 }
     }
 }
+
+impl fmt::Display for TextFault {
+    ghost use Rattle.std.specs.Prelude.{Some};
+    ghost use Rattle.pb_reading.specs.Faults.{line_and_code};
+
+    ghost output = { λ f. Some (line_and_code f.line f.code) };
+
+    fn fmt<W: fmt::Write>(&self, f: &mut fmt::Formatter<W>) -> fmt::Result {
+        let TextFault { line, code } = *self;
+        write!(f, "line {line} code {code}")
+    }
+}
+
+impl Error for TextFault {}

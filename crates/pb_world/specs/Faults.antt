@@ -1,5 +1,5 @@
--- The numbers by which faults of events are told.
-use Rattle.std.specs.Prelude.{ℕ}
+-- How faults of events are told.
+use Rattle.std.specs.Prelude.{ℕ, List, ◌++◌, codes, decimal}
 use Rattle.pb_world.specs.declared.fault.EventFault.{EventFault}
 
 -- the number of each fault
@@ -8,3 +8,7 @@ fault_code EventFault.NoMemory = 1
 fault_code EventFault.NoSuchActor = 60
 fault_code EventFault.Busy = 61
 fault_code EventFault.NoSuchJob = 63
+
+-- the words of the fault of an event, counted from 0, without a newline
+abbrev pub event_and_code : ℕ → ℕ → List ℕ
+event_and_code event code = codes "event " ++ (decimal event ++ (codes " code " ++ decimal code))

@@ -3,6 +3,9 @@
 ghost use Rattle.std.specs.Prelude.{◌≡◌};
 ghost use Rattle.pb_world.specs.Faults.{fault_code};
 
+use std::error::Error;
+use std::fmt;
+
 /// Why an event can't happen.
 #[derive(Clone, Copy)]
 pub enum EventFault {
@@ -31,8 +34,22 @@ impl EventFault {
 }
 
 /// Which event of a list was at fault, from 0, and the number of its fault.
-#[derive(Clone, Copy)]
+#[derive(Clone, Copy, Debug, PartialEq, Eq, Drop)]
 pub struct WorldFault {
     pub event: usize,
     pub code: u8,
 }
+
+impl fmt::Display for WorldFault {
+    ghost use Rattle.std.specs.Prelude.{Some};
+    ghost use Rattle.pb_world.specs.Faults.{event_and_code};
+
+    ghost output = { λ f. Some (event_and_code f.event f.code) };
+
+    fn fmt<W: fmt::Write>(&self, f: &mut fmt::Formatter<W>) -> fmt::Result {
+        let WorldFault { event, code } = *self;
+        write!(f, "event {event} code {code}")
+    }
+}
+
+impl Error for WorldFault {}

@@ -117,7 +117,7 @@ fn tell_run(rt: &HostRuntime, path: &str, runs: &str, is_by_steps: bool) -> Opti
             Some(true)
         }
         Err(NoRun::Refused(refused)) => {
-            let _ = println!(rt; "refused slot {} code {}", refused.slot, refused.code);
+            let _ = println!(rt; "{refused}");
             Some(false)
         }
         Err(NoRun::Failed) => None,
