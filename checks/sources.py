@@ -1,20 +1,17 @@
 """What stands where in the repository's sources: the crates, the functions of a Rattle file, and the edits of wrong bodies.
 
-Nothing of it proves or runs anything. `checks/wrong-bodies` tries the edits, and `tools/theorems` lists what they are refused by.
+Nothing of it proves or runs anything. `checks/wrong-bodies` tries the edits, checks/tried.py keeps which were tried, and `tools/theorems` lists what they are refused by.
 """
 from __future__ import annotations
 
-import hashlib
 import os
 import re
-from dataclasses import dataclass
+from dataclasses import dataclass, replace
 from pathlib import Path
 
 TOP = Path(__file__).resolve().parent.parent
 SOURCES = ("src", "specs", "proofs")
 PLACES = ("wrong-bodies", "must-fail")
-# What `checks/wrong-bodies` notes of the crates that it has tried.
-TRIED = TOP / "checks/wrong-bodies.tried"
 
 # What isn't code. A quote after a name is a prime of a clause's, and one before it a lifetime's.
 NOT_CODE = re.compile(r"""//[^\n]*|/\*.*?\*/|"(?:\\.|[^"\\])*"|(?<!\w)'(?:\\.[^']*|[^'\\\n])'""", re.S)
@@ -29,8 +26,8 @@ class BadEdit(Exception):
 
 @dataclass(frozen=True)
 class Function:
-    """A function of a source file: its name, the type of its `impl` (or none), its text by parts, without comments, and where
-    that begins and ends in the file. One that a trait declares without a body has an empty one."""
+    """A function of a source file: its name, the type of its `impl` (or none), its text by parts, without comments, and the lines
+    of the file at which that begins and ends. One that a trait declares without a body has an empty one."""
 
     file: str
     owner: str
@@ -40,22 +37,53 @@ class Function:
     body: str
     start: int
     end: int
+    first_line: int = 0
+    last_line: int = 0
 
     @property
     def key(self):
         return self.file, self.owner, self.is_of_trait, self.name
 
-    def is_meant_by(self, path):
-        """Whether this path of a check's line is the function's. A trait's `impl` has both names in one."""
-        inside = self.file.removeprefix("src/").removesuffix(".rt").removesuffix("/mod").split("/")
-        inside = [] if inside in (["lib"], ["main"]) else inside
+    def path_in(self, files):
+        """Its path below the crate. A method stands in the module of the file that declares its type, and `files` has that of each."""
+        owner = [self.owner] if self.owner else []
+        return "::".join([*module_of(files.get(self.owner, self.file)), *owner, self.name])
+
+    def is_meant_by(self, path, files):
+        """Whether this path of a check's line is the function's. A method stands in the module of the file that declares its type,
+        and `files` has that of each type; a trait's `impl` has both names in one."""
         words = path.split("::")[1:]
-        if words[: len(inside)] != inside or words[-1] != self.name:
-            return False
-        between = words[len(inside) : -1]
-        if not self.is_of_trait:
-            return between == ([self.owner] if self.owner else [])
-        return len(between) == 1 and between[0].startswith(self.owner) and between[0] != self.owner
+        for file in {self.file, files.get(self.owner, self.file)}:
+            inside = module_of(file)
+            between = words[len(inside) : -1]
+            if words[: len(inside)] != inside or words[-1] != self.name:
+                continue
+            if not self.is_of_trait and between == ([self.owner] if self.owner else []):
+                return True
+            if self.is_of_trait and len(between) == 1 and between[0].startswith(self.owner) and between[0] != self.owner:
+                return True
+        return False
+
+
+def module_of(file):
+    """The names of the modules that lead to a file of src/."""
+    inside = file.removeprefix("src/").removesuffix(".rt").removesuffix("/mod").split("/")
+    return [] if inside in (["lib"], ["main"]) else inside
+
+
+def types_in(sources):
+    """The file that declares each type of a crate."""
+    found = {}
+    for file, text in sources.items():
+        if file.startswith("src/"):
+            found.update(dict.fromkeys(re.findall(r"^\s*(?:pub(?:\(\w+\))? )?(?:struct|enum|trait)\s+(\w+)", text, re.M), file))
+    return found
+
+
+def located(function, text):
+    """The function, with the lines at which it begins and ends in its file's text."""
+    first, last = (text.count("\n", 0, at) + 1 for at in (function.start, function.end))
+    return replace(function, first_line=first, last_line=last)
 
 
 def without_comments(text):
@@ -129,30 +157,6 @@ def edits_of(crate):
     return sorted(it for place in PLACES for it in (TOP / "crates" / crate / place).glob("*.edit"))
 
 
-def sum_of(crate, *parts):
-    """A sum of what stands in these parts of a crate, or in all that its wrong bodies and their refusals are made of: its code, its
-    definitions, and the edits."""
-    folder = TOP / "crates" / crate
-    files = sorted(it for part in parts or ("src", "specs", *PLACES) for it in (folder / part).rglob("*") if it.is_file())
-    made = hashlib.sha256()
-    for it in files:
-        made.update(f"{it.relative_to(folder)} {len(it.read_bytes())}\n".encode() + it.read_bytes())
-    return made.hexdigest()[:16]
-
-
-def tried_crates():
-    """The crates of whose wrong bodies all were refused when they were last tried, each with the sum of what it was made of then
-    and how many they were."""
-    lines = TRIED.read_text(encoding="utf-8").splitlines() if TRIED.is_file() else []
-    return {name: (made, int(count)) for name, made, count in (line.split("\t") for line in lines)}
-
-
-def untried_crates():
-    """The crates with edits whose code, definitions or edits aren't those that were tried."""
-    tried = tried_crates()
-    return [it for it, below in lines_of_crates() if below is not None and edits_of(it) and tried.get(it, ("", 0))[0] != sum_of(it)]
-
-
 def pairs_of(file):
     """What an edit changes: the path of a source, the old text, and the new one."""
     path, old, pairs = None, None, []
@@ -172,6 +176,49 @@ def pairs_of(file):
     if not pairs:
         raise BadEdit("it has no 'old:' and 'new:' pair")
     return pairs
+
+
+def settled_of(file):
+    """Why an edit is known to be wrong, as a line of it says that begins with `settled: `, or none."""
+    lines = file.read_text(encoding="utf-8").split("\n")
+    return next((it.removeprefix("settled: ").strip() for it in lines if it.startswith("settled: ")), "")
+
+
+def applied(sources, pairs):
+    """The texts that these pairs change, by file."""
+    changed = {}
+    for file, old, new in pairs:
+        text = changed.get(file, sources.get(file))
+        if text is None:
+            raise BadEdit(f"there is no file {file}")
+        if text.count(old) != 1:
+            raise BadEdit(f"an old text is in {file} {text.count(old)} times, and not once")
+        changed[file] = text.replace(old, new)
+    return changed
+
+
+def functions_changed(sources, pairs):
+    """The functions that the pairs change, as they are then, and whether it is the body of one alone; none where they change
+    anything else, such as a definition, a constant or a type."""
+    found, are_bodies = [], True
+    for file, text in applied(sources, pairs).items():
+        if not file.endswith(".rt"):
+            return [], False
+        before, rest = functions_in(file, without_comments(sources[file]))
+        after, rest_after = functions_in(file, without_comments(text))
+        if without_uses(rest) != without_uses(rest_after) or [it.key for it in before] != [it.key for it in after]:
+            return [], False
+        are_bodies = are_bodies and [it.split() for it in rest] == [it.split() for it in rest_after]
+        are_bodies = are_bodies and all(a.head.split() == b.head.split() for a, b in zip(before, after))
+        changed = [b for a, b in zip(before, after) if (a.head + a.body).split() != (b.head + b.body).split()]
+        are_bodies = are_bodies and all([it.key for it in before].count(its.key) == 1 for its in changed)
+        found += [located(it, text) for it in changed]
+    return found, are_bodies and len(found) == 1
+
+
+def without_uses(rest):
+    """The words of what stands beside the functions, but for what is imported."""
+    return re.sub(r"\b(?:ghost )?(?:pub )?use [^;]*;", "", " ".join(rest)).split()
 
 
 def lines_of_crates():
