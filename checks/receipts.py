@@ -9,7 +9,7 @@ and what else leads to one. So, in the code of every crate:
 - no formatting is refused by hand, no growth is asked for that none can meet, nothing is `unsafe`, and no number is written into a
   fault that is there;
 - a receipt is kept beyond no call: no `static` has one, and of types only those of HOLDERS have a member with one;
-- `no memory` stands as a text where TEXTS says, in functions that are given a receipt.
+- `no memory` stands as a text where TEXTS says, in functions that are given a receipt, or in the arm of a variant that holds one.
 Tests are held to all of it but the last two; they take theirs from the one growth of `refused` in `test_fixtures`.
 """
 from __future__ import annotations
@@ -23,10 +23,13 @@ MAKER = "pb_base/src/refusal.rt"
 MADE = {"NoMemory { refused: () }": 4, "Refusal(1)": 1, "Refusal(": 3}
 
 # How many lines of a crate turn a library's want of memory into a receipt.
-DOORS = {"pb_command": 1, "pb_registry": 2, "percobpf": 1, "percobpf_story": 1}
+DOORS = {"pb_command": 1, "pb_registry": 2, "percobpf": 2, "percobpf_story": 2}
 
-# Where the text stands, and how often: in the first as what `NoMemory` displays, and in the others in a function with a receipt.
-TEXTS = {MAKER: 1, "pb_command/src/fault.rt": 1, "percobpf/src/main.rt": 1, "percobpf_story/src/main.rt": 1}
+# Where the text stands, but for clauses, and how often: in the first as what `NoMemory` displays, and in the others in a function
+# that is given a receipt, or in the arm of a variant that holds one.
+TEXTS = {MAKER: 1, "pb_command/src/fault.rt": 2, "pb_driver/src/fault.rt": 1, "percobpf/src/main.rt": 1, "percobpf_story/src/main.rt": 1}
+OF_RECEIPT = re.compile(r":\s*&?\s*NoMemory\b")
+ARM = re.compile(r"\bNoMemory\(\w+\)\s*=>[^;]*$")
 
 # The one function that asks for what none can meet, so that tests have a receipt.
 ASKS_FOR_ALL = "test_fixtures", "refused"
@@ -156,10 +159,13 @@ def texts_in(path, text):
         return 0, []
     functions, count, bare = functions_in(path, without_comments(text))[0], 0, []
     for literal in LITERAL.finditer(re.sub(r"//[^\n]*", blank, text)):
-        if "no memory" in literal[0]:
+        at = literal.start()
+        within = next((it for it in functions if it.start <= at < it.end), None)
+        is_clause = within is not None and at < within.end - len(within.body)
+        if "no memory" in literal[0] and not is_clause:
             count += 1
-            within = next((it for it in functions if it.start <= literal.start() < it.end), None)
-            if path != MAKER and (within is None or not re.search(r":\s*&?\s*NoMemory\b", within.head)):
+            is_given = within is not None and (OF_RECEIPT.search(within.head) or ARM.search(text[text.rfind("\n", 0, at) : at]))
+            if path != MAKER and not is_given:
                 bare.append(text.count("\n", 0, literal.start()) + 1)
     return count, bare
 
