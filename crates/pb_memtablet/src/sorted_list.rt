@@ -15,9 +15,6 @@ use std::alloc::{AllocError, Global};
 use std::cell::Cell;
 use std::marker::Model;
 
-// How many chunks there are at most, so that the entries can be counted.
-const CHUNKS: usize = usize::MAX / CHUNK;
-
 /// A list of entries, sorted by key, in chunks of bounded length.
 ///
 /// A put or a removal moves the entries of one chunk at most, and not all that stand behind it.
@@ -25,17 +22,18 @@ const CHUNKS: usize = usize::MAX / CHUNK;
 pub struct SortedList<K: Ord, V> {
     alloc: Global,
     chunks: Vec<Chunk<K, V>>,
-    // Empty chunks with memory of their own, of which each put takes one at most, so that their number is the room.
+    // Empty chunks with memory of their own, of which each put takes one at most, so that there is room for as many puts.
     spares: Vec<Chunk<K, V>>,
     // How many entries each block of chunks has, so that `at` needn't go along all chunks.
     counts: Vec<usize>,
-    len: usize,
+    // A unit for each entry, by which they are counted. It has no bytes, but room for it is asked for as for anything else,
+    // and is refused where there would be more than can be counted.
+    tally: Vec<()>,
     // Look-ups change it too, since it stands in cells: a list may be sent to another thread, and not be shared by two.
     likely: Likely,
 }
 
 impl<K: Ord, V> Model for SortedList<K, V> {
-    ghost use Rattle.std.specs.Prelude.{vec_len};
     ghost use Rattle.pb_memtablet.specs.ListOf.{ListOf, list_code};
 
     ghost Value = { ListOf K V };
@@ -43,11 +41,11 @@ impl<K: Ord, V> Model for SortedList<K, V> {
     ghost coded = { list_code K.code V.code };
 
     ghost use Rattle.pb_memtablet.specs.Chunks.{chunk_entries};
-    ghost use Rattle.pb_memtablet.specs.ListParts.{AreListParts};
+    ghost use Rattle.pb_memtablet.specs.ListParts.{AreListParts, puts_left};
 
-    ghost view = { λ l. record { entries = chunk_entries l.chunks.items; room = vec_len l.spares } };
+    ghost view = { λ l. record { entries = chunk_entries l.chunks.items; room = puts_left l.spares l.tally } };
 
-    ghost invariant = { λ l. AreListParts K.cmp l.chunks l.spares l.counts l.len };
+    ghost invariant = { λ l. AreListParts K.cmp l.chunks l.spares l.counts l.tally };
 }
 
 impl<K: Ord, V> SortedList<K, V> {
@@ -61,7 +59,7 @@ impl<K: Ord, V> SortedList<K, V> {
             chunks: Vec::new(alloc),
             spares: Vec::new(alloc),
             counts: Vec::new(alloc),
-            len: 0,
+            tally: Vec::new(alloc),
             likely: Likely {
                 chunk: Cell::new(0),
                 place: Cell::new(0),
@@ -74,13 +72,13 @@ impl<K: Ord, V> SortedList<K, V> {
         ensures len { result ≡ length self.now.entries }
         ensures sorted { IsTrue (is_sorted K.cmp self.now.entries) }
     {
-        self.len
+        self.tally.len()
     }
 
     pub fn is_empty(&self) -> bool
         ensures { result ≡ (length self.now.entries == 0) }
     {
-        self.len == 0
+        self.tally.is_empty()
     }
 }
 
@@ -143,12 +141,10 @@ impl<K: Ord + Drop, V: Drop> SortedList<K, V> {
         ensures succeeds { puts ≤ self.old.room → IsOk result }
         ensures room { self.old.room ≤ self.new.room }
     {
-        if puts <= self.spares.len() {
+        if puts <= self.spares.len() && puts <= self.tally.capacity() - self.tally.len() {
             return Ok(());
         }
-        if puts > CHUNKS - self.chunks.len() {
-            return Err(AllocError);
-        }
+        self.tally.reserve(puts)?;
         // Each put may make one chunk more, and counts get as much room, since they are counted anew when that happens.
         self.chunks.reserve(puts)?;
         self.counts.reserve(self.chunks.len() + puts)?;
@@ -170,7 +166,7 @@ impl<K: Ord + Drop, V: Drop> SortedList<K, V> {
             key,
             value,
         ) {
-            self.len += 1;
+            self.tally.push_reserved(());
         }
     }
 
@@ -187,18 +183,18 @@ impl<K: Ord + Drop, V: Drop> SortedList<K, V> {
             &self.likely,
             key,
         ) {
-            self.len -= 1;
+            self.tally.take_last();
         }
     }
 
     /// Takes all out, and keeps the room. The chunks themselves are given back, since only spares are counted as room.
     pub fn clear(&mut self)
         ensures entries { self.new.entries ≡ [] }
-        ensures room { self.new.room ≡ self.old.room }
+        ensures room { self.old.room ≤ self.new.room }
     {
         self.chunks.clear();
         self.counts.clear();
-        self.len = 0;
+        self.tally.clear();
     }
 }
 
@@ -220,7 +216,8 @@ impl<K: Ord + Copy + Drop, V: Copy + Drop> SortedList<K, V> {
             next,
             next_value,
         ) {
-            self.len += 2;
+            self.tally.push_reserved(());
+            self.tally.push_reserved(());
             return;
         }
         // Each by a search of its own, since the two belong apart, or into a chunk that is full.
