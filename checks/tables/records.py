@@ -63,13 +63,6 @@ CHECKED = [
     in_profile(2, on_record(2, refused(encoded("ldxsw r0, [r1+117]; exit"), 0, 27))),
     # a load may go over from the first 80 bytes to the others
     on_record(2, accepted(encoded("ldxdw r0, [r1+76]; exit"), 2)),
-    *(
-        Row(["check", "i", "--record", record], {"i": bytes.fromhex(WATCH)}, status=2, err=None)
-        for record in ("0", "3", "+1", "+2", "x", "", "-1", "1.0", "2 ")
-    ),
-    Row(["check", "i", "--record", "2", "--record", "2"], {"i": bytes.fromhex(WATCH)}, status=2, err=None),
-    Row(["dis", "i", "--record", "2"], {"i": bytes.fromhex(WATCH)}, status=2, err=None),
-    Row(["asm", "i", "o", "--record", "2"], {"i": b"exit\n"}, status=2, err=None),
 ]
 
 TWO = "put 7 0 2a\nput 7 0 2b\n"

@@ -407,9 +407,9 @@ def is_short(row: Row) -> bool:
 
 
 def replays_of(module: str) -> list[Row]:
-    """The replays that stand in the tables of a module."""
+    """The replays that stand in the tables of a module. Those that are no command line stand in story_words.py."""
     tables = importlib.import_module(f"tables.{module}").TABLES
-    replays = [row for rows in tables.values() for row in rows if row.words[:1] == ["replay"] and row.out is not None]
+    replays = [row for rows in tables.values() for row in rows if row.words[:1] == ["replay"] and row.status < 2]
     return [row for row in replays if is_short(row)]
 
 
@@ -431,30 +431,10 @@ EXAMPLE_SCHEDULES = [
     example("indexer.json", "indexer.txt", "indexer.schedule"),
 ]
 
-WORDS = [
-    Row(words, {}, 2, err=None, program=STORY)
-    for words in (
-        [],
-        ["run", "m", "s"],
-        ["asm", "i", "o"],
-        ["check", "i"],
-        ["frames"],
-        ["frames", "i", "x"],
-        ["replay", "m", "s", "e", "--profile", "1"],
-        *(["frames", "i", "--profile", number] for number in ("0", "3", "+1", "x", "")),
-        *(["frames", "i", "--record", number] for number in ("0", "3", "+2", "x", "")),
-        ["frames", "i", "--profile", "1", "--profile", "1"],
-    )
-]
-
-HELP = [Row(words, {}, out=None, program=STORY) for words in (["--help"], ["help"], ["frames", "--help"], ["replay", "--help"])]
-
 TABLES: Tables = {
     "made by hand": HAND_MADE,
     "million": MILLION,
     "stopped": STOPPED,
     "example schedules": EXAMPLE_SCHEDULES,
     **{f"of {module}": stories_of(module) for module in REPLAYED},
-    "words": WORDS,
-    "help": HELP,
 }
