@@ -4,7 +4,7 @@ Worked out by hand from docs/FORMATS.md, "Faults".
 """
 from __future__ import annotations
 
-from tables import CHANGED, NOBODY, ONE, TOO_LARGE, WATCH, Row, Tables, files_of
+from tables import CHANGED, NOBODY, ONE, TOO_LARGE, WATCH, Row, Tables, files_of, in_profile
 
 
 def fails(words: list[str], fault: str, **files: str | bytes) -> Row:
@@ -73,6 +73,39 @@ OF_ASM = [
     fails(UNWRITABLE, "cannot write missing/o", i="exit"),
 ]
 
+
+def unwritable(path: str, text: str = "exit\n") -> Row:
+    """A text that is assembled, whose bytes can't be written to this path."""
+    return fails(["asm", "i", path], f"cannot write {path}", i=text)
+
+
+# whatever it is that can't be written: a folder, what has no room, a path of a file's, one that is too long, and none at all
+UNWRITABLE_PATHS = [
+    unwritable("."),
+    unwritable("/dev/full"),
+    unwritable("/dev/full", "mov64 r0, 0\n" * 512),
+    in_profile(2, unwritable("/dev/full", "mov64 r0, 0\n" * 4_096)),
+    unwritable("i/o"),
+    unwritable("o" * 256),
+    unwritable("o/" * 2_048 + "o"),
+    unwritable(""),
+    # what comes before is told, though nothing can be written either
+    fails(["asm", "i", "/dev/full"], "line 1 code 80", i="x"),
+    fails(["asm", "i", "/dev/full"], "cannot read i"),
+]
+
+UNREADABLE_PATHS = [
+    row
+    for path in (".", "i/o", "o" * 256, "o/" * 2_048 + "o", "")
+    for row in (
+        fails(["dis", path], f"cannot read {path}", i="exit\n"),
+        fails(["check", path], f"cannot read {path}", i="exit\n"),
+        fails(["asm", path, "o"], f"cannot read {path}", i="exit\n"),
+        fails(["run", "i", path], f"cannot read {path}", i=NOBODY),
+        fails(["replay", "i", "i", path], f"cannot read {path}", i=NOBODY),
+    )
+]
+
 OF_DIS_AND_CHECK = [
     fails(["dis", "i"], "cannot read i"),
     fails(["dis", "i"], "too large i", i=TOO_LARGE),
@@ -86,5 +119,7 @@ TABLES: Tables = {
     "missing": MISSING,
     "paths": PATHS,
     "of asm": OF_ASM,
+    "paths that can't be written": UNWRITABLE_PATHS,
+    "paths that can't be read": UNREADABLE_PATHS,
     "of dis and check": OF_DIS_AND_CHECK,
 }
