@@ -20,3 +20,5 @@ mod replays;
 mod runs;
 #[cfg(test)]
 mod sinks;
+#[cfg(test)]
+mod unfinished;

@@ -4,12 +4,15 @@ ghost use Rattle.pb_base.specs.declared.limits.TheConstants.{MAX_ENTRIES, MAX_OB
 ghost use Rattle.pb_core.specs.Calls.{AreSeats};
 ghost use Rattle.pb_store.specs.Contents.{nothing};
 
+use crate::counted::CountedTablet;
 use pb_base::{NoMemory, Row, Ts};
 use pb_core::{OpenRefused, Seat, Shared};
 use pb_memtablet::{EitherTablet, ListTablet};
 use pb_store::{Table, Tablet};
 use pb_verify::Observer;
 use std::alloc::Global;
+use std::sync::Arc;
+use std::sync::atomic::AtomicUsize;
 
 /// An empty table of one tablet.
 pub fn table(alloc: Global) -> Result<Table<ListTablet>, NoMemory>
@@ -33,6 +36,23 @@ pub fn table_of(alloc: Global, slabs: &[bool]) -> Result<Table<EitherTablet>, No
         parts.push((Row(first), EitherTablet::new(alloc, *is_slab)))?;
         first = first.saturating_add(1000);
     }
+    match Table::new(parts) {
+        Ok(table) => Ok(table),
+        Err(_) => Err(NoMemory),
+    }
+}
+
+/// An empty table of a list that refuses the change of this number, counted from 0, for want of memory.
+pub fn refusing_table(alloc: Global, refused: usize) -> Result<Table<CountedTablet>, NoMemory>
+    ensures { IfOk result (λ t. t.contents ≡ nothing) }
+{
+    let tablet = CountedTablet {
+        inner: EitherTablet::new(alloc, false),
+        calls: Arc::new(alloc, AtomicUsize::new(0))?,
+        refused: Some(refused),
+    };
+    let mut parts = Vec::new(alloc);
+    parts.push((Row(0), tablet))?;
     match Table::new(parts) {
         Ok(table) => Ok(table),
         Err(_) => Err(NoMemory),
