@@ -12,8 +12,8 @@ from dataclasses import dataclass, field, replace
 from functools import cache
 
 # how many tables there are, and how many rows in all, so that a lost one is noticed
-TABLE_COUNT = 256
-ROW_COUNT = 8239
+TABLE_COUNT = 268
+ROW_COUNT = 9307
 
 TOO_LARGE = bytes(16_777_217)
 
