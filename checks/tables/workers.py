@@ -40,12 +40,20 @@ def left(refusals: list[int], seats: list, unfinished: list[int]) -> str:
     return f"{numbers('refusals', refusals)}{lines}{numbers('unfinished', unfinished)}entries {total} theirs\n"
 
 
-END = "turns kept\nchanged\n"
+SEAT = re.compile(r"seat (\d+) received (\d+|\*)\n")
+
+
+def ended_as(text: str) -> str:
+    """What is told of workers, with the end of it where no spare is swapped in: each seat passes the gate with each of its steps,
+    also with the one that it is refused."""
+    refusals = text.partition("\n")[0].split()[1:]
+    passed = [count if count == "*" else str(int(count) + (code != "0")) for code, (_, count) in zip(refusals, SEAT.findall(text))]
+    return f"{text}turns kept\npassed {' '.join(passed)}\nchanged\n"
 
 
 def told(words: list[str], text: str) -> Row:
     """Workers of whom this is told, where no spare is swapped in."""
-    return Row(words, out=f"{text}{END}".encode(), program=WORKERS)
+    return Row(words, out=ended_as(text).encode(), program=WORKERS)
 
 
 @dataclass(frozen=True)
@@ -101,27 +109,32 @@ class Account:
 
 ACCOUNT = re.compile(
     r"refusals((?: \d+)+)\n((?:seat \d+ received \d+\n)+)unfinished((?: \d+)*)\nentries (\d+) theirs\n((?:entry .*\n)*)"
-    r"accepted\n((?:(?:cell|runs|marks) .*\n)*(?:quiet\n)?)turns kept\nchanged((?: \d+)*)\n"
+    r"accepted\n((?:(?:cell|runs|marks) .*\n)*(?:quiet\n)?)turns kept\npassed((?: \d+)+)\nchanged((?: \d+)*)\n"
 )
 
 ENTRY = re.compile(r"entry (\d+) ([a-z-]+) (\d+) (\d+) ([a-z-]+) (\d+)\n")
 
-SEAT = re.compile(r"seat (\d+) received (\d+)\n")
+
+def is_step_of(seat: int, code: int) -> bool:
+    """Whether what a seat was refused with this number is a step, which passes the gate, and not a swap."""
+    return code > 0 if seat else code in (40, 44)
 
 
 def account_of(text: str) -> Account | None:
     """The account that a text is: of turns that were kept, and of seats that `finish` accepts, each with the journal's entries of
-    it."""
+    it, and that passed the gate with each of their steps."""
     found = ACCOUNT.fullmatch(text)
     if not found:
         return None
-    refusals, unfinished, changed = ([int(it) for it in found[part].split()] for part in (1, 3, 7))
+    refusals, unfinished, passed, changed = ([int(it) for it in found[part].split()] for part in (1, 3, 7, 8))
     seats = [(int(number), int(count)) for number, count in SEAT.findall(found[2])]
     journal = [Entry(int(seat), step, int(start), int(number), answer, int(ts))
                for seat, step, start, number, answer, ts in ENTRY.findall(found[5])]
     counts = [count for _, count in seats]
     is_counted = sum(counts) == int(found[4]) and len(journal) in (0, sum(counts)) and len(refusals) == len(seats)
     if not is_counted or [number for number, _ in seats] != list(range(len(seats))):
+        return None
+    if passed != [count + is_step_of(seat, code) for seat, (count, code) in enumerate(zip(counts, refusals))]:
         return None
     return Account(refusals, counts, unfinished, journal, found[6].splitlines(), changed)
 
@@ -132,7 +145,7 @@ def judged(words: list[str], facts: Callable[[Account], dict[str, bool]]) -> Row
     def judge(out: bytes) -> list[str]:
         account = account_of(out.decode())
         if account is None:
-            return ["no account of kept turns and accepted seats"]
+            return ["no account of kept turns and accepted seats, each step of which passed the gate"]
         return [f"it isn't so that {fact}" for fact, holds in facts(account).items() if not holds]
 
     return Row(words, out=None, judge=judge, program=WORKERS)
@@ -140,7 +153,7 @@ def judged(words: list[str], facts: Callable[[Account], dict[str, bool]]) -> Row
 
 def starred(words: list[str], text: str) -> Row:
     """Workers of whom this is told, where a star stands for any number."""
-    pattern = re.compile(re.escape(f"{text}{END}").replace(r"\*", r"\d+"))
+    pattern = re.compile(re.escape(ended_as(text)).replace(r"\*", r"\d+"))
     return Row(words, out=None, judge=lambda out: [] if pattern.fullmatch(out.decode()) else [f"wanted {text}"], program=WORKERS)
 
 
@@ -340,6 +353,11 @@ def together(account: Account) -> dict[str, bool]:
     }
 
 
+def gathered(workers: int) -> Callable[[Account], dict[str, bool]]:
+    """All were there at once, before any made a step."""
+    return lambda account: {"all is made": account.is_whole() and len(account.seats) == workers + 1}
+
+
 TURNS = [
     *(
         judged(words_of("listed", NOBODY, "put 1 0 01; put 1 1 02\nput 2 0 03\n", 2, turns="crossing", sorts=sorts), crossed)
@@ -347,14 +365,29 @@ TURNS = [
     ),
     judged(words_of("listed", NOBODY, "put 1 0 01\nput 1 0 02\n", 2, turns="stubborn"), stubborn),
     judged(words_of("listed", WATCHED, "put 1 0 01\nput 2 0 02\n", 2, turns="together"), together),
+    *(
+        judged(words_of("told", NOBODY, script, workers, turns="gathered"), gathered(workers))
+        for workers in (3, 8, 63)
+        for script in ("", numbered(2 * workers, 2 * workers))
+    ),
+]
+
+# a change is made by the first, and each makes a pass
+EACH_NUMBER = [
+    told(
+        words_of("told", NOBODY, ONE, workers),
+        left([0] * (workers + 1), [1, 6] + [1] * (workers - 1), []) + f"accepted\n{MADE_ONE}quiet\n",
+    )
+    for workers in range(1, 64)
 ]
 
 
-def copied(code: int, *changed: range) -> Callable[[Account], dict[str, bool]]:
+def copied(code: int, *changed: range, row: int = 7) -> Callable[[Account], dict[str, bool]]:
     """What is left of a change and its copy beside spares, the first refusal of which is told so, or none by 0, and of each of
     which it is known how often it is changed."""
+    report = [*COPIED_ONE.replace("cell 7", f"cell {row}").splitlines(), "quiet"]
     return lambda account: {
-        "the change is made and copied": account.report == [*COPIED_ONE.splitlines(), "quiet"] and not account.unfinished,
+        "the change is made and copied": account.report == report and not account.unfinished,
         f"main is told {code}": account.refusals == [code, 0],
         "the worker made all passes": [entry.answer for entry in account.steps(0, "first-mark")] == ["no-mark"]
         and account.seats == [1, 18],
@@ -365,9 +398,10 @@ def copied(code: int, *changed: range) -> Callable[[Account], dict[str, bool]]:
 NEVER, ONCE, SOME, ANY = range(1), range(1, 2), range(1, 100), range(100)
 
 
-def beside(code: int, spares: str, *changed: range) -> Row:
-    """A change and its copy beside these spares."""
-    return judged(words_of("listed", COPIED, ONE, spares=tuple(spares.split())), copied(code, *changed))
+def beside(code: int, spares: str, *changed: range, row: int = 7, **words: str) -> Row:
+    """A change of a row and its copy beside these spares."""
+    script = f"put {row} 0 2a\n"
+    return judged(words_of("listed", COPIED, script, spares=tuple(spares.split()), **words), copied(code, *changed, row=row))
 
 
 # swapped in after the last step a spare is changed once too, when the entries are copied into it; the first refusal is told, for a
@@ -377,6 +411,24 @@ SPARES = [
     beside(0, ""),
     beside(5, "2l 0lm 0l", NEVER, ONCE, SOME),
     beside(4, "1l 0lm 2l", ANY, ONCE, NEVER),
+    # the second place, which has the rows from 1,000 on: a spare there is changed, and one of the first place isn't
+    beside(0, "1l", SOME, row=1000),
+    beside(0, "1s", SOME, row=2**64 - 1, sorts="sl"),
+    beside(0, "0s 1s 1l", NEVER, ANY, SOME, row=1000, sorts="ls"),
+    beside(0, "1l 0l", NEVER, SOME, row=999),
+    beside(0, "1l", NEVER),
+]
+
+MORE = range(2, 100)
+
+# the first spare takes the first tablet's place before the worker has its stamp, and the second before it goes on, so that the
+# lock is copied into it, and the commit comes to it; where it refuses the copy, that is told of main, and all else is as without
+# it
+MEANWHILE = [
+    *(beside(0, spares, SOME, MORE, turns="swapping", sorts=sorts) for sorts in CHOICES for spares in ("0l 0s", "0s 0l")),
+    *(beside(1, f"0l 0{sort}r", MORE, ONCE, turns="swapping") for sort in "ls"),
+    beside(1, "0l 0sr 0l", SOME, ONCE, SOME, turns="swapping"),
+    beside(1, "0s 0lr 2l 0lm 1l", MORE, ONCE, NEVER, ONCE, NEVER, turns="swapping"),
 ]
 
 
@@ -428,7 +480,9 @@ TABLES: Tables = {
     "how workers end": ENDS,
     "so many entries of a change and its run": RUNS,
     "turns": TURNS,
+    "each number of workers": EACH_NUMBER,
     "spares in their places": SPARES,
+    "spares while a worker is held": MEANWHILE,
     "swaps beside workers": SWAPS,
     "seats that finish refuses": REFUSED_SEATS,
     "seats in any order": ANY_ORDER,

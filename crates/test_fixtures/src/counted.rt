@@ -8,14 +8,31 @@ use pb_memtablet::EitherTablet;
 use pb_store::{Edit, Item, Slot, Sort, Tablet};
 use std::sync::Arc;
 use std::sync::atomic::{AtomicUsize, Ordering};
+use std::thread;
+
+// For at most so many yields the end of a tablet waits, some seconds where nothing else runs.
+const MAX_YIELDS: u32 = 10_000_000;
 
 /// A tablet that counts the calls of `apply`, where others can read it, and refuses the one of this number, counted from 0,
-/// for want of memory.
+/// for want of memory. Where it has a number to wait for, its end waits until that isn't 0 any more; if it waits in vain, it adds
+/// 1,000 to it.
 #[derive(Drop)]
 pub struct CountedTablet {
     pub inner: EitherTablet,
     pub calls: Arc<AtomicUsize>,
     pub refused: Option<usize>,
+    pub until: Option<Arc<AtomicUsize>>,
+}
+
+// Waits until the number isn't 0 any more.
+fn wait_for(number: &AtomicUsize) {
+    for _ in 0..MAX_YIELDS {
+        if number.load(Ordering::SeqCst) > 0 {
+            return;
+        }
+        thread::yield_now();
+    }
+    number.fetch_add(1_000, Ordering::SeqCst);
 }
 
 impl Tablet for CountedTablet {
@@ -62,6 +79,9 @@ impl Tablet for CountedTablet {
     }
 
     fn end(self) {
+        if let Some(until) = &self.until {
+            wait_for(until);
+        }
         drop(self);
     }
 }

@@ -50,6 +50,7 @@ pub fn refusing_table(alloc: Global, refused: usize) -> Result<Table<CountedTabl
         inner: EitherTablet::new(alloc, false),
         calls: Arc::new(alloc, AtomicUsize::new(0))?,
         refused: Some(refused),
+        until: None,
     };
     let mut parts = Vec::new(alloc);
     parts.push((Row(0), tablet))?;

@@ -3,7 +3,7 @@
 //! An operation is a word: `-P` takes the seat at a place aside, and `+` puts the last such seat behind the others; `oP` puts that
 //! of the other run's seats behind them, and `xP` ends one; `sPQ` exchanges two. `f` compares, which has to be refused.
 use crate::account::is_end_told;
-use crate::tablets::place_of;
+use crate::tablets::{parts_of, place_of};
 use crate::task::Task;
 use crate::work::do_work;
 use pb_core::{Seat, Shared};
@@ -144,19 +144,21 @@ fn work_of_two<R: Threads + Wait + Sync>(
     first: &Task,
     second: &Task,
 ) -> Option<Moved> {
+    let parts = parts_of(alloc, second, None).ok()?;
     let Worked {
         shared: other,
         seats: others,
         refusals: _,
         unfinished: _,
-    } = do_work(rt, alloc, second, Vec::new(alloc), &Open).ok()?;
+    } = do_work(rt, alloc, second, parts, Vec::new(alloc), &Open).ok()?;
     other.close();
+    let parts = parts_of(alloc, first, None).ok()?;
     let Worked {
         shared,
         seats,
         refusals: _,
         unfinished: _,
-    } = do_work(rt, alloc, first, Vec::new(alloc), &Open).ok()?;
+    } = do_work(rt, alloc, first, parts, Vec::new(alloc), &Open).ok()?;
     Some(Moved {
         shared,
         seats,

@@ -1,11 +1,12 @@
 //! Lets workers work as its words say, and prints what they leave, for the rows of checks/tables/workers.py.
 //!
 //! With `HOW TURNS WORKERS LAST LIMIT SORTS REFUSED MANIFEST SCRIPT SPARE..` so many workers make the changes of a script and
-//! run the observers of a manifest, in such turns (`free`, `crossing`, `stubborn` or `together`), over a table with a tablet of
+//! run the observers of a manifest, in such turns (turns.rt), over a table with a tablet of
 //! each of these sorts (`l`, a list, or `s`, a slab), with `LAST` the last timestamp given out and room for `LIMIT` entries.
 //! Of the tablets' changes the one of the number `REFUSED`, from 0, is refused for want of memory; `-` names none. A spare is
-//! the place at which it is swapped in and its sort, and `m` where there is a mark in it. `HOW` is `told`; or `listed`, which
-//! lists the journal; or `cleared`, where the main seat settles and clears what is left before the seats are compared.
+//! the place at which it is swapped in and its sort, and `m` where there is a mark in it, or `r` where it refuses its first
+//! change. `HOW` is `told`; or `listed`, which lists the journal; or `cleared`, where the main seat settles and clears what is
+//! left before the seats are compared.
 //!
 //! With `finish MANIFEST SCRIPT OTHER OPERATION..` the seats of two runs are moved about before they are compared (finishes.rt).
 //! With `--help` it names its words. It ends with status 1 where it has no such words or no memory.
@@ -23,10 +24,10 @@ use account::{How, is_told};
 use std::env;
 use std::process::ExitCode;
 use std::sync::Wait;
-use std::sync::atomic::Ordering;
+use std::sync::atomic::{AtomicU64, Ordering};
 use std::thread::Threads;
 use std::time::Clock;
-use tablets::{Count, Spares, spares_in};
+use tablets::{Count, Spares, parts_of, spares_in};
 use task::Task;
 use turns::{Marks, Turns};
 use work::do_work;
@@ -48,6 +49,19 @@ fn are_counts_told(rt: &HostRuntime, spares: &[Count]) -> bool {
     println!(rt; "").is_ok()
 }
 
+// How often each seat passed the gate.
+fn are_passes_told(rt: &HostRuntime, passed: &[AtomicU64]) -> bool {
+    if print!(rt; "passed").is_err() {
+        return false;
+    }
+    for count in passed {
+        if print!(rt; " {}", count.load(Ordering::SeqCst)).is_err() {
+            return false;
+        }
+    }
+    println!(rt; "").is_ok()
+}
+
 // Whether workers worked as the words say, and that is told.
 fn work_is_told<R: Threads + Wait + Clock + Sync>(
     threads: &R,
@@ -56,12 +70,16 @@ fn work_is_told<R: Threads + Wait + Clock + Sync>(
     words: &[String],
 ) -> Option<bool> {
     let task = Task::of(words)?;
-    let Spares { parts, counts } = spares_in(rt.alloc(), words.get(8..)?).ok()?;
+    let Spares {
+        parts: spares,
+        counts,
+    } = spares_in(rt.alloc(), words.get(8..)?).ok()?;
     let turns = Turns {
         rt: threads,
-        marks: Marks::new(task.order),
+        marks: Marks::new(rt.alloc(), &task, &counts).ok()?,
     };
-    let worked = do_work(threads, rt.alloc(), &task, parts, &turns).ok()?;
+    let parts = parts_of(rt.alloc(), &task, turns.marks.until()).ok()?;
+    let worked = do_work(threads, rt.alloc(), &task, parts, spares, &turns).ok()?;
     let is_told = is_told(rt, worked, how);
     let word = if turns.marks.are_in_time() {
         "kept"
@@ -69,7 +87,8 @@ fn work_is_told<R: Threads + Wait + Clock + Sync>(
         "late"
     };
     let are_kept_told = println!(rt; "turns {word}").is_ok();
-    Some(is_told && are_kept_told && are_counts_told(rt, &counts))
+    let are_passes_told = are_passes_told(rt, turns.marks.passed());
+    Some(is_told && are_kept_told && are_passes_told && are_counts_told(rt, &counts))
 }
 
 // Whether what the words ask for was done and told.

@@ -11,7 +11,8 @@ use test_fixtures::{CountedTablet, mark_edit};
 /// How often a tablet was changed.
 pub type Count = Arc<AtomicUsize>;
 
-fn no_changes(alloc: Global) -> Result<Count, NoMemory> {
+/// The count of what wasn't changed yet.
+pub fn no_changes(alloc: Global) -> Result<Count, NoMemory> {
     Ok(Arc::new(alloc, AtomicUsize::new(0))?)
 }
 
@@ -26,16 +27,26 @@ fn tablet(
         inner: EitherTablet::new(alloc, letter == b's'),
         calls: count.clone()?,
         refused,
+        until: None,
     })
 }
 
-/// The tablets of a task's table, a thousand rows apart. Their changes are counted together.
-pub fn parts_of(alloc: Global, task: &Task) -> Result<Vec<(Row, CountedTablet)>, NoMemory> {
+/// The tablets of a task's table, a thousand rows apart. Their changes are counted together, and the end of the first waits for a
+/// number, where there is one.
+pub fn parts_of(
+    alloc: Global,
+    task: &Task,
+    until: Option<&Count>,
+) -> Result<Vec<(Row, CountedTablet)>, NoMemory> {
     let count = no_changes(alloc)?;
     let mut parts = Vec::new(alloc);
     let mut first: u64 = 0;
     for letter in task.sorts.as_bytes() {
-        parts.push((Row(first), tablet(alloc, *letter, &count, task.refused)?))?;
+        let mut part = tablet(alloc, *letter, &count, task.refused)?;
+        if let (0, Some(until)) = (first, until) {
+            part.until = Some(until.clone()?);
+        }
+        parts.push((Row(first), part))?;
         first = first.saturating_add(1000);
     }
     Ok(parts)
@@ -46,13 +57,17 @@ pub fn place_of(digit: u8) -> usize {
     usize::from(digit.wrapping_sub(b'0'))
 }
 
-// The spare that a word names, with a mark in it where that is asked for.
+// The spare that a word names, with a mark in it where that is asked for, or refusing its first change.
 fn spare(alloc: Global, word: &[u8], count: &Count) -> Result<(usize, CountedTablet), NoMemory> {
     let (Some(place), Some(letter)) = (word.get(0), word.get(1)) else {
         return Err(NoMemory);
     };
-    let mut tablet = tablet(alloc, *letter, count, None)?;
-    if word.len() > 2 {
+    let refused = match word.get(2) {
+        Some(b'r') => Some(0),
+        _ => None,
+    };
+    let mut tablet = tablet(alloc, *letter, count, refused)?;
+    if word.get(2) == Some(&b'm') {
         tablet.apply(&[mark_edit(4, 0)])?;
     }
     Ok((place_of(*place), tablet))

@@ -1,11 +1,18 @@
 //! The turns that workers take: a gate holds a seat until another has come somewhere.
+use crate::tablets::{Count, no_changes};
+use crate::task::Task;
+use pb_base::NoMemory;
 use pb_steps::Step;
 use pb_worker::Gate;
-use std::sync::atomic::{AtomicU64, Ordering};
+use std::alloc::Global;
+use std::sync::atomic::{AtomicU64, AtomicUsize, Ordering};
 use std::thread;
 use std::time::{Clock, Duration};
 
-/// In which turns seats 1 and 2 work.
+// For at most so many turns of a millisecond a seat is held.
+const MAX_TURNS: u32 = 10_000;
+
+/// In which turns seats work.
 #[derive(Clone, Copy, Debug, PartialEq, Eq)]
 pub enum Order {
     /// In none.
@@ -17,6 +24,10 @@ pub enum Order {
     /// The first `NextMark` of each waits until both asked for one, and then the first declaration of a run of each until both
     /// asked for that.
     Together,
+    /// The first step of each worker waits until all are there.
+    Gathered,
+    /// The end of the first tablet waits until seat 1 asks for its stamp, and that until the second spare is changed.
+    Swapping,
 }
 
 impl Order {
@@ -27,12 +38,14 @@ impl Order {
             "crossing" => Some(Order::Crossing),
             "stubborn" => Some(Order::Stubborn),
             "together" => Some(Order::Together),
+            "gathered" => Some(Order::Gathered),
+            "swapping" => Some(Order::Swapping),
             _ => None,
         }
     }
 }
 
-/// How far seats have come in an order, and whether a hold ran out.
+/// How far seats have come in an order, how often each passed the gate, and whether a hold ran out.
 #[derive(Drop)]
 pub struct Marks {
     order: Order,
@@ -43,30 +56,72 @@ pub struct Marks {
     // Whether seats 1 and 2 have come so far.
     first: [AtomicU64; 2],
     second: [AtomicU64; 2],
+    passed: Vec<AtomicU64>,
+    // What the end of the first tablet waits for, and how often the second spare was changed.
+    until: Count,
+    spare: Option<Count>,
 }
 
 impl Marks {
-    pub fn new(order: Order) -> Marks {
-        Marks {
-            order,
+    /// Those of a task before it begins, beside spares whose changes are counted so.
+    pub fn new(alloc: Global, task: &Task, counts: &[Count]) -> Result<Marks, NoMemory> {
+        let mut passed = Vec::new(alloc);
+        passed.push(AtomicU64::new(0))?;
+        for _ in 0..task.workers {
+            passed.push(AtomicU64::new(0))?;
+        }
+        let spare = match counts.get(1) {
+            Some(count) => Some(count.clone()?),
+            None => None,
+        };
+        Ok(Marks {
+            order: task.order,
             reached: AtomicU64::new(0),
             other: AtomicU64::new(0),
             count: AtomicU64::new(0),
             late: AtomicU64::new(0),
             first: [AtomicU64::new(0), AtomicU64::new(0)],
             second: [AtomicU64::new(0), AtomicU64::new(0)],
-        }
+            passed,
+            until: no_changes(alloc)?,
+            spare,
+        })
     }
 
     /// Whether no hold ran out.
     pub fn are_in_time(&self) -> bool {
-        self.late.load(Ordering::SeqCst) == 0
+        self.late.load(Ordering::SeqCst) == 0 && self.until.load(Ordering::SeqCst) < 1_000
     }
 
-    // Waits until the number is there, at most 30,000 turns of a millisecond.
+    /// How often each seat passed the gate.
+    pub fn passed(&self) -> &[AtomicU64] {
+        &self.passed
+    }
+
+    /// What the end of the first tablet waits for, in turns that have it wait.
+    pub fn until(&self) -> Option<&Count> {
+        if self.order == Order::Swapping {
+            Some(&self.until)
+        } else {
+            None
+        }
+    }
+
+    // Waits until the number is there. Once a hold ran out, nobody is held any more.
     fn hold<R: Clock>(&self, rt: &R, flag: &AtomicU64, number: u64) {
-        for _ in 0..30_000u32 {
-            if flag.load(Ordering::SeqCst) >= number {
+        for _ in 0..MAX_TURNS {
+            if flag.load(Ordering::SeqCst) >= number || !self.are_in_time() {
+                return;
+            }
+            thread::sleep(rt, Duration::from_millis(1));
+        }
+        self.late.store(1, Ordering::SeqCst);
+    }
+
+    // Waits until something was changed.
+    fn hold_for_change<R: Clock>(&self, rt: &R, changes: &AtomicUsize) {
+        for _ in 0..MAX_TURNS {
+            if changes.load(Ordering::SeqCst) > 0 || !self.are_in_time() {
                 return;
             }
             thread::sleep(rt, Duration::from_millis(1));
@@ -126,12 +181,39 @@ impl Marks {
         }
     }
 
+    fn pass_gathered<R: Clock>(&self, rt: &R, seat: u32, is_first: bool) {
+        if seat > 0 && is_first {
+            self.count.fetch_add(1, Ordering::SeqCst);
+            self.hold(rt, &self.count, self.passed.len().saturating_sub(1) as u64);
+        }
+    }
+
+    fn pass_swapping<R: Clock>(&self, rt: &R, seat: u32, step: &Step) {
+        if let (1, Step::Stamp(_), Some(spare)) = (seat, step, &self.spare) {
+            if self.until.load(Ordering::SeqCst) == 0 {
+                self.until.fetch_add(1, Ordering::SeqCst);
+            }
+            self.hold_for_change(rt, spare);
+        }
+    }
+
+    // Counts a pass of a seat. Whether it is the first.
+    fn is_first(&self, seat: u32) -> bool {
+        match self.passed.get(seat as usize) {
+            Some(count) => count.fetch_add(1, Ordering::SeqCst) == 0,
+            None => false,
+        }
+    }
+
     fn pass<R: Clock>(&self, rt: &R, seat: u32, step: &Step) {
+        let is_first = self.is_first(seat);
         match self.order {
             Order::Free => {}
             Order::Crossing => self.pass_crossing(rt, seat, step),
             Order::Stubborn => self.pass_stubborn(rt, seat, step),
             Order::Together => self.pass_together(rt, seat, step),
+            Order::Gathered => self.pass_gathered(rt, seat, is_first),
+            Order::Swapping => self.pass_swapping(rt, seat, step),
         }
     }
 }

@@ -3,7 +3,6 @@ ghost use Rattle.std.specs.Prelude.{◌≡◌, IfOk};
 ghost use Rattle.pb_core.specs.Calls.{AreSeats};
 ghost use Rattle.pb_store.specs.Contents.{nothing};
 
-use crate::tablets::parts_of;
 use crate::task::Task;
 use pb_base::{MAX_ENTRIES, NoMemory, Row, Ts};
 use pb_core::{Seat, Shared};
@@ -24,15 +23,19 @@ fn table(parts: Vec<(Row, CountedTablet)>) -> Result<Table<CountedTablet>, NoMem
     }
 }
 
-// A table that is opened for a task, and its seats.
-fn open_for(alloc: Global, task: &Task) -> Result<(Shared<CountedTablet>, Vec<Seat>), NoMemory>
+// A table of these tablets that is opened for a task, and its seats.
+fn open_for(
+    alloc: Global,
+    task: &Task,
+    parts: Vec<(Row, CountedTablet)>,
+) -> Result<(Shared<CountedTablet>, Vec<Seat>), NoMemory>
     ensures { IfOk result (λ s. AreSeats s.0 s.1.items) }
 {
     if task.workers < 1 || task.workers > 63 || task.limit > MAX_ENTRIES {
         return Err(NoMemory);
     }
     let observers = observers_of(alloc, task.manifest)?;
-    let table = table(parts_of(alloc, task)?)?;
+    let table = table(parts)?;
     open_table_over(
         alloc,
         table,
@@ -43,15 +46,16 @@ fn open_for(alloc: Global, task: &Task) -> Result<(Shared<CountedTablet>, Vec<Se
     )
 }
 
-/// What workers leave who do a task, beside swaps of these spares.
+/// What workers leave who do a task on a table of these tablets, beside swaps of these spares.
 pub fn do_work<R: Threads + Wait + Sync, G: Gate>(
     rt: &R,
     alloc: Global,
     task: &Task,
+    parts: Vec<(Row, CountedTablet)>,
     spares: Vec<(usize, CountedTablet)>,
     gate: &G,
 ) -> Result<Worked<CountedTablet>, NoMemory> {
     let batches = batches_of(alloc, task.script)?;
-    let (shared, seats) = open_for(alloc, task)?;
+    let (shared, seats) = open_for(alloc, task, parts)?;
     worked_on(rt, alloc, shared, seats, batches, spares, gate)
 }
