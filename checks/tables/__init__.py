@@ -12,8 +12,8 @@ from dataclasses import dataclass, field, replace
 from functools import cache
 
 # how many tables there are, and how many rows in all, so that a lost one is noticed
-TABLE_COUNT = 270
-ROW_COUNT = 9393
+TABLE_COUNT = 275
+ROW_COUNT = 9624
 
 TOO_LARGE = bytes(16_777_217)
 

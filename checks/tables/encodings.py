@@ -6,7 +6,7 @@ line. The last two are worked out from RFC 9669, sections 3 to 5.
 """
 from __future__ import annotations
 
-from tables import Row, Tables, asm, dis, encoded
+from tables import Row, Tables, asm, dis, encoded, in_profile
 
 
 def both(text: str, digits: str) -> list[Row]:
@@ -185,6 +185,24 @@ ENDS_OF_RANGES = [
     *both("call -1", "85000000ffffffff"),
 ]
 
+# those that profile 2 has besides, worked out from RFC 9669, sections 4.1 and 5.2; beside each stands how LLVM spells it
+IN_PROFILE_2 = [
+    in_profile(2, row)
+    for text, digits in (
+        ("movsx64 r3, r4, 8", "bf43080000000000"),  # r3 = (s8)r4
+        ("movsx64 r5, r6, 16", "bf65100000000000"),  # r5 = (s16)r6
+        ("movsx64 r7, r8, 32", "bf87200000000000"),  # r7 = (s32)r8
+        ("movsx32 r9, r0, 8", "bc09080000000000"),  # w9 = (s8)w0
+        ("movsx32 r2, r9, 16", "bc92100000000000"),  # w2 = (s16)w9
+        ("ldxsb r9, [r6+79]", "91694f0000000000"),  # r9 = *(s8 *)(r6 + 79)
+        ("ldxsh r5, [r10-512]", "89a500fe00000000"),  # r5 = *(s16 *)(r10 - 512)
+        ("ldxsw r0, [r3+32767]", "8130ff7f00000000"),  # r0 = *(s32 *)(r3 + 32767)
+        ("ldxsb r4, [r5-32768]", "9154008000000000"),  # r4 = *(s8 *)(r5 - 32768)
+        ("movsx64 r10, r10, 32", "bfaa200000000000"),  # r10 = (s32)r10
+    )
+    for row in both(text, digits)
+]
+
 TABLES: Tables = {
     "arithmetic at 64 bits with immediates": ARITHMETIC_64_WITH_IMMEDIATES,
     "arithmetic at 64 bits with registers": ARITHMETIC_64_WITH_REGISTERS,
@@ -199,4 +217,5 @@ TABLES: Tables = {
     "wide immediate": WIDE_IMMEDIATE,
     "by hand": BY_HAND,
     "ends of ranges": ENDS_OF_RANGES,
+    "in profile 2": IN_PROFILE_2,
 }

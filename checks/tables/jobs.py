@@ -7,7 +7,7 @@ from __future__ import annotations
 
 from dataclasses import dataclass, field
 
-from tables import COPY, START, WATCH, Row, Tables
+from tables import COPY, START, WATCH, Row, Tables, encoded
 
 # asks for cell 7 1 with its fifth instruction, and ends with the sixth: with 0 where there is a value, else with 1
 ASK = "b701000007000000b702000001000000bfa300000000000007030000e0ffffff85000000010000009500000000000000"
@@ -185,6 +185,49 @@ ALONE = [
     jobs(WATCH, "r1 c0", "0:1 1:5 0:2 0=clean", TOO_LATE),
     jobs(WATCH, "c0 r1 r2", "0:5 1:3 1/2 1:4 2:4 2=clean 1:1 1=0", ACKNOWLEDGED, 1),
 ]
+
+
+# asks for cells 7 1 and 7 2, and ends with the flag of the record: whether the cell had a value at the acknowledged timestamp
+ASK_TWICE = encoded(
+    "mov64 r6, r1; mov64 r3, r10; add64 r3, -32; mov64 r1, 7; mov64 r2, 1; call 1; mov64 r3, r10; add64 r3, -64; mov64 r1, 7; "
+    "mov64 r2, 2; call 1; ldxdw r0, [r6+80]; exit"
+)
+
+# a run after the first change, which is told of no value, and one after the second, which is told of the first
+TOLD_OF_BEFORE = """\
+1 begin run watch 7 -> at 3
+1 read 3 7 0 -> found 1 2 value 2a
+1 read 3 ack watch 7 0 -> absent
+1 read 3 7 1 -> absent
+1 read 3 7 2 -> absent
+1 declare 3 run watch result 0 -> done
+1 prewrite 3 ack watch 7 0 -> done
+1 stamp 3 -> at 4
+1 commit 3 -> committed
+1 sweep 7 0 -> done
+1 begin run watch 7 -> at 7
+1 read 7 7 0 -> found 5 6 value 2a
+1 read 7 ack watch 7 0 -> found 3 4 stamp 3
+1 read 7 7 0 at 3 -> found 1 2 value 2a
+1 read 7 7 1 -> absent
+1 read 7 7 2 -> absent
+1 declare 7 run watch result 1 -> done
+1 prewrite 7 ack watch 7 0 -> done
+1 stamp 7 -> at 8
+1 commit 7 -> committed
+1 sweep 7 0 -> done
+marks 0 locks 0
+"""
+
+
+def of_before(slots: int) -> Row:
+    """Both runs of a program of so many slots, in profile 2, for the second version of the record."""
+    code = encoded("mov64 r0, 0") * (slots - len(ASK_TWICE) // 8) + ASK_TWICE
+    turns = "0:5 1:3 1> 1:1 1> 1:1 1> 1:5 1=0 2:5 3:4 3> 3:1 3> 3:1 3> 3:5 3=1"
+    return jobs(f"2:{code.hex()}", "c0 r1 c0 r1", turns, TOLD_OF_BEFORE, 1)
+
+
+BEFORE = [of_before(slots) for slots in (13, 17, 31, 64, 511, 512, 513, 1_000, 2_049, 3_002, 3_999, 4_095, 4_096)]
 
 
 # Runs of two seats that are in one another's way, and changes in the way of a run.
@@ -592,6 +635,7 @@ LOCKS = [
 
 TABLES: Tables = {
     "runs alone": ALONE,
+    "runs told of the value of before": BEFORE,
     "rival runs": RIVALS,
     "locks that runs clear": CLEARS,
     "how many locks a run meets": LOCKS,

@@ -11,7 +11,7 @@ from tables import (
     CHANGED, ONE, Row, Tables, accepted, asm, asm_fails, dis, dis_refused, encoded, in_profile, manifest_of, observer, refused,
     replay, run, run_fails, within,
 )
-from tables.records import KEEP, TWO, on_record, recorded
+from tables.records import FLAG, KEEP, TWO, on_record, recorded
 from tables.sizes import (
     BROKEN, BROKEN_BYTES, EXIT, FIVES, LARGEST, LEFT, MOV, NO_OPCODE, NUMBERS, cells, code_of, filled, half_written, kinds_of, ran,
     runs_of, text_of,
@@ -36,6 +36,53 @@ ASSEMBLED = [in_profile(2, asm(text_of(lines), CODES[kind])) for kind, lines in 
 LISTED = [in_profile(2, dis(CODES[kind], text_of(lines))) for kind, lines in KINDS.items()]
 ACCEPTED = [in_profile(2, accepted(code, SLOTS)) for code in CODES.values()]
 RUN = [ran(code, *LEFT.get(kind, ("", CHANGED)), profile=2) for kind, code in CODES.items()]
+
+# after the first 3,000 slots each move and load that extends the sign, of all registers that hold a number: the record's place
+# moves to register 6, so that its own holds one too
+LATE_REGISTERS = (0, 1, 2, 3, 4, 5, 7, 8, 9)
+LATE_FIRST = ["mov64 r6, r1", "stdw [r10-512], -5", *(f"mov64 r{register}, {register}" for register in LATE_REGISTERS)]
+EXTENDING = [
+    *(
+        text.format(target, source)
+        for target in LATE_REGISTERS
+        for source in LATE_REGISTERS
+        for text in (
+            *(f"movsx64 r{{}}, r{{}}, {bits}" for bits in (8, 16, 32)), "movsx32 r{}, r{}, 8", "movsx32 r{}, r{}, 16"
+        )
+    ),
+    *(
+        f"ldxs{size} r{target}, [r{place}]"
+        for target in LATE_REGISTERS
+        for size in "bhw"
+        for place in ("6+0", "6+76", "10-512")
+    ),
+]
+LATE_FORMS = filled(SLOTS, [*LATE_FIRST, *["mov64 r0, 0"] * (3_000 - len(LATE_FIRST))], EXTENDING, ["exit"])
+LATE_CODE = code_of(LATE_FORMS, SLOTS)
+
+EXTENDED_LATE = [
+    in_profile(2, asm(text_of(LATE_FORMS), LATE_CODE)),
+    in_profile(2, dis(LATE_CODE, text_of(LATE_FORMS))),
+    in_profile(2, accepted(LATE_CODE, SLOTS)),
+    in_profile(2, on_record(2, accepted(LATE_CODE, SLOTS))),
+    ran(LATE_CODE, "", CHANGED, profile=2),
+]
+
+
+def flagged(slots: int) -> Row:
+    """Two changes with a run after each, of so many slots, which writes whether there was a value before, and since when."""
+    code = MOV * (slots - len(FLAG) // 16) + bytes.fromhex(FLAG)
+    manifest = manifest_of(recorded(2, name="flag", helpers="2", digits=code.hex()), profile=2)
+    turns = "".join(f"launch 1 change {change}\nstep 1 5\nlaunch 2 run flag 7\nstep 2 5000\n" for change in (1, 2))
+    report = "cell 7 0 commit 6 value 2b\ncell 7 3 commit 8 value 010000000000000003\nruns flag 2\nquiet\n"
+    return replay(manifest, TWO, turns, report)
+
+
+# the record's second version at sizes between the smallest and the largest
+FLAGGED = [
+    flagged(slots)
+    for slots in (16, 17, 30, 31, 32, 33, 64, 100, 257, 500, 511, 512, 513, 600, 1_000, 1_025, 2_047, 3_001, 3_999, 4_000, SLOTS)
+]
 
 # the longest line that a listing has, in each of its lines; nobody accepts this
 WIDEST = ["jsgt32 r10, -2147483648, -32768"] * SLOTS
@@ -177,4 +224,6 @@ TABLES: Tables = {
     "each text": EACH_TEXT,
     "jumps": JUMPS,
     "observers": OBSERVERS,
+    "extended late": EXTENDED_LATE,
+    "flagged": FLAGGED,
 }

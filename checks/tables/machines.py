@@ -193,10 +193,49 @@ EXTENDED = [
     plain(bytes.fromhex("9110000000000000") + EXIT, 7, 2, 2),
 ]
 
+# of each width and each number of bits, with what is made of each number: the top bit of so many bits, and all below it
+NUMBERS = (0x80, 0x7F, 0x8000, 0x7FFF, 0x8000_0000, 0x7FFF_FFFF)
+ONES_32, ONES_64 = 0xFFFF_FFFF, 0xFFFF_FFFF_FFFF_FFFF
+
+MOVED = {
+    "movsx64 r0, r1, 8": (0xFFFF_FFFF_FFFF_FF80, 0x7F, 0, ONES_64, 0, ONES_64),
+    "movsx64 r0, r1, 16": (0x80, 0x7F, 0xFFFF_FFFF_FFFF_8000, 0x7FFF, 0, ONES_64),
+    "movsx64 r0, r1, 32": (0x80, 0x7F, 0x8000, 0x7FFF, 0xFFFF_FFFF_8000_0000, 0x7FFF_FFFF),
+    "movsx32 r0, r1, 8": (0xFFFF_FF80, 0x7F, 0, ONES_32, 0, ONES_32),
+    "movsx32 r0, r1, 16": (0x80, 0x7F, 0xFFFF_8000, 0x7FFF, 0, ONES_32),
+}
+
+LOADED = {"ldxsb": MOVED["movsx64 r0, r1, 8"], "ldxsh": MOVED["movsx64 r0, r1, 16"], "ldxsw": MOVED["movsx64 r0, r1, 32"]}
+
+# whatever stands above these bits, and in the destination before
+ABOVE = (0, 0x5555_5555_0000_0000, 0xFFFF_FFFF_0000_0000)
+
+EACH_WIDTH = [
+    *(
+        plain(encoded(f"lddw r1, {number + above}; mov64 r0, -1; {text}; exit"), made, 4, 2)
+        for text, results in MOVED.items()
+        for number, made in zip(NUMBERS, results, strict=True)
+        for above in ABOVE
+    ),
+    *(
+        plain(encoded(f"lddw r1, {number + above}; stxdw [r10-8], r1; {word} r0, [r10-8]; exit"), made, 4, 2)
+        for word, results in LOADED.items()
+        for number, made in zip(NUMBERS, results, strict=True)
+        for above in ABOVE
+    ),
+    # of other registers, and of one to itself
+    *(
+        plain(encoded(f"mov64 r{source}, 128; movsx64 r{target}, r{source}, 8; mov64 r0, r{target}; exit"), ONES_64 - 0x7F, 4, 2)
+        for source in range(1, 10)
+        for target in (source, source % 9 + 1)
+    ),
+]
+
 TABLES: Tables = {
     "replies": REPLIES,
     "what helpers write": WRITES,
     "many steps": MANY,
     "whole observers": OBSERVERS,
     "what extends the sign": EXTENDED,
+    "what extends the sign at each width": EACH_WIDTH,
 }

@@ -3,9 +3,10 @@ ghost use Rattle.std.specs.Prelude.{◌≤◌, length, IfOk};
 
 use pb_base::{Batch, Column, Content, NoMemory, ObserverNo, Row};
 use pb_core::{Seat, Shared};
-use pb_helpers::HelperTable;
+use pb_helpers::{HelperTable, Version};
+use pb_isa::Profile;
 use pb_notify::ObserverJob;
-use pb_registry::accept;
+use pb_registry::accept_in;
 use pb_store::Tablet;
 use pb_txn::ChangeJob;
 use pb_verify::{Accepted, Observer};
@@ -66,8 +67,12 @@ pub fn jobs_of(alloc: Global, tasks: &str, program: &Arc<Accepted>) -> Option<Ve
 
 /// The one observer of column 0, whose program may call all helpers.
 pub fn observer_of(alloc: Global, digits: &str) -> Option<Observer> {
+    let (digits, profile, version) = match digits.split_once(":") {
+        Some(("2", rest)) => (rest, Profile::Two, Version::Second),
+        _ => (digits, Profile::One, Version::First),
+    };
     let bytes = hex::decode(alloc, digits).ok()?;
-    let program = accept(alloc, &bytes, HelperTable::all()).ok()?;
+    let program = accept_in(alloc, profile, version, &bytes, HelperTable::all()).ok()?;
     Some(Observer {
         name: String::from_str(alloc, "watch").ok()?,
         column: Column::new(0)?,

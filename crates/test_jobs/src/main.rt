@@ -1,11 +1,11 @@
 //! Jobs of several seats, which take turns over one shared table, for the rows of checks/tables/jobs.py.
 //!
-//! With `DIGITS FROM TASKS TURNS` the table has an observer of column 0, `watch`, whose program has these digits. A task makes a
-//! job: `cPQ` a change by seat 0, which writes 2a to these columns of row 7, the first of them its primary; `rS` a run of the
-//! observer on cell 7 0 by seat S. A turn takes a job by its place among the tasks: `P:N` has so many of its steps answered, `P/N`
-//! has a run do so many instructions, `P>` all up to its next ask or its exit, and by `P=END` a run is over, with this end: the
-//! result of one that committed, or `clean`, `conflicted`, `lost` or `blocked`. By `sC` seat 0 settles the cell of this column in
-//! row 7, and by `sa` the acknowledgment of cell 7 0.
+//! With `DIGITS FROM TASKS TURNS` the table has an observer of column 0, `watch`, whose program has these digits; after `2:` it is
+//! of profile 2 and takes the second version of the record. A task makes a job: `cPQ` a change by seat 0, which writes 2a to
+//! these columns of row 7, the first of them its primary; `rS` a run of the observer on cell 7 0 by seat S. A turn takes a job by
+//! its place among the tasks: `P:N` has so many of its steps answered, `P/N` has a run do so many instructions, `P>` all up to its
+//! next ask or its exit, and by `P=END` a run is over, with this end: the result of one that committed, or `clean`, `conflicted`,
+//! `lost` or `blocked`. By `sC` seat 0 settles the cell of this column in row 7, and by `sa` the acknowledgment of cell 7 0.
 //!
 //! It prints what the journal has of the seats from `FROM` on, how many marks and locks are left, and the first turn that doesn't
 //! go as it says. With `--help` it names its words. It ends with status 1 where it has no such words or no memory.
