@@ -13,7 +13,7 @@ from functools import cache
 
 # how many tables there are, and how many rows in all, so that a lost one is noticed
 TABLE_COUNT = 275
-ROW_COUNT = 9624
+ROW_COUNT = 9702
 
 TOO_LARGE = bytes(16_777_217)
 

@@ -118,7 +118,10 @@ def straight(slots: int, *more: str) -> Row:
 
 SIZES = [
     straight(512),
-    straight(4096, "--profile", "2"),
+    *(
+        straight(slots, "--profile", "2")
+        for slots in (513, 600, 601, 602, 777, 1_000, 1_023, 1_024, 1_025, 2_047, 2_048, 2_049, 3_001, 3_998, 3_999, 4_000, 4_095, 4_096)
+    ),
     # every other byte of the stack written: as many runs as there can be
     known(
         "; ".join([*(f"stb [r10-{place}], 0" for place in range(1, 512, 2)), "exit"]),

@@ -157,8 +157,7 @@ def manned(*words: str, report: str = f"{CHANGED}quiet\n", script: str = ONE) ->
 # the option may stand before, between and behind the operands; there may be more workers than changes, and zeros before the
 # digits
 WORKERS = [
-    manned("m", "s", "--workers", "1"),
-    manned("m", "s", "--workers", "63"),
+    *(manned("m", "s", "--workers", str(workers)) for workers in range(1, 64)),
     manned("--workers", "63", "m", "s", report="quiet\n", script=""),
     manned("m", "--workers", "2", "s"),
     manned("--workers=4", "m", "s"),
