@@ -12,8 +12,8 @@ from dataclasses import dataclass, field, replace
 from functools import cache
 
 # how many tables there are, and how many rows in all, so that a lost one is noticed
-TABLE_COUNT = 275
-ROW_COUNT = 9702
+TABLE_COUNT = 277
+ROW_COUNT = 9705
 
 TOO_LARGE = bytes(16_777_217)
 
@@ -36,7 +36,8 @@ class Row:
     """The words behind a program's name, the files of the folder that it is started in, and how that ends.
 
     An output of None is any but the empty one. In the end the folder holds the files and what is `written`, and nothing
-    else. Where a `memory` is named, the program has so many bytes of addresses. An output that differs from time to time has a
+    else. Where a `memory` is named, the program has so many bytes of addresses, and where `seconds` are, so many of a processor,
+    however busy the machine is. An output that differs from time to time has a
     `judge`, which says what of it isn't as it has to be.
     """
 
@@ -49,11 +50,13 @@ class Row:
     memory: int | None = None
     program: str = "percobpf"
     judge: Callable[[bytes], list[str]] | None = None
+    seconds: int | None = None
 
     def key(self) -> tuple:
         """The same for the same rows alone."""
         files, written = frozenset(self.files.items()), frozenset(self.written.items())
-        return (self.program, tuple(self.words), files, self.status, self.out, self.err, written, self.memory)
+        limits = (self.memory, self.seconds)
+        return (self.program, tuple(self.words), files, self.status, self.out, self.err, written, *limits)
 
 
 Tables = dict[str, list[Row]]
@@ -85,6 +88,11 @@ def files_of(**texts: str | bytes) -> dict[str, bytes]:
 def within(mebibytes: int, row: Row) -> Row:
     """The row, where the program has no more memory than this."""
     return replace(row, memory=mebibytes << 20)
+
+
+def in_time(seconds: int, row: Row) -> Row:
+    """The row, where the program has no more time of a processor than this."""
+    return replace(row, seconds=seconds)
 
 
 def run(manifest: str, script: str, report: str, *more: str) -> Row:
