@@ -7,3 +7,5 @@ pub mod ByCode
 pub mod Reached
 pub mod Following
 pub mod Verdicts
+pub mod BothProfiles
+pub mod EncodedSigns

@@ -6,3 +6,7 @@ pub mod Breaks
 pub mod Reached
 pub mod Following
 pub mod Verdicts
+pub mod ExtendedSigns
+pub mod ProfileLimits
+pub mod EncodedSigns
+pub mod BothProfiles

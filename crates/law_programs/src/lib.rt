@@ -1,11 +1,12 @@
-//! What holds of the definitions by which programs are judged and told of changes: laws, on which nothing is built, so
-//! that they make no crate wait for them.
+//! What holds of the definitions by which programs are read, judged and told of changes: laws, on which nothing is
+//! built, so that they make no crate wait for them.
 //!
 //! A contract of the verifier holds of a definition, and that can be wrong in the same way as its code. These laws say
 //! the same in other words, those of docs/CODES.md and docs/MACHINE.md: when each code is told, which slots are
 //! reached, what is known after an instruction, and what stands where in a change record. So of `stb [r10-513], 0` the
 //! verifier's lists have 25, and here it is told that one byte from 513 below the stack's end on isn't among the 512
-//! before it. The promise is that both say the same, of every instruction and every frame.
+//! before it. The promise is that both say the same, of every instruction and every frame. What a profile has is said in
+//! figures: slots, bytes, and what an extended sign leaves.
 #![tactic(auto)]
 
 ghost use Rattle.law_programs.specs.Breaks.{RulesAreByCode};
@@ -14,7 +15,13 @@ ghost use Rattle.law_programs.specs.Reached.{FaultsAreTold, ReachedAreTold, Unre
 ghost use Rattle.law_programs.specs.RecordParts.{RecordsHaveParts};
 ghost use Rattle.law_programs.specs.Verdicts.{VerdictsAreTold};
 
+mod profiles;
+
 use pb_verify::{codes_rise, frames_are_meets, jumps_lead_on};
+pub use profiles::{
+    bytes_mean_the_same_in_both_profiles, profiles_differ_in_slots_and_signs,
+    sign_extensions_have_these_bytes, signs_are_extended,
+};
 
 /// In a change record row, column, start and commit of the change, 1 for a value or 0 for none, and the acknowledged timestamp
 /// stand at 0, 8, 16, 24, 32 and 40 as 8 bytes with the lowest first, and the value or zeros at 48. In version 2 the same of
