@@ -6,3 +6,5 @@ pub mod DistinctWrites
 pub mod LinesRead
 pub mod ScriptsRead
 pub mod LastReport
+pub mod ManifestNumbers
+pub mod OptionNumbers

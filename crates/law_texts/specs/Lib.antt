@@ -2,3 +2,5 @@ pub mod OperationTexts
 pub mod LineTexts
 pub mod ScriptTexts
 pub mod LastReport
+pub mod ManifestNumbers
+pub mod OptionNumbers
