@@ -1,0 +1,4 @@
+pub mod EarlierReads
+pub mod AcknowledgedVersions
+pub mod LooksBack
+pub mod ShownValues

@@ -1,0 +1,39 @@
+-- At which timestamp a committed run read a cell besides its start.
+use Rattle.std.specs.Prelude.{◌≡◌, ℕ, List, Some, slice_get}
+use Rattle.pb_base.specs.declared.cell.Cell.{Cell}
+use Rattle.pb_base.specs.declared.content.Content.{Content}
+use Rattle.pb_base.specs.declared.names.Row.{Row}
+use Rattle.pb_base.specs.declared.names.Ts.{Ts}
+use Rattle.pb_verify.specs.Observers.{ObserverOf, observed_cell, acknowledgment}
+use Rattle.pb_steps.specs.declared.step.Answer.{Answer}
+use Rattle.pb_steps.specs.declared.step.Step.{Step}
+use Rattle.pb_steps.specs.declared.step.Work.{Work}
+use Rattle.pb_steps.specs.State.{StateOf}
+use Rattle.pb_history.specs.declared.entry.Entry.{Entry}
+use Rattle.pb_history.specs.History.{IsEntry, Member, InHistory, IsSnapshot}
+use Rattle.pb_history.specs.Journals.{IsLegal}
+
+-- a read is answered with what its cell holds, or that it is absent
+abbrev pub IsAnswered : Answer → Type 0
+IsAnswered (Answer.Found start commit content) = Unit {0}
+IsAnswered Answer.Absent = Unit {0}
+IsAnswered answer = ⊥
+
+-- the run of start s looks back to what its cell held at t: that is its observer's acknowledgment in its snapshot, and the
+-- change record of its observer's program has 120 bytes
+pub record LooksBackTo (observers : List ObserverOf) (journal : List Entry) (s : ℕ) (o : ℕ) (row : Row) (x : Cell) (t : Ts) : Type 0 where
+  pub observer : ObserverOf
+  pub observer_is : slice_get observers o ≡ Some observer
+  pub second : observer.program.record_size ≡ 120
+  pub cell : x ≡ observed_cell observers o row
+  pub by : ℕ
+  pub at : ℕ
+  pub acknowledged : IsSnapshot observers journal s (acknowledgment observers o row) by at (Content.Stamp t)
+
+-- each answered read at a timestamp, of a committed run
+abbrev pub RunsLookBackToTheirAcknowledgment : Type 0
+RunsLookBackToTheirAcknowledgment =
+    (observers : List ObserverOf) (seats clock : ℕ) (journal : List Entry) (state : StateOf) → IsLegal observers seats clock journal state
+    → (m : Member) (o : ℕ) (row : Row) → InHistory state.observers journal m → m.work ≡ Work.Run o row
+    → (seat : ℕ) (x : Cell) (t : Ts) (answer : Answer) → IsEntry journal seat (Step.ReadAt (record { 0 = m.start }) x t) answer → IsAnswered answer
+    → LooksBackTo state.observers journal m.start o row x t
