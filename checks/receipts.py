@@ -200,7 +200,7 @@ def tell_of_words(texts, tell):
 def is_within(path, text, line):
     """Whether a line stands in the function that gives tests their receipt."""
     for it in functions_in(path, without_comments(text))[0]:
-        if it.name == ASKS_FOR_ALL[1] and "-> NoMemory" in it.head:
+        if it.name == ASKS_FOR_ALL[1] and "NoMemory>" in it.head:
             return text.count("\n", 0, it.start) < line <= text.count("\n", 0, it.end) + 1
     return False
 

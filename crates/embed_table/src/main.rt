@@ -183,11 +183,11 @@ fn main(rt: HostRuntime) -> Result<()> {
             OpenRefused {
                 table,
                 observers: _,
-                code,
+                refusal,
             },
         ) => {
             table.close();
-            bail!("the table is refused with {code}")
+            bail!("the table is {refusal}")
         }
     }
 }

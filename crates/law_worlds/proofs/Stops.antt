@@ -5,7 +5,7 @@ use Rattle.std.proofs.lemmas.Option.{none-some, slice_get_within}
 use Rattle.pb_parse.specs.declared.event.Event.{Event}
 use Rattle.pb_world.specs.declared.fault.EventFault.{EventFault}
 use Rattle.pb_world.specs.declared.note.Note.{Note}
-use Rattle.pb_world.specs.Faults.{fault_code}
+use Rattle.pb_world.specs.Faults.{fault_code, memory_fault}
 use Rattle.pb_world.specs.Events.{WorldOf, fault_of, RunsTo, StopsAtEvent}
 use Rattle.pb_world.specs.Sound.{IsSoundWorld, EventsKeepSound}
 use Rattle.law_worlds.specs.Outcomes.{EventsHaveOneOutcome, RunsHaveOneOutcome, FaultsHaveOnePlace, WholeRunsHaveNoFault}
@@ -23,11 +23,11 @@ record IsAtFault (w : WorldOf) (es : List Event) (at code : ℕ) (v : WorldOf) :
   told : code ≡ fault_code fault
 
 -- a list that stops does so for memory, or since an event is at fault
-fault_in : (w : WorldOf) (es : List Event) (at code : ℕ) (v : WorldOf) → StopsAtEvent w es at code v → (code ≡ fault_code EventFault.NoMemory) ⊎ IsAtFault w es at code v
+fault_in : (w : WorldOf) (es : List Event) (at code : ℕ) (v : WorldOf) → StopsAtEvent w es at code v → (code ≡ fault_code memory_fault) ⊎ IsAtFault w es at code v
 fault_in w es at code v s = grind arith
 
 -- and where it isn't for memory, an event is at fault
-fault_of_other : (w : WorldOf) (es : List Event) (at code : ℕ) (v : WorldOf) → code ≢ fault_code EventFault.NoMemory → StopsAtEvent w es at code v → IsAtFault w es at code v
+fault_of_other : (w : WorldOf) (es : List Event) (at code : ℕ) (v : WorldOf) → code ≢ fault_code memory_fault → StopsAtEvent w es at code v → IsAtFault w es at code v
 fault_of_other w es at code v other s = elim (fault_in w es at code v s) [ inl memory ↦ absurd (other memory) | inr f ↦ f ]
 
 module _ (one : EventsHaveOneOutcome) (keep : EventsKeepSound) where

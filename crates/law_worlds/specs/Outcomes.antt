@@ -4,7 +4,7 @@ use Rattle.std.specs.Prelude.{◌≡◌, ◌≢◌, ℕ, List}
 use Rattle.pb_parse.specs.declared.event.Event.{Event}
 use Rattle.pb_world.specs.declared.fault.EventFault.{EventFault}
 use Rattle.pb_world.specs.declared.note.Note.{Note}
-use Rattle.pb_world.specs.Faults.{fault_code}
+use Rattle.pb_world.specs.Faults.{fault_code, memory_fault}
 use Rattle.pb_world.specs.Events.{WorldOf, Happens, RunsTo, StopsAtEvent}
 use Rattle.pb_world.specs.Sound.{IsSoundWorld}
 use Rattle.pb_world.specs.Headline.{IsOpened}
@@ -43,8 +43,8 @@ RunsHaveOneOutcome = (w : WorldOf) (es : List Event) (ns : List Note) (v : World
 abbrev pub FaultsHaveOnePlace : Type 0
 FaultsHaveOnePlace =
     (w : WorldOf) (es : List Event) (at code : ℕ) (v : WorldOf) (by number : ℕ) (u : WorldOf) → IsSoundWorld w → StopsAtEvent w es at code v → StopsAtEvent w es by number u
-    → code ≢ fault_code EventFault.NoMemory → number ≢ fault_code EventFault.NoMemory → AreOneFault at code v by number u
+    → code ≢ fault_code memory_fault → number ≢ fault_code memory_fault → AreOneFault at code v by number u
 
 -- events that happen to the last stop for memory alone
 abbrev pub WholeRunsHaveNoFault : Type 0
-WholeRunsHaveNoFault = (w : WorldOf) (es : List Event) (ns : List Note) (v : WorldOf) (at code : ℕ) (u : WorldOf) → IsSoundWorld w → RunsTo w es ns v → StopsAtEvent w es at code u → code ≡ fault_code EventFault.NoMemory
+WholeRunsHaveNoFault = (w : WorldOf) (es : List Event) (ns : List Note) (v : WorldOf) (at code : ℕ) (u : WorldOf) → IsSoundWorld w → RunsTo w es ns v → StopsAtEvent w es at code u → code ≡ fault_code memory_fault

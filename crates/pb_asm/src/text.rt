@@ -87,7 +87,7 @@ fn lines_in(alloc: Global, profile: Profile, text: &str) -> Result<Lines, AsmFau
         let (line, after) = first_line(lines);
         match read.add(profile, line) {
             Ok(()) => {}
-            Err(LineFault::NoMemory) => return Err(AsmFault::no_memory()),
+            Err(LineFault::NoMemory(e)) => return Err(AsmFault::NoMemory(e)),
             Err(LineFault::Code(code)) => return Err(AsmFault::at(index, code.code())),
         }
         index += 1;
@@ -120,11 +120,11 @@ pub fn assemble_in(alloc: Global, profile: Profile, text: &str) -> Result<Progra
     let lines = lines_in(alloc, profile, text)?;
     if lines.insns.is_empty() {
         let code = AsmCode::Nothing.code();
-        return Err(AsmFault { line: 0, code });
+        return Err(AsmFault::At { line: 0, code });
     }
     match Program::new(alloc, profile, lines.insns) {
         Ok(program) => Ok(program),
-        Err(NoProgram::NoMemory) => Err(AsmFault::no_memory()),
+        Err(NoProgram::NoMemory(e)) => Err(AsmFault::NoMemory(e)),
         // There is an instruction, and each line was tested, so that they take some slots and no more than the profile
         // has.
         Err(NoProgram::NotInRange(_)) => unreachable!(),

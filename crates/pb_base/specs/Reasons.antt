@@ -4,9 +4,12 @@ use Rattle.std.specs.Prelude.{◌≡◌, ℕ, Option, Some, None}
 use Rattle.pb_base.specs.declared.refusal.Reason.{Reason}
 use Rattle.pb_base.specs.declared.refusal.Refusal.{Refusal}
 
--- 1 to 5 are of tables and tablets, 40 to 49 of steps; 48 is a run's whose seats differ, and no step's
+-- the number of want of memory, which is no reason's: it is told of a refused growth alone
+abbrev pub memory_code : ℕ
+memory_code = 1
+
+-- 2 to 5 are of tables and tablets, 40 to 49 of steps; 48 is a run's whose seats differ, and no step's
 abbrev pub reason_code : Reason → ℕ
-reason_code Reason.NoMemory = 1
 reason_code Reason.NoTablet = 2
 reason_code Reason.RowsDontRise = 3
 reason_code Reason.NotEmpty = 4
@@ -24,6 +27,10 @@ reason_code Reason.LaterThanStart = 49
 -- what a caller gets for this reason
 abbrev pub refusal_by : Reason → Refusal
 refusal_by r = record { 0 = reason_code r }
+
+-- what a caller gets for a refused growth
+abbrev pub memory_refusal : Refusal
+memory_refusal = record { 0 = memory_code }
 
 -- this refusal tells that reason, which there is
 abbrev pub TellsReason : Option Reason → Refusal → Type 0

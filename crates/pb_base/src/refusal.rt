@@ -1,36 +1,53 @@
 //! Refusals: a reason inside, and a number at the public edge.
 ghost use Rattle.std.specs.Prelude.{◌≡◌};
-ghost use Rattle.pb_base.specs.Reasons.{reason_code, refusal_by};
+ghost use Rattle.pb_base.specs.Reasons.{reason_code, refusal_by, memory_refusal};
+ghost use Rattle.pb_base.specs.Growths.{refused_growth};
 
 use std::alloc::{AllocError, AllocFailed};
 use std::fmt;
 use thiserror::Error;
 
-/// A growth was refused: refusal 1.
-#[derive(Clone, Copy, Debug, PartialEq, Eq, Drop, Error)]
+/// A growth was refused: refusal 1. Its field is private, and it is made of the standard library's errors alone, so that
+/// code without a refused growth can't answer that memory is wanted. It is neither copied nor cloned: one refused growth is
+/// reported once.
+#[derive(Debug, PartialEq, Eq, Drop, Error)]
 #[error("no memory")]
-pub struct NoMemory;
+pub struct NoMemory {
+    refused: (),
+}
 
 // A refused growth has nothing else to tell, so that `?` makes it this refusal. There are two, since a call that was
 // given a value, as `push`, hands it back with its error.
 impl From<AllocError> for NoMemory {
+    ghost from_gives = { λ _ e. e ≡ refused_growth };
+
     fn from(_e: AllocError) -> NoMemory {
-        NoMemory
+        NoMemory { refused: () }
     }
 }
 
 impl<T: Drop> From<AllocFailed<T>> for NoMemory {
+    ghost from_gives = { λ _ e. e ≡ refused_growth };
+
     fn from(_e: AllocFailed<T>) -> NoMemory {
-        NoMemory
+        NoMemory { refused: () }
     }
 }
 
-/// Why a call of the table, or of its tablets, is refused. Definitions name the reason, since a number says nothing to
-/// who reads them; callers get the number.
+impl NoMemory {
+    /// The value that a call was given and handed back with its error, and the refused growth.
+    pub fn with_value<T>(failed: AllocFailed<T>) -> (T, NoMemory)
+        ensures { result ≡ (failed.value, refused_growth) }
+    {
+        let AllocFailed { value } = failed;
+        (value, NoMemory { refused: () })
+    }
+}
+
+/// Why a call of the table, or of its tablets, is refused, but for want of memory, which has no reason beside the refused
+/// growth. Definitions name the reason, since a number says nothing to those who read them; callers get the number.
 #[derive(Clone, Copy, Debug, PartialEq, Eq, Drop)]
 pub enum Reason {
-    /// A growth was refused.
-    NoMemory,
     /// There is no tablet.
     NoTablet,
     /// The first rows of the tablets don't rise from 0.
@@ -66,7 +83,6 @@ impl Reason {
         ensures { result ≡ reason_code self }
     {
         match self {
-            Reason::NoMemory => 1,
             Reason::NoTablet => 2,
             Reason::RowsDontRise => 3,
             Reason::NotEmpty => 4,
@@ -91,10 +107,40 @@ impl Reason {
     }
 }
 
-/// The number of a refusal.
-#[derive(Clone, Copy, Debug, PartialEq, Eq, Drop, Error)]
+/// The number of a refusal. It is private, so that 1 is made of a refused growth alone.
+#[derive(Debug, PartialEq, Eq, Drop, Error)]
 #[error("refused with {0}")]
-pub struct Refusal(pub u8);
+pub struct Refusal(u8);
+
+impl From<NoMemory> for Refusal {
+    ghost from_gives = { λ _ r. r ≡ memory_refusal };
+
+    fn from(_e: NoMemory) -> Refusal {
+        Refusal(1)
+    }
+}
+
+impl Refusal {
+    ghost use Rattle.std.specs.Prelude.{◌==◌, if◌then◌else◌, Ok, Err};
+
+    /// The number.
+    pub fn code(&self) -> u8
+        ensures { result ≡ self.now.0 }
+    {
+        self.0
+    }
+
+    /// The refused growth that it was made of, or the number of another refusal.
+    pub fn memory(self) -> Result<NoMemory, u8>
+        ensures { result ≡ (if self.0 == 1 then Ok refused_growth else Err self.0) }
+    {
+        if self.0 == 1 {
+            Ok(NoMemory { refused: () })
+        } else {
+            Err(self.0)
+        }
+    }
+}
 
 /// The slot at which a program is refused, and the code.
 #[derive(Clone, Copy, Debug, PartialEq, Eq, Drop)]

@@ -4,7 +4,7 @@ use Rattle.std.proofs.lemmas.List.Elements.{All-head, All-tail}
 use Rattle.pb_command.specs.declared.paths.PathFault.{PathFault}
 use Rattle.pb_command.specs.declared.fault.Fault.{Fault}
 use Rattle.pb_command.specs.Files.{Text, Held}
-use Rattle.pb_command.specs.PathFaults.{AreRead, IsFirstUnread, IsFirstNoText}
+use Rattle.pb_command.specs.PathFaults.{memory_fault, AreRead, IsFirstUnread, IsFirstNoText}
 use Rattle.pb_command.specs.FirstFaults.{IsKnownRead, IsKnownText, TellsUnread, TellsNoText, FirstUnreadIsTold, FirstNoTextIsTold, TextsAreNoFault}
 use Rattle.pb_command.proofs.KnownFiles.{own_fault, not_read, only_memory, own_text, text_is_text, not_text}
 
@@ -26,12 +26,12 @@ first_unread_is_told before front back path fault f all e (inl unread) = first_u
 first_unread_is_told before front back path fault f all e (inr read) = absurd (not_all_read before front back path fault e read.0)
 
 -- paths that are known to be read fail for memory alone
-read_memory : (before : Held) (paths : List Text) (f : Fault) → All (IsKnownRead before) paths → IsFirstUnread before paths f → f ≡ Fault.NoMemory
+read_memory : (before : Held) (paths : List Text) (f : Fault) → All (IsKnownRead before) paths → IsFirstUnread before paths f → f ≡ memory_fault
 read_memory before [] f all u = absurd u
 read_memory before (q ∷ paths) f all (inl u) = let k = All-head (IsKnownRead before) q paths all in only_memory (before q) k.0 q f k.1 u
 read_memory before (q ∷ paths) f all (inr more) = read_memory before paths f (All-tail (IsKnownRead before) q paths all) more.1
 
-memory_among : (before : Held) (front back : List Text) (path : Text) (bytes : List ℕ) (f : Fault) → All (IsKnownText before) front → before path ≡ Some (Ok bytes) → All (IsKnownRead before) back → IsFirstUnread before (front ++ (path ∷ back)) f → f ≡ Fault.NoMemory
+memory_among : (before : Held) (front back : List Text) (path : Text) (bytes : List ℕ) (f : Fault) → All (IsKnownText before) front → before path ≡ Some (Ok bytes) → All (IsKnownRead before) back → IsFirstUnread before (front ++ (path ∷ back)) f → f ≡ memory_fault
 memory_among before [] back path bytes f all e rest (inl u) = only_memory (before path) bytes path f e u
 memory_among before [] back path bytes f all e rest (inr more) = read_memory before back f rest more.1
 memory_among before (q ∷ front) back path bytes f all e rest (inl u) = let k = All-head (IsKnownText before) q front all in only_memory (before q) k.0 q f k.1 u
@@ -51,7 +51,7 @@ first_no_text_is_told before front back path bytes f all e bad rest (inl unread)
     subst (λ (g : Fault). TellsNoText path g) (sym (memory_among before front back path bytes f all e rest unread)) tt
 first_no_text_is_told before front back path bytes f all e bad rest (inr read) = first_no_text before front back path bytes f all e bad read.1
 
-text_memory : (before : Held) (paths : List Text) (f : Fault) → All (IsKnownText before) paths → IsFirstUnread before paths f → f ≡ Fault.NoMemory
+text_memory : (before : Held) (paths : List Text) (f : Fault) → All (IsKnownText before) paths → IsFirstUnread before paths f → f ≡ memory_fault
 text_memory before [] f all u = absurd u
 text_memory before (q ∷ paths) f all (inl u) = let k = All-head (IsKnownText before) q paths all in only_memory (before q) k.0 q f k.1 u
 text_memory before (q ∷ paths) f all (inr more) = text_memory before paths f (All-tail (IsKnownText before) q paths all) more.1

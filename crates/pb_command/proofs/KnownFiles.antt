@@ -3,7 +3,7 @@ use Rattle.std.proofs.Common.{arith, ◌≡◌, subst, ℕ, List, Option, Some, 
 use Rattle.pb_command.specs.declared.paths.PathFault.{PathFault}
 use Rattle.pb_command.specs.declared.fault.Fault.{Fault}
 use Rattle.pb_command.specs.Files.{Text, ReadAnswer, IsKnownAs}
-use Rattle.pb_command.specs.PathFaults.{IsUnreadAt, IsRead, IsText, IsNoText}
+use Rattle.pb_command.specs.PathFaults.{memory_fault, IsUnreadAt, IsRead, IsText, IsNoText}
 use Rattle.pb_command.specs.FirstFaults.{TellsUnread, TellsNoText}
 
 -- where it is known what a reading answers, it answers that
@@ -19,7 +19,7 @@ pub not_read : (known : Option ReadAnswer) (fault : PathFault) → known ≡ Som
 not_read known fault e r = let k : Ok r.bytes ≡ Err fault = known_as known (Err fault) (Ok r.bytes) e r.bytes_held in cc
 
 -- a path that is known to be read fails for memory alone
-pub only_memory : (known : Option ReadAnswer) (bytes : List ℕ) (path : Text) (f : Fault) → known ≡ Some (Ok bytes) → IsUnreadAt known path f → f ≡ Fault.NoMemory
+pub only_memory : (known : Option ReadAnswer) (bytes : List ℕ) (path : Text) (f : Fault) → known ≡ Some (Ok bytes) → IsUnreadAt known path f → f ≡ memory_fault
 only_memory known bytes path f e u = grind arith
 
 -- what is read of it are its bytes

@@ -23,31 +23,31 @@ use Rattle.pb_command.specs.Programs.{AsmLeaves, AnswerLeaves, TellsProgram, Che
 abbrev pub IsAllDone : Ran → Type 0
 IsAllDone ran = All (λ r. r ≡ None) ran.refusals.items × (ran.unfinished.items ≡ [])
 
--- so many workers ran texts that the two paths hold so, beside the swaps of these spares, from the clock 0
-pub record RanFrom (before : Held) (manifest script : Text) (workers : ℕ) (spares : List Spare) (out : Taking) (result : Result Ran RunFault) : Type 0 where
+-- on a table of so many tablets so many workers ran texts that the two paths hold so, beside the swaps of these spares, from the clock 0
+pub record RanFrom (places : ℕ) (before : Held) (manifest script : Text) (workers : ℕ) (spares : List Spare) (out : Taking) (result : Result Ran RunFault) : Type 0 where
   pub manifest_text : List ℕ
   pub script_text : List ℕ
   pub manifest_held : IsKnownAs (before manifest) (Ok manifest_text)
   pub script_held : IsKnownAs (before script) (Ok script_text)
-  pub ran : RunsTexts manifest_text script_text workers 0 spares out result
+  pub ran : RunsTexts places manifest_text script_text workers 0 spares out result
 
 -- the texts ran, and nothing was left undone
-pub record RanWhole (before : Held) (manifest script : Text) (workers : ℕ) (spares : List Spare) (out : Taking) : Type 0 where
+pub record RanWhole (places : ℕ) (before : Held) (manifest script : Text) (workers : ℕ) (spares : List Spare) (out : Taking) : Type 0 where
   pub left : Ran
   pub all_done : IsAllDone left
-  pub ran : RanFrom before manifest script workers spares out (Ok left)
+  pub ran : RanFrom places before manifest script workers spares out (Ok left)
 
 -- The texts ran, and this was left undone; or they ran to this fault; or there was none to run, and nothing was written.
-abbrev pub RunFails : Held → Text → Text → ℕ → List Spare → Taking → Fault → Type 0
-RunFails before manifest script workers spares out (Fault.Undone left) = RanFrom before manifest script workers spares out (Ok left) × (IsAllDone left → ⊥)
-RunFails before manifest script workers spares out (Fault.Run f) = RanFrom before manifest script workers spares out (Err f)
-RunFails before manifest script workers spares out f = TookNothing out × IsFileFault before (manifest ∷ script ∷ []) f
+abbrev pub RunFails : ℕ → Held → Text → Text → ℕ → List Spare → Taking → Fault → Type 0
+RunFails places before manifest script workers spares out (Fault.Undone left) = RanFrom places before manifest script workers spares out (Ok left) × (IsAllDone left → ⊥)
+RunFails places before manifest script workers spares out (Fault.Run f) = RanFrom places before manifest script workers spares out (Err f)
+RunFails places before manifest script workers spares out f = TookNothing out × IsFileFault before (manifest ∷ script ∷ []) f
 
 -- what `run` leaves: the whole report where all is done, or a fault; it refuses nothing that it is given
-abbrev pub RunLeaves : Held → Text → Text → ℕ → List Spare → Taking → Result Verdict Fault → Type 0
-RunLeaves before manifest script workers spares out (Ok Verdict.Accepted) = RanWhole before manifest script workers spares out
-RunLeaves before manifest script workers spares out (Ok Verdict.Refused) = ⊥
-RunLeaves before manifest script workers spares out (Err f) = RunFails before manifest script workers spares out f
+abbrev pub RunLeaves : ℕ → Held → Text → Text → ℕ → List Spare → Taking → Result Verdict Fault → Type 0
+RunLeaves places before manifest script workers spares out (Ok Verdict.Accepted) = RanWhole places before manifest script workers spares out
+RunLeaves places before manifest script workers spares out (Ok Verdict.Refused) = ⊥
+RunLeaves places before manifest script workers spares out (Err f) = RunFails places before manifest script workers spares out f
 
 -- ---- `replay`
 
@@ -84,16 +84,16 @@ abbrev pub IsSequential : Options → Type 0
 IsSequential (Options.Run manifest script workers swaps) = ⊥
 IsSequential other = Unit {0}
 
--- What is left where a command ended so, with these spares for `run`: only `asm` writes to a path, and it writes no output.
-abbrev pub LeavesBehind : Options → List Spare → Filing → Taking → Result Verdict Fault → Type 0
-LeavesBehind (Options.Run manifest script workers swaps) spares files out outcome =
-    KeepsFiles files × RunLeaves files.before manifest.now script.now workers spares out outcome
-LeavesBehind (Options.Replay replay) spares files out outcome = KeepsFiles files × ReplayLeaves ReplaysTexts files.before replay out outcome
-LeavesBehind (Options.Asm input output profile) spares files out outcome =
+-- What is left where a command ended so, with a table of so many tablets, and these spares for `run`: only `asm` writes to a path, and it writes no output.
+abbrev pub LeavesBehind : Options → ℕ → List Spare → Filing → Taking → Result Verdict Fault → Type 0
+LeavesBehind (Options.Run manifest script workers swaps) places spares files out outcome =
+    KeepsFiles files × RunLeaves places files.before manifest.now script.now workers spares out outcome
+LeavesBehind (Options.Replay replay) places spares files out outcome = KeepsFiles files × ReplayLeaves (ReplaysTexts places) files.before replay out outcome
+LeavesBehind (Options.Asm input output profile) places spares files out outcome =
     TookNothing out × AsmLeaves profile files input.now output.now outcome
-LeavesBehind (Options.Dis file profile) spares files out outcome =
+LeavesBehind (Options.Dis file profile) places spares files out outcome =
     KeepsFiles files × AnswerLeaves (TellsProgram listing profile) (files.before file.now) file.now out outcome
-LeavesBehind (Options.Check program) spares files out outcome =
+LeavesBehind (Options.Check program) places spares files out outcome =
     KeepsFiles files × AnswerLeaves (Checks program.profile program.version) (files.before program.file.now) program.file.now out outcome
 
 -- an outcome as a status, with what was told
@@ -103,7 +103,7 @@ IsToldAs (Ok Verdict.Refused) err status = (status ≡ 1) × TookNothing err
 IsToldAs (Err f) err status = (status ≡ 1) × Tells f err
 
 -- how a command ended, as its status and the lines of its fault tell it
-pub record Commands (options : Options) (spares : List Spare) (files : Filing) (out err : Taking) (status : ℕ) : Type 0 where
+pub record Commands (options : Options) (places : ℕ) (spares : List Spare) (files : Filing) (out err : Taking) (status : ℕ) : Type 0 where
   pub outcome : Result Verdict Fault
-  pub leaves : LeavesBehind options spares files out outcome
+  pub leaves : LeavesBehind options places spares files out outcome
   pub tells : IsToldAs outcome err status

@@ -1,6 +1,7 @@
 -- What reading the paths of files answers, where that is known. Of a system's file it isn't, as another program may
 -- change it between two readings; of files in memory it is. All contracts of commands speak of this.
 use Rattle.std.specs.Prelude.{◌≡◌, ◌≢◌, ◌⊎◌, ℕ, Bool, List, Option, Some, None, Result, Err}
+use Rattle.pb_base.specs.Growths.{refused_growth}
 use Rattle.pb_command.specs.declared.paths.PathFault.{PathFault}
 
 -- the bytes of a path, as of any text
@@ -22,7 +23,7 @@ IsKnownAs (Some known) answer = answer ≡ known
 
 -- this is why a path isn't read: memory may be refused at any time, and else it is what is known
 abbrev pub IsFaultKnownAs : Option ReadAnswer → PathFault → Type 0
-IsFaultKnownAs known fault = (fault ≡ PathFault.NoMemory) ⊎ IsKnownAs known (Err fault)
+IsFaultKnownAs known fault = (fault ≡ PathFault.NoMemory refused_growth) ⊎ IsKnownAs known (Err fault)
 
 -- reading each other path answers what it answered
 abbrev pub KeepsOthers : Held → Held → Text → Type 0

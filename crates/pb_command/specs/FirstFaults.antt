@@ -4,7 +4,7 @@ use Rattle.std.specs.Prelude.{◌≡◌, ℕ, List, ◌∷◌, ◌++◌, Some, O
 use Rattle.pb_command.specs.declared.paths.PathFault.{PathFault}
 use Rattle.pb_command.specs.declared.fault.Fault.{Fault}
 use Rattle.pb_command.specs.Files.{Text, Held}
-use Rattle.pb_command.specs.PathFaults.{IsFileFault}
+use Rattle.pb_command.specs.PathFaults.{memory_fault, IsFileFault}
 
 -- the path is known to be read
 abbrev pub IsKnownRead : Held → Text → Type 0
@@ -18,13 +18,13 @@ IsKnownText before path = (bytes : List ℕ) × (before path ≡ Some (Ok bytes)
 abbrev pub TellsUnread : Text → PathFault → Fault → Type 0
 TellsUnread path fault (Fault.Unreadable p) = (p.now ≡ path) × (fault ≡ PathFault.Failed)
 TellsUnread path fault (Fault.TooLarge p) = (p.now ≡ path) × (fault ≡ PathFault.TooLarge)
-TellsUnread path fault Fault.NoMemory = Unit {0}
+TellsUnread path fault (Fault.NoMemory refused) = Unit {0}
 TellsUnread path fault _ = ⊥
 
 -- this tells that the path is no text, or that memory was refused
 abbrev pub TellsNoText : Text → Fault → Type 0
 TellsNoText path (Fault.NotText p) = p.now ≡ path
-TellsNoText path Fault.NoMemory = Unit {0}
+TellsNoText path (Fault.NoMemory refused) = Unit {0}
 TellsNoText path _ = ⊥
 
 -- a path behind those that are read, with its own fault, whatever comes after it
@@ -42,4 +42,4 @@ FirstNoTextIsTold = (before : Held) (front back : List Text) (path : Text) (byte
 -- paths that are all text have no fault of their own
 abbrev pub TextsAreNoFault : Type 0
 TextsAreNoFault = (before : Held) (paths : List Text) (f : Fault) →
-    All (IsKnownText before) paths → IsFileFault before paths f → f ≡ Fault.NoMemory
+    All (IsKnownText before) paths → IsFileFault before paths f → f ≡ memory_fault

@@ -1,9 +1,14 @@
 -- What is told of the first file that can't be read, or isn't text. Every file is read before any is taken as text, so
 -- there are two ways to be first. Each command cites it for its own files.
 use Rattle.std.specs.Prelude.{◌≡◌, ◌⊎◌, ℕ, List, [], ◌∷◌, Option, Ok, Err, IsUtf8}
+use Rattle.pb_base.specs.Growths.{refused_growth}
 use Rattle.pb_command.specs.declared.paths.PathFault.{PathFault}
 use Rattle.pb_command.specs.declared.fault.Fault.{Fault}
 use Rattle.pb_command.specs.Files.{Text, ReadAnswer, Held, IsKnownAs}
+
+-- the fault of a command for which a growth was refused
+abbrev pub memory_fault : Fault
+memory_fault = Fault.NoMemory refused_growth
 
 -- ---- a file
 
@@ -11,7 +16,7 @@ use Rattle.pb_command.specs.Files.{Text, ReadAnswer, Held, IsKnownAs}
 abbrev pub IsUnreadAt : Option ReadAnswer → Text → Fault → Type 0
 IsUnreadAt known path (Fault.Unreadable p) = (p.now ≡ path) × IsKnownAs known (Err PathFault.Failed)
 IsUnreadAt known path (Fault.TooLarge p) = (p.now ≡ path) × IsKnownAs known (Err PathFault.TooLarge)
-IsUnreadAt known path Fault.NoMemory = Unit {0}
+IsUnreadAt known path (Fault.NoMemory refused) = Unit {0}
 IsUnreadAt known path _ = ⊥
 
 -- the bytes of the file at the path aren't text

@@ -3,17 +3,19 @@
 use Rattle.std.specs.Prelude.{◌≡◌, ◌⊎◌, ℕ, Some, Ok, Err, IsUtf8}
 use Rattle.pb_isa.specs.declared.profile.Profile.{Profile}
 use Rattle.pb_helpers.specs.declared.change.Version.{Version}
+use Rattle.pb_reading.specs.declared.fault.TextFault.{TextFault}
 use Rattle.pb_asm.specs.Texts.{program_of_text}
 use Rattle.pb_asm.specs.Listing.{listing}
 use Rattle.pb_base.specs.Taking.{Taking}
 use Rattle.pb_command.specs.declared.fault.Fault.{Fault}
 use Rattle.pb_command.specs.Files.{Text, Filing}
+use Rattle.pb_command.specs.PathFaults.{memory_fault}
 use Rattle.pb_command.specs.Programs.{AsmFails, AnswerFails, TellsProgram, Checks}
 
 -- this tells the place of a text's fault, or that memory was refused
 abbrev pub TellsPlace : ℕ → ℕ → Fault → Type 0
-TellsPlace line code (Fault.Text f) = (f.line ≡ line) × (f.code ≡ code)
-TellsPlace line code Fault.NoMemory = Unit {0}
+TellsPlace line code (Fault.Text f) = f ≡ TextFault.At line code
+TellsPlace line code (Fault.NoMemory refused) = Unit {0}
 TellsPlace line code _ = ⊥
 
 -- of text that is known and is no program's, it is told where it is at fault
@@ -27,4 +29,4 @@ abbrev pub KnownBytesAreAnswered : Type 0
 KnownBytesAreAnswered = (profile : Profile) (version : Version) (bytes path : Text) (out : Taking) (f : Fault) →
     AnswerFails (TellsProgram listing profile) (Some (Ok bytes)) path out f ⊎
     AnswerFails (Checks profile version) (Some (Ok bytes)) path out f →
-    (f ≡ Fault.Output) ⊎ (f ≡ Fault.NoMemory)
+    (f ≡ Fault.Output) ⊎ (f ≡ memory_fault)

@@ -12,12 +12,13 @@ use Rattle.pb_decode.specs.Encoding.{Encodes}
 use Rattle.pb_decode.specs.Faults.{AreRefusedAs}
 use Rattle.pb_reading.specs.declared.fault.TextFault.{TextFault}
 use Rattle.pb_asm.specs.Texts.{program_of_text}
+use Rattle.pb_driver.specs.Texts.{IsFaultOf}
 use Rattle.pb_base.specs.Refusals.{slot_and_code}
 use Rattle.pb_base.specs.Taking.{Taking, TookAll, TookPart, TookNothing}
 use Rattle.pb_command.specs.declared.answer.Verdict.{Verdict}
 use Rattle.pb_command.specs.declared.fault.Fault.{Fault}
 use Rattle.pb_command.specs.Files.{Text, ReadAnswer, Filing, IsKnownAs, KeepsOthers, KeepsFiles}
-use Rattle.pb_command.specs.PathFaults.{IsUnreadAt, IsNoText}
+use Rattle.pb_command.specs.PathFaults.{memory_fault, IsUnreadAt, IsNoText}
 
 -- ---- assembling
 
@@ -44,21 +45,21 @@ pub record Unwritten (profile : Profile) (files : Filing) (input output : Text) 
   pub failed : files.failed ≡ true
 
 -- the text that the path holds is no program's, and this is its first fault
-pub record IsFaultyText (profile : Profile) (held : Option ReadAnswer) (line code : ℕ) : Type 0 where
+pub record IsFaultyText (profile : Profile) (held : Option ReadAnswer) (f : TextFault) : Type 0 where
   pub text : List ℕ
   pub text_held : IsKnownAs held (Ok text)
-  pub fault : program_of_text profile text ≡ Err (line, code)
+  pub fault : IsFaultOf (program_of_text profile text) f
 
 -- the file at the path isn't read, or is no program's text, and this tells it
 abbrev pub IsNoProgramText : Profile → Option ReadAnswer → Text → Fault → Type 0
-IsNoProgramText profile held path (Fault.Text f) = IsFaultyText profile held f.line f.code
+IsNoProgramText profile held path (Fault.Text f) = IsFaultyText profile held f
 IsNoProgramText profile held path (Fault.NotText p) = IsNoText held path (Fault.NotText p)
 IsNoProgramText profile held path f = IsUnreadAt held path f
 
 -- Why nothing was assembled, and whether a write to a path has failed: only where one did is it told of the output.
 abbrev pub AsmFails : Profile → Filing → Text → Text → Fault → Type 0
 AsmFails profile files input output (Fault.Unwritable p) = (p.now ≡ output) × Unwritten profile files input output
-AsmFails profile files input output Fault.NoMemory = KeepsFiles files ⊎ Unwritten profile files input output
+AsmFails profile files input output (Fault.NoMemory refused) = KeepsFiles files ⊎ Unwritten profile files input output
 AsmFails profile files input output f = KeepsFiles files × IsNoProgramText profile (files.before input) input f
 
 -- what `asm` leaves: OUT with the bytes, or a fault; a text is refused as a fault and no answer
@@ -120,10 +121,9 @@ AnswerLeaves judges held path out (Err f) = AnswerFails judges held path out f
 
 -- the fault is one of a text that was read
 abbrev pub IsTextFault : TextFault → Fault → Type 0
-IsTextFault f (Fault.Text g) = (g ≡ f) × (f.code ≢ 1)
-IsTextFault f Fault.NoMemory = Unit {0}
-IsTextFault f _ = ⊥
+IsTextFault (TextFault.NoMemory refused) f = f ≡ memory_fault
+IsTextFault (TextFault.At line code) f = f ≡ Fault.Text (TextFault.At line code)
 
 -- memory was refused
 abbrev pub IsMemoryFault : Fault → Type 0
-IsMemoryFault f = f ≡ Fault.NoMemory
+IsMemoryFault f = f ≡ memory_fault

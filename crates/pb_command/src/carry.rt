@@ -1,5 +1,5 @@
 //! A command carried out: its files read, its work done, and its outcome told as a status.
-ghost use Rattle.std.specs.Prelude.{◌≡◌, ◌≤◌, ◌<◌, ◌↔◌, false, vec_len, IsTrue};
+ghost use Rattle.std.specs.Prelude.{◌≡◌, ◌≤◌, ◌<◌, ◌↔◌, false, length, vec_len, IsTrue};
 ghost use Rattle.pb_base.specs.declared.limits.TheConstants.{MAX_SEATS};
 ghost use Rattle.pb_store.specs.Contents.{nothing};
 ghost use Rattle.pb_texts.specs.CommandLines.{IsInRange, swaps_asked};
@@ -46,7 +46,7 @@ fn run_files<'a, R: Threads + Wait + Sync, T: Tablet + Send, P: Paths, O: Sink>(
     requires few { workers < MAX_SEATS }
     requires empty { table.contents ≡ nothing }
     requires unfailed { O.failed out.old ≡ false }
-    ensures ran { RunLeaves (P.held paths.old) manifest.now script.now workers
+    ensures ran { RunLeaves (length table.firsts) (P.held paths.old) manifest.now script.now workers
         (spares_of T.contents spares.items)
         (taking O.taken O.failed out.old out.new) result }
     ensures same { P.held paths.new ≡ P.held paths.old }
@@ -89,7 +89,7 @@ fn replay_files<'a, T: Tablet, P: Paths, O: Sink>(
 ) -> Result<Verdict, Fault<'a>>
     requires empty { table.contents ≡ nothing }
     requires unfailed { O.failed out.old ≡ false }
-    ensures ran { ReplayLeaves ReplaysTexts (P.held paths.old) files.now
+    ensures ran { ReplayLeaves (ReplaysTexts (length table.firsts)) (P.held paths.old) files.now
         (taking O.taken O.failed out.old out.new) result }
     ensures same { P.held paths.new ≡ P.held paths.old }
     ensures quiet { P.failed paths.new ≡ P.failed paths.old }
@@ -148,7 +148,7 @@ pub fn sequential_command<T: Tablet, P: Paths, O: Sink, E: Sink>(
     requires empty { table.contents ≡ nothing }
     requires out_unfailed { O.failed out.old ≡ false }
     requires err_unfailed { E.failed err.old ≡ false }
-    ensures { Commands options.now (spares_of T.contents spares.items)
+    ensures { Commands options.now (length table.firsts) (spares_of T.contents spares.items)
         (filing P.held P.failed paths.old paths.new) (taking O.taken O.failed out.old out.new)
         (taking E.taken E.failed err.old err.new) result }
 {
@@ -201,7 +201,7 @@ pub fn command<R: Threads + Wait + Sync, T: Tablet + Send, P: Paths, O: Sink, E:
     requires empty { table.contents ≡ nothing }
     requires out_unfailed { O.failed out.old ≡ false }
     requires err_unfailed { E.failed err.old ≡ false }
-    ensures { Commands options.now (spares_of T.contents spares.items)
+    ensures { Commands options.now (length table.firsts) (spares_of T.contents spares.items)
         (filing P.held P.failed paths.old paths.new) (taking O.taken O.failed out.old out.new)
         (taking E.taken E.failed err.old err.new) result }
 {

@@ -1,7 +1,8 @@
 //! Why a command failed, and the lines that tell it, each made whole before it is written.
-ghost use Rattle.std.specs.Prelude.{◌≡◌, ◌+◌, false, IfOk, string_bytes};
+ghost use Rattle.std.specs.Prelude.{◌≡◌, ◌+◌, false, IfOk, codes, string_bytes};
 ghost use Rattle.pb_base.specs.Taking.{taking};
-ghost use Rattle.pb_command.specs.FaultLines.{worker_line, worker_lines, change_line, change_lines, undone_lines, fault_lines, Tells};
+ghost use Rattle.pb_command.specs.FaultLines.{worker_line, worker_lines, change_line, change_lines, undone_lines, fault_lines, SaysLines, Tells};
+ghost use Rattle.pb_command.specs.PathFaults.{memory_fault};
 ghost use Rattle.pb_command.specs.declared.fault.Fault.TheVariants as faults;
 
 use pb_asm::AsmFault;
@@ -21,22 +22,22 @@ pub enum Fault<'a> {
     /// The report of a run was written, but a worker was refused or a change is unfinished.
     Undone(Ran),
     Output,
-    NoMemory,
+    NoMemory(NoMemory),
 }
 
 impl<'a> From<NoMemory> for Fault<'a> {
-    ghost from_gives = { λ _ e. e ≡ faults.NoMemory };
+    ghost from_gives = { λ e f. f ≡ faults.NoMemory e };
 
-    fn from(_e: NoMemory) -> Fault<'a> {
-        Fault::NoMemory
+    fn from(e: NoMemory) -> Fault<'a> {
+        Fault::NoMemory(e)
     }
 }
 
 impl<'a> From<AllocError> for Fault<'a> {
-    ghost from_gives = { λ _ e. e ≡ faults.NoMemory };
+    ghost from_gives = { λ _ f. f ≡ memory_fault };
 
-    fn from(_e: AllocError) -> Fault<'a> {
-        Fault::NoMemory
+    fn from(e: AllocError) -> Fault<'a> {
+        Fault::NoMemory(NoMemory::from(e))
     }
 }
 
@@ -54,7 +55,7 @@ fn worker_line(alloc: Global, seat: usize, refusal: &Option<Refusal>) -> Result<
 {
     match refusal {
         Some(refusal) => {
-            let Refusal(code) = *refusal;
+            let code = refusal.code();
             format!(in alloc; "worker {seat} code {code}\n")
         }
         None => Ok(String::new(alloc)),
@@ -117,8 +118,17 @@ fn lines_of(alloc: Global, fault: &Fault) -> Result<String, AllocError>
         Fault::Run(fault) => format!(in alloc; "{fault}\n"),
         Fault::Undone(ran) => undone_lines(alloc, ran),
         Fault::Output => String::from_str(alloc, "cannot write the output\n"),
-        Fault::NoMemory => String::from_str(alloc, "no memory\n"),
+        Fault::NoMemory(_) => String::from_str(alloc, "no memory\n"),
     }
+}
+
+// Writes that memory was refused. It takes none itself, and asks for the refused growth, so that it is written of no
+// other fault.
+fn tell_refused_growth<E: Sink>(_refused: NoMemory, err: &mut E)
+    requires unfailed { E.failed err.old ≡ false }
+    ensures { SaysLines (codes "no memory\n") (taking E.taken E.failed err.old err.new) }
+{
+    let _ = err.write_all(b"no memory\n");
 }
 
 /// Tells a fault, or that there is no memory for its lines, which takes none itself. Where even that can't be written,
@@ -127,8 +137,10 @@ pub fn tell<E: Sink>(alloc: Global, fault: &Fault, err: &mut E)
     requires unfailed { E.failed err.old ≡ false }
     ensures { Tells fault.now (taking E.taken E.failed err.old err.new) }
 {
-    let _ = match lines_of(alloc, fault) {
-        Ok(lines) => err.write_all(lines.as_bytes()),
-        Err(_) => err.write_all(b"no memory\n"),
-    };
+    match lines_of(alloc, fault) {
+        Ok(lines) => {
+            let _ = err.write_all(lines.as_bytes());
+        }
+        Err(refused) => tell_refused_growth(NoMemory::from(refused), err),
+    }
 }

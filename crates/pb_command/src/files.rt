@@ -2,6 +2,8 @@
 ghost use Rattle.std.specs.Prelude.{None};
 
 use crate::paths::{PathFault, Paths};
+use pb_base::NoMemory;
+use std::alloc::AllocError;
 use std::fs;
 use std::io::{self, ErrorKind, Read};
 
@@ -33,10 +35,9 @@ impl<'a> Files<'a> {
 
 // Why a file wasn't read or written.
 fn fault_of(error: &io::Error) -> PathFault {
-    if error.kind() == ErrorKind::OutOfMemory {
-        PathFault::NoMemory
-    } else {
-        PathFault::Failed
+    match error.kind() {
+        ErrorKind::OutOfMemory => PathFault::NoMemory(NoMemory::from(AllocError)),
+        _ => PathFault::Failed,
     }
 }
 

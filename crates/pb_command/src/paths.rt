@@ -2,15 +2,17 @@
 ghost use Rattle.std.specs.Prelude.{◌≡◌, true, Bool, IfOk, IfErr, OnOk, OnErr};
 ghost use Rattle.pb_command.specs.Files.{Held, IsKnownAs, IsFaultKnownAs, KeepsOthers};
 
+use pb_base::NoMemory;
+
 /// Why a file isn't read or written.
-#[derive(Clone, Copy, Debug, PartialEq, Eq, Drop)]
+#[derive(Debug, PartialEq, Eq, Drop)]
 pub enum PathFault {
     /// It isn't there or can't be made, or a read or a write failed.
     Failed,
     /// It has more than 16,777,216 bytes. Of a write it says no more than `Failed`.
     TooLarge,
     /// A growth was refused.
-    NoMemory,
+    NoMemory(NoMemory),
 }
 
 /// Reads and writes files by their paths, and tells what reading a path answers, where that is known, and whether a

@@ -15,7 +15,7 @@ use crate::fault::Fault;
 use crate::paths::{PathFault, Paths};
 use crate::reading::{bytes_at, text_of};
 use pb_asm::{AsmFault, assemble_in, disassemble};
-use pb_base::{NoMemory, Reason, Refused, Sink};
+use pb_base::{NoMemory, Refused, Sink};
 use pb_decode::{DecodeFault, decode_in, encode};
 use pb_helpers::{HelperTable, Version};
 use pb_isa::{Profile, Program};
@@ -28,10 +28,9 @@ use std::alloc::Global;
 fn text_fault<'a>(fault: AsmFault) -> Fault<'a>
     ensures { IsTextFault fault result }
 {
-    if fault.code == Reason::NoMemory.code() {
-        Fault::NoMemory
-    } else {
-        Fault::Text(fault)
+    match fault {
+        AsmFault::NoMemory(refused) => Fault::NoMemory(refused),
+        fault => Fault::Text(fault),
     }
 }
 
@@ -69,7 +68,7 @@ pub fn assemble_file<'a, P: Paths>(
     let bytes = bytes_of_text(alloc, profile, input, paths)?;
     match paths.write(output, &bytes) {
         Ok(()) => Ok(Verdict::Accepted),
-        Err(PathFault::NoMemory) => Err(Fault::NoMemory),
+        Err(PathFault::NoMemory(refused)) => Err(Fault::NoMemory(refused)),
         Err(_) => Err(Fault::Unwritable(output)),
     }
 }
@@ -127,7 +126,7 @@ fn told_of<'a, V: ProgramText>(
             })
         }
         Err(DecodeFault::Refused(refused)) => refusal_of(alloc, refused),
-        Err(DecodeFault::NoMemory) => Err(Fault::NoMemory),
+        Err(DecodeFault::NoMemory(refused)) => Err(Fault::NoMemory(refused)),
     }
 }
 
@@ -160,7 +159,7 @@ fn verdict_of<'a>(
     match accept_in(alloc, profile, version, bytes, HelperTable::all()) {
         Ok(accepted) => acceptance_of(alloc, accepted.slots()),
         Err(VerifyFault::Refused(refused)) => refusal_of(alloc, refused),
-        Err(VerifyFault::NoMemory) => Err(Fault::NoMemory),
+        Err(VerifyFault::NoMemory(refused)) => Err(Fault::NoMemory(refused)),
     }
 }
 

@@ -19,7 +19,7 @@ pub fn bytes_at<'a, P: Paths>(paths: &mut P, path: &'a str) -> Result<Vec<u8>, F
         Ok(bytes) => Ok(bytes),
         Err(PathFault::Failed) => Err(Fault::Unreadable(path)),
         Err(PathFault::TooLarge) => Err(Fault::TooLarge(path)),
-        Err(PathFault::NoMemory) => Err(Fault::NoMemory),
+        Err(PathFault::NoMemory(refused)) => Err(Fault::NoMemory(refused)),
     }
 }
 

@@ -17,6 +17,8 @@ pub record SharedOf : Type 0 where
   pub state : StateOf
   pub opened : ℕ
   pub limit : ℕ
+  -- how many tablets the table has
+  pub places : ℕ
 
 -- a seat, as its owner sees it
 pub record SeatOf : Type 0 where
@@ -38,6 +40,7 @@ pub record Calls (old : SharedOf) (seat : SeatOf) (step : Step) (answer : Answer
   pub journal : new.journal ≡ old.journal ++ record { seat = seat.number; step = step; answer = answer } ∷ []
   pub opened : new.opened ≡ old.opened
   pub limit : new.limit ≡ old.limit
+  pub places : new.places ≡ old.places
   pub seats : new.state.seats ≡ old.state.seats
   pub observers : new.state.observers ≡ old.state.observers
   pub number : told.number ≡ seat.number

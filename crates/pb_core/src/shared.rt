@@ -22,6 +22,8 @@ pub struct Shared<T: Tablet> {
     books: Vec<Book>,
     opened: u64,
     limit: usize,
+    // How many tablets the table has.
+    places: usize,
     // Room for the next answer of the journal, and of a seat, made before the step, so that no answer is lost.
     journal_room: AnswerRoom,
     seat_room: AnswerRoom,
@@ -37,17 +39,17 @@ impl<T: Tablet> Model for Shared<T> {
 
     ghost use Rattle.pb_core.specs.Keeping.{SharedKeeps};
 
-    ghost view = { λ s. record { journal = s.journal.items; state = s.state; opened = s.opened; limit = s.limit } };
+    ghost view = { λ s. record { journal = s.journal.items; state = s.state; opened = s.opened; limit = s.limit; places = s.places } };
 
     ghost invariant = { λ s. SharedKeeps s.journal.items s.books.items s.state s.opened s.limit };
 }
 
-/// A table that couldn't be opened, handed back with its observers: code 4 where it isn't empty, 1 where there was no
-/// memory.
+/// A table that couldn't be opened, handed back with its observers: refused with 4 where it isn't empty, with 1 where there
+/// was no memory.
 pub struct OpenRefused<T: Tablet> {
     pub table: Table<T>,
     pub observers: Vec<Observer>,
-    pub code: u8,
+    pub refusal: Refusal,
 }
 
 // Room for one item more. Inlined, as those below are, since each call of the table goes through all of them.
@@ -140,13 +142,21 @@ fn empty_seats(alloc: Global, count: u32) -> Result<Vec<Seat>, NoMemory>
     Ok(seats)
 }
 
+// Empty books and seats, as many of each.
+fn books_and_seats(alloc: Global, count: u32) -> Result<(Vec<Book>, Vec<Seat>), NoMemory>
+    ensures books { IfOk result (λ v. IsBlank count v.0.items) }
+    ensures seats { IfOk result (λ v. IsFresh count v.1.items) }
+{
+    Ok((empty_books(alloc, count)?, empty_seats(alloc, count)?))
+}
+
 impl<T: Tablet> Shared<T> {
     ghost use Rattle.std.specs.Prelude.{◌≡◌, ◌≤◌, ◌<◌, ◌↔◌, IfOk, IfErr, OnOk, OnErr, [], length, ℕ, Err, Some, None, true, false};
     ghost use Rattle.pb_store.specs.Contents.{nothing, is_nothing};
-    ghost use Rattle.pb_store.specs.Tiles.{TellsSwapReason};
+    ghost use Rattle.pb_store.specs.Tiles.{swap_reason, refusal_or_want};
     ghost use Rattle.std.specs.FinMap as map;
     ghost use Rattle.std.specs.Result.{result_err};
-    ghost use Rattle.pb_base.specs.Reasons.{refusal_by};
+    ghost use Rattle.pb_base.specs.Reasons.{refusal_by, memory_refusal};
     ghost use Rattle.pb_base.specs.declared.refusal.Reason.TheVariants as reasons;
     ghost use Rattle.pb_steps.specs.State.{opening, phase_in};
     ghost use Rattle.pb_steps.specs.Readings.{lock_count};
@@ -159,7 +169,6 @@ impl<T: Tablet> Shared<T> {
     ghost use Rattle.pb_history.specs.RunCounts.{TellsRunCounts};
     ghost use Rattle.pb_history.specs.RecordsTold.{TellsRecords};
     ghost use Rattle.pb_core.specs.Histories.{IsLegalTable, IsSnapshotHistory, HandlesOnce};
-    ghost use Rattle.pb_base.specs.Reasons.{reason_code};
 
     /// Opens a table for these observers and as many seats, with `last` the last timestamp given out so far and room for
     /// `limit` entries.
@@ -182,38 +191,36 @@ impl<T: Tablet> Shared<T> {
           state = opening observers.items seats last.0;
           opened = last.0;
           limit = limit;
+          places = length table.firsts;
         }) }
         ensures seats { IfOk result (λ s. AreSeats s.0 s.1.items) }
         ensures empty { OnOk result (is_nothing table.contents ≡ true) }
         ensures handed_back { IfErr result (λ e. e.table ≡ table) }
         ensures observers { IfErr result (λ e. e.observers ≡ observers) }
         ensures full { is_nothing table.contents ≡ false
-            → IfErr result (λ e. e.code ≡ reason_code reasons.NotEmpty) }
+            → IfErr result (λ e. e.refusal ≡ refusal_by reasons.NotEmpty) }
         ensures memory { is_nothing table.contents ≡ true
-            → IfErr result (λ e. e.code ≡ reason_code reasons.NoMemory) }
+            → IfErr result (λ e. e.refusal ≡ memory_refusal) }
     {
         // Before any growth, since 4 is told of every table that has something, also where there is no memory.
         if !table.is_empty() {
             return Err(OpenRefused {
                 table,
                 observers,
-                code: Reason::NotEmpty.code(),
+                refusal: Reason::NotEmpty.refusal(),
             });
         }
-        let Ok(books) = empty_books(alloc, seats) else {
-            return Err(OpenRefused {
-                table,
-                observers,
-                code: Reason::NoMemory.code(),
-            });
+        let (books, all) = match books_and_seats(alloc, seats) {
+            Ok(made) => made,
+            Err(e) => {
+                return Err(OpenRefused {
+                    table,
+                    observers,
+                    refusal: Refusal::from(e),
+                });
+            }
         };
-        let Ok(all) = empty_seats(alloc, seats) else {
-            return Err(OpenRefused {
-                table,
-                observers,
-                code: Reason::NoMemory.code(),
-            });
-        };
+        let places = table.places();
         let state = State::new(alloc, table, observers, seats, last);
         let shared = Shared {
             state,
@@ -221,6 +228,7 @@ impl<T: Tablet> Shared<T> {
             books,
             opened: last.0,
             limit,
+            places,
             journal_room: AnswerRoom::new(alloc),
             seat_room: AnswerRoom::new(alloc),
         };
@@ -235,11 +243,17 @@ impl<T: Tablet> Shared<T> {
     pub fn swap(&mut self, place: usize, tablet: T) -> Result<T, (T, Refusal)>
         ensures same { self.new ≡ self.old }
         ensures answered { IfOk result (λ old. T.contents old ≡ nothing) }
-        ensures accepted { OnOk result (is_nothing (T.contents tablet) ≡ true) }
+        ensures accepted { OnOk result (swap_reason (T.contents tablet) place
+            self.old.places ≡ None) }
         ensures handed_back { IfErr result (λ e. T.contents e.0 ≡ nothing) }
-        ensures refused { IfErr result (λ e. TellsSwapReason (T.contents tablet) place e.1) }
+        ensures refused { IfErr result (λ e. e.1 ≡ refusal_or_want
+            (swap_reason (T.contents tablet) place self.old.places)) }
     {
-        self.state.swap(place, tablet)
+        // In the order of `swap_reason`, as the table has it.
+        if tablet.is_empty() && place >= self.places {
+            return Err((tablet, Reason::NoSuchPlace.refusal()));
+        }
+        self.state.swap_within(place, tablet)
     }
 
     /// Ends the table, with all that is in it.
@@ -250,6 +264,7 @@ impl<T: Tablet> Shared<T> {
             books: _,
             opened: _,
             limit: _,
+            places: _,
             journal_room: _,
             seat_room: _,
         } = self;
@@ -391,7 +406,7 @@ impl<T: Tablet> Shared<T> {
         ensures refused { (r : _) → call_reason self.old seat.old.number step.now ≡ Some r
             → result ≡ Err (refusal_by r) }
         ensures allowed { call_reason self.old seat.old.number step.now ≡ None
-            → IfErr result (λ r. r ≡ refusal_by reasons.NoMemory) }
+            → IfErr result (λ r. r ≡ memory_refusal) }
         ensures taken { IfOk result (λ a. Calls self.old seat.old step.now a self.new seat.new) }
         ensures legal { IsLegalTable self.old }
         ensures can { IfOk result (λ a. CanAnswer step.now a) }
@@ -401,10 +416,7 @@ impl<T: Tablet> Shared<T> {
         // For the proof: the journal is legal.
         self.known();
         match self.admit(seat.number, step) {
-            Ok(admitted) => match self.keep(seat, step, &admitted) {
-                Ok(answer) => Ok(answer),
-                Err(_) => Err(Reason::NoMemory.refusal()),
-            },
+            Ok(admitted) => Ok(self.keep(seat, step, &admitted)?),
             Err(reason) => Err(reason.refusal()),
         }
     }

@@ -216,13 +216,13 @@ IsAnswer profile bytes r = IfOk r (λ q. Encodes bytes q) × IfOk r (λ q. q.pro
 -- for a program's bytes nothing but it comes back, unless memory is refused
 pub only_program : (profile : Profile) (r : Result ProgramOf DecodeFault) (bytes : List ℕ) → IsAnswer profile bytes r → (p : ProgramOf) → p.profile ≡ profile → Encodes bytes p → IfOk r (λ q. q ≡ p) × IfErr r IsNoMemory
 only_program profile (Ok q) bytes a p is h = (one_program bytes q p (a.1 ∙ sym is) a.0 h, tt)
-only_program profile (Err DecodeFault.NoMemory) bytes a p is h = (tt, tt)
+only_program profile (Err (DecodeFault.NoMemory refused)) bytes a p is h = (tt, tt)
 only_program profile (Err (DecodeFault.Refused f)) bytes a p is h = absurd (no_fault profile bytes p f.slot a.2.0 is h a.2.2)
 
 -- for bytes with a fault nothing but it is told, unless memory is refused
 pub only_fault : (profile : Profile) (r : Result ProgramOf DecodeFault) (bytes : List ℕ) → IsAnswer profile bytes r → (slot told : ℕ) → AreRefusedAs profile bytes slot told → IfOk r (λ _. ⊥) × IfErr r (IsNoMemoryOr slot told)
 only_fault profile (Ok q) bytes a slot told h = absurd (no_fault profile bytes q slot h.0 a.1 a.0 h.2)
-only_fault profile (Err DecodeFault.NoMemory) bytes a slot told h = (tt, tt)
+only_fault profile (Err (DecodeFault.NoMemory refused)) bytes a slot told h = (tt, tt)
 only_fault profile (Err (DecodeFault.Refused f)) bytes a slot told h =
     let o = one_fault profile bytes f.slot slot a.2.0 h.0 a.2.2 h.2 in
     (tt, (o.0, a.2.1 ∙ ap decode_code o.1 ∙ sym h.1))

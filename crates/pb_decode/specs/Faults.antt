@@ -77,12 +77,12 @@ AreRefusedAs p bytes slot told = (code : DecodeCode) × (told ≡ decode_code co
 
 -- why no program came back: memory was refused, or that is the fault
 abbrev pub IsRefusal : Profile → List ℕ → DecodeFault → Type 0
-IsRefusal p bytes DecodeFault.NoMemory = Unit {0}
+IsRefusal p bytes (DecodeFault.NoMemory refused) = Unit {0}
 IsRefusal p bytes (DecodeFault.Refused r) = AreRefusedAs p bytes r.slot r.code
 
 -- the refusal is that of memory, which is the only one for a program's bytes
 abbrev pub IsNoMemory : DecodeFault → Type 0
-IsNoMemory DecodeFault.NoMemory = Unit {0}
+IsNoMemory (DecodeFault.NoMemory refused) = Unit {0}
 IsNoMemory (DecodeFault.Refused r) = ⊥
 
 -- each number is a byte's, as all that is handed in are
@@ -99,7 +99,7 @@ HasFault p bytes = (slot : ℕ) × (code : DecodeCode) × IsDecodeFault p bytes 
 
 -- memory was refused, or what is told is that fault
 abbrev pub IsNoMemoryOr : ℕ → ℕ → DecodeFault → Type 0
-IsNoMemoryOr slot told DecodeFault.NoMemory = Unit {0}
+IsNoMemoryOr slot told (DecodeFault.NoMemory refused) = Unit {0}
 IsNoMemoryOr slot told (DecodeFault.Refused r) = (r.slot ≡ slot) × (r.code ≡ told)
 
 -- the bytes are those of these instructions of the profile, however many there are
@@ -110,5 +110,5 @@ pub record AreSpelt (p : Profile) (bytes : List ℕ) (is : List Insn) : Type 0 w
 
 -- memory was refused, or a slot is at fault
 abbrev pub IsRefusalInside : Profile → List ℕ → DecodeFault → Type 0
-IsRefusalInside p bytes DecodeFault.NoMemory = Unit {0}
+IsRefusalInside p bytes (DecodeFault.NoMemory refused) = Unit {0}
 IsRefusalInside p bytes (DecodeFault.Refused r) = (code : DecodeCode) × (r.code ≡ decode_code code) × IsFaultAt p bytes r.slot code

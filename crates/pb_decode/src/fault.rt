@@ -1,9 +1,10 @@
 //! Why bytes are no program.
 ghost use Rattle.std.specs.Prelude.{◌≡◌};
+ghost use Rattle.pb_base.specs.Growths.{refused_growth};
 ghost use Rattle.pb_decode.specs.Faults.{decode_code};
 ghost use Rattle.pb_decode.specs.declared.fault.DecodeFault.TheVariants.{NoMemory};
 
-use pb_base::Refused;
+use pb_base::{NoMemory, Refused};
 use std::alloc::AllocFailed;
 use thiserror::Error;
 
@@ -48,18 +49,18 @@ impl DecodeCode {
 /// or no multiple of 8, 11 more slots than the profile has, 12 an opcode outside the profile, 13 a register number over 10,
 /// 14 an unused field that is not zero, 15 a pair cut off by the end, 16 a pair's second slot that has more than an
 /// immediate. For 10 and 11 the slot is 0, and for 15 and 16 it is the pair's first.
-#[derive(Clone, Copy, Debug, PartialEq, Eq, Drop, Error)]
+#[derive(Debug, PartialEq, Eq, Drop, Error)]
 pub enum DecodeFault {
-    #[error("no memory")]
-    NoMemory,
+    #[error("{0}")]
+    NoMemory(NoMemory),
     #[error("{0}")]
     Refused(Refused),
 }
 
 impl<T: Drop> From<AllocFailed<T>> for DecodeFault {
-    ghost from_gives = { λ _ e. e ≡ NoMemory };
+    ghost from_gives = { λ _ e. e ≡ NoMemory refused_growth };
 
-    fn from(_e: AllocFailed<T>) -> DecodeFault {
-        DecodeFault::NoMemory
+    fn from(e: AllocFailed<T>) -> DecodeFault {
+        DecodeFault::NoMemory(NoMemory::from(e))
     }
 }

@@ -225,7 +225,7 @@ fn program_of(alloc: Global, profile: Profile, bytes: &[u8]) -> Result<Program, 
     }
     match Program::new(alloc, profile, insns_of(alloc, profile, bytes)?) {
         Ok(program) => Ok(program),
-        Err(NoProgram::NoMemory) => Err(DecodeFault::NoMemory),
+        Err(NoProgram::NoMemory(e)) => Err(DecodeFault::NoMemory(e)),
         // The bytes are some slots and no more than the profile has, since the whole has no fault.
         Err(NoProgram::NotInRange(_)) => unreachable!(),
     }

@@ -1,2 +1,3 @@
 pub mod ReplayEndings
 pub mod RunEndings
+pub mod Unopened

@@ -1,10 +1,11 @@
 -- How a run of workers ends, by what its calls answered.
-use Rattle.std.proofs.Common.{arith, ◌≡◌, ◌<◌, List, [], length, Result, Ok, Err}
+use Rattle.std.proofs.Common.{arith, ap, ◌≡◌, ◌<◌, List, [], length, Result, Ok, Err}
 use Rattle.pb_base.specs.Batch.{Writes}
 use Rattle.pb_history.specs.Journals.{IsLegal}
 use Rattle.pb_core.specs.Calls.{SharedOf, SeatOf, AreSeats}
 use Rattle.pb_core.specs.Histories.{IsLegalTable}
 use Rattle.pb_worker.specs.Agrees.{Agree}
+use Rattle.pb_worker.specs.Gains.{OpeningOf, opening_of}
 use Rattle.pb_worker.specs.Laws.{ChangesAreMade}
 use Rattle.pb_worker.specs.Swaps.{Spare}
 use Rattle.pb_worker.specs.Work.{KeepsOpening}
@@ -15,22 +16,26 @@ use Rattle.pb_driver.specs.Runs.{Remains, WorkersLeave, FinishAccepts, Concludes
 
 -- a legal journal is so from what the table was opened with
 legal_from : (before after : SharedOf) → KeepsOpening before after → IsLegalTable after → IsLegal before.state.observers before.state.seats before.opened after.journal after.state
-legal_from before after k legal = grind arith
+legal_from before after k legal =
+    let observers : after.state.observers ≡ before.state.observers = ap (λ (o : OpeningOf). o.observers) k in
+    let seats : after.state.seats ≡ before.state.seats = ap (λ (o : OpeningOf). o.seats) k in
+    let opened : after.opened ≡ before.opened = ap (λ (o : OpeningOf). o.opened) k in
+    grind arith
 
-module _ (law : ChangesAreMade) (before : SharedOf) (olds : List SeatOf) (batches : List Writes) (spares : List Spare) (fresh : before.journal ≡ []) (seated : AreSeats before olds) (some : 1 < length olds) (left : Remains) (leave : WorkersLeave before olds batches spares left) where
+module _ (law : ChangesAreMade) (before : SharedOf) (olds : List SeatOf) (batches : List Writes) (spares : List Spare) (seated : AreSeats before olds) (some : 1 < length olds) (left : Remains) (leave : WorkersLeave before olds batches spares left) where
   accepts : IsLegalTable left.table → Agree left.table left.seats → FinishAccepts before olds batches spares left
   accepts legal agree = record {
     leave = leave;
     legal = legal_from before left.table leave.keeps legal;
     agree = agree;
-    made = law before.state.observers batches spares olds left.seats left.refusals left.unfinished before left.table fresh seated some leave.worked legal agree;
+    made = law (opening_of before) before.state.observers batches spares olds left.seats left.refusals left.unfinished before left.table seated some leave.worked legal agree;
   }
 
   pub concluded : (out : Taking) (r : Result Ran RunFault) → Concludes left out r → RunsOn before olds batches spares out r
   concluded out (Ok ran) c = record { left = left; accepts = accepts c.0 c.1; undone = c.2; wrote = c.3 }
   concluded out (Err RunFault.Output) c = record { left = left; accepts = accepts c.0 c.1; began = c.2 }
   concluded out (Err RunFault.SeatsDiffer) c = (record { left = left; leave = leave; differ = c.0 }, c.1)
-  concluded out (Err RunFault.NoMemory) c = c
+  concluded out (Err (RunFault.NoMemory refused)) c = c.1
   concluded out (Err (RunFault.Manifest f)) c = absurd c
   concluded out (Err (RunFault.Script f)) c = absurd c
   concluded out (Err (RunFault.Schedule f)) c = absurd c

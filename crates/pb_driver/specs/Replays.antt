@@ -1,15 +1,15 @@
 -- Replays: a schedule's events in a world of a manifest's observers and a script's changes, and the report of what
 -- they left. `replay_texts` promises it; where an event is at fault, nothing is reported.
-use Rattle.std.specs.Prelude.{◌≡◌, ◌≢◌, ℕ, ◌==◌, if◌then◌else◌, List, length, Result, Ok, Err}
+use Rattle.std.specs.Prelude.{◌≡◌, ◌≢◌, ℕ, List, length, Result, Ok, Err}
 use Rattle.pb_base.specs.declared.limits.TheConstants.{MAX_SEATS}
-use Rattle.pb_base.specs.declared.refusal.Reason.{Reason}
-use Rattle.pb_base.specs.Reasons.{reason_code}
 use Rattle.pb_base.specs.Batch.{Writes}
 use Rattle.pb_verify.specs.Observers.{ObserverOf}
 use Rattle.pb_core.specs.Calls.{SharedOf, SeatOf, AreSeats}
 use Rattle.pb_parse.specs.declared.event.Event.{Event}
+use Rattle.pb_world.specs.declared.fault.EventFault.{EventFault}
 use Rattle.pb_world.specs.declared.fault.WorldFault.{WorldFault}
 use Rattle.pb_world.specs.declared.note.Note.{Note}
+use Rattle.pb_world.specs.Faults.{fault_code, memory_fault}
 use Rattle.pb_world.specs.Events.{WorldOf, idle_actors, RunsTo, StopsAtEvent}
 use Rattle.pb_base.specs.Taking.{Taking, TookNothing}
 use Rattle.pb_script.specs.TableReports.{Wrote, Began}
@@ -17,8 +17,9 @@ use Rattle.pb_driver.specs.declared.fault.RunFault.{RunFault}
 use Rattle.pb_driver.specs.Texts.{IsReplayRead, IsReplayUnread, fresh}
 
 -- the fault of a replay with an event at fault
-abbrev pub of_event : WorldFault → RunFault
-of_event f = if f.code == reason_code Reason.NoMemory then RunFault.NoMemory else RunFault.Event f
+abbrev pub of_event : ℕ → EventFault → RunFault
+of_event event (EventFault.NoMemory refused) = RunFault.NoMemory refused
+of_event event fault = RunFault.Event (record { event = event; fault = fault })
 
 -- ---- the events and their report
 
@@ -38,16 +39,16 @@ pub record BeganReport (w : WorldOf) (events : List Event) (out : Taking) : Type
 
 -- an event was at fault by itself
 pub record Stopped (w : WorldOf) (events : List Event) (f : WorldFault) : Type 0 where
-  pub other : f.code ≢ reason_code Reason.NoMemory
+  pub other : f.fault ≢ memory_fault
   pub after : WorldOf
-  pub stops : StopsAtEvent w events f.event f.code after
+  pub stops : StopsAtEvent w events f.event (fault_code f.fault) after
 
 -- how a run of events in a world ended, and what the sink took
 abbrev pub EventsEnd : WorldOf → List Event → Taking → Result (Unit {0}) RunFault → Type 0
 EventsEnd w events out (Ok u) = Reported w events out
 EventsEnd w events out (Err RunFault.Output) = BeganReport w events out
 EventsEnd w events out (Err (RunFault.Event f)) = Stopped w events f × TookNothing out
-EventsEnd w events out (Err RunFault.NoMemory) = TookNothing out
+EventsEnd w events out (Err (RunFault.NoMemory refused)) = TookNothing out
 EventsEnd w events out (Err _) = ⊥
 
 -- a world of a table with all its seats, where these changes may be launched, as it is opened
@@ -57,26 +58,26 @@ opened_world shared seats batches = record { shared = shared; seats = seats; act
 -- ---- the whole
 
 -- The three texts are read, the last as these events, and this is the world of the manifest's observers and the script's
--- changes, over the table as opened with all its seats and the clock at `last`.
-pub record OpensReplay (last : ℕ) (manifest script schedule : List ℕ) (world : WorldOf) (events : List Event) : Type 0 where
+-- changes, over a table of so many tablets as opened with all its seats and the clock at `last`.
+pub record OpensReplay (places last : ℕ) (manifest script schedule : List ℕ) (world : WorldOf) (events : List Event) : Type 0 where
   pub observers : List ObserverOf
   pub batches : List Writes
   pub read : IsReplayRead manifest script schedule observers batches events
   pub seats : List SeatOf
-  pub seated : AreSeats (fresh observers MAX_SEATS last) seats
-  pub opened : world ≡ opened_world (fresh observers MAX_SEATS last) seats batches
+  pub seated : AreSeats (fresh places observers MAX_SEATS last) seats
+  pub opened : world ≡ opened_world (fresh places observers MAX_SEATS last) seats batches
 
 -- the schedule's events ended so in the world that the three texts open
-pub record ReplayedOn (last : ℕ) (manifest script schedule : List ℕ) (out : Taking) (result : Result (Unit {0}) RunFault) : Type 0 where
+pub record ReplayedOn (places last : ℕ) (manifest script schedule : List ℕ) (out : Taking) (result : Result (Unit {0}) RunFault) : Type 0 where
   pub world : WorldOf
   pub events : List Event
-  pub opens : OpensReplay last manifest script schedule world events
+  pub opens : OpensReplay places last manifest script schedule world events
   pub ends : EventsEnd world events out result
 
 -- how a replay of three texts ended, and what the sink took
-abbrev pub ReplaysTexts : ℕ → List ℕ → List ℕ → List ℕ → Taking → Result (Unit {0}) RunFault → Type 0
-ReplaysTexts last manifest script schedule out (Ok u) = ReplayedOn last manifest script schedule out (Ok u)
-ReplaysTexts last manifest script schedule out (Err RunFault.NoMemory) = TookNothing out
-ReplaysTexts last manifest script schedule out (Err RunFault.Output) = ReplayedOn last manifest script schedule out (Err RunFault.Output)
-ReplaysTexts last manifest script schedule out (Err (RunFault.Event f)) = ReplayedOn last manifest script schedule out (Err (RunFault.Event f))
-ReplaysTexts last manifest script schedule out (Err f) = IsReplayUnread manifest script schedule f × TookNothing out
+abbrev pub ReplaysTexts : ℕ → ℕ → List ℕ → List ℕ → List ℕ → Taking → Result (Unit {0}) RunFault → Type 0
+ReplaysTexts places last manifest script schedule out (Ok u) = ReplayedOn places last manifest script schedule out (Ok u)
+ReplaysTexts places last manifest script schedule out (Err (RunFault.NoMemory refused)) = TookNothing out
+ReplaysTexts places last manifest script schedule out (Err RunFault.Output) = ReplayedOn places last manifest script schedule out (Err RunFault.Output)
+ReplaysTexts places last manifest script schedule out (Err (RunFault.Event f)) = ReplayedOn places last manifest script schedule out (Err (RunFault.Event f))
+ReplaysTexts places last manifest script schedule out (Err f) = IsReplayUnread manifest script schedule f × TookNothing out

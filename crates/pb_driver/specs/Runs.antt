@@ -9,6 +9,7 @@ use Rattle.pb_history.specs.Journals.{IsLegal}
 use Rattle.pb_core.specs.Calls.{SharedOf, SeatOf, AreSeats}
 use Rattle.pb_core.specs.Histories.{IsLegalTable}
 use Rattle.pb_worker.specs.Agrees.{Agree}
+use Rattle.pb_worker.specs.Gains.{opening_of}
 use Rattle.pb_worker.specs.Laws.{MakesChanges}
 use Rattle.pb_worker.specs.Swaps.{Spare}
 use Rattle.pb_worker.specs.Work.{WorkedOn, KeepsOpening}
@@ -29,16 +30,16 @@ pub record Remains : Type 0 where
 
 -- workers went over the table as it was opened, beside the swaps of these spares, and left this
 pub record WorkersLeave (before : SharedOf) (olds : List SeatOf) (batches : List Writes) (spares : List Spare) (left : Remains) : Type 0 where
-  pub worked : WorkedOn before.state.observers batches spares olds left.seats left.refusals left.unfinished
+  pub worked : WorkedOn (opening_of before) before.state.observers batches spares olds left.seats left.refusals left.unfinished
   pub keeps : KeepsOpening before left.table
 
--- Beside that, the journal is legal from the table as opened, its entries of each seat are that seat's list, and its committed
--- script transactions are the changes that aren't named as unfinished, each once.
+-- Beside that, the journal is legal from the table as opened, its entries of each seat are that seat's list, and the changes that
+-- aren't named as unfinished are committed script transactions of it, each once; on a table as opened there are no others.
 pub record FinishAccepts (before : SharedOf) (olds : List SeatOf) (batches : List Writes) (spares : List Spare) (left : Remains) : Type 0 where
   pub leave : WorkersLeave before olds batches spares left
   pub legal : IsLegal before.state.observers before.state.seats before.opened left.table.journal left.table.state
   pub agree : Agree left.table left.seats
-  pub made : MakesChanges left.table (length olds - 1) batches left.unfinished
+  pub made : MakesChanges before left.table (length olds - 1) batches left.unfinished
 
 -- ---- the report
 
@@ -51,7 +52,7 @@ abbrev pub Concludes : Remains → Taking → Result Ran RunFault → Type 0
 Concludes left out (Ok ran) = IsLegalTable left.table × Agree left.table left.seats × TellsUndone ran left × Wrote left.table out
 Concludes left out (Err RunFault.Output) = IsLegalTable left.table × Agree left.table left.seats × Began left.table out
 Concludes left out (Err RunFault.SeatsDiffer) = (Agree left.table left.seats → ⊥) × TookNothing out
-Concludes left out (Err RunFault.NoMemory) = TookNothing out
+Concludes left out (Err (RunFault.NoMemory refused)) = Agree left.table left.seats × TookNothing out
 Concludes left out (Err _) = ⊥
 
 -- the report of what workers left was written, and what they left undone is told
@@ -78,25 +79,25 @@ abbrev pub RunsOn : SharedOf → List SeatOf → List Writes → List Spare → 
 RunsOn before olds batches spares out (Ok ran) = Reported before olds batches spares ran out
 RunsOn before olds batches spares out (Err RunFault.Output) = BeganReport before olds batches spares out
 RunsOn before olds batches spares out (Err RunFault.SeatsDiffer) = Differ before olds batches spares × TookNothing out
-RunsOn before olds batches spares out (Err RunFault.NoMemory) = TookNothing out
+RunsOn before olds batches spares out (Err (RunFault.NoMemory refused)) = TookNothing out
 RunsOn before olds batches spares out (Err _) = ⊥
 
 -- ---- the whole
 
--- The two texts are read, and the run ended so over the table as opened with the manifest's observers, a seat for each worker
+-- The two texts are read, and the run ended so over a table of so many tablets as opened with the manifest's observers, a seat for each worker
 -- and the main one, and the clock at `last`.
-pub record RanOn (manifest script : List ℕ) (workers last : ℕ) (spares : List Spare) (out : Taking) (result : Result Ran RunFault) : Type 0 where
+pub record RanOn (places : ℕ) (manifest script : List ℕ) (workers last : ℕ) (spares : List Spare) (out : Taking) (result : Result Ran RunFault) : Type 0 where
   pub observers : List ObserverOf
   pub batches : List Writes
   pub read : IsRunRead manifest script observers batches
   pub seats : List SeatOf
-  pub seated : AreSeats (fresh observers (workers + 1) last) seats
-  pub ends : RunsOn (fresh observers (workers + 1) last) seats batches spares out result
+  pub seated : AreSeats (fresh places observers (workers + 1) last) seats
+  pub ends : RunsOn (fresh places observers (workers + 1) last) seats batches spares out result
 
 -- how a run of two texts ended, and what the sink took
-abbrev pub RunsTexts : List ℕ → List ℕ → ℕ → ℕ → List Spare → Taking → Result Ran RunFault → Type 0
-RunsTexts manifest script workers last spares out (Ok ran) = RanOn manifest script workers last spares out (Ok ran)
-RunsTexts manifest script workers last spares out (Err RunFault.NoMemory) = TookNothing out
-RunsTexts manifest script workers last spares out (Err RunFault.Output) = RanOn manifest script workers last spares out (Err RunFault.Output)
-RunsTexts manifest script workers last spares out (Err RunFault.SeatsDiffer) = RanOn manifest script workers last spares out (Err RunFault.SeatsDiffer)
-RunsTexts manifest script workers last spares out (Err f) = IsRunUnread manifest script f × TookNothing out
+abbrev pub RunsTexts : ℕ → List ℕ → List ℕ → ℕ → ℕ → List Spare → Taking → Result Ran RunFault → Type 0
+RunsTexts places manifest script workers last spares out (Ok ran) = RanOn places manifest script workers last spares out (Ok ran)
+RunsTexts places manifest script workers last spares out (Err (RunFault.NoMemory refused)) = TookNothing out
+RunsTexts places manifest script workers last spares out (Err RunFault.Output) = RanOn places manifest script workers last spares out (Err RunFault.Output)
+RunsTexts places manifest script workers last spares out (Err RunFault.SeatsDiffer) = RanOn places manifest script workers last spares out (Err RunFault.SeatsDiffer)
+RunsTexts places manifest script workers last spares out (Err f) = IsRunUnread manifest script f × TookNothing out

@@ -1,9 +1,11 @@
 -- What the texts of a run and of a replay are read as, and which fault is told of them. Each text's reading is defined
 -- where it is read; here stands that they are read in turn, and only so far as they are read. Both drivers cite it,
 -- and the story program.
-use Rattle.std.specs.Prelude.{◌≡◌, ℕ, List, [], Ok, Err}
+use Rattle.std.specs.Prelude.{◌≡◌, ℕ, List, [], Result, Ok, Err}
 use Rattle.pb_base.specs.declared.limits.TheConstants.{MAX_ENTRIES}
 use Rattle.pb_base.specs.Batch.{Writes}
+use Rattle.pb_base.specs.Growths.{refused_growth}
+use Rattle.pb_reading.specs.declared.fault.TextFault.{TextFault}
 use Rattle.pb_verify.specs.Observers.{ObserverOf}
 use Rattle.pb_steps.specs.State.{opening}
 use Rattle.pb_core.specs.Calls.{SharedOf}
@@ -17,26 +19,35 @@ use Rattle.pb_driver.specs.declared.fault.RunFault.{RunFault}
 -- the fault of a run or a replay whose report ended so
 abbrev pub of_report : ReportFault → RunFault
 of_report ReportFault.Output = RunFault.Output
-of_report ReportFault.NoMemory = RunFault.NoMemory
+of_report (ReportFault.NoMemory refused) = RunFault.NoMemory refused
+
+-- the fault of a run or a replay for which a growth was refused
+abbrev pub memory_fault : RunFault
+memory_fault = RunFault.NoMemory refused_growth
 
 -- ---- each text
+
+-- reading ends with the fault of this line
+abbrev pub IsFaultOf : {Y : Type 0} → Result Y (ℕ × ℕ) → TextFault → Type 0
+IsFaultOf read (TextFault.NoMemory refused) = ⊥
+IsFaultOf read (TextFault.At line code) = read ≡ Err (line, code)
 
 -- the manifest is refused with this fault, or memory was refused
 abbrev pub IsBadManifest : List ℕ → RunFault → Type 0
 IsBadManifest manifest (RunFault.Manifest f) = ReadsManifest manifest (Err f)
-IsBadManifest manifest RunFault.NoMemory = Unit {0}
+IsBadManifest manifest (RunFault.NoMemory refused) = Unit {0}
 IsBadManifest manifest _ = ⊥
 
 -- the script is refused with this fault, or memory was refused
 abbrev pub IsBadScript : List ℕ → RunFault → Type 0
-IsBadScript script (RunFault.Script f) = script_of script ≡ Err (f.line, f.code)
-IsBadScript script RunFault.NoMemory = Unit {0}
+IsBadScript script (RunFault.Script f) = IsFaultOf (script_of script) f
+IsBadScript script (RunFault.NoMemory refused) = Unit {0}
 IsBadScript script _ = ⊥
 
 -- the schedule is refused with this fault, for these observers, or memory was refused
 abbrev pub IsBadSchedule : List ObserverOf → List ℕ → RunFault → Type 0
-IsBadSchedule observers schedule (RunFault.Schedule f) = schedule_of observers schedule ≡ Err (f.line, f.code)
-IsBadSchedule observers schedule RunFault.NoMemory = Unit {0}
+IsBadSchedule observers schedule (RunFault.Schedule f) = IsFaultOf (schedule_of observers schedule) f
+IsBadSchedule observers schedule (RunFault.NoMemory refused) = Unit {0}
 IsBadSchedule observers schedule _ = ⊥
 
 -- ---- the texts of a run
@@ -49,8 +60,8 @@ pub record IsRunRead (manifest script : List ℕ) (observers : List ObserverOf) 
 -- the first text that isn't read tells its fault
 abbrev pub IsRunUnread : List ℕ → List ℕ → RunFault → Type 0
 IsRunUnread manifest script (RunFault.Manifest f) = ReadsManifest manifest (Err f)
-IsRunUnread manifest script (RunFault.Script f) = (observers : List ObserverOf) × ReadsManifest manifest (Ok observers) × (script_of script ≡ Err (f.line, f.code))
-IsRunUnread manifest script RunFault.NoMemory = Unit {0}
+IsRunUnread manifest script (RunFault.Script f) = (observers : List ObserverOf) × ReadsManifest manifest (Ok observers) × IsFaultOf (script_of script) f
+IsRunUnread manifest script (RunFault.NoMemory refused) = Unit {0}
 IsRunUnread manifest script _ = ⊥
 
 -- ---- the texts of a replay
@@ -62,11 +73,11 @@ pub record IsReplayRead (manifest script schedule : List ℕ) (observers : List 
 
 -- the first text that isn't read tells its fault
 abbrev pub IsReplayUnread : List ℕ → List ℕ → List ℕ → RunFault → Type 0
-IsReplayUnread manifest script schedule (RunFault.Schedule f) = (observers : List ObserverOf) × (batches : List Writes) × IsRunRead manifest script observers batches × (schedule_of observers schedule ≡ Err (f.line, f.code))
+IsReplayUnread manifest script schedule (RunFault.Schedule f) = (observers : List ObserverOf) × (batches : List Writes) × IsRunRead manifest script observers batches × IsFaultOf (schedule_of observers schedule) f
 IsReplayUnread manifest script schedule f = IsRunUnread manifest script f
 
 -- ---- the table
 
--- a table with these observers, so many seats and room for the most entries, as opened
-abbrev pub fresh : List ObserverOf → ℕ → ℕ → SharedOf
-fresh observers seats last = record { journal = []; state = opening observers seats last; opened = last; limit = MAX_ENTRIES }
+-- a table of so many tablets with these observers, so many seats and room for the most entries, as opened
+abbrev pub fresh : ℕ → List ObserverOf → ℕ → ℕ → SharedOf
+fresh places observers seats last = record { journal = []; state = opening observers seats last; opened = last; limit = MAX_ENTRIES; places = places }

@@ -2,6 +2,7 @@
 ghost use Rattle.std.specs.Prelude.{◌≡◌};
 ghost use Rattle.pb_driver.specs.Texts.{of_report};
 
+use pb_base::NoMemory;
 use pb_parse::ScriptFault;
 use pb_registry::RegistryFault;
 use pb_script::ReportFault;
@@ -25,7 +26,7 @@ pub enum RunFault {
     /// A write of the report failed, or took no byte.
     Output,
     /// A growth was refused.
-    NoMemory,
+    NoMemory(NoMemory),
 }
 
 impl fmt::Display for RunFault {
@@ -42,7 +43,7 @@ impl fmt::Display for RunFault {
             RunFault::Event(fault) => write!(f, "{fault}"),
             RunFault::SeatsDiffer => write!(f, "seats differ"),
             RunFault::Output => write!(f, "cannot write the output"),
-            RunFault::NoMemory => write!(f, "no memory"),
+            RunFault::NoMemory(_) => write!(f, "no memory"),
         }
     }
 }
@@ -55,7 +56,7 @@ impl From<ReportFault> for RunFault {
     fn from(fault: ReportFault) -> RunFault {
         match fault {
             ReportFault::Output => RunFault::Output,
-            ReportFault::NoMemory => RunFault::NoMemory,
+            ReportFault::NoMemory(refused) => RunFault::NoMemory(refused),
         }
     }
 }

@@ -1,28 +1,46 @@
 //! A replay, from its texts to its report.
-ghost use Rattle.std.specs.Prelude.{◌≡◌, false, IfOk, IfErr};
+ghost use Rattle.std.specs.Prelude.{◌≡◌, false, length, IfOk, IfErr};
 ghost use Rattle.pb_store.specs.Contents.{nothing};
 ghost use Rattle.pb_base.specs.Taking.{taking};
-ghost use Rattle.pb_driver.specs.Texts.{IsReplayUnread};
+ghost use Rattle.pb_base.specs.Reasons.{memory_refusal};
+ghost use Rattle.pb_driver.specs.Texts.{IsReplayUnread, memory_fault};
 ghost use Rattle.pb_driver.specs.Replays.{EventsEnd, OpensReplay, ReplaysTexts};
 
 use crate::fault::RunFault;
 use crate::texts::read_replay;
-use pb_base::{MAX_ENTRIES, MAX_SEATS, Reason, Sink, Ts};
+use pb_base::{MAX_ENTRIES, MAX_SEATS, Sink, Ts};
 use pb_core::{OpenRefused, Shared};
 use pb_parse::Event;
 use pb_script::report;
 use pb_store::{Table, Tablet};
-use pb_world::{World, WorldFault};
+use pb_world::{EventFault, World, WorldFault};
 use std::alloc::Global;
 
 // The fault of an event as one of the replay. Want of memory is no event's own, so that it is told without a number.
 fn fault_of(fault: WorldFault) -> RunFault
-    ensures { result ≡ Rattle.pb_driver.specs.Replays.of_event fault }
+    ensures { result ≡ Rattle.pb_driver.specs.Replays.of_event fault.event fault.fault }
 {
-    if fault.code == Reason::NoMemory.code() {
-        RunFault::NoMemory
-    } else {
-        RunFault::Event(fault)
+    let WorldFault { event, fault } = fault;
+    match fault {
+        EventFault::NoMemory(refused) => RunFault::NoMemory(refused),
+        fault => RunFault::Event(WorldFault { event, fault }),
+    }
+}
+
+/// Ends an empty table that wasn't opened, which was for want of memory.
+pub fn unopened<T: Tablet>(refused: OpenRefused<T>) -> RunFault
+    requires { refused.refusal ≡ memory_refusal }
+    ensures { result ≡ memory_fault }
+{
+    let OpenRefused {
+        table,
+        observers: _,
+        refusal,
+    } = refused;
+    table.close();
+    match refusal.memory() {
+        Ok(refused) => RunFault::NoMemory(refused),
+        Err(_) => unreachable!(),
     }
 }
 
@@ -59,7 +77,8 @@ pub fn open_replay<T: Tablet>(
 ) -> Result<(World<T>, Vec<Event>), RunFault>
     requires empty { table.contents ≡ nothing }
     ensures ok { IfOk result
-        (λ o. OpensReplay last.0 manifest.now script.now schedule.now o.0 o.1.items) }
+        (λ o. OpensReplay (length table.firsts) last.0
+        manifest.now script.now schedule.now o.0 o.1.items) }
     ensures err { IfErr result (IsReplayUnread manifest.now script.now schedule.now) }
 {
     let (observers, batches, events) = match read_replay(alloc, manifest, script, schedule) {
@@ -73,21 +92,12 @@ pub fn open_replay<T: Tablet>(
     match Shared::open(alloc, table, observers, MAX_SEATS, last, MAX_ENTRIES) {
         Ok((shared, seats)) => match World::open(alloc, shared, seats, batches) {
             Ok(world) => Ok((world, events)),
-            Err((shared, _seats, _batches)) => {
+            Err((shared, _seats, _batches, refused)) => {
                 shared.close();
-                Err(RunFault::NoMemory)
+                Err(RunFault::NoMemory(refused))
             }
         },
-        Err(
-            OpenRefused {
-                table,
-                observers: _,
-                code: _,
-            },
-        ) => {
-            table.close();
-            Err(RunFault::NoMemory)
-        }
+        Err(refused) => Err(unopened(refused)),
     }
 }
 
@@ -107,7 +117,7 @@ pub fn replay_texts<T: Tablet, S: Sink>(
 ) -> Result<(), RunFault>
     requires empty { table.contents ≡ nothing }
     requires unfailed { S.failed sink.old ≡ false }
-    ensures { ReplaysTexts last.0 manifest.now script.now schedule.now
+    ensures { ReplaysTexts (length table.firsts) last.0 manifest.now script.now schedule.now
         (taking S.taken S.failed sink.old sink.new) result }
 {
     let (world, events) = open_replay(alloc, manifest, script, schedule, table, last)?;

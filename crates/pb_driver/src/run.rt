@@ -1,5 +1,5 @@
 //! A run of workers, from its texts to its report.
-ghost use Rattle.std.specs.Prelude.{◌≡◌, ◌<◌, ◌≤◌, [], false, vec_len};
+ghost use Rattle.std.specs.Prelude.{◌≡◌, ◌<◌, ◌≤◌, false, length, vec_len};
 ghost use Rattle.pb_base.specs.declared.limits.TheConstants.{MAX_SEATS};
 ghost use Rattle.pb_store.specs.Contents.{nothing};
 ghost use Rattle.pb_core.specs.Calls.{AreSeats};
@@ -8,9 +8,10 @@ ghost use Rattle.pb_base.specs.Taking.{taking};
 ghost use Rattle.pb_driver.specs.Runs.{Concludes, RunsOn, RunsTexts};
 
 use crate::fault::RunFault;
+use crate::replay::unopened;
 use crate::texts::read_run;
 use pb_base::{Batch, MAX_ENTRIES, Refusal, Sink, Ts};
-use pb_core::{OpenRefused, Seat, Shared};
+use pb_core::{Seat, Shared};
 use pb_script::report;
 use pb_store::{Table, Tablet};
 use pb_worker::{NotRun, Open, Worked, changes_are_made, end_spares, finish, run_workers};
@@ -80,7 +81,6 @@ fn run_on<R: Threads + Wait + Sync, T: Tablet + Send, S: Sink>(
     spares: Vec<(usize, T)>,
     sink: &mut S,
 ) -> Result<Ran, RunFault>
-    requires fresh { shared.journal ≡ [] }
     requires seated { AreSeats shared seats.items }
     requires some { 1 < vec_len seats }
     requires unfailed { S.failed sink.old ≡ false }
@@ -97,12 +97,13 @@ fn run_on<R: Threads + Wait + Sync, T: Tablet + Send, S: Sink>(
                 seats: _,
                 batches: _,
                 spares,
+                refused,
             },
         ) => {
             // Nothing was started, so that table and spares are ended here.
             shared.close();
             end_spares(spares);
-            Err(RunFault::NoMemory)
+            Err(RunFault::NoMemory(refused))
         }
     }
 }
@@ -131,7 +132,8 @@ pub fn run_texts<R: Threads + Wait + Sync, T: Tablet + Send, S: Sink>(
     requires few { workers < MAX_SEATS }
     requires empty { table.contents ≡ nothing }
     requires unfailed { S.failed sink.old ≡ false }
-    ensures { RunsTexts manifest.now script.now workers last.0 (spares_of T.contents spares.items)
+    ensures { RunsTexts (length table.firsts) manifest.now script.now workers last.0
+        (spares_of T.contents spares.items)
         (taking S.taken S.failed sink.old sink.new) result }
 {
     let (observers, batches) = match read_run(alloc, manifest, script) {
@@ -145,16 +147,9 @@ pub fn run_texts<R: Threads + Wait + Sync, T: Tablet + Send, S: Sink>(
     // A seat for each worker, and the main one, which makes passes once they have ended.
     match Shared::open(alloc, table, observers, workers + 1, last, MAX_ENTRIES) {
         Ok((shared, seats)) => run_on(rt, alloc, shared, seats, batches, spares, sink),
-        Err(
-            OpenRefused {
-                table,
-                observers: _,
-                code: _,
-            },
-        ) => {
-            table.close();
+        Err(refused) => {
             end_spares(spares);
-            Err(RunFault::NoMemory)
+            Err(unopened(refused))
         }
     }
 }

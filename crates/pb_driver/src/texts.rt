@@ -8,8 +8,8 @@ ghost use Rattle.pb_parse.specs.Schedules.{schedule_of};
 ghost use Rattle.pb_driver.specs.Texts.{IsBadManifest, IsBadScript, IsBadSchedule, IsRunRead, IsRunUnread, IsReplayRead, IsReplayUnread};
 
 use crate::fault::RunFault;
-use pb_base::{Batch, Reason};
-use pb_parse::{Event, parse_schedule, parse_script};
+use pb_base::Batch;
+use pb_parse::{Event, ScriptFault, parse_schedule, parse_script};
 use pb_registry::Registry;
 use pb_verify::Observer;
 use std::alloc::Global;
@@ -23,15 +23,12 @@ fn observers_in(alloc: Global, manifest: &str) -> Result<Vec<Observer>, RunFault
     match Registry::from_json(alloc, manifest) {
         Ok(registry) => match registry.into_observers(alloc) {
             Ok(observers) => Ok(observers),
-            Err(_) => Err(RunFault::NoMemory),
+            Err((_, refused)) => Err(RunFault::NoMemory(refused)),
         },
-        Err(fault) => {
-            if fault.code == Reason::NoMemory.code() {
-                Err(RunFault::NoMemory)
-            } else {
-                Err(RunFault::Manifest(fault))
-            }
-        }
+        Err(fault) => match fault.memory() {
+            Ok(refused) => Err(RunFault::NoMemory(refused)),
+            Err(fault) => Err(RunFault::Manifest(fault)),
+        },
     }
 }
 
@@ -42,13 +39,8 @@ fn changes_in(alloc: Global, script: &str) -> Result<Vec<Batch>, RunFault>
 {
     match parse_script(alloc, script) {
         Ok(batches) => Ok(batches),
-        Err(fault) => {
-            if fault.code == Reason::NoMemory.code() {
-                Err(RunFault::NoMemory)
-            } else {
-                Err(RunFault::Script(fault))
-            }
-        }
+        Err(ScriptFault::NoMemory(refused)) => Err(RunFault::NoMemory(refused)),
+        Err(fault) => Err(RunFault::Script(fault)),
     }
 }
 
@@ -60,13 +52,8 @@ fn events_in(alloc: Global, schedule: &str, observers: &[Observer]) -> Result<Ve
 {
     match parse_schedule(alloc, schedule, observers) {
         Ok(events) => Ok(events),
-        Err(fault) => {
-            if fault.code == Reason::NoMemory.code() {
-                Err(RunFault::NoMemory)
-            } else {
-                Err(RunFault::Schedule(fault))
-            }
-        }
+        Err(ScriptFault::NoMemory(refused)) => Err(RunFault::NoMemory(refused)),
+        Err(fault) => Err(RunFault::Schedule(fault)),
     }
 }
 

@@ -32,7 +32,7 @@ pub record IsProgram (p : ProgramOf) : Type 0 where
 
 -- the list takes no slot or more than the profile has, and is handed back; or memory was refused
 abbrev pub IsRefused : Profile → List Insn → NoProgram → Type 0
-IsRefused p is NoProgram.NoMemory = Unit {0}
+IsRefused p is (NoProgram.NoMemory refused) = Unit {0}
 IsRefused p is (NoProgram.NotInRange back) = (back.items ≡ is) × ((slots is ≡ 0) ⊎ (max_slots p < slots is))
 
 -- a program with what it is judged for: the helpers that it may call, and how many bytes its record has

@@ -4,14 +4,16 @@ ghost use Rattle.pb_isa.specs.Bounds.{Fits};
 ghost use Rattle.pb_isa.specs.Slots.{layout, places_of, insn_at, slots};
 ghost use Rattle.pb_isa.specs.NextSlots.{NextSlotsAreFirst};
 ghost use Rattle.pb_isa.specs.Profiles.{IsOf};
+ghost use Rattle.pb_base.specs.Growths.{refused_growth};
 ghost use Rattle.pb_isa.specs.Programs.{IsProgram, IsRefused};
+ghost use Rattle.pb_isa.specs.declared.program.NoProgram.TheVariants.{NoMemory};
 
 use crate::insn::Insn;
 use crate::limits::MAX_SLOTS;
 use crate::profile::Profile;
 use crate::same::{are_same, is_same_profile};
 use pb_base::NoMemory;
-use std::alloc::Global;
+use std::alloc::{AllocFailed, Global};
 use std::marker::Model;
 
 /// A program: some instructions of its profile, of at most so many slots together as the profile has. They are kept
@@ -42,9 +44,17 @@ impl Model for Program {
 /// Why a list of instructions is no program.
 #[derive(Drop)]
 pub enum NoProgram {
-    NoMemory,
+    NoMemory(NoMemory),
     /// They take no slot, or more than the profile has. They are handed back, so that the caller still has them.
     NotInRange(Vec<Insn>),
+}
+
+impl<T: Drop> From<AllocFailed<T>> for NoProgram {
+    ghost from_gives = { λ _ e. e ≡ NoMemory refused_growth };
+
+    fn from(e: AllocFailed<T>) -> NoProgram {
+        NoProgram::NoMemory(NoMemory::from(e))
+    }
 }
 
 // Whether an instruction takes two slots. It also says that the instruction's numbers fit, which they do by their
@@ -73,13 +83,9 @@ impl Program {
     {
         let mut places: Vec<Option<Insn>> = Vec::new(alloc);
         for insn in &insns {
-            if places.push(Some(*insn)).is_err() {
-                return Err(NoProgram::NoMemory);
-            }
+            places.push(Some(*insn))?;
             if is_pair(*insn) {
-                if places.push(None).is_err() {
-                    return Err(NoProgram::NoMemory);
-                }
+                places.push(None)?;
             }
         }
         // Tested once all are there, since only then it is known how many slots they take: a pair takes two.

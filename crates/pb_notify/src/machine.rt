@@ -123,13 +123,17 @@ impl Machine {
     }
 
     /// Declares what the run of this observer leaves, with register 0, once its exit is done. Refused for memory, it is
-    /// before its exit again.
-    pub fn exit(self, alloc: Global, observer: ObserverNo) -> Result<(u64, Declaration), Machine>
+    /// before its exit again, and comes back with the refused growth.
+    pub fn exit(
+        self,
+        alloc: Global,
+        observer: ObserverNo,
+    ) -> Result<(u64, Declaration), (Machine, NoMemory)>
         requires { (v : Position) × (r : ℕ) × MovesOn v (Ended r) self }
         ensures ok { (v : Position) (r : ℕ) → MovesOn v (Ended r) self
             → IfOk result (λ d. Ends observer v d.0 d.1) }
         ensures same { (v : Position) (r : ℕ) → MovesOn v (Ended r) self
-            → IfErr result (λ m. m ≡ v) }
+            → IfErr result (λ e. e.0 ≡ v) }
     {
         match self.standing {
             Standing::Running(vm) => {
@@ -159,29 +163,31 @@ fn declare(
     left: Finished,
     taken: u16,
     slot: usize,
-) -> Result<(u64, Declaration), Machine>
+) -> Result<(u64, Declaration), (Machine, NoMemory)>
     requires leaves { Leaves (exit_at left taken) left }
     requires at { IsAtSlot (exit_at left taken) slot }
     ensures ok { IfOk result (λ d. Ends observer (exit_at left taken) d.0 d.1) }
-    ensures same { IfErr result (λ m. m ≡ exit_at left taken) }
+    ensures same { IfErr result (λ e. e.0 ≡ exit_at left taken) }
 {
     let end = left.result();
-    let left = match EndedRun::new(alloc, left) {
+    let (left, refused) = match EndedRun::new(alloc, left) {
         Ok(run) => match Declaration::new(alloc, Declared::Run(observer, run)) {
             Ok(what) => return Ok((end, what)),
-            Err(failed) => match failed.value {
-                Declared::Run(_, run) => run.into_finished(),
-                Declared::Script(_) => unreachable!(),
-            },
+            Err(failed) => {
+                let (what, refused) = NoMemory::with_value(failed);
+                match what {
+                    Declared::Run(_, run) => (run.into_finished(), refused),
+                    Declared::Script(_) => unreachable!(),
+                }
+            }
         },
-        Err(failed) => failed.value,
+        Err(failed) => NoMemory::with_value(failed),
     };
-    Err(Machine {
-        standing: Standing::Exited {
-            left,
-            taken,
-            slot,
-            again: false,
-        },
-    })
+    let standing = Standing::Exited {
+        left,
+        taken,
+        slot,
+        again: false,
+    };
+    Err((Machine { standing }, refused))
 }

@@ -317,12 +317,12 @@ fn leads(
     start: Ts,
     machine: Machine,
     moved: Moved,
-) -> Result<RunPlace, Machine>
+) -> Result<RunPlace, (Machine, NoMemory)>
     requires { (v : Position) × MovesOn v moved machine }
     ensures ok { (v : Position) → MovesOn v moved machine → IfOk result (Comes observer start v) }
     ensures left { IsStop moved → IfOk result (λ p. need_at p ≢ Local) }
     ensures same { (v : Position) → MovesOn v moved machine
-        → IfErr result (λ m. (m ≡ v) × IsAtExit v) }
+        → IfErr result (λ e. (e.0 ≡ v) × IsAtExit v) }
 {
     match moved {
         Moved::Went => Ok(RunPlace::Computing(start, machine)),
@@ -363,7 +363,7 @@ pub fn begin(
         }
         // The first instruction is the exit, and its declaration was refused: the machine goes, since a start leads
         // there again.
-        Err(_) => Err(NoMemory),
+        Err((_, refused)) => Err(refused),
     }
 }
 
@@ -391,9 +391,9 @@ pub fn leave(
             *place = next;
             Ok(())
         }
-        Err(machine) => {
+        Err((machine, refused)) => {
             *place = RunPlace::Computing(start, machine);
-            Err(NoMemory)
+            Err(refused)
         }
     }
 }

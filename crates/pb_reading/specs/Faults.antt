@@ -1,6 +1,6 @@
 -- Which fault is told of a text: that of its first line at fault, by the line's number and the code's. Readers of
 -- programs' texts, scripts and schedules promise it by these words, and so do their laws.
-use Rattle.std.specs.Prelude.{◌≡◌, ◌⊎◌, ℕ, ◌+◌, List, ◌∷◌, ◌++◌, length, Result, Ok, Err, codes, decimal}
+use Rattle.std.specs.Prelude.{◌≡◌, ℕ, ◌+◌, List, ◌∷◌, ◌++◌, length, Result, Ok, Err, codes, decimal}
 use Rattle.pb_reading.specs.declared.fault.LineFault.{LineFault}
 use Rattle.pb_reading.specs.declared.fault.TextFault.{TextFault}
 use Rattle.pb_reading.specs.Reading.{lines_of, in_turn, numbered}
@@ -8,7 +8,7 @@ use Rattle.pb_reading.specs.Reading.{lines_of, in_turn, numbered}
 -- what reading gives where a line wasn't taken for this: that fault. Of want of memory nothing follows, since no contract
 -- can say when there is any
 abbrev pub Ends : {Y C : Type 0} → LineFault C → Result Y C → Type 0
-Ends LineFault.NoMemory read = Unit {0}
+Ends (LineFault.NoMemory refused) read = Unit {0}
 Ends (LineFault.Code c) read = read ≡ Err c
 
 -- what was returned of a line, seen by view, is what reading gives, unless memory ran out
@@ -16,9 +16,15 @@ abbrev pub ReadsLine : {X Y C : Type 0} → (X → Y) → Result X (LineFault C)
 ReadsLine view (Ok x) read = read ≡ Ok (view x)
 ReadsLine view (Err fault) read = Ends fault read
 
--- how want of memory is told: no line has number 0, so that it is taken for no other
-abbrev pub no_memory_told : TextFault
-no_memory_told = record { line = 0; code = 1 }
+-- the line that a fault is told by; want of memory is no line's
+abbrev pub line_told : TextFault → ℕ
+line_told (TextFault.NoMemory refused) = 0
+line_told (TextFault.At line code) = line
+
+-- the number that it is told by
+abbrev pub code_told : TextFault → ℕ
+code_told (TextFault.NoMemory refused) = 1
+code_told (TextFault.At line code) = code
 
 -- a fault's words, without a newline
 abbrev pub line_and_code : ℕ → ℕ → List ℕ
@@ -27,7 +33,8 @@ line_and_code line code = codes "line " ++ (decimal line ++ (codes " code " ++ d
 -- what was returned of a text, seen by view, is what reading gives, unless memory ran out
 abbrev pub ReadsText : {X Y : Type 0} → (X → Y) → Result X TextFault → Result Y (ℕ × ℕ) → Type 0
 ReadsText view (Ok x) read = read ≡ Ok (view x)
-ReadsText view (Err f) read = (f ≡ no_memory_told) ⊎ (read ≡ Err (f.line, f.code))
+ReadsText view (Err (TextFault.NoMemory refused)) read = Unit {0}
+ReadsText view (Err (TextFault.At line code)) read = read ≡ Err (line, code)
 
 -- the lines one after the other, each after what those before it made; the first fault ends it, and is told by the
 -- number of its line, to which skipped lines count, and by that of its code

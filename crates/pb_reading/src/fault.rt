@@ -1,73 +1,91 @@
 //! What ends a reading: inside a text a code of the format, or want of memory; at the public edge a line and a number.
 ghost use Rattle.std.specs.Prelude.{◌≡◌, ◌<◌, ◌+◌};
-ghost use Rattle.pb_reading.specs.Faults.{no_memory_told};
+ghost use Rattle.pb_base.specs.Growths.{refused_growth};
+ghost use Rattle.pb_reading.specs.Faults.{line_told, code_told};
+ghost use Rattle.pb_reading.specs.declared.fault.TextFault.TheVariants.{At};
 ghost use Rattle.pb_reading.specs.declared.fault.LineFault.TheVariants.{NoMemory};
 
+use pb_base::NoMemory;
 use std::alloc::{AllocError, AllocFailed};
 use std::error::Error;
 use std::fmt;
 
 /// Why a line wasn't taken. A format's codes have no case of memory, since no line is at fault for that.
-#[derive(Clone, Copy, Debug, PartialEq, Eq, Drop)]
+#[derive(Debug, PartialEq, Eq, Drop)]
 pub enum LineFault<C> {
     /// A growth was refused.
-    NoMemory,
+    NoMemory(NoMemory),
     /// What is wrong with the line.
     Code(C),
 }
 
 impl<C> From<AllocError> for LineFault<C> {
-    ghost from_gives = { λ _ e. e ≡ NoMemory };
+    ghost from_gives = { λ _ e. e ≡ NoMemory refused_growth };
 
-    fn from(_e: AllocError) -> LineFault<C> {
-        LineFault::NoMemory
+    fn from(e: AllocError) -> LineFault<C> {
+        LineFault::NoMemory(NoMemory::from(e))
     }
 }
 
 impl<T: Drop, C> From<AllocFailed<T>> for LineFault<C> {
-    ghost from_gives = { λ _ e. e ≡ NoMemory };
+    ghost from_gives = { λ _ e. e ≡ NoMemory refused_growth };
 
-    fn from(_e: AllocFailed<T>) -> LineFault<C> {
-        LineFault::NoMemory
+    fn from(e: AllocFailed<T>) -> LineFault<C> {
+        LineFault::NoMemory(NoMemory::from(e))
     }
 }
 
-/// A fault as it is told: the line, from 1, and the number of its code. What is no line's has line 0, as want of memory,
-/// which has code 1.
-#[derive(Clone, Copy, Debug, PartialEq, Eq, Drop)]
-pub struct TextFault {
-    pub line: usize,
-    pub code: u8,
+/// A fault of a text. Want of memory is told as line 0 and code 1, and is made of a refused growth alone.
+#[derive(Debug, PartialEq, Eq, Drop)]
+pub enum TextFault {
+    /// A growth was refused, whichever line was read.
+    NoMemory(NoMemory),
+    /// The line, from 1, and the number of its code. What is no line's has line 0.
+    At { line: usize, code: u8 },
 }
 
 impl TextFault {
     /// At the line of this index, which is counted from 0, where lines are told from 1.
     pub fn at(index: usize, code: u8) -> TextFault
         requires { index < usize.MAX }
-        ensures { result ≡ record { line = index + 1; code = code } }
+        ensures { result ≡ At (index + 1) code }
     {
-        TextFault {
+        TextFault::At {
             line: index + 1,
             code,
         }
     }
 
-    /// Want of memory, whichever line was read.
-    pub fn no_memory() -> TextFault
-        ensures { result ≡ no_memory_told }
+    /// The line that it is told by, from 1; 0 where it is no line's.
+    pub fn line(&self) -> usize
+        ensures { result ≡ line_told self.now }
     {
-        TextFault { line: 0, code: 1 }
+        match self {
+            TextFault::NoMemory(_) => 0,
+            TextFault::At { line, .. } => *line,
+        }
+    }
+
+    /// The number that it is told by.
+    pub fn code(&self) -> u8
+        ensures { result ≡ code_told self.now }
+    {
+        match self {
+            TextFault::NoMemory(_) => 1,
+            TextFault::At { code, .. } => *code,
+        }
     }
 }
 
 impl fmt::Display for TextFault {
     ghost use Rattle.std.specs.Prelude.{Some};
-    ghost use Rattle.pb_reading.specs.Faults.{line_and_code};
+    ghost use Rattle.pb_reading.specs.Faults.{line_and_code, line_told, code_told};
 
-    ghost output = { λ f. Some (line_and_code f.line f.code) };
+    ghost output = { λ f. Some (line_and_code (line_told f) (code_told f)) };
 
     fn fmt<W: fmt::Write>(&self, f: &mut fmt::Formatter<W>) -> fmt::Result {
-        let TextFault { line, code } = *self;
+        let line = self.line();
+        let code = self.code();
         write!(f, "line {line} code {code}")
     }
 }

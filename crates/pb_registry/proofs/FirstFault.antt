@@ -11,7 +11,7 @@ use Rattle.pb_isa.specs.declared.profile.Profile.{Profile}
 use Rattle.pb_verify.specs.Observers.{ObserverOf}
 use Rattle.pb_registry.specs.declared.code.ManifestCode.{ManifestCode}
 use Rattle.pb_registry.specs.declared.fault.RegistryFault.{RegistryFault}
-use Rattle.pb_registry.specs.Codes.{is_memory}
+use Rattle.pb_registry.specs.Codes.{is_memory, memory}
 use Rattle.pb_registry.specs.Judging.{IsObserver, AreObservers, HasOneMore, IsLowestAfter, IsFirstElementFault, TellsFault, names_of, fault_with, fault_at}
 
 -- before the first element there are no observers
@@ -38,9 +38,9 @@ module _ (p : Profile) (vs : List Value) (i : ℕ) (v : Value) (lt : i < length 
     fault = fault;
   }
 
-  pub told_fault : (code : ManifestCode) (f : RegistryFault) → f ≡ fault_at i code → (code ≢ ManifestCode.Memory → IsLowestAfter (names_of old) p (view v) code) → (f ≡ fault_with None ManifestCode.Memory) ⊎ TellsFault (Ok (record { profile = p; elements = map view vs })) f
+  pub told_fault : (code : ManifestCode) (f : RegistryFault) → f ≡ fault_at i code → (code ≢ memory → IsLowestAfter (names_of old) p (view v) code) → (f ≡ fault_with None memory) ⊎ TellsFault (Ok (record { profile = p; elements = map view vs })) f
   told_fault code f is fault = by (is_memory code) refl
     where
-      by : (b : Bool) → is_memory code ≡ b → (f ≡ fault_with None ManifestCode.Memory) ⊎ TellsFault (Ok (record { profile = p; elements = map view vs })) f
-      by true m = inl (is ∙ ap (λ b. if b then fault_with None ManifestCode.Memory else fault_with (Some i) code) m)
-      by false m = inr (i, code, first_fault code (fault (λ e. true≢false (sym (ap is_memory e) ∙ m))), is ∙ ap (λ b. if b then fault_with None ManifestCode.Memory else fault_with (Some i) code) m)
+      by : (b : Bool) → is_memory code ≡ b → (f ≡ fault_with None memory) ⊎ TellsFault (Ok (record { profile = p; elements = map view vs })) f
+      by true m = inl (is ∙ ap (λ b. if b then fault_with None memory else fault_with (Some i) code) m)
+      by false m = inr (i, code, first_fault code (fault (λ e. true≢false (sym (ap is_memory e) ∙ m))), is ∙ ap (λ b. if b then fault_with None memory else fault_with (Some i) code) m)

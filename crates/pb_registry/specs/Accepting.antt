@@ -28,5 +28,5 @@ IsRefusedCode profile version bytes helpers slot code =
 
 -- memory was refused, or that is the fault
 abbrev pub IsAcceptFault : Profile → Version → List ℕ → HelperSet → VerifyFault → Type 0
-IsAcceptFault profile version bytes helpers VerifyFault.NoMemory = Unit {0}
+IsAcceptFault profile version bytes helpers (VerifyFault.NoMemory refused) = Unit {0}
 IsAcceptFault profile version bytes helpers (VerifyFault.Refused r) = IsRefusedCode profile version bytes helpers r.slot r.code

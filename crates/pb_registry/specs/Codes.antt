@@ -1,11 +1,12 @@
 -- How the codes of a manifest's faults are told. Readers speak of codes by name; three have one number.
 use Rattle.std.specs.Prelude.{ℕ, Bool, true, false, Option, Some, None}
 use Rattle.pb_base.specs.declared.refusal.Refused.{Refused}
+use Rattle.pb_base.specs.Growths.{refused_growth}
 use Rattle.pb_registry.specs.declared.code.ManifestCode.{ManifestCode}
 
 -- 1 where memory ran out, else the number that docs/CODES.md explains
 abbrev pub number_of : ManifestCode → ℕ
-number_of ManifestCode.Memory = 1
+number_of (ManifestCode.Memory refused) = 1
 number_of ManifestCode.Text = 50
 number_of ManifestCode.Form = 51
 number_of ManifestCode.TooMany = 52
@@ -21,7 +22,11 @@ abbrev pub refusal_of : ManifestCode → Option Refused
 refusal_of (ManifestCode.Program r) = Some r
 refusal_of c = None
 
--- the code of want of memory
+-- want of memory
+abbrev pub memory : ManifestCode
+memory = ManifestCode.Memory refused_growth
+
+-- whether it is that
 abbrev pub is_memory : ManifestCode → Bool
-is_memory ManifestCode.Memory = true
+is_memory (ManifestCode.Memory refused) = true
 is_memory _ = false

@@ -1,6 +1,7 @@
 -- How the fault of a manifest is told, behind `manifest: ` in its line. `Display` of `RegistryFault` cites it.
 use Rattle.std.specs.Prelude.{ℕ, List, ◌++◌, codes, Option, Some, None, decimal}
 use Rattle.pb_base.specs.declared.refusal.Refused.{Refused}
+use Rattle.pb_registry.specs.Codes.{number_of, refusal_of}
 use Rattle.pb_registry.specs.declared.fault.RegistryFault.{RegistryFault}
 
 -- the place, the code, and of a program the slot and the code there; a program's refusal always has a place
@@ -11,4 +12,4 @@ fault_words (Some observer) code (Some r) = codes "observer " ++ (decimal observ
 
 -- a fault's words, without a newline
 abbrev pub fault_text : RegistryFault → List ℕ
-fault_text f = fault_words f.observer f.code f.program
+fault_text f = fault_words f.observer (number_of f.cause) (refusal_of f.cause)

@@ -10,7 +10,9 @@ use Rattle.pb_verify.specs.Observers.{ObserverOf}
 use Rattle.pb_registry.specs.declared.code.ManifestCode.{ManifestCode}
 use Rattle.pb_registry.specs.declared.fault.RegistryFault.{RegistryFault}
 use Rattle.pb_registry.specs.Accepting.{IsAcceptedCode, IsRefusedCode}
-use Rattle.pb_registry.specs.Codes.{number_of, refusal_of, is_memory}
+use Rattle.pb_base.specs.Growths.{refused_growth}
+use Rattle.pb_base.specs.declared.refusal.NoMemory.{NoMemory}
+use Rattle.pb_registry.specs.Codes.{is_memory, memory}
 use Rattle.pb_registry.specs.Manifests.{WrittenOf, ManifestOf, text_at, members_of, manifest_of_text}
 
 -- an observer as it is written, with the program that its code is in this profile
@@ -73,16 +75,20 @@ pub record IsFirstElementFault (p : Profile) (ds : List Data) (place : ℕ) (cod
 
 -- how a code is told, of the whole or of the observer at a place
 abbrev pub fault_with : Option ℕ → ManifestCode → RegistryFault
-fault_with place c = record { observer = place; code = number_of c; program = refusal_of c }
+fault_with place c = record { observer = place; cause = c }
 
 -- how a code is told of the observer at a place; want of memory has no place, since it is no observer's fault
 abbrev pub fault_at : ℕ → ManifestCode → RegistryFault
-fault_at place c = if is_memory c then fault_with None ManifestCode.Memory else fault_with (Some place) c
+fault_at place c = if is_memory c then fault_with None memory else fault_with (Some place) c
 
 -- observers are taken only where the whole has no fault
 abbrev pub AreTaken : Result ManifestOf ManifestCode → List ObserverOf → Type 0
 AreTaken (Ok m) os = AreObservers m.profile m.elements os
 AreTaken (Err c) os = ⊥
+
+-- the refused growth that a fault was made of, or else the fault itself
+abbrev pub memory_in : RegistryFault → Result NoMemory RegistryFault
+memory_in f = if is_memory f.cause then Ok refused_growth else Err f
 
 -- the fault of the whole, or that of the first observer at fault
 abbrev pub TellsFault : Result ManifestOf ManifestCode → RegistryFault → Type 0
@@ -97,4 +103,4 @@ ReadsManifest text (Err f) = TellsFault (manifest_of_text text) f
 -- a manifest is taken with the observers that it says, and refused with its fault, unless memory ran out
 abbrev pub IsJudged : Result (List ObserverOf) RegistryFault → List ℕ → Type 0
 IsJudged (Ok os) text = ReadsManifest text (Ok os)
-IsJudged (Err f) text = (f ≡ fault_with None ManifestCode.Memory) ⊎ ReadsManifest text (Err f)
+IsJudged (Err f) text = (f ≡ fault_with None memory) ⊎ ReadsManifest text (Err f)

@@ -26,7 +26,7 @@ pub fn accept_in(
     match decode_in(alloc, profile, bytes) {
         Ok(program) => verify_for(alloc, program, helpers, version),
         Err(DecodeFault::Refused(refused)) => Err(VerifyFault::Refused(refused)),
-        Err(DecodeFault::NoMemory) => Err(VerifyFault::NoMemory),
+        Err(DecodeFault::NoMemory(e)) => Err(VerifyFault::NoMemory(e)),
     }
 }
 

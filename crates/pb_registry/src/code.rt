@@ -2,13 +2,13 @@
 ghost use Rattle.std.specs.Prelude.{◌≡◌};
 ghost use Rattle.pb_registry.specs.Codes.{number_of, refusal_of};
 
-use pb_base::Refused;
+use pb_base::{NoMemory, Refused};
 
 /// What is wrong with a manifest.
-#[derive(Clone, Copy, Debug, PartialEq, Eq)]
+#[derive(Debug, PartialEq, Eq, Drop)]
 pub enum ManifestCode {
-    /// No memory.
-    Memory,
+    /// A growth was refused.
+    Memory(NoMemory),
     /// Not read as JSON.
     Text,
     /// Wrong members, types or profile.
@@ -31,11 +31,11 @@ pub enum ManifestCode {
 
 impl ManifestCode {
     /// The number by which a code is told.
-    pub fn number(self) -> u8
-        ensures { result ≡ number_of self }
+    pub fn number(&self) -> u8
+        ensures { result ≡ number_of self.now }
     {
         match self {
-            ManifestCode::Memory => 1,
+            ManifestCode::Memory(_) => 1,
             ManifestCode::Text => 50,
             ManifestCode::Form => 51,
             ManifestCode::TooMany => 52,
@@ -47,11 +47,11 @@ impl ManifestCode {
     }
 
     /// Where the observer's program is refused.
-    pub fn refusal(self) -> Option<Refused>
-        ensures { result ≡ refusal_of self }
+    pub fn refusal(&self) -> Option<Refused>
+        ensures { result ≡ refusal_of self.now }
     {
         match self {
-            ManifestCode::Program(refused) => Some(refused),
+            ManifestCode::Program(refused) => Some(*refused),
             _ => None,
         }
     }

@@ -1,9 +1,9 @@
 //! How the fault of a manifest is told: by numbers, since the names of codes stay inside.
 ghost use Rattle.std.specs.Prelude.{◌≡◌};
-ghost use Rattle.pb_registry.specs.Judging.{fault_with, fault_at};
+ghost use Rattle.pb_registry.specs.Judging.{fault_with, fault_at, memory_in};
 
 use crate::code::ManifestCode;
-use pb_base::Refused;
+use pb_base::{NoMemory, Refused};
 use std::error::Error;
 use std::fmt;
 
@@ -12,11 +12,10 @@ use std::fmt;
 /// that isn't 1 to 32 of `a` to `z`, `0` to `9` and `-`, or that an observer before has, 54 a column over 15, or a helper
 /// that isn't 1 to 4 or named twice, or a record of another version than 1 and 2, 55 code that isn't pairs of the digits
 /// `0` to `9` and `a` to `f`, 56 a program that isn't accepted with its helpers. Where memory ran out the code is 1.
-#[derive(Clone, Copy, Debug, PartialEq, Eq, Drop)]
+#[derive(Debug, PartialEq, Eq, Drop)]
 pub struct RegistryFault {
-    pub observer: Option<u8>,
-    pub code: u8,
-    pub program: Option<Refused>,
+    observer: Option<u8>,
+    cause: ManifestCode,
 }
 
 impl fmt::Display for RegistryFault {
@@ -26,8 +25,8 @@ impl fmt::Display for RegistryFault {
     ghost output = { λ f. Some (fault_text f) };
 
     fn fmt<W: fmt::Write>(&self, f: &mut fmt::Formatter<W>) -> fmt::Result {
-        let code = self.code;
-        match (self.observer, self.program) {
+        let code = self.code();
+        match (self.observer(), self.program()) {
             (Some(observer), Some(Refused { slot, code: inner })) => {
                 write!(
                     f,
@@ -42,14 +41,52 @@ impl fmt::Display for RegistryFault {
 
 impl Error for RegistryFault {}
 
+impl RegistryFault {
+    ghost use Rattle.std.specs.Prelude.{Ok, Err};
+    ghost use Rattle.pb_registry.specs.Codes.{number_of, refusal_of};
+
+    /// The place of the observer that is at fault.
+    pub fn observer(&self) -> Option<u8>
+        ensures { result ≡ self.now.observer }
+    {
+        self.observer
+    }
+
+    /// The number that it is told by.
+    pub fn code(&self) -> u8
+        ensures { result ≡ number_of self.now.cause }
+    {
+        self.cause.number()
+    }
+
+    /// Where the observer's program is refused.
+    pub fn program(&self) -> Option<Refused>
+        ensures { result ≡ refusal_of self.now.cause }
+    {
+        self.cause.refusal()
+    }
+
+    /// The refused growth that it was made of, or else the fault itself.
+    pub fn memory(self) -> Result<NoMemory, RegistryFault>
+        ensures { result ≡ memory_in self }
+    {
+        match self.cause {
+            ManifestCode::Memory(e) => Ok(e),
+            cause => Err(RegistryFault {
+                observer: self.observer,
+                cause,
+            }),
+        }
+    }
+}
+
 /// A code as it is told: of the whole, or of the observer at a place.
 pub fn fault_with(observer: Option<u8>, code: ManifestCode) -> RegistryFault
     ensures { result ≡ fault_with observer code }
 {
     RegistryFault {
         observer,
-        code: code.number(),
-        program: code.refusal(),
+        cause: code,
     }
 }
 
@@ -58,7 +95,7 @@ pub fn fault_at(place: u8, code: ManifestCode) -> RegistryFault
     ensures { result ≡ fault_at place code }
 {
     match code {
-        ManifestCode::Memory => fault_with(None, code),
-        _ => fault_with(Some(place), code),
+        ManifestCode::Memory(e) => fault_with(None, ManifestCode::Memory(e)),
+        code => fault_with(Some(place), code),
     }
 }

@@ -7,14 +7,15 @@ ghost use Rattle.pb_registry.specs.Manifests.{member_count, number_at, elements_
 ghost use Rattle.pb_registry.specs.Views.{manifest_view};
 ghost use Rattle.pb_reading.specs.Reading.{Gives};
 ghost use Rattle.pb_registry.specs.Codes.{is_memory};
-ghost use Rattle.pb_registry.specs.declared.code.ManifestCode.TheVariants.{Memory, Text};
+ghost use Rattle.pb_registry.specs.declared.code.ManifestCode.TheVariants.{Text};
+ghost use Rattle.pb_registry.specs.Codes.{memory};
 
 use crate::code::ManifestCode;
-use pb_base::MAX_OBSERVERS;
+use pb_base::{MAX_OBSERVERS, NoMemory};
 use pb_isa::Profile;
 use serde_json::Value;
 use serde_json::error::Category;
-use std::alloc::Global;
+use std::alloc::{AllocError, Global};
 
 /// A manifest's profile, and what stands in its `observers`.
 #[derive(Clone, Copy)]
@@ -26,12 +27,12 @@ pub struct Manifest<'a> {
 /// The value that the text is read as. Of a member that is named twice the last one counts, as `serde_json` reads it.
 pub fn value_of(alloc: Global, text: &str) -> Result<Value, ManifestCode>
     ensures ok { IfOk result (λ v. read text.now ≡ Some (view v)) }
-    ensures err { IfErr result (λ e. e ≢ Memory → (e ≡ Text) × (read text.now ≡ None)) }
+    ensures err { IfErr result (λ e. e ≢ memory → (e ≡ Text) × (read text.now ≡ None)) }
 {
     match Value::from_str(alloc, text) {
         Ok(value) => Ok(value),
         Err(error) => match error.classify() {
-            Category::Memory => Err(ManifestCode::Memory),
+            Category::Memory => Err(ManifestCode::Memory(NoMemory::from(AllocError))),
             _ => Err(ManifestCode::Text),
         },
     }

@@ -3,7 +3,7 @@ ghost use Rattle.std.specs.Prelude.{◌≡◌, ◌≢◌, ◌≤◌, ◌⊎◌, 
 ghost use Rattle.std.specs.List.{IsDistinct};
 ghost use Rattle.std.specs.Str.{bytes_eq};
 ghost use Rattle.serde_json.specs.View.{view};
-ghost use Rattle.pb_registry.specs.declared.code.ManifestCode.TheVariants.{Memory};
+ghost use Rattle.pb_registry.specs.Codes.{memory};
 ghost use Rattle.pb_registry.specs.Observers.{observers_of};
 ghost use Rattle.pb_registry.specs.Judging.{AreObservers, HasOneMore, IsLowestAfter, TellsFault, is_used, names_of, fault_with};
 
@@ -12,7 +12,7 @@ use crate::fault::{RegistryFault, fault_at};
 use crate::form::text_at;
 use crate::observer::{RegisteredObserver, observer_in};
 use indexmap::IndexMap;
-use pb_base::MAX_OBSERVERS;
+use pb_base::{MAX_OBSERVERS, NoMemory};
 use pb_isa::Profile;
 use pb_verify::Observer;
 use serde_json::Value;
@@ -41,7 +41,7 @@ fn add_observer(
     ensures apart { OnOk result (IsDistinct bytes_eq
         (names_of (observers_of observers.new.entries))) }
     ensures err { IfErr result
-        (λ c. c ≢ Memory → IsLowestAfter (names_of (observers_of observers.old.entries)) profile
+        (λ c. c ≢ memory → IsLowestAfter (names_of (observers_of observers.old.entries)) profile
         (view element.now) c) }
 {
     if is_used(observers, element) {
@@ -54,7 +54,7 @@ fn add_observer(
     } = observer_in(alloc, profile, element)?;
     match observers.insert(name, RegisteredObserver { column, program }) {
         Ok(_) => Ok(()),
-        Err(_) => Err(ManifestCode::Memory),
+        Err(e) => Err(ManifestCode::Memory(NoMemory::from(e))),
     }
 }
 
@@ -67,7 +67,7 @@ pub fn observers_in(
     requires { length elements.now ≤ MAX_OBSERVERS }
     ensures ok { IfOk result (λ m. AreObservers profile (map view elements.now)
         (observers_of m.entries)) }
-    ensures err { IfErr result (λ f. (f ≡ fault_with None Memory) ⊎ TellsFault
+    ensures err { IfErr result (λ f. (f ≡ fault_with None memory) ⊎ TellsFault
         (Ok (record { profile = profile; elements = map view elements.now })) f) }
 {
     let mut observers = IndexMap::new(alloc);

@@ -7,7 +7,7 @@ use crate::form::{Manifest, value_of, whole_in};
 use crate::listing::observers_in;
 use crate::observer::RegisteredObserver;
 use indexmap::IndexMap;
-use pb_base::MAX_OBSERVERS;
+use pb_base::{MAX_OBSERVERS, NoMemory};
 use pb_verify::Observer;
 use std::alloc::Global;
 use std::marker::Model;
@@ -55,13 +55,14 @@ impl Registry {
 
     /// The observers as a table takes them, in the manifest's order. Where memory is refused, the registry is handed
     /// back.
-    pub fn into_observers(self, alloc: Global) -> Result<Vec<Observer>, Registry>
+    pub fn into_observers(self, alloc: Global) -> Result<Vec<Observer>, (Registry, NoMemory)>
         ensures same { IfOk result (λ v. v.items ≡ self) }
-        ensures kept { IfErr result (λ r. r ≡ self) }
+        ensures kept { IfErr result (λ r. r.0 ≡ self) }
     {
         // The one growth comes before anything moves, so that a refused one leaves the registry whole.
-        let Ok(mut observers) = Vec::with_capacity(alloc, self.observers.len()) else {
-            return Err(self);
+        let mut observers = match Vec::with_capacity(alloc, self.observers.len()) {
+            Ok(observers) => observers,
+            Err(e) => return Err((self, NoMemory::from(e))),
         };
         for (name, RegisteredObserver { column, program }) in self.observers {
             observers

@@ -4,24 +4,23 @@ ghost use Rattle.std.specs.List.{list_all, list_any};
 ghost use Rattle.std.specs.Char.{is_ascii_uppercase};
 ghost use Rattle.serde_json.specs.View.{view};
 ghost use Rattle.pb_registry.specs.Manifests.{is_name_letter, is_name, name_in, column_in, numbers_of, helpers_in, version_in, bytes_in, members_of, text_at, number_at, elements_at};
-ghost use Rattle.pb_registry.specs.declared.code.ManifestCode.TheVariants.{Memory};
 ghost use Rattle.pb_registry.specs.Helpers.{helpers_of};
 ghost use Rattle.pb_registry.specs.Accepting.{IsAcceptedCode};
 ghost use Rattle.pb_registry.specs.Judging.{IsProgramFault, IsOwnFault, IsObserver};
 ghost use Rattle.pb_registry.specs.Observers.{written_of};
 ghost use Rattle.pb_reading.specs.Reading.{Gives};
-ghost use Rattle.pb_registry.specs.Codes.{is_memory};
+ghost use Rattle.pb_registry.specs.Codes.{is_memory, memory};
 
 use crate::accepting::accept_in;
 use crate::code::ManifestCode;
 use crate::form::{elements_at, number_at, text_at};
 use hex::FromHexError;
-use pb_base::{COLUMNS, Column};
+use pb_base::{COLUMNS, Column, NoMemory};
 use pb_helpers::{HelperTable, Version};
 use pb_isa::Profile;
 use pb_verify::{Accepted, Observer, VerifyFault};
 use serde_json::Value;
-use std::alloc::Global;
+use std::alloc::{AllocError, Global};
 use std::sync::Arc;
 
 /// What a registry keeps of an observer beside its name, which is the map's key. The program is shared as it is read,
@@ -150,7 +149,7 @@ fn bytes_in(alloc: Global, value: &Value) -> Result<Vec<u8>, ManifestCode>
     }
     match hex::decode(alloc, digits) {
         Ok(bytes) => Ok(bytes),
-        Err(FromHexError::OutOfMemory) => Err(ManifestCode::Memory),
+        Err(FromHexError::OutOfMemory) => Err(ManifestCode::Memory(NoMemory::from(AllocError))),
         Err(_) => Err(ManifestCode::Digits),
     }
 }
@@ -163,15 +162,15 @@ fn program_in(
     helpers: HelperTable,
 ) -> Result<Arc<Accepted>, ManifestCode>
     ensures ok { IfOk result (λ p. IsAcceptedCode profile version bytes.now helpers p.value) }
-    ensures err { IfErr result (λ c. c ≢ Memory
+    ensures err { IfErr result (λ c. c ≢ memory
         → IsProgramFault profile version bytes.now helpers c) }
 {
     match accept_in(alloc, profile, version, bytes, helpers) {
         Ok(program) => match Arc::new(alloc, program) {
             Ok(program) => Ok(program),
-            Err(_) => Err(ManifestCode::Memory),
+            Err(e) => Err(ManifestCode::Memory(NoMemory::from(e))),
         },
-        Err(VerifyFault::NoMemory) => Err(ManifestCode::Memory),
+        Err(VerifyFault::NoMemory(e)) => Err(ManifestCode::Memory(e)),
         Err(VerifyFault::Refused(refused)) => Err(ManifestCode::Program(refused)),
     }
 }
@@ -181,7 +180,7 @@ fn copy_of(alloc: Global, text: &str) -> Result<String, ManifestCode>
 {
     match String::from_str(alloc, text) {
         Ok(copy) => Ok(copy),
-        Err(_) => Err(ManifestCode::Memory),
+        Err(e) => Err(ManifestCode::Memory(NoMemory::from(e))),
     }
 }
 
@@ -209,7 +208,7 @@ fn members_of(alloc: Global, value: &Value) -> Result<Written, ManifestCode>
 /// their codes and the program last.
 pub fn observer_in(alloc: Global, profile: Profile, value: &Value) -> Result<Observer, ManifestCode>
     ensures ok { IfOk result (IsObserver profile (view value.now)) }
-    ensures err { IfErr result (λ c. c ≢ Memory → IsOwnFault profile (view value.now) c) }
+    ensures err { IfErr result (λ c. c ≢ memory → IsOwnFault profile (view value.now) c) }
 {
     let Written {
         name,

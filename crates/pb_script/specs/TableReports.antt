@@ -33,4 +33,4 @@ pub record Began (shared : SharedOf) (out : Taking) : Type 0 where
 abbrev pub Reports : SharedOf → Taking → Result (Unit {0}) ReportFault → Type 0
 Reports shared out (Ok _) = Wrote shared out
 Reports shared out (Err ReportFault.Output) = Began shared out
-Reports shared out (Err ReportFault.NoMemory) = TookNothing out
+Reports shared out (Err (ReportFault.NoMemory refused)) = TookNothing out

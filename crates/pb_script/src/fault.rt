@@ -6,20 +6,20 @@ use pb_base::NoMemory;
 use thiserror::Error;
 
 /// Why a report ended before it was whole.
-#[derive(Clone, Copy, Debug, PartialEq, Eq, Drop, Error)]
+#[derive(Debug, PartialEq, Eq, Drop, Error)]
 pub enum ReportFault {
     /// A write failed, or took no byte.
     #[error("cannot write the output")]
     Output,
     /// A growth was refused. Nothing was written, since the text is made whole before its first write.
-    #[error("no memory")]
-    NoMemory,
+    #[error("{0}")]
+    NoMemory(NoMemory),
 }
 
 impl From<NoMemory> for ReportFault {
-    ghost from_gives = { λ _ e. e ≡ ends.NoMemory };
+    ghost from_gives = { λ e f. f ≡ ends.NoMemory e };
 
-    fn from(_e: NoMemory) -> ReportFault {
-        ReportFault::NoMemory
+    fn from(e: NoMemory) -> ReportFault {
+        ReportFault::NoMemory(e)
     }
 }

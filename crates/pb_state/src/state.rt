@@ -35,9 +35,10 @@ impl<T: Tablet> Model for State<T> {
 }
 
 impl<T: Tablet> State<T> {
-    ghost use Rattle.std.specs.Prelude.{◌≤◌, ◌<◌, ◌^◌, OnOk, OnErr, IfOk, IfErr, None, true, Some, option_map, length};
+    ghost use Rattle.std.specs.Prelude.{◌≤◌, ◌<◌, ◌^◌, OnOk, OnErr, IfOk, IfErr, None, true, Some, option_map, length, if◌then◌else◌};
     ghost use Rattle.std.specs.FinMap as map;
-    ghost use Rattle.pb_base.specs.Reasons.{refusal_by};
+    ghost use Rattle.pb_base.specs.Reasons.{refusal_by, memory_refusal};
+    ghost use Rattle.pb_base.specs.declared.refusal.Reason.TheVariants as reasons;
     ghost use Rattle.pb_store.specs.Contents.{nothing, is_nothing};
     ghost use Rattle.pb_store.specs.Tiles.{TellsSwapReason};
     ghost use Rattle.pb_steps.specs.State.{opening, phase_in};
@@ -191,6 +192,25 @@ impl<T: Tablet> State<T> {
         ensures refused { IfErr result (λ e. TellsSwapReason (T.contents tablet) place e.1) }
     {
         self.parts.table.swap(place, tablet)
+    }
+
+    /// As `swap`, but that a place beyond the last stands for the first one: so a caller that knows how many places there
+    /// are learns that an empty tablet was refused for memory alone, which the state's value doesn't say.
+    pub fn swap_within(&mut self, place: usize, tablet: T) -> Result<T, (T, Refusal)>
+        ensures same { self.new ≡ self.old }
+        ensures answered { IfOk result (λ old. T.contents old ≡ nothing) }
+        ensures accepted { OnOk result (is_nothing (T.contents tablet) ≡ true) }
+        ensures handed_back { IfErr result (λ e. T.contents e.0 ≡ nothing) }
+        ensures refused { IfErr result (λ e. e.1
+            ≡ (if is_nothing (T.contents tablet) then memory_refusal
+            else refusal_by reasons.NotEmpty)) }
+    {
+        let within = if place < self.parts.table.places() {
+            place
+        } else {
+            0
+        };
+        self.parts.table.swap(within, tablet)
     }
 
     /// Ends the table, with all that is in it.

@@ -1,5 +1,5 @@
 -- What an application of edits to one tablet, done or refused, does to all.
-use Rattle.std.proofs.Common.{◌≡◌, ℕ, ◌<◌, List, sym, ap, ◌∙◌, subst, arith, length, get_or, set, Result, OnOk, OnErr, false, is_err}
+use Rattle.std.proofs.Common.{◌≡◌, ℕ, ◌<◌, List, sym, ap, ◌∙◌, subst, arith, length, get_or, set, Result, OnOk, OnErr}
 use Rattle.pb_base.specs.declared.names.Row.{Row}
 use Rattle.pb_store.specs.declared.slot.Edit.{Edit}
 use Rattle.pb_store.specs.Contents.{Contents, after_edits, AreOfRow}
@@ -22,7 +22,3 @@ module _ {T : Type 0} (c : T → Contents) (parts : List (Row × T)) (i : ℕ) (
 
     pub joined_after : joined (tiles_of c (set parts i (p.0, t))) ≡ after_edits edits (joined (tiles_of c parts))
     joined_after = ap joined (tiles_changed c parts i p t lt e (after_edits edits) done) ∙ (edits_in_place edits row (tiles_of c parts) i of tiling place).same
-
--- a call that isn't refused has what it promises when it is done
-pub ok_holds : {U E : Type 0} (r : Result U E) (P : Type 0) → false ≡ is_err r → OnOk r P → P
-ok_holds r h e p = grind arith

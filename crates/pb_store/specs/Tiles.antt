@@ -1,12 +1,12 @@
 -- Tablets side by side, each with the rows from its first up to the next one's first. They are seen by what they
 -- contain, so that nothing here depends on a sort of tablet. The invariant of `Table` cites them.
-use Rattle.std.proofs.Common.{zero, suc, ◌≡◌, ℕ, unwrap_or, ◌<◌, ◌≤◌, Bool, true, List, [], ◌∷◌, ◌++◌, Option, None, Some, false, nat_lt, ◌&&◌, ◌==◌, if◌then◌else◌}
+use Rattle.std.proofs.Common.{zero, suc, ◌≡◌, ℕ, ◌<◌, ◌≤◌, Bool, true, List, [], ◌∷◌, ◌++◌, Option, None, Some, false, nat_lt, ◌&&◌, ◌==◌, if◌then◌else◌}
 use Rattle.std.specs.FinMap as map
 use Rattle.pb_base.specs.declared.cell.Cell.{Cell}
 use Rattle.pb_base.specs.declared.names.Row.{Row}
 use Rattle.pb_base.specs.declared.refusal.Reason.{Reason}
 use Rattle.pb_base.specs.declared.refusal.Refusal.{Refusal}
-use Rattle.pb_base.specs.Reasons.{refusal_by}
+use Rattle.pb_base.specs.Reasons.{refusal_by, memory_refusal}
 use Rattle.pb_base.specs.Cell.{row_of}
 use Rattle.pb_store.specs.declared.slot.Slot.{Slot}
 use Rattle.pb_store.specs.declared.slot.Item.{Item}
@@ -99,8 +99,13 @@ table_reason (tile ∷ tiles) =
 abbrev pub swap_reason : Contents → ℕ → ℕ → Option Reason
 swap_reason c place places = if is_nothing c then (if nat_lt place places then None else Some Reason.NoSuchPlace) else Some Reason.NotEmpty
 
+-- what a caller gets for this reason, and of want of memory where there is none
+abbrev pub refusal_or_want : Option Reason → Refusal
+refusal_or_want None = memory_refusal
+refusal_or_want (Some why) = refusal_by why
+
 -- this refusal tells that reason, or want of memory, for a table of some number of places
 pub record TellsSwapReason (c : Contents) (place : ℕ) (refusal : Refusal) : Type 0 where
   pub places : ℕ
   pub some : 0 < places
-  pub told : refusal ≡ refusal_by (unwrap_or (swap_reason c place places) Reason.NoMemory)
+  pub told : refusal ≡ refusal_or_want (swap_reason c place places)

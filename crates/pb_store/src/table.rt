@@ -1,12 +1,11 @@
 //! Tablets side by side, seen as one: calls of one row go to its tablet, and walks go from tablet to tablet.
-ghost use Rattle.std.specs.Prelude.{◌≡◌, ◌<◌, IfOk, IfErr, OnOk, OnErr, IfSome, None, Some, drop, length, slice_get, unwrap_or};
+ghost use Rattle.std.specs.Prelude.{◌≡◌, ◌<◌, IfOk, IfErr, OnOk, OnErr, IfSome, None, Some, drop, length, slice_get};
 ghost use Rattle.std.specs.FinMap as map;
 ghost use Rattle.std.specs.Option.{option_map};
 ghost use Rattle.pb_store.specs.Contents.{nothing, is_nothing, after_edits, entries_after, AreEdits, IsOfSort, IsNewest, IsNextMark};
 ghost use Rattle.pb_store.specs.TableOf.{TableOf, firsts_of};
-ghost use Rattle.pb_store.specs.Tiles.{tiles_of, IsPlace, IsStart, IsTiling, rise_from_zero, all_nothing, table_reason, swap_reason, all_entries, joined};
+ghost use Rattle.pb_store.specs.Tiles.{tiles_of, IsPlace, IsStart, IsTiling, rise_from_zero, all_nothing, table_reason, swap_reason, refusal_or_want, all_entries, joined};
 ghost use Rattle.pb_base.specs.Reasons.{TellsReason, refusal_by};
-ghost use Rattle.pb_base.specs.declared.refusal.Reason.TheVariants as reasons;
 
 use crate::copy::copy_all;
 use crate::slot::{Edit, Item, Slot, Sort};
@@ -267,9 +266,9 @@ impl<T: Tablet> Table<T> {
         ensures accepted { OnOk result (swap_reason (T.contents tablet) place
             (length self.old.firsts) ≡ None) }
         ensures handed_back { IfErr result (λ e. T.contents e.0 ≡ nothing) }
-        ensures refused { IfErr result (λ e. e.1 ≡ refusal_by
-            (unwrap_or (swap_reason (T.contents tablet) place
-            (length self.old.firsts)) reasons.NoMemory)) }
+        ensures refused { IfErr result (λ e. e.1 ≡ refusal_or_want
+            (swap_reason (T.contents tablet) place
+            (length self.old.firsts))) }
     {
         // In the order of `swap_reason`, and memory last, since the new tablet is written to once nothing else
         // refuses it.
@@ -281,8 +280,8 @@ impl<T: Tablet> Table<T> {
             return Err((clear_tablet(tablet), Reason::NoSuchPlace.refusal()));
         }
         let mut tablet = tablet;
-        if copy_all(&self.parts[place].1, &mut tablet).is_err() {
-            return Err((clear_tablet(tablet), Reason::NoMemory.refusal()));
+        if let Err(e) = copy_all(&self.parts[place].1, &mut tablet) {
+            return Err((clear_tablet(tablet), Refusal::from(e)));
         }
         let part = &mut self.parts[place];
         let old = mem::replace(&mut part.1, tablet);

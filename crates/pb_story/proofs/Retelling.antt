@@ -7,10 +7,10 @@ use Rattle.std.proofs.lemmas.Option.{slice_get_within, get_or_from_slice_get}
 use Rattle.pb_parse.specs.declared.event.Event.{Event}
 use Rattle.pb_world.specs.Events.{WorldOf}
 use Rattle.pb_script.specs.declared.fault.ReportFault.{ReportFault}
-use Rattle.pb_base.specs.Taking.{Taking, TookAll, TookPart}
+use Rattle.pb_base.specs.Taking.{Taking, TookAll, TookPart, TookNothing}
 use Rattle.pb_script.specs.TableReports.{Reports}
 use Rattle.pb_story.specs.declared.fault.StoryFault.{StoryFault}
-use Rattle.pb_story.specs.Stories.{Recounts, IsTold, EventEnds, AreTold, LinesEnd, StoryEnds}
+use Rattle.pb_story.specs.Stories.{Recounts, IsTold, EventEnds, AreTold, LeftOff, LinesEnd, StoryEnds}
 
 -- ---- one event more
 
@@ -69,7 +69,7 @@ told_to w es i v u e old mid now was failed StoryFault.Output is t end =
     let lines = recounts_next w es i t.lines v u e end.0 is t.recounts end.1 in
     let within : i + 1 ≤ length es = let lt = slice_get_within es i e is in omega (arith, lt) in
     record { count = i + 1; within = within; lines = t.lines ++ end.0; recounts = lines; taken = part_took old mid now was failed t.lines end.0 t.taken end.2 }
-told_to w es i v u e old mid now was failed StoryFault.NoMemory is t end =
+told_to w es i v u e old mid now was failed (StoryFault.NoMemory refused) is t end =
     record { count = i; before = v; told = told_still w (take i es) v old mid now was failed t end.1.0 end.1.1; rest = inr (e, is, end.0) }
 told_to w es i v u e old mid now was failed (StoryFault.Event f) is t end = grind arith
 
@@ -92,7 +92,7 @@ report_cut w es v old mid now was failed t r = inr (record {
 })
 
 -- where there is no memory for the report, all lines stand and no report follows
-pub report_unmade : (w : WorldOf) (es : List Event) (v : WorldOf) (old mid now : Option (List ℕ)) (was failed : Bool) → AreTold w es v (took old mid was) → Reports v.shared (took mid now failed) (Err ReportFault.NoMemory) → StoryEnds w es v (took old now failed) (Err StoryFault.NoMemory)
+pub report_unmade : (w : WorldOf) (es : List Event) (v : WorldOf) (old mid now : Option (List ℕ)) (was failed : Bool) → AreTold w es v (took old mid was) → TookNothing (took mid now failed) → LeftOff w es v (took old now failed)
 report_unmade w es v old mid now was failed t r =
     let all : take (length es) es ≡ es = take_all (length es) es (omega arith) in
     let told = told_still w es v old mid now was failed t r.0 r.1 in

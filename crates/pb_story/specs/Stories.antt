@@ -5,7 +5,6 @@ use Rattle.pb_parse.specs.declared.event.Event.{Event}
 use Rattle.pb_world.specs.declared.fault.EventFault.{EventFault}
 use Rattle.pb_world.specs.declared.fault.WorldFault.{WorldFault}
 use Rattle.pb_world.specs.declared.note.Note.{Note}
-use Rattle.pb_world.specs.Faults.{fault_code}
 use Rattle.pb_world.specs.Events.{WorldOf, fault_of, Happens}
 use Rattle.pb_base.specs.Taking.{Taking, TookAll, TookPart, TookNothing}
 use Rattle.pb_script.specs.TableReports.{IsReportIn}
@@ -28,16 +27,14 @@ pub record IsTold (w : WorldOf) (number : ℕ) (e : Event) (v : WorldOf) (line :
   pub happens : Happens w e note v
   pub is_line : IsLine w number e note v line
 
--- it is at fault by itself, with this number
-pub record IsAtFault (w : WorldOf) (e : Event) (code : ℕ) : Type 0 where
-  pub fault : EventFault
-  pub why : fault_of w e ≡ Some fault
-  pub code_is : code ≡ fault_code fault
+-- it is at fault by itself, with this fault
+abbrev pub IsAtFault : WorldOf → Event → EventFault → Type 0
+IsAtFault w e fault = fault_of w e ≡ Some fault
 
 -- why one event, that of this number, did nothing
 abbrev pub IsEventFault : WorldOf → ℕ → Event → WorldOf → StoryFault → Type 0
-IsEventFault w number e v (StoryFault.Event f) = (f.event ≡ number) × IsAtFault w e f.code × (v ≡ w)
-IsEventFault w number e v StoryFault.NoMemory = v ≡ w
+IsEventFault w number e v (StoryFault.Event f) = (f.event ≡ number) × IsAtFault w e f.fault × (v ≡ w)
+IsEventFault w number e v (StoryFault.NoMemory refused) = v ≡ w
 IsEventFault w number e v StoryFault.Output = ⊥
 
 -- memory was refused before it happened, or for its line after that
@@ -49,7 +46,7 @@ abbrev pub EventEnds : WorldOf → ℕ → Event → WorldOf → Taking → Resu
 EventEnds w number e v out (Ok _) = (line : List ℕ) × IsTold w number e v line × TookAll out line
 EventEnds w number e v out (Err StoryFault.Output) = (line : List ℕ) × IsTold w number e v line × TookPart out line
 EventEnds w number e v out (Err (StoryFault.Event f)) = IsEventFault w number e v (StoryFault.Event f) × TookNothing out
-EventEnds w number e v out (Err StoryFault.NoMemory) = IsUntold w e v × TookNothing out
+EventEnds w number e v out (Err (StoryFault.NoMemory refused)) = IsUntold w e v × TookNothing out
 
 -- ---- how all were told
 
@@ -72,7 +69,7 @@ pub record Stopped (w : WorldOf) (es : List Event) (v : WorldOf) (f : WorldFault
   pub told : AreTold w (take f.event es) v out
   pub event : Event
   pub there : slice_get es f.event ≡ Some event
-  pub at_fault : IsAtFault v event f.code
+  pub at_fault : IsAtFault v event f.fault
 
 -- there is an event of this number, and memory was refused for it or for its line
 abbrev pub IsUntoldAt : WorldOf → List Event → ℕ → WorldOf → Type 0
@@ -90,7 +87,7 @@ abbrev pub LinesEnd : WorldOf → List Event → WorldOf → Taking → Result (
 LinesEnd w es v out (Ok _) = AreTold w es v out
 LinesEnd w es v out (Err StoryFault.Output) = BeganLines w es v out
 LinesEnd w es v out (Err (StoryFault.Event f)) = Stopped w es v f out
-LinesEnd w es v out (Err StoryFault.NoMemory) = LeftOff w es v out
+LinesEnd w es v out (Err (StoryFault.NoMemory refused)) = LeftOff w es v out
 
 -- ---- the story of events in a world: their lines, and then the report of what they left
 
@@ -119,4 +116,4 @@ abbrev pub StoryEnds : WorldOf → List Event → WorldOf → Taking → Result 
 StoryEnds w es v out (Ok _) = WroteStory w es v out
 StoryEnds w es v out (Err StoryFault.Output) = BeganLines w es v out ⊎ BeganStory w es v out
 StoryEnds w es v out (Err (StoryFault.Event f)) = Stopped w es v f out
-StoryEnds w es v out (Err StoryFault.NoMemory) = LeftOff w es v out
+StoryEnds w es v out (Err (StoryFault.NoMemory refused)) = LeftOff w es v out

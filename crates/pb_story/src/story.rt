@@ -7,11 +7,11 @@ ghost use Rattle.pb_story.specs.Stories.{IsEventFault, EventEnds, LinesEnd, Stor
 
 use crate::fault::StoryFault;
 use crate::lines::{end_line, open_line};
-use pb_base::{Reason, Sink};
+use pb_base::Sink;
 use pb_parse::Event;
 use pb_script::{ReportFault, report};
 use pb_store::Tablet;
-use pb_world::{Note, World, WorldFault};
+use pb_world::{EventFault, Note, World, WorldFault};
 use std::alloc::Global;
 use std::slice;
 
@@ -27,16 +27,13 @@ fn happen<T: Tablet>(
 {
     match world.run(alloc, slice::from_ref(event)) {
         Ok(notes) => Ok(notes[0]),
-        Err(fault) => {
-            if fault.code == Reason::NoMemory.code() {
-                Err(StoryFault::NoMemory)
-            } else {
-                Err(StoryFault::Event(WorldFault {
-                    event: number,
-                    code: fault.code,
-                }))
-            }
-        }
+        Err(fault) => match fault.fault {
+            EventFault::NoMemory(refused) => Err(StoryFault::NoMemory(refused)),
+            fault => Err(StoryFault::Event(WorldFault {
+                event: number,
+                fault,
+            })),
+        },
     }
 }
 
@@ -98,6 +95,6 @@ pub fn tell_story<T: Tablet, S: Sink>(
     match report(alloc, sink, world.shared()) {
         Ok(()) => Ok(()),
         Err(ReportFault::Output) => Err(StoryFault::Output),
-        Err(ReportFault::NoMemory) => Err(StoryFault::NoMemory),
+        Err(ReportFault::NoMemory(refused)) => Err(StoryFault::NoMemory(refused)),
     }
 }

@@ -1,7 +1,7 @@
 //! Changes of a script: a begin, and then a plan, since only the begin's answer tells the start that a plan names.
 use crate::place::Outcome;
 use crate::plan::Plan;
-use pb_base::Batch;
+use pb_base::{Batch, NoMemory};
 use pb_steps::{Answer, Declaration, Declared, Step, Work};
 use std::alloc::Global;
 use std::marker::Model;
@@ -34,9 +34,9 @@ impl ChangeJob {
     ghost use Rattle.pb_txn.specs.Changes.{new_change, next_of, answered, outcome_of};
 
     /// The change of this batch. All its growths are here: refused for memory, it hands the batch back.
-    pub fn new(alloc: Global, batch: Batch) -> Result<ChangeJob, Batch>
+    pub fn new(alloc: Global, batch: Batch) -> Result<ChangeJob, (Batch, NoMemory)>
         ensures ok { IfOk result (λ j. j ≡ new_change batch) }
-        ensures handed_back { IfErr result (λ b. b ≡ batch) }
+        ensures handed_back { IfErr result (λ e. e.0 ≡ batch) }
     {
         match Declaration::new(alloc, Declared::Script(batch)) {
             Ok(what) => Ok(ChangeJob {
@@ -45,10 +45,13 @@ impl ChangeJob {
                 plan: None,
             }),
             // What was to be declared comes back, so that the batch is handed back without a copy.
-            Err(failed) => match failed.value {
-                Declared::Script(batch) => Err(batch),
-                Declared::Run(_, _) => unreachable!(),
-            },
+            Err(failed) => {
+                let (what, refused) = NoMemory::with_value(failed);
+                match what {
+                    Declared::Script(batch) => Err((batch, refused)),
+                    Declared::Run(_, _) => unreachable!(),
+                }
+            }
         }
     }
 

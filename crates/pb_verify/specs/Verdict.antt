@@ -17,7 +17,7 @@ pub record IsAccepted (v : Version) (p : ProgramOf) (h : HelperSet) (a : JudgedO
 
 -- memory was refused, or this is the first slot at fault with its lowest code
 abbrev pub IsVerifyFault : JudgedOf → VerifyFault → Type 0
-IsVerifyFault j VerifyFault.NoMemory = Unit {0}
+IsVerifyFault j (VerifyFault.NoMemory refused) = Unit {0}
 IsVerifyFault j (VerifyFault.Refused r) = (c : RuleCode) × (r.code ≡ code_number c) × Refuses j r.slot c
 
 -- the rules accept a program, or refuse it at one slot with one code, and not both

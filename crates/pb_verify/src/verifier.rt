@@ -20,12 +20,14 @@
 //! A read of `r7` at 7 would be refused with 21, since it isn't the same on both ways, and one of the byte with 26.
 ghost use Rattle.std.specs.Prelude.{◌≡◌, ◌<◌, ◌^◌, Some, None, true, if◌then◌else◌, IfOk, IfErr, IfNone};
 ghost use Rattle.pb_isa.specs.Slots.{slots};
+ghost use Rattle.pb_base.specs.Growths.{refused_growth};
 ghost use Rattle.pb_helpers.specs.declared.change.Version.TheVariants as Version;
 ghost use Rattle.pb_verify.specs.Versions.{judged_by};
 ghost use Rattle.pb_helpers.specs.Codes.{lowest_code};
 ghost use Rattle.pb_verify.specs.Arriving.{codes_at};
 ghost use Rattle.pb_verify.specs.Verdict.{IsAccepted, IsVerifyFault, EachHasOneVerdict};
 ghost use Rattle.pb_verify.specs.Within.{IsWithinIf};
+ghost use Rattle.pb_verify.specs.declared.verifier.VerifyFault.TheVariants.{NoMemory};
 
 use crate::accepted::Accepted;
 use crate::accesses::access_of;
@@ -34,20 +36,36 @@ use crate::following::step;
 use crate::op::Op;
 use crate::resolving::{resolve, resolve_next};
 use crate::rules::lowest_broken;
-use pb_base::Refused;
+use pb_base::{NoMemory, Refused};
 use pb_helpers::{HelperTable, RuleCode, Version};
 use pb_isa::{Insn, Program};
 use pb_kinds::{Frame, entry};
-use std::alloc::Global;
+use std::alloc::{AllocError, Global};
 use thiserror::Error;
 
 /// Why a program isn't accepted: memory was refused, or the rules fail, at a slot (from 0) and with a code from 21 to 38.
-#[derive(Clone, Copy, Debug, PartialEq, Eq, Drop, Error)]
+#[derive(Debug, PartialEq, Eq, Drop, Error)]
 pub enum VerifyFault {
-    #[error("no memory")]
-    NoMemory,
+    #[error("{0}")]
+    NoMemory(NoMemory),
     #[error("{0}")]
     Refused(Refused),
+}
+
+impl From<NoMemory> for VerifyFault {
+    ghost from_gives = { λ e f. f ≡ NoMemory e };
+
+    fn from(e: NoMemory) -> VerifyFault {
+        VerifyFault::NoMemory(e)
+    }
+}
+
+impl From<AllocError> for VerifyFault {
+    ghost from_gives = { λ _ f. f ≡ NoMemory refused_growth };
+
+    fn from(e: AllocError) -> VerifyFault {
+        VerifyFault::NoMemory(NoMemory::from(e))
+    }
 }
 
 // The lowest code of the rules that are broken at a slot with this instruction and this frame before it, if it is
@@ -100,13 +118,9 @@ pub fn verify_for(
     ensures accepted { IfOk result (IsAccepted version program helpers) }
     ensures refused { IfErr result (IsVerifyFault (judged_by version program helpers)) }
 {
-    let Ok(mut jumps) = no_jumps(alloc, program.slots()) else {
-        return Err(VerifyFault::NoMemory);
-    };
+    let mut jumps = no_jumps(alloc, program.slots())?;
     // Room for all operations before the pass, so that each is one push.
-    let Ok(mut ops) = Vec::<Op>::with_capacity(alloc, program.slots()) else {
-        return Err(VerifyFault::NoMemory);
-    };
+    let mut ops = Vec::<Op>::with_capacity(alloc, program.slots())?;
     let mut frame = entry();
     // The slot that the frame leads to in order.
     let mut next = 0;
@@ -129,10 +143,7 @@ pub fn verify_for(
         let access = access_of(&frame, insn);
         ops.push_reserved(resolve(slot, insn, access));
         step(&mut frame, insn);
-        next = match spread(alloc, &mut jumps, slot, insn, &frame) {
-            Ok(next) => next,
-            Err(_) => return Err(VerifyFault::NoMemory),
-        };
+        next = spread(alloc, &mut jumps, slot, insn, &frame)?;
     }
     Ok(Accepted::new(program, helpers, version, ops))
 }

@@ -1,11 +1,11 @@
 -- Tries of a change, and changes, one after another.
-use Rattle.std.proofs.Common.{◌≡◌, ◌≢◌, ℕ, ◌+◌, ◌*◌, ◌<◌, Bool, true, false, List, [], ◌∷◌, ◌++◌, length, length-append, Some, inl, inr, ◌⊎◌, refl, sym, ap, subst, ◌∙◌, arith, slice_get}
+use Rattle.std.proofs.Common.{◌≡◌, ◌≢◌, ℕ, ◌+◌, ◌*◌, ◌<◌, Bool, true, false, List, [], ◌∷◌, ◌++◌, length, length-append, Some, inl, inr, ◌⊎◌, refl, sym, ap, subst, ◌∙◌, arith, slice_get, Option}
 use Rattle.pb_base.specs.declared.refusal.Refusal.{Refusal}
 use Rattle.pb_base.specs.Batch.{Writes}
 use Rattle.pb_core.specs.Calls.{SeatOf}
 use Rattle.pb_txn.specs.Changes.{new_change, ChangesConverse}
 use Rattle.pb_worker.specs.declared.tries.TheConstants.{MAX_TRIES}
-use Rattle.pb_worker.specs.Gains.{Gains, IsWant}
+use Rattle.pb_worker.specs.Gains.{OpeningOf, Gains, IsWant}
 use Rattle.pb_worker.specs.Tries.{IsTry, AreVain, at_first, one_more, AreTries, AreTried, before_all, tried}
 use Rattle.pb_worker.specs.Stops.{TryStops, TriesStop, ChangesStop}
 use Rattle.pb_worker.proofs.Gaining.{gains_none, gains_on, renumbered}
@@ -24,8 +24,8 @@ module _ (batch : Writes) (count : ℕ) (a b : SeatOf) (vain : Gains (AreVain ba
   pub done : count < MAX_TRIES → (c : SeatOf) (committed : Bool) → committed ≡ true → Gains (IsTry batch committed) b c → Gains (AreTries batch true) a c
   done few c committed is h = grind (arith, gains_on)
 
-  pub tries_stop : count < MAX_TRIES → (c : SeatOf) (committed : Bool) (r : Refusal) → Gains (TryStops b.number batch committed r) b c → Gains (TriesStop a.number batch committed r) a c
-  tries_stop few c committed r h = gains_on a b c vain (renumbered (λ n. TryStops n batch committed r) b c b.number a.number vain.number h) (λ said more v t. record { count = count; few = few; vain = said; tries = v; part = more; stops = t; said_is = refl })
+  pub tries_stop : {opens : Option OpeningOf} → count < MAX_TRIES → (c : SeatOf) (committed : Bool) (r : Refusal) → Gains (TryStops opens b.number batch committed r) b c → Gains (TriesStop opens a.number batch committed r) a c
+  tries_stop {opens} few c committed r h = gains_on a b c vain (renumbered (λ n. TryStops opens n batch committed r) b c b.number a.number vain.number h) (λ said more v t. record { count = count; few = few; vain = said; tries = v; part = more; stops = t; said_is = refl })
 
 -- ---- change after change
 
@@ -47,10 +47,10 @@ module _ (batches : List Writes) (n first : ℕ) (flags : List Bool) (a b : Seat
   pub one_change : (c : SeatOf) (committed : Bool) → Gains (AreTries batch committed) b c → Gains (AreTried batches n first (flags ++ committed ∷ [])) a c
   one_change c committed h = gains_on a b c before h (λ said more t r. tried flags said batch committed more t at r)
 
-  pub changes_stop : (c : SeatOf) (committed : Bool) (r : Refusal) (done : List Bool) → (done ≡ flags ++ committed ∷ []) ⊎ ((done ≡ flags) × (committed ≡ false)) → Gains (TriesStop b.number batch committed r) b c → Gains (ChangesStop a.number batches n first done r) a c
+  pub changes_stop : {opens : Option OpeningOf} → (c : SeatOf) (committed : Bool) (r : Refusal) (done : List Bool) → (done ≡ flags ++ committed ∷ []) ⊎ ((done ≡ flags) × (committed ≡ false)) → Gains (TriesStop opens b.number batch committed r) b c → Gains (ChangesStop opens a.number batches n first done r) a c
   changes_stop c committed r done is h = grind (arith, gains_on, renumbered, b.number, a.number, before.number)
 
-  pub no_room : ChangesConverse → batch ≢ [] → (r : Refusal) → IsWant r → Gains (ChangesStop a.number batches n first flags r) a b
+  pub no_room : {opens : Option OpeningOf} → ChangesConverse → batch ≢ [] → (r : Refusal) → IsWant r → Gains (ChangesStop opens a.number batches n first flags r) a b
   no_room law some r want =
       changes_stop b false r flags (inr (refl, refl)) (gains_none b (record {
         count = 0;

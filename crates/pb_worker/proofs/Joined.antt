@@ -1,5 +1,5 @@
 -- What all workers did, said of their seats.
-use Rattle.std.proofs.Common.{◌≡◌, ℕ, zero, suc, ◌+◌, ◌-◌, ◌<◌, List, [], ◌∷◌, length, map, Option, None, refl, sym, ap, subst, ◌∙◌, arith, slice_index_or}
+use Rattle.std.proofs.Common.{◌≡◌, ℕ, zero, suc, ◌+◌, ◌-◌, ◌<◌, List, [], ◌∷◌, length, map, Option, Some, None, refl, sym, ap, subst, ◌∙◌, arith, slice_index_or}
 use Rattle.std.proofs.lemmas.List.{get_or-map}
 use Rattle.std.proofs.lemmas.Option.{slice_get-get_or}
 use Rattle.pb_base.specs.declared.refusal.Refusal.{Refusal}
@@ -8,7 +8,7 @@ use Rattle.pb_verify.specs.Observers.{ObserverOf}
 use Rattle.pb_history.specs.declared.entry.Entry.{Entry}
 use Rattle.pb_core.specs.Calls.{SeatOf, AreSeatsFrom}
 use Rattle.pb_worker.specs.declared.worker.Worker.{Worker}
-use Rattle.pb_worker.specs.Gains.{Gains}
+use Rattle.pb_worker.specs.Gains.{Gains, OpeningOf}
 use Rattle.pb_worker.specs.Swaps.{Spare}
 use Rattle.pb_worker.specs.Work.{share_of, IsWork, IsLastDrain, AllWork, WorkedOn, AreFilled, seats_in, refusals_in, flags_in, is_done, undone_below}
 
@@ -29,7 +29,7 @@ some_worker : (ws : List Worker) → 1 < length ws → Worker
 some_worker [] lt = absurd (omega (arith, lt))
 some_worker (w ∷ ws) lt = w
 
-module _ (observers : List ObserverOf) (batches : List Writes) (spares : List Spare) (olds news : List Worker) (journal : List Entry) (some : 1 < length olds) (are : AreSeatsFrom 0 journal (seats_in olds)) (all : AllWork observers batches spares olds news) where
+module _ {opening : OpeningOf} (observers : List ObserverOf) (batches : List Writes) (spares : List Spare) (olds news : List Worker) (journal : List Entry) (some : 1 < length olds) (are : AreSeatsFrom 0 journal (seats_in olds)) (all : AllWork opening observers batches spares olds news) where
   abbrev refusal_of : Worker → Option Refusal
   refusal_of w = w.refusal
 
@@ -51,14 +51,14 @@ module _ (observers : List ObserverOf) (batches : List Writes) (spares : List Sp
       ap (λ (s : SeatOf). s.number) (old_seat k e.seat lt) ∙ numbered 0 journal (seats_in olds) are k e.seat (subst (λ n. k < n) (sym (length_map (λ (w : Worker). w.seat) olds)) lt) ∙ plain
 
   one : (w : ℕ) (d : SeatOf) → w + 1 < length olds
-      → Gains (IsWork (w + 1) observers (share_of batches (length olds - 1) w) (flags_in news w) (slice_index_or (refusals_in news) (w + 1) None)) (slice_index_or (seats_in olds) (w + 1) d) (slice_index_or (seats_in news) (w + 1) d)
+      → Gains (IsWork (Some opening) (w + 1) observers (share_of batches (length olds - 1) w) (flags_in news w) (slice_index_or (refusals_in news) (w + 1) None)) (slice_index_or (seats_in olds) (w + 1) d) (slice_index_or (seats_in news) (w + 1) d)
   one w d lt = grind (arith, e, slice_get-get_or, number, refusal, old_seat, new_seat, all.workers, all.counted)
 
-  first : (d : SeatOf) → Gains (IsLastDrain spares 0 observers (slice_index_or (refusals_in news) 0 None)) (slice_index_or (seats_in olds) 0 d) (slice_index_or (seats_in news) 0 d)
+  first : (d : SeatOf) → Gains (IsLastDrain (Some opening) opening.places spares 0 observers (slice_index_or (refusals_in news) 0 None)) (slice_index_or (seats_in olds) 0 d) (slice_index_or (seats_in news) 0 d)
   first d = grind (arith, e, number, refusal, old_seat, new_seat, all.main)
 
   many : length (seats_in olds) ≡ length olds
   many = length_map (λ (w : Worker). w.seat) olds
 
-  pub joined : AreFilled batches → WorkedOn observers batches spares (seats_in olds) (seats_in news) (refusals_in news) (undone_below (is_done (flags_in news) (length news - 1)) (length batches))
+  pub joined : AreFilled batches → WorkedOn opening observers batches spares (seats_in olds) (seats_in news) (refusals_in news) (undone_below (is_done (flags_in news) (length news - 1)) (length batches))
   joined filled = grind (arith, length_map, many, one, first, all.counted)

@@ -1,5 +1,5 @@
 -- The committed script transactions of the journal are the changes of which a try committed, each once.
-use Rattle.std.proofs.Common.{◌≡◌, ℕ, zero, suc, ◌+◌, ◌-◌, ◌*◌, ◌/◌, ◌%◌, ◌<◌, ◌⊎◌, Bool, true, false, cond, eqb, List, [], ◌∷◌, ◌++◌, length, Option, None, inl, inr, refl, sym, ap, subst, ◌∙◌, add_comm, arith, slice_get, slice_index_or}
+use Rattle.std.proofs.Common.{◌≡◌, ℕ, zero, suc, ◌+◌, ◌-◌, ◌*◌, ◌/◌, ◌%◌, ◌<◌, ◌⊎◌, Bool, true, false, cond, eqb, List, [], ◌∷◌, ◌++◌, length, Option, Some, None, inl, inr, refl, sym, ap, subst, ◌∙◌, add_comm, arith, slice_get, slice_index_or}
 use Rattle.std.proofs.lemmas.Bool.{eqb-true, eqb-false, cases_lt, cases_order}
 use Rattle.std.proofs.lemmas.Nat.{div-mul-add, mod-mul-add}
 use Rattle.std.proofs.lemmas.Option.{slice_get_within}
@@ -22,7 +22,7 @@ use Rattle.pb_history.specs.TransactionsTold.{TellsTransactions}
 use Rattle.pb_core.specs.Calls.{SharedOf, SeatOf, AreSeats, AreSeatsFrom}
 use Rattle.pb_core.specs.Histories.{IsLegalTable}
 use Rattle.pb_txn.specs.Conversations.{told}
-use Rattle.pb_worker.specs.Gains.{Gains}
+use Rattle.pb_worker.specs.Gains.{Gains, OpeningOf}
 use Rattle.pb_worker.specs.Swaps.{Spare}
 use Rattle.pb_worker.specs.Work.{share_of, IsWork, IsLastDrain, WorkedOn, is_done, undone_below}
 use Rattle.pb_worker.specs.Agrees.{Agree}
@@ -30,7 +30,7 @@ use Rattle.pb_worker.specs.Laws.{IsMade, IsFinished, ChangesAreMade}
 use Rattle.pb_worker.proofs.Joined.{numbered}
 use Rattle.pb_worker.proofs.Committing.{commit_of}
 use Rattle.pb_worker.proofs.RunCommits.{HasBegunRun, of_last_drain}
-use Rattle.pb_worker.proofs.Starts.{AreStarts, IsStart, of_work}
+use Rattle.pb_worker.proofs.Starts.{HasTwice, twice_right, AreStarts, IsStart, of_work}
 use Rattle.pb_worker.proofs.SeatEntries.{in_journal, in_list, same_begin, begun_once, begun_by_seat}
 use Rattle.pb_base.proofs.Logic.{same_some, not_both as neither}
 use Rattle.pb_history.proofs.Updates.{has_before as has_left, has_right, has_which}
@@ -81,7 +81,7 @@ same_ts s t e = ap ts e
 
 -- ---- all together
 
-module _ (observers : List ObserverOf) (batches : List Writes) (spares : List Spare) (olds news : List SeatOf) (refusals : List (Option Refusal)) (unfinished : List ℕ) (before table : SharedOf) (empty : before.journal ≡ []) (are : AreSeats before olds) (some : 1 < length olds) (w : WorkedOn observers batches spares olds news refusals unfinished) (legal : IsLegalTable table) (agree : Agree table news) (tells : TellsTransactions table.journal table.state) where
+module _ {how : OpeningOf} (observers : List ObserverOf) (batches : List Writes) (spares : List Spare) (olds news : List SeatOf) (refusals : List (Option Refusal)) (unfinished : List ℕ) (before table : SharedOf) (are : AreSeats before olds) (some : 1 < length olds) (w : WorkedOn how observers batches spares olds news refusals unfinished) (legal : IsLegalTable table) (agree : Agree table news) (tells : TellsTransactions table.journal table.state) where
   abbrev n : ℕ
   n = length olds - 1
 
@@ -94,32 +94,54 @@ module _ (observers : List ObserverOf) (batches : List Writes) (spares : List Sp
   some_n : 0 < n
   some_n = omega (arith, some)
 
-  -- what a seat gained are its entries of the journal
-  gained : (P : List Received → Type 0) (k : ℕ) → k < length olds → Gains P (slice_index_or olds k nobody) (slice_index_or news k nobody) → P (list_of k)
+  -- this is how the seat's entries of the journal end, and all of them where the journal was empty before
+  record EndsList (k : ℕ) (said : List Received) : Type 0 where
+    front : List Received
+    whole : list_of k ≡ front ++ said
+    bare : before.journal ≡ [] → list_of k ≡ said
+
+  -- so end its entries with what a seat gained
+  gained : (P : List Received → Type 0) (k : ℕ) → k < length olds → Gains P (slice_index_or olds k nobody) (slice_index_or news k nobody) → (said : List Received) × EndsList k said × P said
   gained P k lt g =
       let old = slice_index_or olds k nobody in
       let new = slice_index_or news k nobody in
       let plain : 0 + k ≡ k = omega arith in
       let number : new.number ≡ k = g.number ∙ (numbered 0 before.journal olds are.each k nobody lt ∙ plain) in
-      let bare : old.received ≡ [] = listed 0 before.journal olds are.each k nobody lt ∙ ap (λ j. entries_of (0 + k) j) empty in
       let its = agree.told k nobody (subst (λ m. k < m) (sym w.seats) lt) in
-      let whole : list_of k ≡ g.said = ap list_of (sym number) ∙ its.same ∙ g.received ∙ ap (λ l. l ++ g.said) bare in
-      subst P (sym whole) g.are_such
+      let whole : list_of k ≡ old.received ++ g.said = ap list_of (sym number) ∙ its.same ∙ g.received in (
+        g.said,
+        record {
+          front = old.received;
+          whole = whole;
+          bare = λ empty.
+              let none : old.received ≡ [] = listed 0 before.journal olds are.each k nobody lt ∙ ap (λ j. entries_of (0 + k) j) empty in
+              whole ∙ ap (λ l. l ++ g.said) none;
+        },
+        g.are_such,
+      )
 
-  -- the starts of a worker's changes
-  starts : (wk : ℕ) → (start : ℕ → Ts) × (wk < n → AreStarts batches n wk (w.done wk) (list_of (wk + 1)) start)
+  -- what stands in it stands among the seat's entries
+  among : (k : ℕ) (said : List Received) → EndsList k said → (r : Received) → Has said r → Has (list_of k) r
+  among k said e r h = subst (λ l. Has l r) (sym e.whole) (has_right e.front said r h)
+
+  -- what a worker said, and the starts of its changes
+  record StartsOf (wk : ℕ) (said : List Received) (start : ℕ → Ts) : Type 0 where
+    ends : EndsList (wk + 1) said
+    are_starts : AreStarts batches n wk (w.done wk) said start
+
+  starts : (wk : ℕ) → (said : List Received) × (start : ℕ → Ts) × (wk < n → StartsOf wk said start)
   starts wk = elim (cases_lt wk n) [
     | inl lt ↦
         let within : wk + 1 < length olds = omega (arith, lt, some) in
         let refusal = slice_index_or refusals (wk + 1) None in
-        let work : IsWork (wk + 1) observers (share_of batches n wk) (w.done wk) refusal (list_of (wk + 1)) = gained (IsWork (wk + 1) observers (share_of batches n wk) (w.done wk) refusal) (wk + 1) within (w.workers wk nobody within) in
-        let s = of_work batches n wk w.filled (wk + 1) observers (w.done wk) refusal (list_of (wk + 1)) work in
-        (s.0, λ less. s.1)
-    | inr ge ↦ (λ j. ts 0, λ less. absurd (omega (arith, less, ge)))
+        let work = gained (IsWork (Some how) (wk + 1) observers (share_of batches n wk) (w.done wk) refusal) (wk + 1) within (w.workers wk nobody within) in
+        let s = of_work batches n wk w.filled (wk + 1) observers (w.done wk) (Some how) refusal work.0 work.2 in
+        (work.0, s.0, λ less. record { ends = work.1; are_starts = s.1 })
+    | inr ge ↦ ([], λ j. ts 0, λ less. absurd (omega (arith, less, ge)))
   ]
 
   abbrev start_of : ℕ → Ts
-  start_of i = (starts (i % n)).0 (i / n)
+  start_of i = (starts (i % n)).1 (i / n)
 
   small : (i : ℕ) → i % n < n
   small i = mod-lt i some_n
@@ -130,10 +152,11 @@ module _ (observers : List ObserverOf) (batches : List Writes) (spares : List Sp
   made : (i : ℕ) (batch : Writes) → IsFinished batches unfinished i batch → (m : Member) × IsMade table n i batch m × (m.start ≡ (start_of i).0)
   made i batch f =
       let wk = i % n in
-      let h = ((starts wk).1 (small i)).made (i / n) (flagged i batch f) in
+      let s = (starts wk).2 (small i) in
+      let h = s.are_starts.made (i / n) (flagged i batch f) in
       let place : wk + i / n * n ≡ i = mod-add-div' i n in
       let same : h.batch ≡ batch = same_some h.batch batch (sym h.at ∙ ap (slice_get batches) place ∙ f.there) in
-      let entered : (r : Received) → Has (list_of (wk + 1)) r → IsEntry table.journal (wk + 1) r.step r.answer = λ r k. in_journal (wk + 1) table.journal r k in
+      let entered : (r : Received) → Has (starts wk).0 r → IsEntry table.journal (wk + 1) r.step r.answer = λ r k. in_journal (wk + 1) table.journal r (among (wk + 1) (starts wk).0 s.ends r k) in
       let c = h.made in (
         record { start = (start_of i).0; commit = c.commit.0; seat = wk + 1; work = Work.Script; writes = h.batch },
         record {
@@ -153,47 +176,58 @@ module _ (observers : List ObserverOf) (batches : List Writes) (spares : List Sp
   abbrev IsChange : Ts → Type 0
   IsChange u = (i : ℕ) × (batch : Writes) × IsFinished batches unfinished i batch × (u.0 ≡ (start_of i).0)
 
-  of_start : (wk : ℕ) (u : Ts) → wk < n → IsStart (w.done wk) (starts wk).0 u → IsChange u
+  of_start : (wk : ℕ) (u : Ts) → wk < n → IsStart (w.done wk) (starts wk).1 u → IsChange u
   of_start wk u lt s =
       let i = wk + s.j * n in
       let turned : i ≡ s.j * n + wk = add_comm wk (s.j * n) in
       let worker : i % n ≡ wk = ap (λ k. k % n) turned ∙ mod-mul-add s.j n wk lt in
       let place : i / n ≡ s.j = ap (λ k. k / n) turned ∙ div-mul-add s.j n wk lt in
-      let start : start_of i ≡ (starts wk).0 s.j = λ k. (starts (worker k)).0 (place k) in (grind (arith, neither, not_done, s.flag, w.done, w.unfinished_are, s.same))
+      let start : start_of i ≡ (starts wk).1 s.j = λ k. (starts (worker k)).1 (place k) in (grind (arith, neither, not_done, s.flag, w.done, w.unfinished_are, s.same))
 
-  by_seat : (k : ℕ) (u : Ts) → k < length olds → IsEntry table.journal k (Step.Begin Work.Script) (Answer.At u) → Has (list_of k) (commit_of u) → (k ≡ 0) ⊎ ((wk : ℕ) × (k ≡ wk + 1)) → IsChange u
-  by_seat k u lt h c (inl is) =
+  by_seat : before.journal ≡ [] → (k : ℕ) (u : Ts) → k < length olds → IsEntry table.journal k (Step.Begin Work.Script) (Answer.At u) → Has (list_of k) (commit_of u) → (k ≡ 0) ⊎ ((wk : ℕ) × (k ≡ wk + 1)) → IsChange u
+  by_seat empty k u lt h c (inl is) =
       let first : 0 < length olds = omega (arith, some) in
       let refusal = slice_index_or refusals 0 None in
-      let passes = of_last_drain spares 0 observers refusal (list_of 0) (gained (IsLastDrain spares 0 observers refusal) 0 first (w.main nobody)) in
-      absurd (not_run 0 u (subst (λ m. IsEntry table.journal m (Step.Begin Work.Script) (Answer.At u)) is h) (passes.each u (subst (λ m. Has (list_of m) (commit_of u)) is c)))
-  by_seat k u lt h c (inr p) =
+      let drain = gained (IsLastDrain (Some how) how.places spares 0 observers refusal) 0 first (w.main nobody) in
+      let passes = of_last_drain how.places spares 0 observers refusal drain.0 drain.2 in
+      let all : list_of 0 ≡ drain.0 = drain.1.bare empty in
+      let run = passes.each u (subst (λ l. Has l (commit_of u)) all (subst (λ m. Has (list_of m) (commit_of u)) is c)) in
+      absurd (not_run 0 u (subst (λ m. IsEntry table.journal m (Step.Begin Work.Script) (Answer.At u)) is h) (subst (λ l. HasBegunRun l u) (sym all) run))
+  by_seat empty k u lt h c (inr p) =
       let wk = p.0 in
       let is = p.1 in
       let low : wk < n = omega (arith, lt, is, some) in
-      elim (((starts wk).1 low).only u (subst (λ m. Has (list_of m) (commit_of u)) is c)) [
-        | inl s ↦ of_start wk u low s
-        | inr r ↦ absurd (not_run (wk + 1) u (subst (λ m. IsEntry table.journal m (Step.Begin Work.Script) (Answer.At u)) is h) r)
+      let s = (starts wk).2 low in
+      let all : list_of (wk + 1) ≡ (starts wk).0 = s.ends.bare empty in
+      elim (s.are_starts.only u (subst (λ l. Has l (commit_of u)) all (subst (λ m. Has (list_of m) (commit_of u)) is c))) [
+        | inl t ↦ of_start wk u low t
+        | inr r ↦ absurd (not_run (wk + 1) u (subst (λ m. IsEntry table.journal m (Step.Begin Work.Script) (Answer.At u)) is h) (subst (λ l. HasBegunRun l u) (sym all) r))
       ]
 
-  only : (m : Member) → InHistory table.state.observers table.journal m → m.work ≡ Work.Script → IsChange (ts m.start)
-  only m h script =
+  only : before.journal ≡ [] → (m : Member) → InHistory table.state.observers table.journal m → m.work ≡ Work.Script → IsChange (ts m.start)
+  only empty m h script =
       let u : Ts = ts m.start in
       let begun : IsEntry table.journal m.seat (Step.Begin Work.Script) (Answer.At u) = subst (λ v. IsEntry table.journal m.seat (Step.Begin v) (Answer.At u)) script h.begun in
       let below : m.seat < table.state.seats = begun_by_seat (opening table.state.observers table.state.seats table.opened) table.journal table.state m.seat Work.Script u legal.run begun in
       let seats : table.state.seats ≡ length olds = sym agree.counted ∙ w.seats in
-      by_seat m.seat u (subst (λ k. m.seat < k) seats below) begun (in_list m.seat table.journal (commit_of u) h.committed) (main_or_worker m.seat)
+      by_seat empty m.seat u (subst (λ k. m.seat < k) seats below) begun (in_list m.seat table.journal (commit_of u) h.committed) (main_or_worker m.seat)
 
   -- ---- each once
 
   begins_at : (i : ℕ) (batch : Writes) → IsFinished batches unfinished i batch → IsEntry table.journal (i % n + 1) (Step.Begin Work.Script) (Answer.At (start_of i))
-  begins_at i batch f = in_journal (i % n + 1) table.journal (told (Step.Begin Work.Script) (Answer.At (start_of i))) (((starts (i % n)).1 (small i)).made (i / n) (flagged i batch f)).made.begun
+  begins_at i batch f =
+      let s = (starts (i % n)).2 (small i) in
+      let begin = told (Step.Begin Work.Script) (Answer.At (start_of i)) in
+      in_journal (i % n + 1) table.journal begin (among (i % n + 1) (starts (i % n)).0 s.ends begin (s.are_starts.made (i / n) (flagged i batch f)).made.begun)
 
   -- not two of one worker
-  not_both : (wk i j : ℕ) → wk < n → i < j → slice_index_or (w.done wk) i false ≡ true → slice_index_or (w.done wk) j false ≡ true → (starts wk).0 i ≡ (starts wk).0 j → ⊥
-  not_both wk i j lt less e f same = begun_once table.journal table.state tells ((starts wk).0 i) (wk + 1) Work.Script (((starts wk).1 lt).apart i j less e f same)
+  not_both : (wk i j : ℕ) → wk < n → i < j → slice_index_or (w.done wk) i false ≡ true → slice_index_or (w.done wk) j false ≡ true → (starts wk).1 i ≡ (starts wk).1 j → ⊥
+  not_both wk i j lt less e f same =
+      let s = (starts wk).2 lt in
+      let begin = told (Step.Begin Work.Script) (Answer.At ((starts wk).1 i)) in
+      begun_once table.journal table.state tells ((starts wk).1 i) (wk + 1) Work.Script (subst (λ l. HasTwice l begin) (sym s.ends.whole) (twice_right s.ends.front (starts wk).0 begin (s.are_starts.apart i j less e f same)))
 
-  one_place : (wk i j : ℕ) → wk < n → slice_index_or (w.done wk) i false ≡ true → slice_index_or (w.done wk) j false ≡ true → (starts wk).0 i ≡ (starts wk).0 j → i ≡ j
+  one_place : (wk i j : ℕ) → wk < n → slice_index_or (w.done wk) i false ≡ true → slice_index_or (w.done wk) j false ≡ true → (starts wk).1 i ≡ (starts wk).1 j → i ≡ j
   one_place wk i j lt e f same = grind (arith, cases_order, not_both)
 
   once : (i j : ℕ) (a b : Writes) → IsFinished batches unfinished i a → IsFinished batches unfinished j b → (start_of i).0 ≡ (start_of j).0 → i ≡ j
@@ -202,7 +236,7 @@ module _ (observers : List ObserverOf) (batches : List Writes) (spares : List Sp
       let first : IsEntry table.journal (i % n + 1) (Step.Begin Work.Script) (Answer.At (start_of j)) = subst (λ s. IsEntry table.journal (i % n + 1) (Step.Begin Work.Script) (Answer.At s)) same (begins_at i a f) in
       let seats = (same_begin table.journal table.state tells (start_of j) (i % n + 1) (j % n + 1) Work.Script Work.Script first (begins_at j b g)).0 in
       let worker : j % n ≡ i % n = omega (arith, seats) in
-      let its : (starts (j % n)).0 (j / n) ≡ (starts (i % n)).0 (j / n) = ap (λ k. (starts k).0 (j / n)) worker in
+      let its : (starts (j % n)).1 (j / n) ≡ (starts (i % n)).1 (j / n) = ap (λ k. (starts k).1 (j / n)) worker in
       let place : i / n ≡ j / n = one_place (i % n) (i / n) (j / n) (small i) (flagged i a f) (subst (λ k. slice_index_or (w.done k) (j / n) false ≡ true) worker (flagged j b g)) (same ∙ its) in
       let left : i % n + i / n * n ≡ i = mod-add-div' i n in
       let right : j % n + j / n * n ≡ j = mod-add-div' j n in
@@ -211,11 +245,11 @@ module _ (observers : List ObserverOf) (batches : List Writes) (spares : List Sp
 
 -- a change's start is the one that its worker's list tells, and no other script's transaction is committed
 pub changes_are_made : TransactionsAreTold → ChangesAreMade
-changes_are_made tell observers batches spares olds news refusals unfinished before table empty are some w legal agree =
+changes_are_made tell how observers batches spares olds news refusals unfinished before table are some w legal agree =
     let tells = tell table.state.observers table.state.seats table.opened table.journal table.state legal in
     record {
-      start = λ i. (start_of observers batches spares olds news refusals unfinished before table empty are some w legal agree tells i).0;
-      made = made observers batches spares olds news refusals unfinished before table empty are some w legal agree tells;
-      only = only observers batches spares olds news refusals unfinished before table empty are some w legal agree tells;
-      once = once observers batches spares olds news refusals unfinished before table empty are some w legal agree tells;
+      start = λ i. (start_of observers batches spares olds news refusals unfinished before table are some w legal agree tells i).0;
+      made = made observers batches spares olds news refusals unfinished before table are some w legal agree tells;
+      only = only observers batches spares olds news refusals unfinished before table are some w legal agree tells;
+      once = once observers batches spares olds news refusals unfinished before table are some w legal agree tells;
     }

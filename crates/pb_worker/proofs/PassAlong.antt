@@ -10,7 +10,7 @@ use Rattle.pb_history.specs.declared.entry.Received.{Received}
 use Rattle.pb_core.specs.Calls.{SeatOf}
 use Rattle.pb_txn.specs.Conversations.{told}
 use Rattle.pb_worker.specs.declared.passes.TheConstants.{MAX_PASSES}
-use Rattle.pb_worker.specs.Gains.{Gains, Told, MayRefuse}
+use Rattle.pb_worker.specs.Gains.{OpeningOf, Gains, Told, MayRefuse}
 use Rattle.pb_worker.specs.Passes.{IsRun, IsOfOther, AreRuns, before_all, runs as ran_then, passes_by, AreAllRuns, IsWalk, at_beginning, found as found_then, IsPass, IsPassThat, ArePasses, at_first, one_more, IsDrain}
 use Rattle.pb_worker.specs.Stops.{RunStops, RunsStop, PassStops, at_a_mark, in_runs, DrainStops}
 use Rattle.pb_worker.proofs.Refusing.{stops_at}
@@ -29,8 +29,8 @@ module _ (observers : List ObserverOf) (x : Cell) (i : ℕ) (a b : SeatOf) (runs
   pub no_run : IsOfOther observers i x → Gains (AreRuns observers x (i + 1)) a b
   no_run other = gains_as a b (λ said p. passes_by i said p other) runs
 
-  pub runs_stop : (c : SeatOf) (r : Refusal) → Gains (RunStops b.number observers i x r) b c → Gains (RunsStop a.number observers x r) a c
-  runs_stop c r h = gains_on a b c runs (renumbered (λ m. RunStops m observers i x r) b c b.number a.number runs.number h) (λ said more p s. record { i = i; before = said; runs = p; part = more; stops = s; said_is = refl })
+  pub runs_stop : {opens : Option OpeningOf} → (c : SeatOf) (r : Refusal) → Gains (RunStops opens b.number observers i x r) b c → Gains (RunsStop opens a.number observers x r) a c
+  runs_stop {opens} c r h = gains_on a b c runs (renumbered (λ m. RunStops opens m observers i x r) b c b.number a.number runs.number h) (λ said more p s. record { i = i; before = said; runs = p; part = more; stops = s; said_is = refl })
 
 -- ---- from mark to mark
 
@@ -49,8 +49,8 @@ pub no_walk : (observers : List ObserverOf) (a : SeatOf) → Gains (λ said. IsW
 no_walk observers a = gains_none a at_beginning
 
 module _ (observers : List ObserverOf) (last : Option Cell) (a b : SeatOf) (walk : Gains (λ said. IsWalk observers said last) a b) where
-  pub walk_stops : (r : Refusal) → MayRefuse b.number (Step.NextMark last) r → Gains (PassStops a.number observers r) a b
-  walk_stops r h = gains_as a b (λ said w. at_a_mark said last w (stops_at a.number (Some (Step.NextMark last)) (Step.NextMark last) r refl (subst (λ m. MayRefuse m (Step.NextMark last) r) walk.number h))) walk
+  pub walk_stops : {opens : Option OpeningOf} → (r : Refusal) → MayRefuse opens b.number (Step.NextMark last) r → Gains (PassStops opens a.number observers r) a b
+  walk_stops {opens} r h = gains_as a b (λ said w. at_a_mark said last w (stops_at a.number (Some (Step.NextMark last)) (Step.NextMark last) r refl (subst (λ m. MayRefuse opens m (Step.NextMark last) r) walk.number h))) walk
 
   module _ (b1 : SeatOf) where
     found : (x : Cell) → Told b (Step.NextMark last) (Answer.Marked x) b1 → Gains (Found observers last x) a b1
@@ -61,10 +61,10 @@ module _ (observers : List ObserverOf) (last : Option Cell) (a b : SeatOf) (walk
         gains_on a b1 c (found x t) h
         (λ said more w r. subst (λ l. IsWalk observers l (Some x)) (sym (ap (λ l. l ++ more) w.said_is ∙ append_assoc w.before (told (Step.NextMark last) (Answer.Marked x) ∷ []) more)) (found_then w.before last x more w.walk r))
 
-    pub walk_stops_at : (x : Cell) → Told b (Step.NextMark last) (Answer.Marked x) b1 → (c : SeatOf) (r : Refusal) → Gains (RunsStop b1.number observers x r) b1 c → Gains (PassStops a.number observers r) a c
-    walk_stops_at x t c r h =
-        gains_on a b1 c (found x t) (renumbered (λ m. RunsStop m observers x r) b1 c b1.number a.number (t.number ∙ walk.number) h)
-        (λ said more w s. subst (λ l. PassStops a.number observers r l) (sym (ap (λ l. l ++ more) w.said_is ∙ append_assoc w.before (told (Step.NextMark last) (Answer.Marked x) ∷ []) more)) (in_runs w.before last x more w.walk s))
+    pub walk_stops_at : {opens : Option OpeningOf} → (x : Cell) → Told b (Step.NextMark last) (Answer.Marked x) b1 → (c : SeatOf) (r : Refusal) → Gains (RunsStop opens b1.number observers x r) b1 c → Gains (PassStops opens a.number observers r) a c
+    walk_stops_at {opens} x t c r h =
+        gains_on a b1 c (found x t) (renumbered (λ m. RunsStop opens m observers x r) b1 c b1.number a.number (t.number ∙ walk.number) h)
+        (λ said more w s. subst (λ l. PassStops opens a.number observers r l) (sym (ap (λ l. l ++ more) w.said_is ∙ append_assoc w.before (told (Step.NextMark last) (Answer.Marked x) ∷ []) more)) (in_runs w.before last x more w.walk s))
 
     pass_that : (o : Option Cell) (said : List Received) → IsPass observers o said → IsPassThat observers (is_some o) said
     pass_that o said p = grind arith
@@ -86,5 +86,5 @@ module _ (observers : List ObserverOf) (count : ℕ) (a b : SeatOf) (before : Ga
   pub last_pass : count < MAX_PASSES → (c : SeatOf) (marked : Bool) → marked ≡ false → Gains (IsPassThat observers marked) b c → Gains (IsDrain observers) a c
   last_pass few c marked is h = grind (arith, gains_on)
 
-  pub passes_stop : count < MAX_PASSES → (c : SeatOf) (r : Refusal) → Gains (PassStops b.number observers r) b c → Gains (DrainStops a.number observers r) a c
-  passes_stop few c r h = gains_on a b c before (renumbered (λ m. PassStops m observers r) b c b.number a.number before.number h) (λ said more p s. record { count = count; few = few; before = said; passes = p; part = more; stops = s; said_is = refl })
+  pub passes_stop : {opens : Option OpeningOf} → count < MAX_PASSES → (c : SeatOf) (r : Refusal) → Gains (PassStops opens b.number observers r) b c → Gains (DrainStops opens a.number observers r) a c
+  passes_stop {opens} few c r h = gains_on a b c before (renumbered (λ m. PassStops opens m observers r) b c b.number a.number before.number h) (λ said more p s. record { count = count; few = few; before = said; passes = p; part = more; stops = s; said_is = refl })

@@ -2,26 +2,26 @@
 use Rattle.std.proofs.Common.{arith, ◌≡◌, ℕ, Option, Some, None, Result, Err, IfErr, refl, sym, subst, inr}
 use Rattle.pb_base.specs.declared.refusal.Reason.{Reason}
 use Rattle.pb_base.specs.declared.refusal.Refusal.{Refusal}
-use Rattle.pb_base.specs.Reasons.{refusal_by}
+use Rattle.pb_base.specs.Reasons.{refusal_by, memory_refusal}
 use Rattle.pb_steps.specs.declared.step.Step.{Step}
 use Rattle.pb_steps.specs.declared.step.Answer.{Answer}
 use Rattle.pb_core.specs.Calls.{SharedOf, call_reason}
 use Rattle.pb_core.specs.Histories.{IsLegalTable}
-use Rattle.pb_worker.specs.Gains.{MayRefuse, IsStop}
+use Rattle.pb_worker.specs.Gains.{OpeningOf, IsOpenedAs, MayRefuse, IsStop}
 
 -- what is refused for want of memory may be refused
-want : (n : ℕ) (step : Step) (res : Result Answer Refusal) → IfErr res (λ r. r ≡ refusal_by Reason.NoMemory) → IfErr res (λ r. MayRefuse n step r)
-want n step res h = grind arith
+want : (opens : Option OpeningOf) (n : ℕ) (step : Step) (res : Result Answer Refusal) → IfErr res (λ r. r ≡ memory_refusal) → IfErr res (λ r. MayRefuse opens n step r)
+want opens n step res h = grind arith
 
 -- a table of a legal journal refuses a call for its reason, or for want of memory where there is none
-pub may_refuse : (s : SharedOf) (n : ℕ) (step : Step) (res : Result Answer Refusal) → IsLegalTable s → ((w : Reason) → call_reason s n step ≡ Some w → res ≡ Err (refusal_by w))
-    → (call_reason s n step ≡ None → IfErr res (λ r. r ≡ refusal_by Reason.NoMemory)) → IfErr res (λ r. MayRefuse n step r)
-may_refuse s n step res legal refused allowed = by (call_reason s n step) refl
+pub may_refuse : (opens : Option OpeningOf) (s : SharedOf) (n : ℕ) (step : Step) (res : Result Answer Refusal) → IsOpenedAs opens s → IsLegalTable s → ((w : Reason) → call_reason s n step ≡ Some w → res ≡ Err (refusal_by w))
+    → (call_reason s n step ≡ None → IfErr res (λ r. r ≡ memory_refusal)) → IfErr res (λ r. MayRefuse opens n step r)
+may_refuse opens s n step res opened legal refused allowed = by (call_reason s n step) refl
   where
-    by : (o : Option Reason) → call_reason s n step ≡ o → IfErr res (λ r. MayRefuse n step r)
-    by None e = want n step res (allowed e)
-    by (Some w) e = subst (λ (z : Result Answer Refusal). IfErr z (λ r. MayRefuse n step r)) (sym (refused w e)) (inr (record { shared = s; legal = legal; why = w; refused = e; told = refl }))
+    by : (o : Option Reason) → call_reason s n step ≡ o → IfErr res (λ r. MayRefuse opens n step r)
+    by None e = want opens n step res (allowed e)
+    by (Some w) e = subst (λ (z : Result Answer Refusal). IfErr z (λ r. MayRefuse opens n step r)) (sym (refused w e)) (inr (record { shared = s; opened = opened; legal = legal; why = w; refused = e; told = refl }))
 
 -- the step that was asked next was refused
-pub stops_at : (n : ℕ) (next : Option Step) (step : Step) (r : Refusal) → next ≡ Some step → MayRefuse n step r → IsStop n next r
+pub stops_at : {opens : Option OpeningOf} (n : ℕ) (next : Option Step) (step : Step) (r : Refusal) → next ≡ Some step → MayRefuse opens n step r → IsStop opens n next r
 stops_at n next step r e w = grind arith

@@ -1,5 +1,5 @@
 -- An observer's run on its way to its end.
-use Rattle.std.proofs.Common.{arith, ◌≡◌, ◌≢◌, ℕ, List, [], ◌∷◌, ◌++◌, Some, inl, sym, subst}
+use Rattle.std.proofs.Common.{arith, ◌≡◌, ◌≢◌, ℕ, List, [], ◌∷◌, ◌++◌, Some, inl, sym, subst, Option, None, refl}
 use Rattle.pb_base.specs.declared.cell.Cell.{Cell}
 use Rattle.pb_base.specs.Cell.{row_of}
 use Rattle.pb_base.specs.declared.refusal.Refusal.{Refusal}
@@ -9,12 +9,13 @@ use Rattle.pb_steps.specs.Answers.{CanAnswer}
 use Rattle.pb_verify.specs.Observers.{ObserverOf}
 use Rattle.pb_core.specs.Calls.{SeatOf}
 use Rattle.pb_txn.specs.Conversations.{told}
+use Rattle.pb_notify.specs.declared.need.JobEnd.{JobEnd}
 use Rattle.pb_notify.specs.declared.need.Need.{Need}
-use Rattle.pb_notify.specs.Runs.{RunOf, watch_of, next_of, need_of, answered, HearsLook, ComputesOn, at_first, one_more}
+use Rattle.pb_notify.specs.Runs.{RunOf, watch_of, next_of, need_of, HasNext, answered, HearsLook, ComputesOn, at_first, one_more}
 use Rattle.pb_notify.specs.Conversations.{Reaches, made, took, computed}
-use Rattle.pb_notify.specs.Forms.{JobsConverse}
-use Rattle.pb_worker.specs.Gains.{Gains, Told, MayRefuse, IsStop, IsWant}
-use Rattle.pb_worker.specs.Passes.{IsObserverOf, HasColumn, IsJobOn, job_on, ReachesOn}
+use Rattle.pb_notify.specs.Forms.{JobsConverse, JobsEnd}
+use Rattle.pb_worker.specs.Gains.{OpeningOf, Gains, Told, MayRefuse, IsStop, IsWant}
+use Rattle.pb_worker.specs.Passes.{IsObserverOf, HasColumn, IsRun, IsJobOn, job_on, ReachesOn}
 use Rattle.pb_worker.specs.Stops.{RunStops}
 use Rattle.pb_worker.proofs.Refusing.{stops_at}
 use Rattle.pb_worker.proofs.Gaining.{gains_none, gains_more, gains_as}
@@ -53,7 +54,7 @@ pub first_calls : (observers : List ObserverOf) (n : ℕ) (x : Cell) (job : RunO
 first_calls observers n x job known is = subst (λ j. need_of j ≢ Need.Local) (sym (job_is observers n x job known is)) (begins n known.0 x)
 
 -- it couldn't be made
-pub not_made : (observers : List ObserverOf) (n : ℕ) (x : Cell) (a : SeatOf) → JobsConverse → HasColumn observers n x → (r : Refusal) → IsWant r → Gains (RunStops a.number observers n x r) a a
+pub not_made : {opens : Option OpeningOf} (observers : List ObserverOf) (n : ℕ) (x : Cell) (a : SeatOf) → JobsConverse → HasColumn observers n x → (r : Refusal) → IsWant r → Gains (RunStops opens a.number observers n x r) a a
 not_made observers n x a law known r want = gains_none a (record {
   o = known.0;
   observer = known.1;
@@ -72,11 +73,29 @@ module _ (observers : List ObserverOf) (n : ℕ) (x : Cell) (a b : SeatOf) (job 
     gains = gains_more a b c step answer along.gains t (λ said h. on_to (job_on n along.o x) (said ++ told step answer ∷ []) (took said job (told step answer) l h e can is hears));
   }
 
-  stopped : JobsConverse → (r : Refusal) → IsStop a.number (next_of job) r → Gains (RunStops a.number observers n x r) a b
+  stopped : {opens : Option OpeningOf} → JobsConverse → (r : Refusal) → IsStop opens a.number (next_of job) r → Gains (RunStops opens a.number observers n x r) a b
   stopped law r stop = gains_as a b (λ said h. record { o = along.o; observer = along.observer; job = job; reaches = h; begins = law (watch_of n along.o (row_of x)) said job h; stop = stop }) along.gains
 
-  pub refused : JobsConverse → (step : Step) → next_of job ≡ Some step → (r : Refusal) → MayRefuse b.number step r → Gains (RunStops a.number observers n x r) a b
-  refused law step e r h = stopped law r (stops_at a.number (next_of job) step r e (subst (λ m. MayRefuse m step r) along.gains.number h))
+  pub refused : {opens : Option OpeningOf} → JobsConverse → (step : Step) → next_of job ≡ Some step → (r : Refusal) → MayRefuse opens b.number step r → Gains (RunStops opens a.number observers n x r) a b
+  refused {opens} law step e r h = stopped law r (stops_at a.number (next_of job) step r e (subst (λ m. MayRefuse opens m step r) along.gains.number h))
 
-  pub wants : JobsConverse → (r : Refusal) → IsWant r → Gains (RunStops a.number observers n x r) a b
+  pub wants : {opens : Option OpeningOf} → JobsConverse → (r : Refusal) → IsWant r → Gains (RunStops opens a.number observers n x r) a b
   wants law r w = stopped law r (inl w)
+
+-- ---- at its end
+
+-- a run that neither computes nor calls is over
+over : (job : RunOf) → need_of job ≢ Need.Local → next_of job ≡ None → (need_of job ≡ Need.Call → HasNext job) → (w : Need) → need_of job ≡ w → (end : JobEnd) × (need_of job ≡ Need.Over end)
+over job calls none some Need.Local e = absurd (calls e)
+over job calls none some Need.Call e = let has = some e in absurd (grind arith)
+over job calls none some (Need.Over end) e = (end, e)
+
+-- at its end a run is a whole one
+pub has_ended : (observers : List ObserverOf) (n : ℕ) (x : Cell) (a b : SeatOf) (job : RunOf) → IsAlong observers n x a b job → JobsEnd → need_of job ≢ Need.Local → next_of job ≡ None → (need_of job ≡ Need.Call → HasNext job) → Gains (IsRun observers n x) a b
+has_ended observers n x a b job along law calls none some =
+    let ends = over job calls none some (need_of job) refl in
+    gains_as a b
+    (λ said h.
+    let talk = law (watch_of n along.o (row_of x)) said job ends.0 h ends.1 in
+    record { o = along.o; observer = along.observer; job = job; reaches = h; end = ends.0; over = ends.1; run = talk.0; talk = talk.1; meant = talk.2 })
+    along.gains

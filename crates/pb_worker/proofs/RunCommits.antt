@@ -12,6 +12,7 @@ use Rattle.pb_verify.specs.Observers.{ObserverOf}
 use Rattle.pb_history.specs.declared.entry.Received.{Received}
 use Rattle.pb_history.specs.History.{Has}
 use Rattle.pb_txn.specs.Conversations.{told}
+use Rattle.pb_worker.specs.Gains.{OpeningOf}
 use Rattle.pb_notify.specs.Runs.{watch_of}
 use Rattle.pb_worker.specs.Passes.{IsRun, AreRuns, before_all, runs, passes_by, IsWalk, at_beginning, found, IsPass, ArePasses, at_first, one_more, IsDrain}
 use Rattle.pb_worker.specs.Stops.{RunStops, RunsStop, PassStops, at_a_mark, in_runs, DrainStops}
@@ -73,7 +74,7 @@ run_commits observers n x said r =
     of_beginning n (row_of x) k.0 said [] (subst (IsOneTransaction (Work.Run n (row_of x)) k.0) (sym (append_nil said)) k.1)
 
 -- and one that was left
-run_stopped : (seat : ℕ) (observers : List ObserverOf) (i : ℕ) (x : Cell) (r : Refusal) (said : List Received) → RunStops seat observers i x r said → CommitRuns said
+run_stopped : {opens : Option OpeningOf} (seat : ℕ) (observers : List ObserverOf) (i : ℕ) (x : Cell) (r : Refusal) (said : List Received) → RunStops opens seat observers i x r said → CommitRuns said
 run_stopped seat observers i x r said s =
     let b = s.begins in
     let k = of_run (watch_of i s.o (row_of x)) (said ++ b.0) b.1 b.2 b.3 in
@@ -108,21 +109,21 @@ of_drain observers said d =
 
 -- ---- passes that stopped
 
-of_runs_stop : (seat : ℕ) (observers : List ObserverOf) (x : Cell) (r : Refusal) (said : List Received) → RunsStop seat observers x r said → CommitRuns said
+of_runs_stop : {opens : Option OpeningOf} (seat : ℕ) (observers : List ObserverOf) (x : Cell) (r : Refusal) (said : List Received) → RunsStop opens seat observers x r said → CommitRuns said
 of_runs_stop seat observers x r said s =
     subst CommitRuns (sym s.said_is) (both s.before s.part (of_runs observers x s.i s.before s.runs) (run_stopped seat observers s.i x r s.part s.stops))
 
-of_pass_stop : (seat : ℕ) (observers : List ObserverOf) (r : Refusal) (said : List Received) → PassStops seat observers r said → CommitRuns said
+of_pass_stop : {opens : Option OpeningOf} (seat : ℕ) (observers : List ObserverOf) (r : Refusal) (said : List Received) → PassStops opens seat observers r said → CommitRuns said
 of_pass_stop seat observers r said (at_a_mark said' after walk stop) = of_walk observers said after walk
 of_pass_stop seat observers r all (in_runs said after x part walk stops) =
     both said (told (Step.NextMark after) (Answer.Marked x) ∷ part) (of_walk observers said after walk) (with_mark after x part (of_runs_stop seat observers x r part stops))
 
-pub of_drain_stop : (seat : ℕ) (observers : List ObserverOf) (r : Refusal) (said : List Received) → DrainStops seat observers r said → CommitRuns said
+pub of_drain_stop : {opens : Option OpeningOf} (seat : ℕ) (observers : List ObserverOf) (r : Refusal) (said : List Received) → DrainStops opens seat observers r said → CommitRuns said
 of_drain_stop seat observers r said s = grind (arith, both, of_passes, of_pass_stop, s.said_is, s.before, s.part, s.count, s.passes, s.stops)
 
-of_drain_to : (seat : ℕ) (observers : List ObserverOf) (r : Option Refusal) (said : List Received) → IsDrainTo seat observers r said → CommitRuns said
-of_drain_to seat observers r said d = grind (arith, of_drain, of_drain_stop)
+of_drain_to : (opens : Option OpeningOf) (seat : ℕ) (observers : List ObserverOf) (r : Option Refusal) (said : List Received) → IsDrainTo opens seat observers r said → CommitRuns said
+of_drain_to opens seat observers r said d = grind (arith, of_drain, of_drain_stop)
 
 -- so the main seat commits no script's transaction
-pub of_last_drain : (spares : List Spare) (seat : ℕ) (observers : List ObserverOf) (r : Option Refusal) (said : List Received) → IsLastDrain spares seat observers r said → CommitRuns said
-of_last_drain spares seat observers r said d = of_drain_to seat observers d.drained said d.drain
+pub of_last_drain : {opens : Option OpeningOf} (places : ℕ) (spares : List Spare) (seat : ℕ) (observers : List ObserverOf) (r : Option Refusal) (said : List Received) → IsLastDrain opens places spares seat observers r said → CommitRuns said
+of_last_drain {opens} places spares seat observers r said d = of_drain_to opens seat observers d.drained said d.drain

@@ -11,6 +11,7 @@ use Rattle.pb_verify.specs.Observers.{ObserverOf}
 use Rattle.pb_history.specs.declared.entry.Received.{Received}
 use Rattle.pb_history.specs.History.{Has}
 use Rattle.pb_txn.specs.Conversations.{told}
+use Rattle.pb_worker.specs.Gains.{OpeningOf}
 use Rattle.pb_worker.specs.Tries.{AreTried, before_all, tried}
 use Rattle.pb_worker.specs.Stops.{ChangesStop}
 use Rattle.pb_worker.specs.Work.{share_of, IsWork, IsPart, in_changes, in_passes, AreFilled}
@@ -26,10 +27,16 @@ abbrev pub HasTwice : {A : Type 0} → List A → A → Type 0
 HasTwice [] x = ⊥
 HasTwice (y ∷ ys) x = ((y ≡ x) × Has ys x) ⊎ HasTwice ys x
 
+-- what stands twice in the first part stands twice in both together
 twice_left : {A : Type 0} (xs ys : List A) (x : A) → HasTwice xs x → HasTwice (xs ++ ys) x
 twice_left [] ys x t = absurd t
 twice_left (y ∷ xs) ys x (inl h) = inl (h.0, has_left xs ys x h.1)
 twice_left (y ∷ xs) ys x (inr t) = inr (twice_left xs ys x t)
+
+-- or in the second
+pub twice_right : {A : Type 0} (xs ys : List A) (x : A) → HasTwice ys x → HasTwice (xs ++ ys) x
+twice_right [] ys x t = t
+twice_right (y ∷ xs) ys x t = inr (twice_right xs ys x t)
 
 -- what stands in both parts stands there twice
 twice_across : {A : Type 0} (xs ys : List A) (x : A) → Has xs x → Has ys x → HasTwice (xs ++ ys) x
@@ -145,7 +152,7 @@ module _ (batches : List Writes) (n first : ℕ) where
   -- ---- whether it was stopped or not
 
   module _ (filled : AreFilled batches) (seat : ℕ) (observers : List ObserverOf) (done : List Bool) where
-    of_changes_stop : (r : Refusal) (said : List Received) → ChangesStop seat batches n first done r said → StartsOf done said
+    of_changes_stop : {opens : Option OpeningOf} → (r : Refusal) (said : List Received) → ChangesStop opens seat batches n first done r said → StartsOf done said
     of_changes_stop r said c =
         let s = of_tried c.flags c.before c.tried in
         let t = of_cut seat c.batch c.committed r c.part (filled _ c.batch c.next) c.stops in
@@ -160,10 +167,10 @@ module _ (batches : List Writes) (n first : ℕ) where
         neither : (b : Bool) → b ≡ true → b ≡ false → ⊥
         neither b p q = cc
 
-    of_part : (r : Refusal) (said : List Received) → IsPart seat observers (share_of batches n first) done r said → StartsOf done said
+    of_part : {opens : Option OpeningOf} → (r : Refusal) (said : List Received) → IsPart opens seat observers (share_of batches n first) done r said → StartsOf done said
     of_part r said (in_changes said' c) = of_changes_stop r said c
     of_part r all (in_passes said part t d) = with_runs done said part (of_drain_stop seat observers r part d) (of_tried done said t.tried)
 
-    pub of_work : (r : Option Refusal) (said : List Received) → IsWork seat observers (share_of batches n first) done r said → StartsOf done said
-    of_work None said w = subst (λ l. StartsOf done l) (sym w.said_is) (with_runs done w.changes w.passes (of_drain observers w.passes w.drained) (of_tried done w.changes w.tried.tried))
-    of_work (Some r) said w = of_part r said w
+    pub of_work : (opens : Option OpeningOf) (r : Option Refusal) (said : List Received) → IsWork opens seat observers (share_of batches n first) done r said → StartsOf done said
+    of_work opens None said w = subst (λ l. StartsOf done l) (sym w.said_is) (with_runs done w.changes w.passes (of_drain observers w.passes w.drained) (of_tried done w.changes w.tried.tried))
+    of_work opens (Some r) said w = of_part r said w

@@ -8,14 +8,14 @@ use Rattle.pb_store.specs.Contents.{Contents}
 use Rattle.pb_worker.specs.Swaps.{Spare, spares_of, IsSwapped, AreSwapped}
 
 -- it was taken
-abbrev IsTaken : Spare → Type 0
-IsTaken s = IsSwapped s None
+abbrev IsTaken : ℕ → Spare → Type 0
+IsTaken places s = IsSwapped places s None
 
 -- one swap more
-one_more : (spares : List Spare) (s : Spare) (first refused : Option Refusal) → AreSwapped spares first → IsSwapped s refused → AreSwapped (spares ++ s ∷ []) (option_or first refused)
-one_more spares s None None taken is = All-append IsTaken spares (s ∷ []) taken (All-cons IsTaken s [] is (All-nil IsTaken))
-one_more spares s None (Some r) taken is = record { before = spares; spare = s; after = []; spares_are = refl; taken = taken; refused = is }
-one_more spares s (Some r) refused f is = record {
+one_more : (places : ℕ) (spares : List Spare) (s : Spare) (first refused : Option Refusal) → AreSwapped places spares first → IsSwapped places s refused → AreSwapped places (spares ++ s ∷ []) (option_or first refused)
+one_more places spares s None None taken is = All-append (IsTaken places) spares (s ∷ []) taken (All-cons (IsTaken places) s [] is (All-nil (IsTaken places)))
+one_more places spares s None (Some r) taken is = record { before = spares; spare = s; after = []; spares_are = refl; taken = taken; refused = is }
+one_more places spares s (Some r) refused f is = record {
   before = f.before;
   spare = f.spare;
   after = f.after ++ s ∷ [];
@@ -25,16 +25,16 @@ one_more spares s (Some r) refused f is = record {
 }
 
 -- Of all spares the first were swapped, and the others wait, the next one last.
-pub record IsOnTheWay {T : Type 0} (c : T → Contents) (all waiting : List (ℕ × T)) (first : Option Refusal) : Type 0 where
+pub record IsOnTheWay {T : Type 0} (places : ℕ) (c : T → Contents) (all waiting : List (ℕ × T)) (first : Option Refusal) : Type 0 where
   pub before : List (ℕ × T)
   pub all_are : all ≡ before ++ reverse waiting
-  pub swapped : AreSwapped (spares_of c before) first
+  pub swapped : AreSwapped places (spares_of c before) first
 
 -- the last one that waits is swapped in next, since the list was turned round
-pub next : {T : Type 0} (c : T → Contents) (all waiting rest : List (ℕ × T)) (x : ℕ × T) (first refused : Option Refusal) → waiting ≡ rest ++ x ∷ [] → IsOnTheWay c all waiting first → IsSwapped (x.0, c x.1) refused → IsOnTheWay c all rest (option_or first refused)
-next {T} c all waiting rest x first refused is w s = record {
+pub next : {T : Type 0} (places : ℕ) (c : T → Contents) (all waiting rest : List (ℕ × T)) (x : ℕ × T) (first refused : Option Refusal) → waiting ≡ rest ++ x ∷ [] → IsOnTheWay places c all waiting first → IsSwapped places (x.0, c x.1) refused → IsOnTheWay places c all rest (option_or first refused)
+next {T} places c all waiting rest x first refused is w s = record {
   before = w.before ++ x ∷ [];
   all_are =
       grind (arith, reverse-append, append_assoc, w.before, w.all_are);
-  swapped = subst (λ l. AreSwapped l (option_or first refused)) (sym (map-append (λ (y : ℕ × T). (y.0, c y.1)) w.before (x ∷ []))) (one_more (spares_of c w.before) (x.0, c x.1) first refused w.swapped s);
+  swapped = subst (λ l. AreSwapped places l (option_or first refused)) (sym (map-append (λ (y : ℕ × T). (y.0, c y.1)) w.before (x ∷ []))) (one_more places (spares_of c w.before) (x.0, c x.1) first refused w.swapped s);
 }

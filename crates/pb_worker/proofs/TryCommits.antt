@@ -1,5 +1,5 @@
 -- Of all tries of a change one is committed at most, with this start.
-use Rattle.std.proofs.Common.{arith, ◌≡◌, ◌≢◌, ℕ, Bool, true, false, ◌||◌, List, [], ◌∷◌, ◌++◌, inl, inr, refl, sym, ap, subst, ◌∙◌}
+use Rattle.std.proofs.Common.{arith, ◌≡◌, ◌≢◌, ℕ, Bool, true, false, ◌||◌, List, [], ◌∷◌, ◌++◌, inl, inr, refl, sym, ap, subst, ◌∙◌, Option}
 use Rattle.pb_base.specs.declared.cell.Cell.{Cell}
 use Rattle.pb_base.specs.declared.names.Ts.{Ts}
 use Rattle.pb_base.specs.declared.refusal.Refusal.{Refusal}
@@ -13,6 +13,7 @@ use Rattle.pb_txn.specs.declared.place.Outcome.{Outcome}
 use Rattle.pb_txn.specs.Conversations.{told}
 use Rattle.pb_txn.specs.Forms.{IsWhole, committed, conflicted_first, conflicted_later, lost, prewrites, secondaries}
 use Rattle.pb_txn.specs.Changes.{IsWholeChange}
+use Rattle.pb_worker.specs.Gains.{OpeningOf}
 use Rattle.pb_worker.specs.Tries.{is_committed, is_commit, has_commit, IsTry, AreVain, at_first, one_more, IsDone, AreTries}
 use Rattle.pb_worker.specs.Stops.{TriesStop}
 use Rattle.pb_worker.proofs.Committing.{commit_of, HasCommitted, within}
@@ -94,7 +95,7 @@ of_tries batch is said d = grind (arith, of_done, has_none, tries_in_vain)
 -- ---- a change that was left in a try
 
 -- and so do those of a change that was left
-pub of_cut : (seat : ℕ) (batch : Writes) (is : Bool) (r : Refusal) (said : List Received) → batch ≢ [] → TriesStop seat batch is r said → (start : Ts) × TellsCommit batch is start said
+pub of_cut : {opens : Option OpeningOf} (seat : ℕ) (batch : Writes) (is : Bool) (r : Refusal) (said : List Received) → batch ≢ [] → TriesStop opens seat batch is r said → (start : Ts) × TellsCommit batch is start said
 of_cut seat batch is r said some t =
     let s = t.stops in
     let b = s.begins in

@@ -1,11 +1,12 @@
 -- What a seat gained, and why its worker stopped. Of a call under a lock no more is said, since what the table has
 -- come to depends on all seats.
-use Rattle.std.specs.Prelude.{◌≡◌, ℕ, ◌⊎◌, List, [], ◌∷◌, ◌++◌, Option, Some}
+use Rattle.std.specs.Prelude.{◌≡◌, ℕ, ◌⊎◌, List, [], ◌∷◌, ◌++◌, Option, Some, None}
 use Rattle.pb_base.specs.declared.refusal.Reason.{Reason}
 use Rattle.pb_base.specs.declared.refusal.Refusal.{Refusal}
-use Rattle.pb_base.specs.Reasons.{refusal_by}
+use Rattle.pb_base.specs.Reasons.{refusal_by, memory_refusal}
 use Rattle.pb_steps.specs.declared.step.Step.{Step}
 use Rattle.pb_steps.specs.declared.step.Answer.{Answer}
+use Rattle.pb_verify.specs.Observers.{ObserverOf}
 use Rattle.pb_history.specs.declared.entry.Received.{Received}
 use Rattle.pb_core.specs.Calls.{SharedOf, SeatOf, call_reason}
 use Rattle.pb_core.specs.Histories.{IsLegalTable}
@@ -23,9 +24,27 @@ pub record Gains (AreSuch : List Received → Type 0) (old new : SeatOf) : Type 
   pub received : new.received ≡ old.received ++ said
   pub are_such : AreSuch said
 
--- some table with a legal journal refuses this seat the step with this number
-pub record IsRefused (seat : ℕ) (step : Step) (r : Refusal) : Type 0 where
+-- how a table was opened: its observers, how many seats, the clock, room for so many entries, and how many tablets
+pub record OpeningOf : Type 0 where
+  pub observers : List ObserverOf
+  pub seats : ℕ
+  pub opened : ℕ
+  pub limit : ℕ
+  pub places : ℕ
+
+-- no step and no swap changes it
+abbrev pub opening_of : SharedOf → OpeningOf
+opening_of s = record { observers = s.state.observers; seats = s.state.seats; opened = s.opened; limit = s.limit; places = s.places }
+
+-- the table was opened so, where it is known how
+abbrev pub IsOpenedAs : Option OpeningOf → SharedOf → Type 0
+IsOpenedAs None s = Unit {0}
+IsOpenedAs (Some o) s = opening_of s ≡ o
+
+-- some table that was opened so, with a legal journal, refuses this seat the step with this number
+pub record IsRefused (opens : Option OpeningOf) (seat : ℕ) (step : Step) (r : Refusal) : Type 0 where
   pub shared : SharedOf
+  pub opened : IsOpenedAs opens shared
   pub legal : IsLegalTable shared
   pub why : Reason
   pub refused : call_reason shared seat step ≡ Some why
@@ -33,12 +52,12 @@ pub record IsRefused (seat : ℕ) (step : Step) (r : Refusal) : Type 0 where
 
 -- memory was refused
 abbrev pub IsWant : Refusal → Type 0
-IsWant r = r ≡ refusal_by Reason.NoMemory
+IsWant r = r ≡ memory_refusal
 
 -- a call was refused: for want of memory, or by the table
-abbrev pub MayRefuse : ℕ → Step → Refusal → Type 0
-MayRefuse seat step r = IsWant r ⊎ IsRefused seat step r
+abbrev pub MayRefuse : Option OpeningOf → ℕ → Step → Refusal → Type 0
+MayRefuse opens seat step r = IsWant r ⊎ IsRefused opens seat step r
 
 -- it stopped for want of memory, or at the step that it asked next, which was refused
-abbrev pub IsStop : ℕ → Option Step → Refusal → Type 0
-IsStop seat next r = IsWant r ⊎ ((step : Step) × (next ≡ Some step) × IsRefused seat step r)
+abbrev pub IsStop : Option OpeningOf → ℕ → Option Step → Refusal → Type 0
+IsStop opens seat next r = IsWant r ⊎ ((step : Step) × (next ≡ Some step) × IsRefused opens seat step r)

@@ -8,6 +8,7 @@ use Rattle.pb_history.specs.History.{Has, Member, InHistory}
 use Rattle.pb_core.specs.Calls.{SharedOf, SeatOf, AreSeats}
 use Rattle.pb_core.specs.Histories.{IsLegalTable}
 use Rattle.pb_worker.specs.Agrees.{Agree}
+use Rattle.pb_worker.specs.Gains.{OpeningOf}
 use Rattle.pb_worker.specs.Swaps.{Spare}
 use Rattle.pb_worker.specs.Work.{WorkedOn}
 
@@ -23,17 +24,17 @@ pub record IsFinished (batches : List Writes) (unfinished : List ℕ) (i : ℕ) 
   pub there : slice_get batches i ≡ Some batch
   pub not_named : Has unfinished i → ⊥
 
--- The committed script transactions of the journal are the changes that aren't named as unfinished, each once: of each
--- change there is the start of the transaction that made it.
-pub record MakesChanges (table : SharedOf) (n : ℕ) (batches : List Writes) (unfinished : List ℕ) : Type 0 where
+-- Each change that isn't named as unfinished is a committed script transaction of the journal, no two the same: of each
+-- change there is the start of the transaction that made it. Where the journal was empty before, there are no others.
+pub record MakesChanges (before table : SharedOf) (n : ℕ) (batches : List Writes) (unfinished : List ℕ) : Type 0 where
   pub start : ℕ → ℕ
   pub made : (i : ℕ) (batch : Writes) → IsFinished batches unfinished i batch → (m : Member) × IsMade table n i batch m × (m.start ≡ start i)
-  pub only : (m : Member) → InHistory table.state.observers table.journal m → m.work ≡ Work.Script → (i : ℕ) × (batch : Writes) × IsFinished batches unfinished i batch × (m.start ≡ start i)
+  pub only : before.journal ≡ [] → (m : Member) → InHistory table.state.observers table.journal m → m.work ≡ Work.Script → (i : ℕ) × (batch : Writes) × IsFinished batches unfinished i batch × (m.start ≡ start i)
   pub once : (i j : ℕ) (a b : Writes) → IsFinished batches unfinished i a → IsFinished batches unfinished j b → start i ≡ start j → i ≡ j
 
--- where the seats agree with the journal after a run of workers on a fresh table
+-- where the seats agree with the journal after a run of workers
 abbrev pub ChangesAreMade : Type 0
 ChangesAreMade =
-    (observers : List ObserverOf) (batches : List Writes) (spares : List Spare) (olds news : List SeatOf) (refusals : List (Option Refusal)) (unfinished : List ℕ) (before table : SharedOf)
-    → before.journal ≡ [] → AreSeats before olds → 1 < length olds → WorkedOn observers batches spares olds news refusals unfinished → IsLegalTable table → Agree table news
-    → MakesChanges table (length olds - 1) batches unfinished
+    (opening : OpeningOf) (observers : List ObserverOf) (batches : List Writes) (spares : List Spare) (olds news : List SeatOf) (refusals : List (Option Refusal)) (unfinished : List ℕ) (before table : SharedOf)
+    → AreSeats before olds → 1 < length olds → WorkedOn opening observers batches spares olds news refusals unfinished → IsLegalTable table → Agree table news
+    → MakesChanges before table (length olds - 1) batches unfinished

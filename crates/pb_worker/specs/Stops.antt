@@ -22,30 +22,30 @@ use Rattle.pb_notify.specs.Conversations.{Reaches}
 use Rattle.pb_notify.specs.Forms.{IsRunConversation}
 use Rattle.pb_worker.specs.declared.tries.TheConstants.{MAX_TRIES}
 use Rattle.pb_worker.specs.declared.passes.TheConstants.{MAX_PASSES}
-use Rattle.pb_worker.specs.Gains.{IsStop}
+use Rattle.pb_worker.specs.Gains.{OpeningOf, IsStop}
 use Rattle.pb_worker.specs.Tries.{has_commit, AreVain, AreTried}
 use Rattle.pb_worker.specs.Passes.{IsObserverOf, job_on, AreRuns, IsWalk, ArePasses}
 
 -- in a try: a beginning of its conversation, and whether its transaction was committed by then
-pub record TryStops (seat : ℕ) (batch : Writes) (committed : Bool) (r : Refusal) (said : List Received) : Type 0 where
+pub record TryStops (opens : Option OpeningOf) (seat : ℕ) (batch : Writes) (committed : Bool) (r : Refusal) (said : List Received) : Type 0 where
   pub told : committed ≡ has_commit said
   pub job : ChangeOf
   pub converses : Converses (new_change batch) said job
   pub begins : (start : Ts) × (rest : List Received) × (o : Outcome) × IsWholeChange batch start (said ++ rest) o
-  pub stop : IsStop seat (changes.next_of job) r
+  pub stop : IsStop opens seat (changes.next_of job) r
 
 -- after tries in vain, in the next
-pub record TriesStop (seat : ℕ) (batch : Writes) (committed : Bool) (r : Refusal) (said : List Received) : Type 0 where
+pub record TriesStop (opens : Option OpeningOf) (seat : ℕ) (batch : Writes) (committed : Bool) (r : Refusal) (said : List Received) : Type 0 where
   pub count : ℕ
   pub few : count < MAX_TRIES
   pub vain : List Received
   pub tries : AreVain batch count vain
   pub part : List Received
-  pub stops : TryStops seat batch committed r part
+  pub stops : TryStops opens seat batch committed r part
   pub said_is : said ≡ vain ++ part
 
 -- after changes of which these flags tell whether they committed, in the next, or before it
-pub record ChangesStop (seat : ℕ) (batches : List Writes) (n first : ℕ) (done : List Bool) (r : Refusal) (said : List Received) : Type 0 where
+pub record ChangesStop (opens : Option OpeningOf) (seat : ℕ) (batches : List Writes) (n first : ℕ) (done : List Bool) (r : Refusal) (said : List Received) : Type 0 where
   pub flags : List Bool
   pub before : List Received
   pub tried : AreTried batches n first flags before
@@ -53,40 +53,40 @@ pub record ChangesStop (seat : ℕ) (batches : List Writes) (n first : ℕ) (don
   pub next : slice_get batches (first + length flags * n) ≡ Some batch
   pub committed : Bool
   pub part : List Received
-  pub stops : TriesStop seat batch committed r part
+  pub stops : TriesStop opens seat batch committed r part
   pub said_is : said ≡ before ++ part
   pub done_is : (done ≡ flags ++ committed ∷ []) ⊎ ((done ≡ flags) × (committed ≡ false))
 
 -- in a run of the observer of this number on the cell
-pub record RunStops (seat : ℕ) (observers : List ObserverOf) (i : ℕ) (x : Cell) (r : Refusal) (said : List Received) : Type 0 where
+pub record RunStops (opens : Option OpeningOf) (seat : ℕ) (observers : List ObserverOf) (i : ℕ) (x : Cell) (r : Refusal) (said : List Received) : Type 0 where
   pub o : ObserverOf
   pub observer : IsObserverOf observers i x o
   pub job : RunOf
   pub reaches : Reaches (job_on i o x) said job
   pub begins : (rest : List Received) × (end : JobEnd) × (run : Option Meant) × IsRunConversation (watch_of i o (row_of x)) (said ++ rest) end run
-  pub stop : IsStop seat (runs.next_of job) r
+  pub stop : IsStop opens seat (runs.next_of job) r
 
 -- after the runs of the observers before it
-pub record RunsStop (seat : ℕ) (observers : List ObserverOf) (x : Cell) (r : Refusal) (said : List Received) : Type 0 where
+pub record RunsStop (opens : Option OpeningOf) (seat : ℕ) (observers : List ObserverOf) (x : Cell) (r : Refusal) (said : List Received) : Type 0 where
   pub i : ℕ
   pub before : List Received
   pub runs : AreRuns observers x i before
   pub part : List Received
-  pub stops : RunStops seat observers i x r part
+  pub stops : RunStops opens seat observers i x r part
   pub said_is : said ≡ before ++ part
 
 -- in a pass: at the next mark, or in the runs on the cell that was found
-pub data PassStops (seat : ℕ) (observers : List ObserverOf) (r : Refusal) : List Received → Type 0 where
-  at_a_mark : (said : List Received) (after : Option Cell) → IsWalk observers said after → IsStop seat (Some (Step.NextMark after)) r → PassStops seat observers r said
-  in_runs : (said : List Received) (after : Option Cell) (x : Cell) (part : List Received) → IsWalk observers said after → RunsStop seat observers x r part
-      → PassStops seat observers r (said ++ told (Step.NextMark after) (Answer.Marked x) ∷ part)
+pub data PassStops (opens : Option OpeningOf) (seat : ℕ) (observers : List ObserverOf) (r : Refusal) : List Received → Type 0 where
+  at_a_mark : (said : List Received) (after : Option Cell) → IsWalk observers said after → IsStop opens seat (Some (Step.NextMark after)) r → PassStops opens seat observers r said
+  in_runs : (said : List Received) (after : Option Cell) (x : Cell) (part : List Received) → IsWalk observers said after → RunsStop opens seat observers x r part
+      → PassStops opens seat observers r (said ++ told (Step.NextMark after) (Answer.Marked x) ∷ part)
 
 -- after so many passes, in the next
-pub record DrainStops (seat : ℕ) (observers : List ObserverOf) (r : Refusal) (said : List Received) : Type 0 where
+pub record DrainStops (opens : Option OpeningOf) (seat : ℕ) (observers : List ObserverOf) (r : Refusal) (said : List Received) : Type 0 where
   pub count : ℕ
   pub few : count < MAX_PASSES
   pub before : List Received
   pub passes : ArePasses observers count before
   pub part : List Received
-  pub stops : PassStops seat observers r part
+  pub stops : PassStops opens seat observers r part
   pub said_is : said ≡ before ++ part

@@ -1,8 +1,8 @@
 -- Spare tablets, swapped in one after another.
-use Rattle.std.specs.Prelude.{◌≡◌, ℕ, true, List, ◌∷◌, ◌++◌, map, Option, Some, None, All}
+use Rattle.std.specs.Prelude.{◌≡◌, ℕ, List, ◌∷◌, ◌++◌, map, Option, Some, None, All}
 use Rattle.pb_base.specs.declared.refusal.Refusal.{Refusal}
-use Rattle.pb_store.specs.Contents.{Contents, is_nothing}
-use Rattle.pb_store.specs.Tiles.{TellsSwapReason}
+use Rattle.pb_store.specs.Contents.{Contents}
+use Rattle.pb_store.specs.Tiles.{swap_reason, refusal_or_want}
 
 -- its place, and what the tablet contains
 abbrev pub Spare : Type 0
@@ -12,25 +12,26 @@ Spare = ℕ × Contents
 abbrev pub spares_of : {T : Type 0} → (T → Contents) → List (ℕ × T) → List Spare
 spares_of {T} c spares = map (λ (s : ℕ × T). (s.0, c s.1)) spares
 
--- what the swap of a spare came to: it was taken, so it was empty, or it was refused for its reason
-abbrev pub IsSwapped : Spare → Option Refusal → Type 0
-IsSwapped spare None = is_nothing spare.1 ≡ true
-IsSwapped spare (Some r) = TellsSwapReason spare.1 spare.0 r
+-- what the swap of a spare came to, in a table of so many tablets: it was taken, so it was empty and its place is one of
+-- the table, or it was refused for its reason, and where there is none for want of memory
+abbrev pub IsSwapped : ℕ → Spare → Option Refusal → Type 0
+IsSwapped places spare None = swap_reason spare.1 spare.0 places ≡ None
+IsSwapped places spare (Some r) = r ≡ refusal_or_want (swap_reason spare.1 spare.0 places)
 
 -- each of them was taken
-abbrev pub AreTaken : List Spare → Type 0
-AreTaken spares = All (λ (s : Spare). IsSwapped s None) spares
+abbrev pub AreTaken : ℕ → List Spare → Type 0
+AreTaken places spares = All (λ (s : Spare). IsSwapped places s None) spares
 
 -- the first that was refused, and what came before it
-pub record FirstRefused (spares : List Spare) (r : Refusal) : Type 0 where
+pub record FirstRefused (places : ℕ) (spares : List Spare) (r : Refusal) : Type 0 where
   pub before : List Spare
   pub spare : Spare
   pub after : List Spare
   pub spares_are : spares ≡ before ++ spare ∷ after
-  pub taken : AreTaken before
-  pub refused : IsSwapped spare (Some r)
+  pub taken : AreTaken places before
+  pub refused : IsSwapped places spare (Some r)
 
 -- they were swapped in their order, and this is the first refusal among them, if there was one
-abbrev pub AreSwapped : List Spare → Option Refusal → Type 0
-AreSwapped spares None = AreTaken spares
-AreSwapped spares (Some r) = FirstRefused spares r
+abbrev pub AreSwapped : ℕ → List Spare → Option Refusal → Type 0
+AreSwapped places spares None = AreTaken places spares
+AreSwapped places spares (Some r) = FirstRefused places spares r

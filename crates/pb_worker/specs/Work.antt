@@ -9,7 +9,7 @@ use Rattle.pb_history.specs.declared.entry.Received.{Received}
 use Rattle.pb_core.specs.Calls.{SharedOf, SeatOf}
 use Rattle.pb_worker.specs.declared.worker.Worker.{Worker}
 use Rattle.pb_worker.specs.declared.run.Rooms.{Rooms}
-use Rattle.pb_worker.specs.Gains.{Gains}
+use Rattle.pb_worker.specs.Gains.{Gains, OpeningOf, opening_of}
 use Rattle.pb_worker.specs.Tries.{AreAllTried}
 use Rattle.pb_worker.specs.Passes.{IsDrain}
 use Rattle.pb_worker.specs.Stops.{ChangesStop, DrainStops}
@@ -33,36 +33,36 @@ pub record IsWhole (observers : List ObserverOf) (share : Share) (done : List Bo
   pub said_is : said ≡ changes ++ passes
 
 -- just a beginning of that
-pub data IsPart (seat : ℕ) (observers : List ObserverOf) (share : Share) (done : List Bool) (r : Refusal) : List Received → Type 0 where
-  in_changes : (said : List Received) → ChangesStop seat share.batches share.workers share.first done r said → IsPart seat observers share done r said
-  in_passes : (said part : List Received) → AreAllTried share.batches share.workers share.first done said → DrainStops seat observers r part → IsPart seat observers share done r (said ++ part)
+pub data IsPart (opens : Option OpeningOf) (seat : ℕ) (observers : List ObserverOf) (share : Share) (done : List Bool) (r : Refusal) : List Received → Type 0 where
+  in_changes : (said : List Received) → ChangesStop opens seat share.batches share.workers share.first done r said → IsPart opens seat observers share done r said
+  in_passes : (said part : List Received) → AreAllTried share.batches share.workers share.first done said → DrainStops opens seat observers r part → IsPart opens seat observers share done r (said ++ part)
 
 -- what a worker's seat gained: only with a refusal just a beginning
-abbrev pub IsWork : ℕ → List ObserverOf → Share → List Bool → Option Refusal → List Received → Type 0
-IsWork seat observers share done None said = IsWhole observers share done said
-IsWork seat observers share done (Some r) said = IsPart seat observers share done r said
+abbrev pub IsWork : Option OpeningOf → ℕ → List ObserverOf → Share → List Bool → Option Refusal → List Received → Type 0
+IsWork opens seat observers share done None said = IsWhole observers share done said
+IsWork opens seat observers share done (Some r) said = IsPart opens seat observers share done r said
 
 -- passes alone: only with a refusal just a beginning
-abbrev pub IsDrainTo : ℕ → List ObserverOf → Option Refusal → List Received → Type 0
-IsDrainTo seat observers None said = IsDrain observers said
-IsDrainTo seat observers (Some r) said = DrainStops seat observers r said
+abbrev pub IsDrainTo : Option OpeningOf → ℕ → List ObserverOf → Option Refusal → List Received → Type 0
+IsDrainTo opens seat observers None said = IsDrain observers said
+IsDrainTo opens seat observers (Some r) said = DrainStops opens seat observers r said
 
 -- what the main seat gained: passes alone, whether a spare was refused or not. Its refusal is the first of the swaps',
 -- or else that of the passes.
-pub record IsLastDrain (spares : List Spare) (seat : ℕ) (observers : List ObserverOf) (refusal : Option Refusal) (said : List Received) : Type 0 where
+pub record IsLastDrain (opens : Option OpeningOf) (places : ℕ) (spares : List Spare) (seat : ℕ) (observers : List ObserverOf) (refusal : Option Refusal) (said : List Received) : Type 0 where
   pub swapped : Option Refusal
-  pub swaps : AreSwapped spares swapped
+  pub swaps : AreSwapped places spares swapped
   pub drained : Option Refusal
-  pub drain : IsDrainTo seat observers drained said
+  pub drain : IsDrainTo opens seat observers drained said
   pub first : refusal ≡ option_or swapped drained
 
 -- what one worker did
-pub record Works (observers : List ObserverOf) (batches : List Writes) (n first : ℕ) (old new : Worker) : Type 0 where
-  pub gains : Gains (IsWork old.seat.number observers (share_of batches n first) new.done.items new.refusal) old.seat new.seat
+pub record Works (opens : Option OpeningOf) (observers : List ObserverOf) (batches : List Writes) (n first : ℕ) (old new : Worker) : Type 0 where
+  pub gains : Gains (IsWork opens old.seat.number observers (share_of batches n first) new.done.items new.refusal) old.seat new.seat
 
 -- what the main seat did, beside and after the workers
-pub record Drains (spares : List Spare) (observers : List ObserverOf) (old new : Worker) : Type 0 where
-  pub gains : Gains (IsLastDrain spares old.seat.number observers new.refusal) old.seat new.seat
+pub record Drains (opens : Option OpeningOf) (places : ℕ) (spares : List Spare) (observers : List ObserverOf) (old new : Worker) : Type 0 where
+  pub gains : Gains (IsLastDrain opens places spares old.seat.number observers new.refusal) old.seat new.seat
 
 -- Change i is the (i / n)th of the worker i % n, both from 0: whether a try of it committed.
 abbrev pub is_done : (ℕ → List Bool) → ℕ → ℕ → Bool
@@ -91,21 +91,21 @@ abbrev pub refusals_in : List Worker → List (Option Refusal)
 refusals_in workers = map (λ (w : Worker). w.refusal) workers
 
 -- what all workers did
-pub record EachWorks (observers : List ObserverOf) (batches : List Writes) (olds news : List Worker) : Type 0 where
+pub record EachWorks (opens : Option OpeningOf) (observers : List ObserverOf) (batches : List Writes) (olds news : List Worker) : Type 0 where
   pub counted : length news ≡ length olds
-  pub each : (w : ℕ) (d : Worker) → w < length olds → Works observers batches (length olds) w (slice_index_or olds w d) (slice_index_or news w d)
+  pub each : (w : ℕ) (d : Worker) → w < length olds → Works opens observers batches (length olds) w (slice_index_or olds w d) (slice_index_or news w d)
 
 -- what all but the main seat did
-pub record RestWork (observers : List ObserverOf) (batches : List Writes) (olds news : List Worker) : Type 0 where
+pub record RestWork (opens : Option OpeningOf) (observers : List ObserverOf) (batches : List Writes) (olds news : List Worker) : Type 0 where
   pub counted : length news ≡ length olds
   pub main : (d : Worker) → slice_index_or news 0 d ≡ slice_index_or olds 0 d
-  pub workers : (w : ℕ) (d : Worker) → w + 1 < length olds → Works observers batches (length olds - 1) w (slice_index_or olds (w + 1) d) (slice_index_or news (w + 1) d)
+  pub workers : (w : ℕ) (d : Worker) → w + 1 < length olds → Works opens observers batches (length olds - 1) w (slice_index_or olds (w + 1) d) (slice_index_or news (w + 1) d)
 
 -- what all did, the main seat first
-pub record AllWork (observers : List ObserverOf) (batches : List Writes) (spares : List Spare) (olds news : List Worker) : Type 0 where
+pub record AllWork (opening : OpeningOf) (observers : List ObserverOf) (batches : List Writes) (spares : List Spare) (olds news : List Worker) : Type 0 where
   pub counted : length news ≡ length olds
-  pub main : (d : Worker) → Drains spares observers (slice_index_or olds 0 d) (slice_index_or news 0 d)
-  pub workers : (w : ℕ) (d : Worker) → w + 1 < length olds → Works observers batches (length olds - 1) w (slice_index_or olds (w + 1) d) (slice_index_or news (w + 1) d)
+  pub main : (d : Worker) → Drains (Some opening) opening.places spares observers (slice_index_or olds 0 d) (slice_index_or news 0 d)
+  pub workers : (w : ℕ) (d : Worker) → w + 1 < length olds → Works (Some opening) observers batches (length olds - 1) w (slice_index_or olds (w + 1) d) (slice_index_or news (w + 1) d)
 
 -- room for so many seats and changes, and the observers
 pub record HasRooms (observers : List ObserverOf) (seats changes : ℕ) (r : Rooms) : Type 0 where
@@ -125,20 +125,17 @@ AreFilled batches = (i : ℕ) (batch : Writes) → slice_get batches i ≡ Some 
 
 -- what all left: with the spares and seats handed in, the seats given back, the first refusal of each, and the
 -- unfinished changes
-pub record WorkedOn (observers : List ObserverOf) (batches : List Writes) (spares : List Spare) (olds news : List SeatOf) (refusals : List (Option Refusal)) (unfinished : List ℕ) : Type 0 where
+pub record WorkedOn (opening : OpeningOf) (observers : List ObserverOf) (batches : List Writes) (spares : List Spare) (olds news : List SeatOf) (refusals : List (Option Refusal)) (unfinished : List ℕ) : Type 0 where
   pub seats : length news ≡ length olds
   pub refused : length refusals ≡ length olds
   pub filled : AreFilled batches
   -- of each worker, from 0, whether each of its changes committed
   pub done : ℕ → List Bool
   pub workers : (w : ℕ) (d : SeatOf) → w + 1 < length olds
-      → Gains (IsWork (w + 1) observers (share_of batches (length olds - 1) w) (done w) (slice_index_or refusals (w + 1) None)) (slice_index_or olds (w + 1) d) (slice_index_or news (w + 1) d)
-  pub main : (d : SeatOf) → Gains (IsLastDrain spares 0 observers (slice_index_or refusals 0 None)) (slice_index_or olds 0 d) (slice_index_or news 0 d)
+      → Gains (IsWork (Some opening) (w + 1) observers (share_of batches (length olds - 1) w) (done w) (slice_index_or refusals (w + 1) None)) (slice_index_or olds (w + 1) d) (slice_index_or news (w + 1) d)
+  pub main : (d : SeatOf) → Gains (IsLastDrain (Some opening) opening.places spares 0 observers (slice_index_or refusals 0 None)) (slice_index_or olds 0 d) (slice_index_or news 0 d)
   pub unfinished_are : unfinished ≡ undone_below (is_done done (length olds - 1)) (length batches)
 
--- the table that comes out has the observers of the one that went in, as many seats, and was opened so
-pub record KeepsOpening (before after : SharedOf) : Type 0 where
-  pub observers : after.state.observers ≡ before.state.observers
-  pub seats : after.state.seats ≡ before.state.seats
-  pub opened : after.opened ≡ before.opened
-  pub limit : after.limit ≡ before.limit
+-- the table that comes out was opened as the one that went in
+abbrev pub KeepsOpening : SharedOf → SharedOf → Type 0
+KeepsOpening before after = opening_of after ≡ opening_of before

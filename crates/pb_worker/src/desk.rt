@@ -1,11 +1,10 @@
 //! Calls of a table under its lock: one each time that it is taken, so that steps of others may come between any two.
-ghost use Rattle.std.specs.Prelude.{◌≡◌, Err, Some, None, IfOk, IfErr, OnErr};
-ghost use Rattle.pb_base.specs.Reasons.{refusal_by};
-ghost use Rattle.pb_base.specs.declared.refusal.Reason.TheVariants as reasons;
+ghost use Rattle.std.specs.Prelude.{◌≡◌, Err, Option, Some, None, IfOk, IfErr, OnErr};
+ghost use Rattle.pb_base.specs.Reasons.{refusal_by, memory_refusal};
 ghost use Rattle.pb_steps.specs.Answers.{CanAnswer};
 ghost use Rattle.pb_core.specs.Calls.{SharedOf, Calls, call_reason};
 ghost use Rattle.pb_core.specs.Histories.{IsLegalTable};
-ghost use Rattle.pb_worker.specs.Gains.{Told, MayRefuse};
+ghost use Rattle.pb_worker.specs.Gains.{OpeningOf, IsOpenedAs, Told, MayRefuse};
 
 use crate::gate::Gate;
 use pb_base::Refusal;
@@ -14,18 +13,22 @@ use pb_steps::{Answer, Step};
 use pb_store::Tablet;
 use std::sync::{Mutex, Wait};
 
-/// A shared table, by itself or within what keeps more of it, that takes calls.
+/// A shared table, by itself or within what keeps more of it, that takes calls. Its `opening` says how it was opened, where
+/// its type keeps that.
 pub trait Callee {
     ghost table: { Self → SharedOf };
+
+    ghost opening: { Option OpeningOf };
 
     /// Takes one step for a seat, as [`Shared::call`] does: its journal was legal, and refused, it leaves table and
     /// seat as they were.
     fn take(&mut self, seat: &mut Seat, step: &Step) -> Result<Answer, Refusal>
+        ensures opened { IsOpenedAs opening (table self.old) }
         ensures legal { IsLegalTable (table self.old) }
         ensures refused { (r : _) → call_reason (table self.old) seat.old.number step.now ≡ Some r
             → result ≡ Err (refusal_by r) }
         ensures allowed { call_reason (table self.old) seat.old.number step.now ≡ None
-            → IfErr result (λ r. r ≡ refusal_by reasons.NoMemory) }
+            → IfErr result (λ r. r ≡ memory_refusal) }
         ensures taken { IfOk result (λ a. Calls (table self.old) seat.old step.now a
             (table self.new) seat.new) }
         ensures can { IfOk result (λ a. CanAnswer step.now a) }
@@ -36,6 +39,8 @@ pub trait Callee {
 impl<T: Tablet> Callee for Shared<T> {
     ghost table = { λ s. s };
 
+    ghost opening = { None };
+
     fn take(&mut self, seat: &mut Seat, step: &Step) -> Result<Answer, Refusal> {
         self.call(seat, step)
     }
@@ -44,12 +49,12 @@ impl<T: Tablet> Callee for Shared<T> {
 /// Where seats take their turns at a table.
 pub struct Desk;
 
-// One call, and why it is refused: as some table of a legal journal would, since of the one under the lock no more is
-// known.
+// One call, and why it is refused: as some table would that was opened so and has a legal journal, since of the one under
+// the lock no more is known.
 fn call<C: Callee>(shared: &mut C, seat: &mut Seat, step: &Step) -> Result<Answer, Refusal>
     ensures told { IfOk result (λ a. Told seat.old step.now a seat.new) }
     ensures can { IfOk result (λ a. CanAnswer step.now a) }
-    ensures refused { IfErr result (λ r. MayRefuse seat.old.number step.now r) }
+    ensures refused { IfErr result (λ r. MayRefuse C.opening seat.old.number step.now r) }
     ensures seat { OnErr result (seat.new ≡ seat.old) }
 {
     shared.take(seat, step)
@@ -73,7 +78,7 @@ impl Desk {
     ) -> Result<Answer, Refusal>
         ensures told { IfOk result (λ a. Told seat.old step.now a seat.new) }
         ensures can { IfOk result (λ a. CanAnswer step.now a) }
-        ensures refused { IfErr result (λ r. MayRefuse seat.old.number step.now r) }
+        ensures refused { IfErr result (λ r. MayRefuse C.opening seat.old.number step.now r) }
         ensures seat { OnErr result (seat.new ≡ seat.old) }
     {
         call(&mut *shared.lock(rt), seat, step)
@@ -90,7 +95,7 @@ pub(crate) fn ask<R: Wait, C: Callee, G: Gate>(
 ) -> Result<Answer, Refusal>
     ensures told { IfOk result (λ a. Told seat.old step.now a seat.new) }
     ensures can { IfOk result (λ a. CanAnswer step.now a) }
-    ensures refused { IfErr result (λ r. MayRefuse seat.old.number step.now r) }
+    ensures refused { IfErr result (λ r. MayRefuse C.opening seat.old.number step.now r) }
     ensures seat { OnErr result (seat.new ≡ seat.old) }
 {
     gate.pass(seat.number(), step);

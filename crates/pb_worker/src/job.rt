@@ -6,7 +6,7 @@ ghost use Rattle.pb_worker.specs.Stops.{RunStops};
 
 use crate::desk::{Callee, ask};
 use crate::gate::Gate;
-use pb_base::{Cell, NoMemory, ObserverNo, Reason, Refusal};
+use pb_base::{Cell, NoMemory, ObserverNo, Refusal};
 use pb_core::Seat;
 use pb_notify::{Need, ObserverJob, jobs_converse};
 use pb_verify::Observer;
@@ -41,10 +41,7 @@ fn compute_on(alloc: Global, job: &mut ObserverJob) -> Result<(), Refusal>
     ensures on { ReachesOn job.old job.new }
     ensures want { IfErr result IsWant }
 {
-    match compute(alloc, job) {
-        Ok(()) => Ok(()),
-        Err(_) => Err(Reason::NoMemory.refusal()),
-    }
+    Ok(compute(alloc, job)?)
 }
 
 /// Runs an observer on a cell of its column, from its first step to its end.
@@ -61,13 +58,12 @@ pub(crate) fn run_one<R: Wait, C: Callee, G: Gate>(
     requires known { HasColumn observers.now number cell }
     ensures ok { OnOk result (Gains (IsRun observers.now number cell) seat.old seat.new) }
     ensures err { IfErr result
-        (λ r. Gains (RunStops seat.old.number observers.now number cell r) seat.old seat.new) }
+        (λ r. Gains (RunStops C.opening seat.old.number observers.now number cell r)
+        seat.old seat.new) }
 {
     // For the proof: what a job has asked is a beginning of a run's conversation, and at its end a whole one.
     jobs_converse();
-    let Ok(mut job) = job_on(observers, number, cell) else {
-        return Err(Reason::NoMemory.refusal());
-    };
+    let mut job = job_on(observers, number, cell)?;
     // As many steps as the job asks: it has an end of its own, since it gives up at its last lock.
     for _turn in rt.forever() {
         let Some(step) = job.next() else {

@@ -47,7 +47,8 @@ fn run_all<R: Wait, C: Callee, G: Gate>(
     requires few { length observers.now ≤ MAX_OBSERVERS }
     ensures ok { OnOk result (Gains (AreAllRuns observers.now cell.now) seat.old seat.new) }
     ensures err { IfErr result
-        (λ r. Gains (RunsStop seat.old.number observers.now cell.now r) seat.old seat.new) }
+        (λ r. Gains (RunsStop C.opening seat.old.number observers.now cell.now r)
+        seat.old seat.new) }
 {
     for place in 0..observers.len() {
         if is_observer_of(observers, place, cell) {
@@ -74,7 +75,7 @@ fn pass<R: Wait, C: Callee, G: Gate>(
     requires few { length observers.now ≤ MAX_OBSERVERS }
     ensures ok { IfOk result (λ marked. Gains (IsPassThat observers.now marked) seat.old seat.new) }
     ensures err { IfErr result
-        (λ r. Gains (PassStops seat.old.number observers.now r) seat.old seat.new) }
+        (λ r. Gains (PassStops C.opening seat.old.number observers.now r) seat.old seat.new) }
 {
     let mut last = None;
     for _turn in rt.forever() {
@@ -100,7 +101,7 @@ pub(crate) fn drain<R: Wait, C: Callee, G: Gate>(
     requires few { length observers.now ≤ MAX_OBSERVERS }
     ensures ok { OnOk result (Gains (IsDrain observers.now) seat.old seat.new) }
     ensures err { IfErr result
-        (λ r. Gains (DrainStops seat.old.number observers.now r) seat.old seat.new) }
+        (λ r. Gains (DrainStops C.opening seat.old.number observers.now r) seat.old seat.new) }
 {
     for _count in 0..MAX_PASSES {
         let marked = pass(rt, alloc, shared, seat, observers, gate)?;

@@ -2,6 +2,7 @@
 ghost use Rattle.std.specs.Prelude.{◌≡◌, ◌<◌, ◌≤◌, ◌-◌, [], length, map, vec_len, vec_capacity, IfOk, IfErr};
 ghost use Rattle.pb_base.specs.declared.limits.TheConstants.{MAX_SEATS, MAX_OBSERVERS};
 ghost use Rattle.pb_core.specs.Calls.{AreSeats};
+ghost use Rattle.pb_worker.specs.Gains.{opening_of};
 ghost use Rattle.pb_worker.specs.Swaps.{spares_of};
 ghost use Rattle.pb_worker.specs.Work.{Works, EachWorks, RestWork, AllWork, HasRooms, WorkedOn, AreFilled, KeepsOpening, seats_in, refusals_in, flags_in, is_done, undone_below};
 
@@ -37,6 +38,7 @@ pub struct NotRun<T: Tablet> {
     pub seats: Vec<Seat>,
     pub batches: Vec<Batch>,
     pub spares: Vec<(usize, T)>,
+    pub refused: NoMemory,
 }
 
 /// Room for all that workers leave, and their own list of the observers. It is made before the first call, so that a
@@ -182,7 +184,7 @@ pub(crate) fn in_threads<R: Threads + Wait + Sync, C: Callee + Send, G: Gate>(
 )
     requires few { length workers.old ≤ MAX_SEATS }
     requires numbered { length observers.now ≤ MAX_OBSERVERS }
-    ensures { EachWorks observers.now batches.now workers.old workers.new }
+    ensures { EachWorks C.opening observers.now batches.now workers.old workers.new }
 {
     let count = workers.len();
     if count == 0 {
@@ -194,7 +196,7 @@ pub(crate) fn in_threads<R: Threads + Wait + Sync, C: Callee + Send, G: Gate>(
         count,
         &|place: usize, worker: &mut Worker|
             requires { (0 < count) × (count ≤ MAX_SEATS) × (length observers.now ≤ MAX_OBSERVERS) }
-            ensures { Works observers.entry.now batches.entry.now
+            ensures { Works C.opening observers.entry.now batches.entry.now
                 count place worker.entry.now worker.exit.now }
         {
             work(
@@ -217,7 +219,7 @@ pub(crate) fn work_rest<R: Threads + Wait + Sync, C: Callee + Send, G: Gate>(
     requires some { 1 < length workers.old }
     requires few { length workers.old ≤ MAX_SEATS }
     requires numbered { length observers.now ≤ MAX_OBSERVERS }
-    ensures { RestWork observers.now batches.now workers.old workers.new }
+    ensures { RestWork C.opening observers.now batches.now workers.old workers.new }
 {
     let (_, rest) = workers.split_at_mut(1);
     in_threads(rt, alloc, shared, rest, observers, batches, gate);
@@ -238,7 +240,7 @@ fn run_all<R: Threads + Wait + Sync, T: Tablet + Send, J: Opening + Send + Sync,
     requires some { 1 < length workers.items }
     requires few { length workers.items ≤ MAX_SEATS }
     requires numbered { length observers.now ≤ MAX_OBSERVERS }
-    ensures { AllWork observers.now batches.now
+    ensures { AllWork J.opening observers.now batches.now
         (spares_of T.contents spares.items) workers.items result.items }
 {
     let (mut workers, swapped) = work_beside_swaps(
@@ -260,12 +262,9 @@ fn run_held<R: Threads + Wait + Sync, T: Tablet + Send, J: Opening + Send + Sync
 ) -> Result<Worked<T>, NotRun<T>>
     requires seated { AreSeats shared seats.items }
     requires some { 1 < vec_len seats }
-    requires observers { shared.state.observers ≡ J.observers }
-    requires count { shared.state.seats ≡ J.seats }
-    requires opened { shared.opened ≡ J.opened }
-    requires limit { shared.limit ≡ J.limit }
-    ensures worked { IfOk result (λ w. WorkedOn shared.state.observers batches.items
-        (spares_of T.contents spares.items)
+    requires opened { opening_of shared ≡ J.opening }
+    ensures worked { IfOk result (λ w. WorkedOn (opening_of shared)
+        shared.state.observers batches.items (spares_of T.contents spares.items)
         seats.items w.seats.items w.refusals.items w.unfinished.items) }
     ensures table { IfOk result (λ w. KeepsOpening shared w.shared) }
     ensures handed_back { IfErr result (λ n. n.shared ≡ shared) }
@@ -274,13 +273,17 @@ fn run_held<R: Threads + Wait + Sync, T: Tablet + Send, J: Opening + Send + Sync
     ensures spares { IfErr result (λ n. n.spares ≡ spares) }
 {
     prove!(shared.seats() <= 64);
-    let Ok(rooms) = make_rooms(alloc, shared.observers(), seats.len(), batches.len()) else {
-        return Err(NotRun {
-            shared,
-            seats,
-            batches,
-            spares,
-        });
+    let rooms = match make_rooms(alloc, shared.observers(), seats.len(), batches.len()) {
+        Ok(rooms) => rooms,
+        Err(refused) => {
+            return Err(NotRun {
+                shared,
+                seats,
+                batches,
+                spares,
+                refused,
+            });
+        }
     };
     let Rooms {
         observers,
@@ -321,7 +324,8 @@ fn run_held<R: Threads + Wait + Sync, T: Tablet + Send, J: Opening + Send + Sync
 /// file order, up to a pass without a mark or the 1,000th. The first seat gained such passes alone. Where a refusal of
 /// a seat is named, its part may be a beginning of that. A change is named as unfinished exactly where no try of it
 /// committed, a try that was cut off behind its commit included. The table that comes out has the observers, seats,
-/// opening clock and limit of the one that went in.
+/// opening clock, limit and number of tablets of the one that went in, and a seat is refused only what a table opened so
+/// refuses.
 pub fn run_workers<R: Threads + Wait + Sync, T: Tablet + Send, G: Gate>(
     rt: &R,
     alloc: Global,
@@ -333,8 +337,8 @@ pub fn run_workers<R: Threads + Wait + Sync, T: Tablet + Send, G: Gate>(
 ) -> Result<Worked<T>, NotRun<T>>
     requires seated { AreSeats shared seats.items }
     requires some { 1 < vec_len seats }
-    ensures worked { IfOk result (λ w. WorkedOn shared.state.observers batches.items
-        (spares_of T.contents spares.items)
+    ensures worked { IfOk result (λ w. WorkedOn (opening_of shared)
+        shared.state.observers batches.items (spares_of T.contents spares.items)
         seats.items w.seats.items w.refusals.items w.unfinished.items) }
     ensures table { IfOk result (λ w. KeepsOpening shared w.shared) }
     ensures handed_back { IfErr result (λ n. n.shared ≡ shared) }

@@ -1,6 +1,6 @@
 //! Spare tablets, put in while workers run. The list stays with the calling thread, since a closure may hold only
 //! what can be dropped, and a tablet can't.
-ghost use Rattle.std.specs.Prelude.{◌≡◌, ◌<◌, ◌≤◌, length};
+ghost use Rattle.std.specs.Prelude.{◌≡◌, ◌<◌, ◌≤◌, Some, length};
 ghost use Rattle.pb_base.specs.declared.limits.TheConstants.{MAX_SEATS, MAX_OBSERVERS};
 ghost use Rattle.pb_worker.specs.Swaps.{IsSwapped, AreSwapped, spares_of};
 ghost use Rattle.pb_worker.specs.Work.{RestWork};
@@ -25,7 +25,7 @@ fn swap_in<R: Wait, T: Tablet, J: Opening>(
     place: usize,
     spare: T,
 ) -> Option<Refusal>
-    ensures { IsSwapped (place, T.contents spare) result }
+    ensures { IsSwapped J.opening.places (place, T.contents spare) result }
 {
     let swapped = {
         let mut held = shared.lock(rt);
@@ -49,7 +49,7 @@ fn swap_all<R: Wait, T: Tablet, J: Opening>(
     shared: &Mutex<Held<T, J>>,
     spares: &mut Vec<(usize, T)>,
 ) -> Option<Refusal>
-    ensures { AreSwapped (spares_of T.contents spares.old.items) result }
+    ensures { AreSwapped J.opening.places (spares_of T.contents spares.old.items) result }
 {
     let mut refusal = None;
     // Turned round, since the last of a list is the one that can be taken off.
@@ -92,8 +92,9 @@ pub(crate) fn work_beside_swaps<
     requires some { 1 < length workers.items }
     requires few { length workers.items ≤ MAX_SEATS }
     requires numbered { length observers.now ≤ MAX_OBSERVERS }
-    ensures workers { RestWork observers.now batches.now workers.items result.0.items }
-    ensures swaps { AreSwapped (spares_of T.contents spares.items) result.1 }
+    ensures workers { RestWork (Some J.opening) observers.now batches.now
+        workers.items result.0.items }
+    ensures swaps { AreSwapped J.opening.places (spares_of T.contents spares.items) result.1 }
 {
     let mut spares = spares;
     // Without swaps there is no thread for them, since a worker that is alone in its process takes less time.
@@ -109,14 +110,16 @@ pub(crate) fn work_beside_swaps<
         move || -> Vec<Worker>
             requires { (1 < length workers.items) × (length workers.items ≤ MAX_SEATS)
                 × (length observers.now ≤ MAX_OBSERVERS) }
-            ensures { RestWork observers.entry.now batches.entry.now workers.items result.items }
+            ensures { RestWork (Some J.opening) observers.entry.now batches.entry.now
+                workers.items result.items }
         {
             let mut workers = workers;
             work_rest(rt, alloc, shared, &mut workers, observers, batches, gate);
             workers
         },
         move || -> Option<Refusal>
-            ensures { AreSwapped (spares_of T.contents waiting.entry.now.items) result }
+            ensures { AreSwapped J.opening.places
+                (spares_of T.contents waiting.entry.now.items) result }
         { swap_all(rt, shared, waiting) },
     );
     // None is left, but the list has to be ended too.

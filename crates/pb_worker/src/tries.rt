@@ -8,7 +8,7 @@ ghost use Rattle.pb_worker.specs.Stops.{TryStops, TriesStop, ChangesStop};
 
 use crate::desk::{Callee, ask};
 use crate::gate::Gate;
-use pb_base::{Batch, NoMemory, Reason, Refusal};
+use pb_base::{Batch, NoMemory, Refusal};
 use pb_core::Seat;
 use pb_steps::Answer;
 use pb_txn::{ChangeJob, Outcome, changes_converse, plans_converse};
@@ -45,7 +45,7 @@ fn job_of(alloc: Global, batch: &Batch) -> Result<ChangeJob, NoMemory>
     let copy = batch.copy()?;
     match ChangeJob::new(alloc, copy) {
         Ok(job) => Ok(job),
-        Err(_) => Err(NoMemory),
+        Err((_, refused)) => Err(refused),
     }
 }
 
@@ -83,7 +83,8 @@ fn try_once<R: Wait, C: Callee, G: Gate>(
     ensures ok { IfOk result (λ committed. Gains (IsTry batch.now committed) seat.old seat.new) }
     ensures err { IfErr result
         (λ cut. Gains
-        (TryStops seat.old.number batch.now cut.committed cut.refusal) seat.old seat.new) }
+        (TryStops C.opening seat.old.number batch.now cut.committed cut.refusal)
+        seat.old seat.new) }
 {
     // For the proof: a batch has some cells; and what a change has asked is a beginning of its conversation, and at
     // its end a whole one.
@@ -91,11 +92,12 @@ fn try_once<R: Wait, C: Callee, G: Gate>(
     plans_converse();
     changes_converse();
     let mut committed = false;
-    let Ok(mut job) = job_of(alloc, batch) else {
-        return Err(Cut {
-            refusal: Reason::NoMemory.refusal(),
-            committed,
-        });
+    let mut job = match job_of(alloc, batch) {
+        Ok(job) => job,
+        Err(refused) => {
+            let refusal = Refusal::from(refused);
+            return Err(Cut { refusal, committed });
+        }
     };
     for _turn in rt.forever() {
         let Some(step) = job.next() else {
@@ -133,7 +135,8 @@ fn try_all<R: Wait, C: Callee, G: Gate>(
     ensures ok { IfOk result (λ committed. Gains (AreTries batch.now committed) seat.old seat.new) }
     ensures err { IfErr result
         (λ cut. Gains
-        (TriesStop seat.old.number batch.now cut.committed cut.refusal) seat.old seat.new) }
+        (TriesStop C.opening seat.old.number batch.now cut.committed cut.refusal)
+        seat.old seat.new) }
 {
     for count in 0..MAX_TRIES {
         let committed = try_once(rt, alloc, shared, seat, batch, gate)?;
@@ -153,7 +156,7 @@ fn make_room(done: &mut Vec<bool>) -> Result<(), Refusal>
 {
     match done.reserve(1) {
         Ok(()) => Ok(()),
-        Err(_) => Err(Reason::NoMemory.refusal()),
+        Err(refused) => Err(Refusal::from(NoMemory::from(refused))),
     }
 }
 
@@ -185,7 +188,8 @@ pub(crate) fn change_all<R: Wait, C: Callee, G: Gate>(
         (Gains (AreAllTried batches.now count first done.new.items) seat.old seat.new) }
     ensures err { IfErr result
         (λ r. Gains
-        (ChangesStop seat.old.number batches.now count first done.new.items r) seat.old seat.new) }
+        (ChangesStop C.opening seat.old.number batches.now count first done.new.items r)
+        seat.old seat.new) }
 {
     // For the proof: what a change has asked is a beginning of its conversation.
     changes_converse();

@@ -1,5 +1,5 @@
 //! Workers: what one does with its seat, from its first change to its last pass.
-ghost use Rattle.std.specs.Prelude.{◌≡◌, ◌<◌, ◌≤◌, [], List, length, IfOk, IfErr, OnOk};
+ghost use Rattle.std.specs.Prelude.{◌≡◌, ◌<◌, ◌≤◌, ℕ, [], List, length, IfOk, IfErr, OnOk};
 ghost use Rattle.pb_base.specs.declared.limits.TheConstants.{MAX_SEATS, MAX_OBSERVERS};
 ghost use Rattle.pb_worker.specs.Gains.{Gains};
 ghost use Rattle.pb_worker.specs.Swaps.{Spare, AreSwapped};
@@ -44,7 +44,8 @@ fn work_on<R: Wait, C: Callee, G: Gate>(
         (Gains (IsWhole observers.now (share_of batches.now count first) done.new.items)
         seat.old seat.new) }
     ensures err { IfErr result (λ r. Gains
-        (IsPart seat.old.number observers.now (share_of batches.now count first) done.new.items r)
+        (IsPart C.opening seat.old.number observers.now
+        (share_of batches.now count first) done.new.items r)
         seat.old seat.new) }
 {
     change_all(rt, alloc, shared, seat, batches, count, first, done, gate)?;
@@ -67,7 +68,7 @@ pub(crate) fn work<R: Wait, C: Callee, G: Gate>(
     requires some { 0 < count }
     requires few { count ≤ MAX_SEATS }
     requires numbered { length observers.now ≤ MAX_OBSERVERS }
-    ensures { Works observers.now batches.now count first worker.old worker.new }
+    ensures { Works C.opening observers.now batches.now count first worker.old worker.new }
 {
     worker.done.clear();
     let ended = work_on(
@@ -96,8 +97,8 @@ pub(crate) fn drain_last<R: Wait, C: Callee, G: Gate>(
     gate: &G,
 )
     requires numbered { length observers.now ≤ MAX_OBSERVERS }
-    ensures { (spares : List Spare) → AreSwapped spares swapped
-        → Drains spares observers.now main.old main.new }
+    ensures { (places : ℕ) (spares : List Spare) → AreSwapped places spares swapped
+        → Drains C.opening places spares observers.now main.old main.new }
 {
     let ended = drain(rt, alloc, shared, &mut main.seat, observers, gate);
     // The swaps come first, since they were made before these passes.

@@ -12,7 +12,7 @@ use Rattle.pb_world.specs.declared.actor.Actor.{Actor}
 use Rattle.pb_world.specs.declared.job.ActorJob.{ActorJob}
 use Rattle.pb_world.specs.declared.note.Note.{Note}
 use Rattle.pb_world.specs.Jobs.{IsReady}
-use Rattle.pb_world.specs.Actors.{ActorSteps, NoneApplies, ActorMayWant, launched, crashed, crash_note}
+use Rattle.pb_world.specs.Actors.{ActorSteps, ActorMayWant, launched, crashed, crash_note}
 use Rattle.pb_world.specs.Events.{WorldOf, IsWorld, with_actor, actor_of, job_for, no_launch, no_actor, Launches, StepsActor, CrashesActor, OwnAnswers, OwnCalls, StepMayWant, OwnMayWant}
 use Rattle.pb_base.proofs.Logic.{some_none}
 
@@ -56,7 +56,7 @@ module _ (w u : WorldOf) (u-is : w ≡ u) where
   pub own_same : (seat told : SeatOf) (t : SharedOf) → seat ≡ get_or w.seats 0 seat → t ≡ w.shared → told ≡ seat → record w { shared = t; seats = slice_set w.seats 0 told } ≡ u
   own_same seat told t at t-is told-is = ap (λ x. record w { shared = t; seats = x }) (same_list w.seats 0 seat told at told-is) ∙ (ap (λ x. record w { shared = x }) t-is ∙ u-is)
 
-  pub own_wants : (seat : SeatOf) (step : Step) → 1 ≤ length w.seats → seat ≡ get_or w.seats 0 seat → NoneApplies (call_reason w.shared seat.number step) → OwnMayWant u step
+  pub own_wants : (seat : SeatOf) (step : Step) → 1 ≤ length w.seats → seat ≡ get_or w.seats 0 seat → call_reason w.shared seat.number step ≡ None → OwnMayWant u step
   own_wants seat step some at none =
       let own : OwnMayWant w step = record { seat = seat; its_seat = here w.seats 0 seat some at; wants = none } in
       subst (λ x. OwnMayWant x step) u-is own

@@ -13,14 +13,10 @@ use Rattle.pb_world.specs.declared.job.ActorJob.{ActorJob}
 use Rattle.pb_world.specs.declared.note.Note.{Note}
 use Rattle.pb_world.specs.Jobs.{next_of, Takes, is_local, Computes, GrowsNext, kept}
 
--- no number of a refusal applies
-abbrev pub NoneApplies : Option Reason → Type 0
-NoneApplies o = (why : Reason) → o ≡ Some why → reason_code why ≡ reason_code Reason.NoMemory
-
 -- the number is that of the reason for which the step is refused, and want of memory is told where there is none
 abbrev pub IsRefusedBy : SharedOf → ℕ → Step → NotCalled → Type 0
 IsRefusedBy s seat step (NotCalled.Refused code) = (why : Reason) × (call_reason s seat step ≡ Some why) × (code ≡ reason_code why)
-IsRefusedBy s seat step NotCalled.NoMemory = NoneApplies (call_reason s seat step)
+IsRefusedBy s seat step (NotCalled.NoMemory refused) = call_reason s seat step ≡ None
 
 -- what holds with a note, and what where memory was refused
 abbrev pub OnNote : {E : Type 0} → Result Note E → (Note → Type 0) → Type 0 → Type 0
@@ -102,7 +98,7 @@ StepsTo s seat job to = MatchOption job (IsIdle s seat to) (λ j. JobSteps s sea
 
 -- what a job does next may want memory: an instruction that takes some, or a call that isn't refused
 abbrev pub MayWant : SharedOf → ℕ → ActorJob → Type 0
-MayWant s seat j = MatchBool (is_local j) (GrowsNext j) (MatchOption (next_of j) ⊥ (λ step. NoneApplies (call_reason s seat step)))
+MayWant s seat j = MatchBool (is_local j) (GrowsNext j) (MatchOption (next_of j) ⊥ (λ step. call_reason s seat step ≡ None))
 
 -- a step of an actor without job wants no memory
 abbrev pub ActorMayWant : SharedOf → ℕ → Actor → Type 0

@@ -16,9 +16,9 @@ use Rattle.pb_world.specs.declared.actor.Actor.{Actor}
 use Rattle.pb_world.specs.declared.fault.EventFault.{EventFault}
 use Rattle.pb_world.specs.declared.job.ActorJob.{ActorJob}
 use Rattle.pb_world.specs.declared.note.Note.{Note}
-use Rattle.pb_world.specs.Faults.{fault_code}
+use Rattle.pb_world.specs.Faults.{fault_code, memory_fault}
 use Rattle.pb_world.specs.Jobs.{IsReady}
-use Rattle.pb_world.specs.Actors.{ActorSteps, NoneApplies, ActorMayWant, launched, crashed, crash_note}
+use Rattle.pb_world.specs.Actors.{ActorSteps, ActorMayWant, launched, crashed, crash_note}
 
 -- A world, as its owner sees it. An actor has the seat of its number; the world's own steps are taken by seat 0, whose
 -- actor has no job.
@@ -165,7 +165,7 @@ pub record StepMayWant (w : WorldOf) (k : ℕ) : Type 0 where
 pub record OwnMayWant (w : WorldOf) (step : Step) : Type 0 where
   pub seat : SeatOf
   pub its_seat : slice_get w.seats 0 ≡ Some seat
-  pub wants : NoneApplies (call_reason w.shared seat.number step)
+  pub wants : call_reason w.shared seat.number step ≡ None
 
 -- a crash and a step of an idle actor take none, and a call that is refused neither
 abbrev pub MayWant : WorldOf → Event → Type 0
@@ -194,4 +194,4 @@ pub record StopsAtEvent (w : WorldOf) (es : List Event) (at code : ℕ) (v : Wor
   pub notes : List Note
   pub within : at ≤ length es
   pub before : RunsTo w (take at es) notes v
-  pub why : ((code ≡ fault_code EventFault.NoMemory) × ((at ≡ 0) ⊎ ((event : Event) × (slice_get es at ≡ Some event) × Wants v event))) ⊎ ((event : Event) × (fault : EventFault) × (slice_get es at ≡ Some event) × (fault_of v event ≡ Some fault) × (code ≡ fault_code fault))
+  pub why : ((code ≡ fault_code memory_fault) × ((at ≡ 0) ⊎ ((event : Event) × (slice_get es at ≡ Some event) × Wants v event))) ⊎ ((event : Event) × (fault : EventFault) × (slice_get es at ≡ Some event) × (fault_of v event ≡ Some fault) × (code ≡ fault_code fault))

@@ -9,7 +9,7 @@ ghost use Rattle.pb_world.specs.declared.note.Note.TheVariants.{Called};
 
 use crate::job::ActorJob;
 use crate::note::Note;
-use pb_base::{NoMemory, Reason};
+use pb_base::NoMemory;
 use pb_core::{Seat, Shared};
 use pb_steps::{Answer, Step};
 use pb_store::Tablet;
@@ -25,7 +25,8 @@ pub struct Actor {
 
 /// Why a call wasn't answered.
 pub enum NotCalled {
-    NoMemory,
+    /// A growth was refused.
+    NoMemory(NoMemory),
     /// The number of the refusal, 40 to 47 or 49.
     Refused(u8),
 }
@@ -45,13 +46,10 @@ pub fn call<T: Tablet>(
 {
     match shared.call(seat, step) {
         Ok(answer) => Ok(answer),
-        Err(refusal) => {
-            if refusal.0 == Reason::NoMemory.code() {
-                Err(NotCalled::NoMemory)
-            } else {
-                Err(NotCalled::Refused(refusal.0))
-            }
-        }
+        Err(refusal) => match refusal.memory() {
+            Ok(refused) => Err(NotCalled::NoMemory(refused)),
+            Err(code) => Err(NotCalled::Refused(code)),
+        },
     }
 }
 
@@ -128,7 +126,7 @@ fn step_job<T: Tablet>(
         }
         // The job ends as by a crash: what its transaction left stays for others to clear.
         Some(Err(NotCalled::Refused(code))) => after_step(Ok(Note::Refused(code)), None),
-        Some(Err(NotCalled::NoMemory)) => after_step(Err(NoMemory), Some(job)),
+        Some(Err(NotCalled::NoMemory(refused))) => after_step(Err(refused), Some(job)),
     }
 }
 

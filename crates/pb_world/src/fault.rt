@@ -3,14 +3,15 @@
 ghost use Rattle.std.specs.Prelude.{◌≡◌};
 ghost use Rattle.pb_world.specs.Faults.{fault_code};
 
+use pb_base::NoMemory;
 use std::error::Error;
 use std::fmt;
 
 /// Why an event can't happen.
-#[derive(Clone, Copy)]
+#[derive(Debug, PartialEq, Eq, Drop)]
 pub enum EventFault {
     /// A growth was refused.
-    NoMemory,
+    NoMemory(NoMemory),
     /// There is no such actor.
     NoSuchActor,
     /// The actor has a job.
@@ -21,11 +22,11 @@ pub enum EventFault {
 
 impl EventFault {
     /// The number that it is told by.
-    pub fn code(self) -> u8
-        ensures { result ≡ fault_code self }
+    pub fn code(&self) -> u8
+        ensures { result ≡ fault_code self.now }
     {
         match self {
-            EventFault::NoMemory => 1,
+            EventFault::NoMemory(_) => 1,
             EventFault::NoSuchActor => 60,
             EventFault::Busy => 61,
             EventFault::NoSuchJob => 63,
@@ -33,21 +34,31 @@ impl EventFault {
     }
 }
 
-/// Which event of a list was at fault, from 0, and the number of its fault.
-#[derive(Clone, Copy, Debug, PartialEq, Eq, Drop)]
+/// Which event of a list was at fault, from 0, and its fault.
+#[derive(Debug, PartialEq, Eq, Drop)]
 pub struct WorldFault {
     pub event: usize,
-    pub code: u8,
+    pub fault: EventFault,
+}
+
+impl WorldFault {
+    /// The number of its fault.
+    pub fn code(&self) -> u8
+        ensures { result ≡ fault_code self.now.fault }
+    {
+        self.fault.code()
+    }
 }
 
 impl fmt::Display for WorldFault {
     ghost use Rattle.std.specs.Prelude.{Some};
-    ghost use Rattle.pb_world.specs.Faults.{event_and_code};
+    ghost use Rattle.pb_world.specs.Faults.{fault_code, event_and_code};
 
-    ghost output = { λ f. Some (event_and_code f.event f.code) };
+    ghost output = { λ f. Some (event_and_code f.event (fault_code f.fault)) };
 
     fn fmt<W: fmt::Write>(&self, f: &mut fmt::Formatter<W>) -> fmt::Result {
-        let WorldFault { event, code } = *self;
+        let event = self.event;
+        let code = self.code();
         write!(f, "event {event} code {code}")
     }
 }

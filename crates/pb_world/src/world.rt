@@ -1,7 +1,6 @@
 //! Worlds, and the events that happen in them.
 ghost use Rattle.std.specs.Prelude.{◌≡◌, ◌<◌, ◌≤◌, ◌++◌, ◌∷◌, [], length, IfOk, OnOk, vec_len, vec_capacity};
 ghost use Rattle.pb_world.specs.Events.{idle_actors};
-ghost use Rattle.pb_world.specs.Faults.{fault_code};
 
 use crate::actor::{Actor, NotCalled, call, crash, launch, step_actor};
 use crate::fault::{EventFault, WorldFault};
@@ -81,7 +80,7 @@ impl<T: Tablet> World<T> {
     ghost use Rattle.std.specs.Option.{is_some};
     ghost use Rattle.pb_core.specs.Calls.{AreSeats};
     ghost use Rattle.pb_world.specs.Headline.{IsOpened};
-    ghost use Rattle.pb_world.specs.declared.fault.EventFault.TheVariants as faults;
+    ghost use Rattle.pb_world.specs.Faults.{fault_code, memory_fault};
     ghost use Rattle.pb_world.specs.Actors.{OnNote};
     ghost use Rattle.pb_world.specs.Jobs.{IsReady};
     ghost use Rattle.pb_world.specs.Events.{idle_actors, actor_of, held_job, change_of, job_for, no_actor, no_launch, fault_of, Launches, StepsActor, CrashesActor, OwnCalls, Does, StepMayWant, OwnMayWant, MayWant, Wants, Happens, RunsTo, StopsAtEvent};
@@ -94,7 +93,7 @@ impl<T: Tablet> World<T> {
         shared: Shared<T>,
         seats: Vec<Seat>,
         batches: Vec<Batch>,
-    ) -> Result<World<T>, (Shared<T>, Vec<Seat>, Vec<Batch>)>
+    ) -> Result<World<T>, (Shared<T>, Vec<Seat>, Vec<Batch>, NoMemory)>
         requires { AreSeats shared seats.items }
         ensures ok { IfOk result (λ w. w ≡ record {
           shared = shared;
@@ -104,7 +103,8 @@ impl<T: Tablet> World<T> {
           batches = batches.items;
         }) }
         ensures opened { IfOk result IsOpened }
-        ensures handed_back { IfErr result (λ p. p ≡ (shared, seats, batches)) }
+        ensures handed_back { IfErr result (λ p. (p.0 ≡ shared)
+            × (p.1 ≡ seats) × (p.2 ≡ batches)) }
     {
         prove!(shared.seats() > 0);
         // For the proof: the journal is legal.
@@ -116,7 +116,7 @@ impl<T: Tablet> World<T> {
                 actors,
                 batches,
             }),
-            Err(_) => Err((shared, seats, batches)),
+            Err(refused) => Err((shared, seats, batches, refused)),
         }
     }
 
@@ -236,7 +236,7 @@ impl<T: Tablet> World<T> {
                 batch.known();
                 match ChangeJob::new(alloc, batch) {
                     Ok(job) => Ok(ActorJob::Change(job)),
-                    Err(_) => Err(NoMemory),
+                    Err((_, refused)) => Err(refused),
                 }
             }
             Job::Run(number, row) => {
@@ -292,7 +292,7 @@ impl<T: Tablet> World<T> {
         match call(&mut self.shared, &mut self.seats[0], step) {
             Ok(answer) => Ok(Note::Called(answer)),
             Err(NotCalled::Refused(code)) => Ok(Note::Refused(code)),
-            Err(NotCalled::NoMemory) => Err(NoMemory),
+            Err(NotCalled::NoMemory(refused)) => Err(refused),
         }
     }
 
@@ -316,7 +316,7 @@ impl<T: Tablet> World<T> {
     fn event(&mut self, alloc: Global, event: &Event) -> Result<Note, EventFault>
         ensures { MatchResult result (λ n. Happens self.old event.now n self.new)
             (λ f. (self.new ≡ self.old)
-            × (((f ≡ faults.NoMemory) × Wants self.old event.now)
+            × (((f ≡ memory_fault) × Wants self.old event.now)
             ⊎ (fault_of self.old event.now ≡ Some f))) }
     {
         if let Some(fault) = self.fault(event) {
@@ -324,7 +324,7 @@ impl<T: Tablet> World<T> {
         }
         match self.does(alloc, event) {
             Ok(note) => Ok(note),
-            Err(_) => Err(EventFault::NoMemory),
+            Err(refused) => Err(EventFault::NoMemory(refused)),
         }
     }
 
@@ -338,10 +338,12 @@ impl<T: Tablet> World<T> {
     /// notes at the first event, and else at one that could happen and may want some.
     pub fn run(&mut self, alloc: Global, events: &[Event]) -> Result<Vec<Note>, WorldFault>
         ensures ok { IfOk result (λ ns. RunsTo self.old events.now ns.items self.new) }
-        ensures err { IfErr result (λ f. StopsAtEvent self.old events.now f.event f.code self.new) }
+        ensures err { IfErr result (λ f. StopsAtEvent self.old events.now f.event
+            (fault_code f.fault) self.new) }
     {
-        let Ok(mut notes) = room_for(alloc, events.len()) else {
-            return Err(fault_at(0, EventFault::NoMemory));
+        let mut notes = match room_for(alloc, events.len()) {
+            Ok(notes) => notes,
+            Err(refused) => return Err(fault_at(0, EventFault::NoMemory(refused))),
         };
         for event in events {
             match self.event(alloc, event) {
@@ -355,10 +357,7 @@ impl<T: Tablet> World<T> {
 
 // The fault of the event at this place of the list.
 fn fault_at(event: usize, fault: EventFault) -> WorldFault
-    ensures { result ≡ record { event = event; code = fault_code fault } }
+    ensures { result ≡ record { event = event; fault = fault } }
 {
-    WorldFault {
-        event,
-        code: fault.code(),
-    }
+    WorldFault { event, fault }
 }

@@ -21,13 +21,14 @@ use pb_command::{Files, command};
 use pb_store::{Table, Tablet};
 use pb_texts::{Options, options};
 use pb_worker::end_spares;
+use std::alloc::AllocError;
 use std::process::ExitCode;
 use std::sync::Wait;
 use std::thread::Threads;
 use std::{env, io};
 
-// Tells that there is no memory. Where even that can't be told, the status says it alone.
-fn no_memory(rt: &HostRuntime) -> u8 {
+// Reports a refused growth. Where even that can't be written, the status says it alone.
+fn no_memory(rt: &HostRuntime, _refused: NoMemory) -> u8 {
     let _ = eprintln!(rt; "no memory");
     1
 }
@@ -80,7 +81,7 @@ fn carry_out<R: Threads + Wait + Sync, T: Tablet + Send>(
         Err((parts, refusal)) => {
             end_all(parts);
             end_spares(spares);
-            let _ = eprintln!(rt; "tablets refused code {}", refusal.0);
+            let _ = eprintln!(rt; "tablets refused code {}", refusal.code());
             1
         }
     }
@@ -101,21 +102,23 @@ fn run<R: Threads + Wait + Sync>(
 }
 
 // Tells what is wrong with a command line, or the help that it asks for.
-fn refuse(rt: &HostRuntime, error: &clap::Error) -> u8 {
-    if error.kind() == ErrorKind::OutOfMemory {
-        return no_memory(rt);
+fn refuse(rt: &HostRuntime, error: &clap::Error) -> Result<u8, NoMemory> {
+    match error.kind() {
+        ErrorKind::OutOfMemory => return Err(NoMemory::from(AllocError)),
+        _ => {}
     }
     let _ = error.print(rt);
-    error.exit_code() as u8
+    Ok(error.exit_code() as u8)
 }
 
 // Does what the words ask for, the program's own first.
-fn obey<R: Threads + Wait + Sync>(threads: &R, rt: &HostRuntime, words: &[&str]) -> u8 {
+fn obey<R: Threads + Wait + Sync>(
+    threads: &R,
+    rt: &HostRuntime,
+    words: &[&str],
+) -> Result<u8, NoMemory> {
     match options(rt.alloc(), words) {
-        Ok(options) => match run(threads, rt, &options) {
-            Ok(status) => status,
-            Err(_) => no_memory(rt),
-        },
+        Ok(options) => run(threads, rt, &options),
         Err(error) => refuse(rt, &error),
     }
 }
@@ -124,21 +127,23 @@ fn obey<R: Threads + Wait + Sync>(threads: &R, rt: &HostRuntime, words: &[&str])
 fn status<R: Threads + Wait + Sync>(threads: &R, rt: &HostRuntime) -> Result<u8, NoMemory> {
     let args = match env::args(rt) {
         Ok(args) => args,
-        Err(error) if error.kind() == io::ErrorKind::OutOfMemory => return Err(NoMemory),
-        Err(_) => return Ok(not_text(rt)),
+        Err(error) => match error.kind() {
+            io::ErrorKind::OutOfMemory => return Err(NoMemory::from(AllocError)),
+            _ => return Ok(not_text(rt)),
+        },
     };
     let owned: Vec<String> = args.collect(rt.alloc())?;
     let mut words = Vec::new(rt.alloc());
     for word in &owned {
         words.push(word.as_str())?;
     }
-    Ok(obey(threads, rt, &words))
+    obey(threads, rt, &words)
 }
 
 // The handle goes down twice, as the host and as what may wait, since a `HostRuntime` may wait in `main` alone.
 fn main(rt: HostRuntime) -> ExitCode {
     match status(&rt, &rt) {
         Ok(status) => ExitCode::from(status),
-        Err(_) => ExitCode::from(no_memory(&rt)),
+        Err(refused) => ExitCode::from(no_memory(&rt, refused)),
     }
 }

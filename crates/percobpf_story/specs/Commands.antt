@@ -10,14 +10,14 @@ use Rattle.pb_command.specs.Programs.{AnswerLeaves, TellsProgram}
 use Rattle.pb_command.specs.Commands.{ReplayLeaves, IsToldAs}
 use Rattle.percobpf_story.specs.Replays.{TellsTexts}
 
--- What is left on the output where a command ended so. What is known before a slot is the same for every version.
-abbrev pub StoryLeaves : StoryOptions → Held → Taking → Result Verdict Fault → Type 0
-StoryLeaves (StoryOptions.Frames program) before out outcome = AnswerLeaves (TellsProgram frames_text program.profile) (before program.file.now) program.file.now out outcome
-StoryLeaves (StoryOptions.Replay files) before out outcome = ReplayLeaves TellsTexts before files out outcome
+-- What is left on the output where a command ended so, with a table of so many tablets. What is known before a slot is the same for every version.
+abbrev pub StoryLeaves : StoryOptions → ℕ → Held → Taking → Result Verdict Fault → Type 0
+StoryLeaves (StoryOptions.Frames program) places before out outcome = AnswerLeaves (TellsProgram frames_text program.profile) (before program.file.now) program.file.now out outcome
+StoryLeaves (StoryOptions.Replay files) places before out outcome = ReplayLeaves (TellsTexts places) before files out outcome
 
 -- how a command ended, as its status and the line of its fault tell it
-pub record StoryCommands (options : StoryOptions) (files : Filing) (out err : Taking) (status : ℕ) : Type 0 where
+pub record StoryCommands (options : StoryOptions) (places : ℕ) (files : Filing) (out err : Taking) (status : ℕ) : Type 0 where
   pub outcome : Result Verdict Fault
   pub kept : KeepsFiles files
-  pub leaves : StoryLeaves options files.before out outcome
+  pub leaves : StoryLeaves options places files.before out outcome
   pub tells : IsToldAs outcome err status

@@ -14,21 +14,21 @@ use Rattle.pb_story.specs.Stories.{StoryEnds}
 abbrev pub of_story : StoryFault → RunFault
 of_story (StoryFault.Event f) = RunFault.Event f
 of_story StoryFault.Output = RunFault.Output
-of_story StoryFault.NoMemory = RunFault.NoMemory
+of_story (StoryFault.NoMemory refused) = RunFault.NoMemory refused
 
 -- the story of the schedule's events ended so in the world that the three texts open
-pub record ToldOn (last : ℕ) (manifest script schedule : List ℕ) (out : Taking) (result : Result (Unit {0}) StoryFault) : Type 0 where
+pub record ToldOn (places last : ℕ) (manifest script schedule : List ℕ) (out : Taking) (result : Result (Unit {0}) StoryFault) : Type 0 where
   pub world : WorldOf
   pub events : List Event
-  pub opens : OpensReplay last manifest script schedule world events
+  pub opens : OpensReplay places last manifest script schedule world events
   pub after : WorldOf
   pub ends : StoryEnds world events after out result
 
 -- How the story of three texts ended, and what the sink took. Where memory was refused before the first event, nothing was
 -- written.
-abbrev pub TellsTexts : ℕ → List ℕ → List ℕ → List ℕ → Taking → Result (Unit {0}) RunFault → Type 0
-TellsTexts last manifest script schedule out (Ok u) = ToldOn last manifest script schedule out (Ok u)
-TellsTexts last manifest script schedule out (Err RunFault.NoMemory) = ToldOn last manifest script schedule out (Err StoryFault.NoMemory) ⊎ TookNothing out
-TellsTexts last manifest script schedule out (Err RunFault.Output) = ToldOn last manifest script schedule out (Err StoryFault.Output)
-TellsTexts last manifest script schedule out (Err (RunFault.Event f)) = ToldOn last manifest script schedule out (Err (StoryFault.Event f))
-TellsTexts last manifest script schedule out (Err f) = IsReplayUnread manifest script schedule f × TookNothing out
+abbrev pub TellsTexts : ℕ → ℕ → List ℕ → List ℕ → List ℕ → Taking → Result (Unit {0}) RunFault → Type 0
+TellsTexts places last manifest script schedule out (Ok u) = ToldOn places last manifest script schedule out (Ok u)
+TellsTexts places last manifest script schedule out (Err (RunFault.NoMemory refused)) = ToldOn places last manifest script schedule out (Err (StoryFault.NoMemory refused)) ⊎ TookNothing out
+TellsTexts places last manifest script schedule out (Err RunFault.Output) = ToldOn places last manifest script schedule out (Err StoryFault.Output)
+TellsTexts places last manifest script schedule out (Err (RunFault.Event f)) = ToldOn places last manifest script schedule out (Err (StoryFault.Event f))
+TellsTexts places last manifest script schedule out (Err f) = IsReplayUnread manifest script schedule f × TookNothing out

@@ -1,6 +1,6 @@
 //! What the words of the story program ask for, done. It takes no leave to wait, so that all of it is proved of calls
 //! that return.
-ghost use Rattle.std.specs.Prelude.{◌≡◌, false};
+ghost use Rattle.std.specs.Prelude.{◌≡◌, false, length};
 ghost use Rattle.pb_store.specs.Contents.{nothing};
 ghost use Rattle.pb_base.specs.Taking.{taking};
 ghost use Rattle.pb_command.specs.Files.{filing};
@@ -26,7 +26,7 @@ fn tell_files<'a, T: Tablet, P: Paths, O: Sink>(
 ) -> Result<Verdict, Fault<'a>>
     requires empty { table.contents ≡ nothing }
     requires unfailed { O.failed out.old ≡ false }
-    ensures told { ReplayLeaves TellsTexts (P.held paths.old) files.now
+    ensures told { ReplayLeaves (TellsTexts (length table.firsts)) (P.held paths.old) files.now
         (taking O.taken O.failed out.old out.new) result }
     ensures same { P.held paths.new ≡ P.held paths.old }
     ensures quiet { P.failed paths.new ≡ P.failed paths.old }
@@ -58,7 +58,8 @@ pub fn story_command<T: Tablet, P: Paths, O: Sink, E: Sink>(
     requires empty { table.contents ≡ nothing }
     requires out_unfailed { O.failed out.old ≡ false }
     requires err_unfailed { E.failed err.old ≡ false }
-    ensures { StoryCommands options.now (filing P.held P.failed paths.old paths.new)
+    ensures { StoryCommands options.now (length table.firsts)
+        (filing P.held P.failed paths.old paths.new)
         (taking O.taken O.failed out.old out.new) (taking E.taken E.failed err.old err.new)
         result }
 {

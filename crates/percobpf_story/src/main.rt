@@ -17,11 +17,12 @@ use pb_command::Files;
 use pb_memtablet::ListTablet;
 use pb_store::Table;
 use pb_texts::{StoryOptions, story_options};
+use std::alloc::AllocError;
 use std::process::ExitCode;
 use std::{env, io};
 
-// Tells that there is no memory. Where even that can't be told, the status says it alone.
-fn no_memory(rt: &HostRuntime) -> u8 {
+// Reports a refused growth. Where even that can't be written, the status says it alone.
+fn no_memory(rt: &HostRuntime, _refused: NoMemory) -> u8 {
     let _ = eprintln!(rt; "no memory");
     1
 }
@@ -45,26 +46,27 @@ fn carry_out(rt: &HostRuntime, options: &StoryOptions) -> Result<u8, NoMemory> {
             Ok(story_command(alloc, options, &mut files, table, &mut out, &mut err))
         }
         Err((_parts, refusal)) => {
-            let _ = eprintln!(rt; "tablets refused code {}", refusal.0);
+            let _ = eprintln!(rt; "tablets refused code {}", refusal.code());
             Ok(1)
         }
     }
 }
 
 // Tells what is wrong with a command line, or the help that it asks for.
-fn refuse(rt: &HostRuntime, error: &clap::Error) -> u8 {
-    if error.kind() == ErrorKind::OutOfMemory {
-        return no_memory(rt);
+fn refuse(rt: &HostRuntime, error: &clap::Error) -> Result<u8, NoMemory> {
+    match error.kind() {
+        ErrorKind::OutOfMemory => return Err(NoMemory::from(AllocError)),
+        _ => {}
     }
     let _ = error.print(rt);
-    error.exit_code() as u8
+    Ok(error.exit_code() as u8)
 }
 
 // Does what the words ask for, the program's own first.
 fn obey(rt: &HostRuntime, words: &[&str]) -> Result<u8, NoMemory> {
     match story_options(rt.alloc(), words) {
         Ok(options) => carry_out(rt, &options),
-        Err(error) => Ok(refuse(rt, &error)),
+        Err(error) => refuse(rt, &error),
     }
 }
 
@@ -72,8 +74,10 @@ fn obey(rt: &HostRuntime, words: &[&str]) -> Result<u8, NoMemory> {
 fn status(rt: &HostRuntime) -> Result<u8, NoMemory> {
     let args = match env::args(rt) {
         Ok(args) => args,
-        Err(error) if error.kind() == io::ErrorKind::OutOfMemory => return Err(NoMemory),
-        Err(_) => return Ok(not_text(rt)),
+        Err(error) => match error.kind() {
+            io::ErrorKind::OutOfMemory => return Err(NoMemory::from(AllocError)),
+            _ => return Ok(not_text(rt)),
+        },
     };
     let owned: Vec<String> = args.collect(rt.alloc())?;
     let mut words = Vec::new(rt.alloc());
@@ -86,6 +90,6 @@ fn status(rt: &HostRuntime) -> Result<u8, NoMemory> {
 fn main(rt: HostRuntime) -> ExitCode {
     match status(&rt) {
         Ok(status) => ExitCode::from(status),
-        Err(_) => ExitCode::from(no_memory(&rt)),
+        Err(refused) => ExitCode::from(no_memory(&rt, refused)),
     }
 }

@@ -1,6 +1,6 @@
 //! The story of a replay, from its texts to its report: the way of `replay_texts`, which stands apart, so that no
 //! contract of the command has a case for lines.
-ghost use Rattle.std.specs.Prelude.{◌≡◌, false};
+ghost use Rattle.std.specs.Prelude.{◌≡◌, false, length};
 ghost use Rattle.pb_store.specs.Contents.{nothing};
 ghost use Rattle.pb_base.specs.Taking.{taking};
 ghost use Rattle.percobpf_story.specs.Replays.{of_story, TellsTexts};
@@ -18,7 +18,7 @@ fn of_story(fault: StoryFault) -> RunFault
     match fault {
         StoryFault::Event(fault) => RunFault::Event(fault),
         StoryFault::Output => RunFault::Output,
-        StoryFault::NoMemory => RunFault::NoMemory,
+        StoryFault::NoMemory(refused) => RunFault::NoMemory(refused),
     }
 }
 
@@ -39,7 +39,7 @@ pub fn tell_texts<T: Tablet, S: Sink>(
 ) -> Result<(), RunFault>
     requires empty { table.contents ≡ nothing }
     requires unfailed { S.failed sink.old ≡ false }
-    ensures { TellsTexts last.0 manifest.now script.now schedule.now
+    ensures { TellsTexts (length table.firsts) last.0 manifest.now script.now schedule.now
         (taking S.taken S.failed sink.old sink.new) result }
 {
     let (world, events) = open_replay(alloc, manifest, script, schedule, table, last)?;

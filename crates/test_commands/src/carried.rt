@@ -1,8 +1,10 @@
 //! Commands carried out over paths and sinks in memory.
-ghost use Rattle.std.specs.Prelude.{◌≡◌, None, false, vec_len};
+ghost use Rattle.std.specs.Prelude.{◌≡◌, None, false, IfOk, IfErr, vec_len};
+ghost use Rattle.pb_base.specs.Growths.{refused_growth};
 ghost use Rattle.pb_store.specs.Contents.{nothing};
 ghost use Rattle.pb_texts.specs.CommandLines.{IsInRange, swaps_asked};
 ghost use Rattle.pb_command.specs.Commands.{IsSequential};
+ghost use Rattle.pb_command.specs.declared.paths.PathFault.TheVariants as faults;
 
 use pb_base::{NoMemory, Sink, SinkFault};
 use pb_command::{PathFault, Paths, command, sequential_command};
@@ -12,7 +14,7 @@ use std::alloc::Global;
 use std::rt::HostRuntime;
 use std::sync::Wait;
 use std::thread::Threads;
-use test_fixtures::table;
+use test_fixtures::{Unready, refused, table};
 
 // A sink that takes one byte a call, so many times, and then none, or fails.
 #[derive(Drop)]
@@ -45,8 +47,43 @@ impl Sink for Sheet {
     }
 }
 
+/// Why a file in memory isn't read or written.
+#[derive(Clone, Copy, Debug, PartialEq, Eq, Drop)]
+pub enum Unread {
+    Failed,
+    TooLarge,
+    /// A growth is refused, each time anew, as one is reported once.
+    NoMemory,
+}
+
+impl Unread {
+    /// The fault that is answered. Were the growth not refused, it would be another than the one that a test expects.
+    pub fn fault(self, alloc: Global) -> PathFault {
+        match self {
+            Unread::Failed => PathFault::Failed,
+            Unread::TooLarge => PathFault::TooLarge,
+            Unread::NoMemory => match refused(alloc) {
+                Err(refused) => PathFault::NoMemory(refused),
+                Ok(()) => PathFault::Failed,
+            },
+        }
+    }
+}
+
 /// What the reading of a file answers.
-pub type File<'a> = Result<&'a [u8], PathFault>;
+pub type File<'a> = Result<&'a [u8], Unread>;
+
+/// A copy of the bytes.
+pub fn copy_of(alloc: Global, bytes: &[u8]) -> Result<Vec<u8>, PathFault>
+    ensures copy { IfOk result (λ v. v.items ≡ bytes.now) }
+    ensures memory { IfErr result (λ f. f ≡ faults.NoMemory refused_growth) }
+{
+    let mut copy = Vec::new(alloc);
+    match copy.extend_from_slice(bytes) {
+        Ok(()) => Ok(copy),
+        Err(refused) => Err(PathFault::NoMemory(NoMemory::from(refused))),
+    }
+}
 
 /// The three files of a command, at the paths `m`, `s` and `e`. No write succeeds.
 #[derive(Drop)]
@@ -58,11 +95,13 @@ pub struct Files<'a> {
 }
 
 impl<'a> Paths for Files<'a> {
-    ghost use Rattle.std.specs.Prelude.{Some, [], ◌∷◌, if◌then◌else◌, true};
-    ghost use Rattle.std.specs.Result.{result_map_both};
+    ghost use Rattle.std.specs.Prelude.{Ok, [], ◌∷◌, if◌then◌else◌, true};
+    ghost use Rattle.std.specs.Option.{option_map};
+    ghost use Rattle.std.specs.Result.{result_ok};
     ghost use Rattle.std.specs.Str.{bytes_eq};
 
-    ghost held = { λ h path. Some (result_map_both (λ r. r.now) (λ e. e)
+    // A file that isn't read answers a fault, but which isn't said here, as it is made anew each time.
+    ghost held = { λ h path. option_map (λ r. Ok r.now) (result_ok
         (if bytes_eq path (109 ∷ []) then h.manifest else if bytes_eq path (115 ∷ []) then h.script else h.schedule)) };
 
     ghost failed = { λ _. true };
@@ -75,10 +114,9 @@ impl<'a> Paths for Files<'a> {
         } else {
             self.schedule
         };
-        let mut bytes = Vec::new(self.alloc);
-        match bytes.extend_from_slice(file?) {
-            Ok(()) => Ok(bytes),
-            Err(_) => Err(PathFault::NoMemory),
+        match file {
+            Ok(bytes) => copy_of(self.alloc, bytes),
+            Err(unread) => Err(unread.fault(self.alloc)),
         }
     }
 
@@ -117,7 +155,7 @@ pub fn carry<P: Paths>(
     paths: &mut P,
     left: usize,
     fails: bool,
-) -> Result<Outcome, NoMemory>
+) -> Result<Outcome, Unready>
     requires { IsSequential options.now }
 {
     let alloc = rt.alloc();
@@ -148,7 +186,7 @@ pub fn carry_in_threads<R: Threads + Wait + Sync, P: Paths>(
     paths: &mut P,
     left: usize,
     fails: bool,
-) -> Result<Outcome, NoMemory>
+) -> Result<Outcome, Unready>
     requires range { IsInRange options.now }
     requires no_swaps { swaps_asked options.now ≡ 0 }
 {
@@ -183,7 +221,7 @@ pub fn carry_over<R: Threads + Wait + Sync, P: Paths, T: Tablet + Send>(
 }
 
 /// Whether a command prints nothing but this fault.
-pub fn has_told(outcome: Result<Outcome, NoMemory>, fault: &str) -> bool {
+pub fn has_told(outcome: Result<Outcome, Unready>, fault: &str) -> bool {
     match outcome {
         Ok(outcome) => {
             outcome.status == 1
@@ -195,7 +233,7 @@ pub fn has_told(outcome: Result<Outcome, NoMemory>, fault: &str) -> bool {
 }
 
 /// Whether a command whose output took so many bytes of this text, and then failed or took none, printed them and tells it.
-pub fn is_cut(outcome: Result<Outcome, NoMemory>, taken: usize, text: &[u8]) -> bool {
+pub fn is_cut(outcome: Result<Outcome, Unready>, taken: usize, text: &[u8]) -> bool {
     match outcome {
         Ok(outcome) => {
             outcome.status == 1

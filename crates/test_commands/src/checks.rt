@@ -1,7 +1,6 @@
 //! `check`, over paths and sinks in memory.
-use crate::carried::{carry, has_told};
+use crate::carried::{Unread, carry, has_told};
 use crate::programs::{holding, is_cut_anywhere};
-use pb_command::PathFault;
 use pb_helpers::Version;
 use pb_isa::Profile;
 use pb_texts::{Options, ProgramFile};
@@ -16,7 +15,7 @@ const CHECK: Options = Options::Check(ProgramFile {
 #[test]
 fn memory_for_a_program_is_refused(rt: HostRuntime) {
     let mut folder = holding(rt.alloc(), b"");
-    folder.input = Err(PathFault::NoMemory);
+    folder.input = Err(Unread::NoMemory);
     let outcome = carry(&rt, &CHECK, &mut folder, usize::MAX, true);
     assert!(rt; has_told(outcome, "no memory\n"));
 }

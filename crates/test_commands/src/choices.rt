@@ -3,14 +3,14 @@ ghost use Rattle.std.specs.Prelude.{◌≡◌, vec_len};
 ghost use Rattle.pb_texts.specs.CommandLines.{IsInRange, swaps_asked};
 
 use crate::carried::{Files, Outcome, carry_over};
-use pb_base::{NoMemory, Ts};
+use pb_base::Ts;
 use pb_texts::{Options, ReplayFiles};
 use std::alloc::Global;
 use std::process::Abort;
 use std::rt::HostRuntime;
 use std::sync::Wait;
 use std::thread::Threads;
-use test_fixtures::{spares_of, table_of};
+use test_fixtures::{Unready, spares_of, table_of};
 
 // No observers.
 const NONE: &str = "{\"profile\":1,\"observers\":[]}";
@@ -33,7 +33,7 @@ fn outcome_of<R: Threads + Wait + Abort + Sync>(
     options: &Options,
     files: Files,
     slabs: [bool; 2],
-) -> Result<Outcome, NoMemory>
+) -> Result<Outcome, Unready>
     requires { IsInRange options.now }
 {
     let mut files = files;
@@ -163,7 +163,7 @@ pub const REPLAYED: [Replayed<'static>; 10] = [
 ];
 
 #[test]
-fn replays_print_the_same(rt: HostRuntime) -> Result<(), NoMemory> {
+fn replays_print_the_same(rt: HostRuntime) -> Result<(), Unready> {
     let alloc = rt.alloc();
     for case in REPLAYED {
         let options = Options::Replay(ReplayFiles {
@@ -196,7 +196,7 @@ fn output_of<'a, R: Threads + Wait + Abort + Sync>(
     workers: u32,
     swaps: u32,
     slabs: [bool; 2],
-) -> Result<Vec<u8>, NoMemory> {
+) -> Result<Vec<u8>, Unready> {
     assert!(rt;
         workers >= 1 && workers <= 63 && swaps <= 1000,
         "so many there may be"
@@ -222,7 +222,7 @@ fn output_of<'a, R: Threads + Wait + Abort + Sync>(
 }
 
 #[test]
-fn runs_by_one_worker_print_the_same(rt: HostRuntime) -> Result<(), NoMemory> {
+fn runs_by_one_worker_print_the_same(rt: HostRuntime) -> Result<(), Unready> {
     let copied = "cell 7 0 commit 2 value 2a\ncell 7 1 commit 4 value 2a\nruns copy 1\nquiet\n";
     for slabs in CHOICES {
         for swaps in [0u32, 1, 2, 7, 1000] {
@@ -240,7 +240,7 @@ fn runs_by_one_worker_print_the_same(rt: HostRuntime) -> Result<(), NoMemory> {
 
 // By several workers the copy commits at 4 or later.
 #[test]
-fn runs_by_three_workers_copy_later(rt: HostRuntime) -> Result<(), NoMemory> {
+fn runs_by_three_workers_copy_later(rt: HostRuntime) -> Result<(), Unready> {
     let before = b"cell 7 0 commit 2 value 2a\ncell 7 1 commit ";
     let behind = b" value 2a\nruns copy 1\nquiet\n";
     for slabs in CHOICES {

@@ -1,16 +1,15 @@
 //! `asm` and `dis`, over paths and sinks in memory.
-ghost use Rattle.std.specs.Prelude.{◌≡◌, ◌∷◌, [], true, IfOk, IfErr};
+ghost use Rattle.std.specs.Prelude.{◌≡◌, ◌∷◌, [], true, IfOk};
 ghost use Rattle.std.specs.Str.{bytes_eq};
 ghost use Rattle.pb_command.specs.Commands.{IsSequential};
-ghost use Rattle.pb_command.specs.declared.paths.PathFault.TheVariants as faults;
 
-use crate::carried::{Outcome, carry, has_told, is_cut};
-use pb_base::NoMemory;
+use crate::carried::{File, Outcome, Unread, carry, copy_of, has_told, is_cut};
 use pb_command::{PathFault, Paths};
 use pb_isa::Profile;
 use pb_texts::Options;
 use std::alloc::Global;
 use std::rt::HostRuntime;
+use test_fixtures::Unready;
 
 const LISTING: Options = Options::Dis {
     file: "i",
@@ -21,28 +20,34 @@ const LISTING: Options = Options::Dis {
 #[derive(Drop)]
 pub(crate) struct Folder<'a> {
     alloc: Global,
-    pub(crate) input: Result<&'a [u8], PathFault>,
+    pub(crate) input: File<'a>,
     // What each write is refused with.
-    refuses: Option<PathFault>,
+    refuses: Option<Unread>,
     output: Option<Vec<u8>>,
     failed: bool,
 }
 
 impl<'a> Paths for Folder<'a> {
-    ghost use Rattle.std.specs.Prelude.{Some, Err, [], ◌∷◌, if◌then◌else◌};
+    ghost use Rattle.std.specs.Prelude.{Some, Ok, Err, [], ◌∷◌, if◌then◌else◌};
     ghost use Rattle.std.specs.Option.{option_map, ok_or};
-    ghost use Rattle.std.specs.Result.{result_map_both};
+    ghost use Rattle.std.specs.Result.{result_ok};
     ghost use Rattle.std.specs.Str.{bytes_eq};
     ghost use Rattle.pb_command.specs.declared.paths.PathFault.TheVariants.{Failed};
 
-    ghost held = { λ f path. Some (if bytes_eq path (105 ∷ []) then result_map_both (λ r. r.now) (λ e. e) f.input
-        else if bytes_eq path (111 ∷ []) then ok_or (option_map (λ v. v.items) f.output) Failed else Err Failed) };
+    // An input that isn't read answers a fault, but which isn't said here, as it is made anew each time.
+    ghost held = { λ f path.
+        if bytes_eq path (105 ∷ []) then option_map (λ r. Ok r.now) (result_ok f.input)
+        else if bytes_eq path (111 ∷ []) then Some (ok_or (option_map (λ v. v.items) f.output) Failed)
+        else Some (Err Failed) };
 
     ghost failed = { λ f. f.failed };
 
     fn read(&mut self, path: &str) -> Result<Vec<u8>, PathFault> {
         if path == "i" {
-            return copy_of(self.alloc, self.input?);
+            return match self.input {
+                Ok(bytes) => copy_of(self.alloc, bytes),
+                Err(unread) => Err(unread.fault(self.alloc)),
+            };
         }
         match &self.output {
             Some(output) if path == "o" => copy_of(self.alloc, output),
@@ -73,20 +78,9 @@ impl<'a> Folder<'a> {
             return Err(PathFault::Failed);
         }
         match self.refuses {
-            Some(fault) => Err(fault),
+            Some(unread) => Err(unread.fault(self.alloc)),
             None => copy_of(self.alloc, bytes),
         }
-    }
-}
-
-fn copy_of(alloc: Global, bytes: &[u8]) -> Result<Vec<u8>, PathFault>
-    ensures copy { IfOk result (λ v. v.items ≡ bytes.now) }
-    ensures memory { IfErr result (λ f. f ≡ faults.NoMemory) }
-{
-    let mut copy = Vec::new(alloc);
-    match copy.extend_from_slice(bytes) {
-        Ok(()) => Ok(copy),
-        Err(_) => Err(PathFault::NoMemory),
     }
 }
 
@@ -100,7 +94,7 @@ pub(crate) fn holding(alloc: Global, input: &[u8]) -> Folder {
     }
 }
 
-fn asm(rt: &HostRuntime, folder: &mut Folder) -> Result<Outcome, NoMemory> {
+fn asm(rt: &HostRuntime, folder: &mut Folder) -> Result<Outcome, Unready> {
     let options = Options::Asm {
         input: "i",
         output: "o",
@@ -117,7 +111,7 @@ fn tells(rt: &HostRuntime, folder: &mut Folder, fault: &str) -> bool {
 #[test]
 fn memory_for_bytes_is_refused(rt: HostRuntime) {
     let mut folder = holding(rt.alloc(), b"");
-    folder.input = Err(PathFault::NoMemory);
+    folder.input = Err(Unread::NoMemory);
     assert!(rt; tells(&rt, &mut folder, "no memory\n"));
     assert!(rt;
         has_told(
@@ -126,16 +120,16 @@ fn memory_for_bytes_is_refused(rt: HostRuntime) {
         )
     );
     // The first fault is told.
-    folder.refuses = Some(PathFault::Failed);
+    folder.refuses = Some(Unread::Failed);
     assert!(rt; tells(&rt, &mut folder, "no memory\n"));
 }
 
 #[test]
 fn bytes_are_not_read(rt: HostRuntime) {
     let table = [
-        (PathFault::Failed, "cannot read i\n"),
-        (PathFault::TooLarge, "too large i\n"),
-        (PathFault::NoMemory, "no memory\n"),
+        (Unread::Failed, "cannot read i\n"),
+        (Unread::TooLarge, "too large i\n"),
+        (Unread::NoMemory, "no memory\n"),
     ];
     for (fault, line) in table {
         let mut folder = holding(rt.alloc(), b"");
@@ -161,9 +155,9 @@ fn what_was_written_is_read(rt: HostRuntime) {
 #[test]
 fn bytes_are_not_written(rt: HostRuntime) {
     let table = [
-        (PathFault::Failed, "cannot write o\n"),
-        (PathFault::TooLarge, "cannot write o\n"),
-        (PathFault::NoMemory, "no memory\n"),
+        (Unread::Failed, "cannot write o\n"),
+        (Unread::TooLarge, "cannot write o\n"),
+        (Unread::NoMemory, "no memory\n"),
     ];
     for (fault, line) in table {
         let mut folder = holding(rt.alloc(), b"exit");

@@ -1,11 +1,11 @@
 //! `replay`, over paths and sinks in memory.
-use crate::carried::{File, Files, Outcome, carry, has_told, is_cut};
+use crate::carried::{File, Files, Outcome, Unread, carry, has_told, is_cut};
 use crate::choices::REPLAYED;
-use pb_base::{NoMemory, Ts};
-use pb_command::PathFault;
+use pb_base::Ts;
 use pb_texts::{Options, ReplayFiles};
 use std::alloc::Global;
 use std::rt::HostRuntime;
+use test_fixtures::Unready;
 
 // A replay of these files with the last timestamp given out, whose output takes so many bytes, and then fails or takes none.
 fn replay(
@@ -14,7 +14,7 @@ fn replay(
     clock: u64,
     left: usize,
     fails: bool,
-) -> Result<Outcome, NoMemory> {
+) -> Result<Outcome, Unready> {
     let mut files = files;
     let options = Options::Replay(ReplayFiles {
         manifest: "m",
@@ -32,7 +32,7 @@ fn memory_for_a_schedule_is_refused(rt: HostRuntime) {
         alloc: rt.alloc(),
         manifest: bad,
         script: bad,
-        schedule: Err(PathFault::NoMemory),
+        schedule: Err(Unread::NoMemory),
     };
     let outcome = replay(&rt, files, 0, usize::MAX, true);
     assert!(rt; has_told(outcome, "no memory\n"));

@@ -1,14 +1,13 @@
 //! `run`, over paths and sinks in memory.
 ghost use Rattle.std.specs.Prelude.{◌≡◌, ◌≤◌};
 
-use crate::carried::{Files, Outcome, carry_in_threads, has_told, is_cut};
-use pb_base::NoMemory;
-use pb_command::PathFault;
+use crate::carried::{Files, Outcome, Unread, carry_in_threads, has_told, is_cut};
 use pb_texts::Options;
 use std::alloc::Global;
 use std::rt::HostRuntime;
 use std::sync::Wait;
 use std::thread::Threads;
+use test_fixtures::Unready;
 
 const MANIFEST: &[u8] = b"{\"profile\":1,\"observers\":[]}";
 
@@ -20,7 +19,7 @@ fn run<R: Threads + Wait + Sync>(
     workers: u32,
     left: usize,
     fails: bool,
-) -> Result<Outcome, NoMemory>
+) -> Result<Outcome, Unready>
     requires some { 1 ≤ workers }
     requires few { workers ≤ 63 }
 {
@@ -38,7 +37,7 @@ fn run<R: Threads + Wait + Sync>(
 fn memory_for_a_manifest_is_refused(rt: HostRuntime) {
     let files = Files {
         alloc: rt.alloc(),
-        manifest: Err(PathFault::NoMemory),
+        manifest: Err(Unread::NoMemory),
         script: Ok(b""),
         schedule: Ok(b""),
     };

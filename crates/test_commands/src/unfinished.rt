@@ -6,7 +6,7 @@ use std::alloc::Global;
 use std::rt::HostRuntime;
 use std::sync::Wait;
 use std::thread::Threads;
-use test_fixtures::refusing_table;
+use test_fixtures::{Unready, refusing_table};
 
 // A script of so many changes, each of the cell that the one before changes.
 fn script_of(alloc: Global, changes: u32) -> Result<String, NoMemory> {
@@ -34,7 +34,7 @@ fn outcome_of<R: Threads + Wait + Sync>(
     rt: &R,
     alloc: Global,
     script: &str,
-) -> Result<Outcome, NoMemory> {
+) -> Result<Outcome, Unready> {
     let mut files = Files {
         alloc,
         manifest: Ok(b"{\"profile\":1,\"observers\":[]}"),
@@ -62,7 +62,7 @@ fn outcome_of<R: Threads + Wait + Sync>(
 }
 
 #[test]
-fn changes_that_are_left_are_told_after_the_report(rt: HostRuntime) -> Result<(), NoMemory> {
+fn changes_that_are_left_are_told_after_the_report(rt: HostRuntime) -> Result<(), Unready> {
     for changes in [2, 4, 5, 6, 100, 10_000u32] {
         let script = script_of(rt.alloc(), changes)?;
         let outcome = outcome_of(&rt, rt.alloc(), script.as_str())?;

@@ -3,9 +3,11 @@ ghost use Rattle.std.specs.Prelude.{◌≡◌};
 ghost use Rattle.pb_memtablet.specs.Either.{contents_of};
 ghost use Rattle.pb_store.specs.Contents.{Contents};
 
+use crate::unready::refused;
 use pb_base::{Cell, NoMemory, Ts};
 use pb_memtablet::EitherTablet;
 use pb_store::{Edit, Item, Slot, Sort, Tablet};
+use std::alloc::Global;
 use std::sync::Arc;
 use std::sync::atomic::{AtomicUsize, Ordering};
 use std::thread;
@@ -21,6 +23,8 @@ pub struct CountedTablet {
     pub inner: EitherTablet,
     pub calls: Arc<AtomicUsize>,
     pub refused: Option<usize>,
+    /// What the refused growth is asked of.
+    pub alloc: Global,
     pub until: Option<Arc<AtomicUsize>>,
 }
 
@@ -69,7 +73,7 @@ impl Tablet for CountedTablet {
     fn apply(&mut self, edits: &[Edit]) -> Result<(), NoMemory> {
         let number = self.calls.fetch_add(1, Ordering::SeqCst);
         if self.refused == Some(number) {
-            return Err(NoMemory);
+            refused(self.alloc)?;
         }
         self.inner.apply(edits)
     }

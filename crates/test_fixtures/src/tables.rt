@@ -5,6 +5,7 @@ ghost use Rattle.pb_core.specs.Calls.{AreSeats};
 ghost use Rattle.pb_store.specs.Contents.{nothing};
 
 use crate::counted::CountedTablet;
+use crate::unready::Unready;
 use pb_base::{NoMemory, Row, Ts};
 use pb_core::{OpenRefused, Seat, Shared};
 use pb_memtablet::{EitherTablet, ListTablet};
@@ -15,19 +16,19 @@ use std::sync::Arc;
 use std::sync::atomic::AtomicUsize;
 
 /// An empty table of one tablet.
-pub fn table(alloc: Global) -> Result<Table<ListTablet>, NoMemory>
+pub fn table(alloc: Global) -> Result<Table<ListTablet>, Unready>
     ensures { IfOk result (λ t. t.contents ≡ nothing) }
 {
     let mut parts = Vec::new(alloc);
     parts.push((Row(0), ListTablet::new(alloc)))?;
     match Table::new(parts) {
         Ok(table) => Ok(table),
-        Err(_) => Err(NoMemory),
+        Err((_, refusal)) => Err(Unready::from(refusal)),
     }
 }
 
 /// An empty table of tablets a thousand rows apart, each a slab or a list as it is told here.
-pub fn table_of(alloc: Global, slabs: &[bool]) -> Result<Table<EitherTablet>, NoMemory>
+pub fn table_of(alloc: Global, slabs: &[bool]) -> Result<Table<EitherTablet>, Unready>
     ensures { IfOk result (λ t. t.contents ≡ nothing) }
 {
     let mut parts = Vec::new(alloc);
@@ -38,25 +39,26 @@ pub fn table_of(alloc: Global, slabs: &[bool]) -> Result<Table<EitherTablet>, No
     }
     match Table::new(parts) {
         Ok(table) => Ok(table),
-        Err(_) => Err(NoMemory),
+        Err((_, refusal)) => Err(Unready::from(refusal)),
     }
 }
 
 /// An empty table of a list that refuses the change of this number, counted from 0, for want of memory.
-pub fn refusing_table(alloc: Global, refused: usize) -> Result<Table<CountedTablet>, NoMemory>
+pub fn refusing_table(alloc: Global, refused: usize) -> Result<Table<CountedTablet>, Unready>
     ensures { IfOk result (λ t. t.contents ≡ nothing) }
 {
     let tablet = CountedTablet {
         inner: EitherTablet::new(alloc, false),
         calls: Arc::new(alloc, AtomicUsize::new(0))?,
         refused: Some(refused),
+        alloc,
         until: None,
     };
     let mut parts = Vec::new(alloc);
     parts.push((Row(0), tablet))?;
     match Table::new(parts) {
         Ok(table) => Ok(table),
-        Err(_) => Err(NoMemory),
+        Err((_, refusal)) => Err(Unready::from(refusal)),
     }
 }
 
@@ -85,7 +87,7 @@ pub fn open_table(
     seats: u32,
     last: Ts,
     limit: usize,
-) -> Result<(Shared<ListTablet>, Vec<Seat>), NoMemory>
+) -> Result<(Shared<ListTablet>, Vec<Seat>), Unready>
     requires few { length observers.items ≤ MAX_OBSERVERS }
     requires some { 1 ≤ seats }
     requires seats { seats ≤ MAX_SEATS }
@@ -104,7 +106,7 @@ pub fn open_table_over<T: Tablet>(
     seats: u32,
     last: Ts,
     limit: usize,
-) -> Result<(Shared<T>, Vec<Seat>), NoMemory>
+) -> Result<(Shared<T>, Vec<Seat>), Unready>
     requires empty { table.contents ≡ nothing }
     requires few { length observers.items ≤ MAX_OBSERVERS }
     requires some { 1 ≤ seats }
@@ -119,11 +121,11 @@ pub fn open_table_over<T: Tablet>(
             OpenRefused {
                 table,
                 observers: _,
-                code: _,
+                refusal,
             },
         ) => {
             table.close();
-            Err(NoMemory)
+            Err(Unready::from(refusal))
         }
     }
 }

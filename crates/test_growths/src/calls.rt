@@ -5,11 +5,12 @@ use crate::same::are_states_same;
 use crate::steps::steps;
 use crate::swaps::are_swapped;
 use crate::twins::{Twins, call_all, call_both, close, open_twice, two_tables};
-use pb_base::{NoMemory, Ts};
+use pb_base::Ts;
 use pb_memtablet::EitherTablet;
 use pb_state::State;
 use pb_steps::{Answer, Step};
 use std::alloc::Global;
+use test_fixtures::Unready;
 
 // Looks for marks until the journal is as long as its room, and with it book and list of the seat.
 fn is_filled(twins: &mut Twins, refusals: &mut Refusals) -> bool {
@@ -25,11 +26,7 @@ fn is_filled(twins: &mut Twins, refusals: &mut Refusals) -> bool {
 }
 
 // Whether the last of these steps is answered behind the others, where journal, book and list have to grow for it.
-fn is_last_called(
-    alloc: Global,
-    steps: &[Step],
-    refusals: &mut Refusals,
-) -> Result<bool, NoMemory> {
+fn is_last_called(alloc: Global, steps: &[Step], refusals: &mut Refusals) -> Result<bool, Unready> {
     let Some((last, before)) = steps.split_last() else {
         return Ok(true);
     };
@@ -42,7 +39,7 @@ fn is_last_called(
 }
 
 /// `Shared::call` with each step in turn, and then `Shared::swap`.
-pub fn shared_calls(alloc: Global, refusals: &mut Refusals) -> Result<bool, NoMemory> {
+pub fn shared_calls(alloc: Global, refusals: &mut Refusals) -> Result<bool, Unready> {
     let steps = steps(alloc)?;
     let mut twins = open_twice(alloc, watchers(alloc)?, watchers(alloc)?)?;
     let held = call_all(&mut twins, &steps, refusals)
@@ -58,7 +55,7 @@ pub fn shared_calls(alloc: Global, refusals: &mut Refusals) -> Result<bool, NoMe
 }
 
 /// `Shared::call` with each step, where it has to grow.
-pub fn shared_grows(alloc: Global, refusals: &mut Refusals) -> Result<bool, NoMemory> {
+pub fn shared_grows(alloc: Global, refusals: &mut Refusals) -> Result<bool, Unready> {
     let steps = steps(alloc)?;
     for place in 0..steps.len() {
         if !is_last_called(alloc, &steps[..place + 1], refusals)? {
@@ -141,7 +138,7 @@ fn all_taken(
 }
 
 /// `State::take`, and then `State::swap`: a state where one is refused once stays as another is, for which it isn't.
-pub fn states_take(alloc: Global, refusals: &mut Refusals) -> Result<bool, NoMemory> {
+pub fn states_take(alloc: Global, refusals: &mut Refusals) -> Result<bool, Unready> {
     let steps = steps(alloc)?;
     let (watchers, others) = (watchers(alloc)?, watchers(alloc)?);
     let (first, second) = two_tables(alloc)?;

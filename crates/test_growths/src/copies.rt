@@ -1,12 +1,13 @@
 //! Batches, steps and declarations.
 use crate::refusals::Refusals;
 use crate::steps::three_cells;
-use pb_base::{Batch, NoMemory, Ts};
+use pb_base::{Batch, Ts};
 use pb_steps::{Declaration, Declared, Step};
 use std::alloc::Global;
+use test_fixtures::Unready;
 
 /// `Batch::copy`.
-pub fn batch_copies(alloc: Global, refusals: &mut Refusals) -> Result<bool, NoMemory> {
+pub fn batch_copies(alloc: Global, refusals: &mut Refusals) -> Result<bool, Unready> {
     let batch = three_cells(alloc)?;
     let copy = match batch.copy() {
         Ok(copy) => copy,
@@ -22,7 +23,7 @@ pub fn batch_copies(alloc: Global, refusals: &mut Refusals) -> Result<bool, NoMe
 }
 
 /// `Step::copy`, which shares what is declared.
-pub fn step_copies(alloc: Global, refusals: &mut Refusals) -> Result<bool, NoMemory> {
+pub fn step_copies(alloc: Global, refusals: &mut Refusals) -> Result<bool, Unready> {
     let what = Declaration::new(alloc, Declared::Script(three_cells(alloc)?))?;
     let step = Step::Declare(Ts(1), what);
     let copy = match step.copy() {
@@ -64,7 +65,7 @@ fn script(batch: Batch) -> Declared {
 }
 
 /// `Declaration::new` of a batch.
-pub fn batches_are_declared(alloc: Global, refusals: &mut Refusals) -> Result<bool, NoMemory> {
+pub fn batches_are_declared(alloc: Global, refusals: &mut Refusals) -> Result<bool, Unready> {
     let batch = script(three_cells(alloc)?);
     let same = script(three_cells(alloc)?);
     Ok(is_declared(alloc, batch, &same, refusals))

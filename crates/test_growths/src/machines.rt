@@ -1,6 +1,6 @@
 //! Machines, also of the program in a file.
 use crate::refusals::Refusals;
-use pb_base::{Cell, Column, Content, NoMemory, Revision, Row, Ts};
+use pb_base::{Cell, Column, Content, Revision, Row, Ts};
 use pb_helpers::{HelperTable, Record, Reply};
 use pb_registry::accept;
 use pb_verify::Accepted;
@@ -9,6 +9,7 @@ use std::alloc::Global;
 use std::fs;
 use std::io::Read;
 use std::sync::Arc;
+use test_fixtures::Unready;
 
 /// The record of a cell that was deleted at 2.
 pub fn change(cell: Cell) -> Record {
@@ -21,13 +22,13 @@ pub fn change(cell: Cell) -> Record {
 }
 
 // A machine of a program on that record, which is of its version, for a run at 3.
-fn start_once(alloc: Global, program: &Arc<Accepted>, cell: &Cell) -> Result<Vm, NoMemory> {
+fn start_once(alloc: Global, program: &Arc<Accepted>, cell: &Cell) -> Result<Vm, Unready> {
     let version = program.version();
     let record = change(*cell);
     if record.version() != version {
-        return Err(NoMemory);
+        return Err(Unready::Other("there is no record of its version"));
     }
-    Vm::start(alloc, program, record, Ts(3))
+    Ok(Vm::start(alloc, program, record, Ts(3))?)
 }
 
 /// A machine of a program on that record, for a run at 3. Where it is refused once, the same call again starts it.
@@ -67,25 +68,23 @@ pub fn run_to_end(vm: Vm) -> Option<(Finished, u16)> {
 }
 
 // The program of a file, with all helpers.
-fn program_in(rt: &HostRuntime, path: &str) -> Result<Arc<Accepted>, NoMemory> {
+fn program_in(rt: &HostRuntime, path: &str) -> Result<Arc<Accepted>, Unready> {
     let mut bytes = Vec::new(rt.alloc());
     let Ok(mut file) = fs::open(rt, path) else {
-        return Err(NoMemory);
+        return Err(Unready::Other("the file can't be opened"));
     };
     if file.read_to_end(&mut bytes).is_err() {
-        return Err(NoMemory);
+        return Err(Unready::Other("the file can't be read"));
     }
-    match accept(rt.alloc(), &bytes, HelperTable::all()) {
-        Ok(program) => Ok(Arc::new(rt.alloc(), program)?),
-        Err(_) => Err(NoMemory),
-    }
+    let program = accept(rt.alloc(), &bytes, HelperTable::all())?;
+    Ok(Arc::new(rt.alloc(), program)?)
 }
 
 fn started_in(
     rt: &HostRuntime,
     path: &str,
     refusals: &mut Refusals,
-) -> Result<Option<Vm>, NoMemory> {
+) -> Result<Option<Vm>, Unready> {
     let Some(column) = Column::new(0) else {
         return Ok(None);
     };
@@ -95,11 +94,7 @@ fn started_in(
 }
 
 /// Whether a machine of the program in a file stands on entry.
-pub fn file_starts(
-    rt: &HostRuntime,
-    path: &str,
-    refusals: &mut Refusals,
-) -> Result<bool, NoMemory> {
+pub fn file_starts(rt: &HostRuntime, path: &str, refusals: &mut Refusals) -> Result<bool, Unready> {
     match started_in(rt, path, refusals)? {
         Some(vm) => Ok(vm.phase() == MachinePhase::Going && vm.taken() == 0),
         None => Ok(false),
@@ -112,7 +107,7 @@ pub fn file_runs(
     path: &str,
     count: u16,
     refusals: &mut Refusals,
-) -> Result<bool, NoMemory> {
+) -> Result<bool, Unready> {
     let Some(vm) = started_in(rt, path, refusals)? else {
         return Ok(false);
     };

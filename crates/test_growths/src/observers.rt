@@ -15,6 +15,7 @@ use pb_verify::{Accepted, Observer, VerifyFault};
 use pb_vm::Finished;
 use std::alloc::Global;
 use std::sync::Arc;
+use test_fixtures::Unready;
 
 // mov64 r0, 0 and exit.
 const PROGRAM: &[u8] = b"\xb7\0\0\0\0\0\0\0\x95\0\0\0\0\0\0\0";
@@ -23,19 +24,16 @@ const PROGRAM: &[u8] = b"\xb7\0\0\0\0\0\0\0\x95\0\0\0\0\0\0\0";
 const MANIFEST: &str =
     "{\"profile\":1,\"observers\":[{\"name\":\"watch\",\"column\":0,\"helpers\":[],\"code\":\"b7000000000000009500000000000000\"},{\"name\":\"start\",\"column\":1,\"helpers\":[4],\"code\":\"85000000040000009500000000000000\"}]}";
 
-fn program(alloc: Global) -> Result<Accepted, NoMemory> {
-    match accept(alloc, PROGRAM, HelperTable::none()) {
-        Ok(program) => Ok(program),
-        Err(_) => Err(NoMemory),
-    }
+fn program(alloc: Global) -> Result<Accepted, Unready> {
+    Ok(accept(alloc, PROGRAM, HelperTable::none())?)
 }
 
 /// `accept`.
-pub fn programs_are_accepted(alloc: Global, refusals: &mut Refusals) -> Result<bool, NoMemory> {
+pub fn programs_are_accepted(alloc: Global, refusals: &mut Refusals) -> Result<bool, Unready> {
     match accept(alloc, PROGRAM, HelperTable::none()) {
         Ok(program) => Ok(program.slots() == 2),
         Err(VerifyFault::Refused(_)) => Ok(false),
-        Err(VerifyFault::NoMemory) => {
+        Err(VerifyFault::NoMemory(_)) => {
             refusals.note("accept");
             match program(alloc) {
                 Ok(program) => Ok(program.slots() == 2),
@@ -67,7 +65,7 @@ fn are_the_manifests(observers: &[Observer]) -> bool {
 fn gives_its_observers(alloc: Global, registry: Registry, refusals: &mut Refusals) -> bool {
     match registry.into_observers(alloc) {
         Ok(observers) => are_the_manifests(&observers),
-        Err(registry) => {
+        Err((registry, _)) => {
             refusals.note("Registry::into_observers");
             match registry.into_observers(alloc) {
                 Ok(observers) => are_the_manifests(&observers),
@@ -79,7 +77,7 @@ fn gives_its_observers(alloc: Global, registry: Registry, refusals: &mut Refusal
 
 // Whether it tells want of memory, and no place.
 fn is_memory(fault: &RegistryFault) -> bool {
-    fault.code == 1 && fault.observer.is_none() && fault.program.is_none()
+    fault.code() == 1 && fault.observer().is_none() && fault.program().is_none()
 }
 
 /// `Registry::from_json` and `Registry::into_observers`.
@@ -111,7 +109,7 @@ pub fn finished_run(
 }
 
 /// `Vm::start`.
-pub fn machines_start(alloc: Global, refusals: &mut Refusals) -> Result<bool, NoMemory> {
+pub fn machines_start(alloc: Global, refusals: &mut Refusals) -> Result<bool, Unready> {
     let program = Arc::new(alloc, program(alloc)?)?;
     let cell = Cell::Data(Row(7), column()?);
     match finished_run(alloc, &program, &cell, refusals) {
@@ -123,7 +121,7 @@ pub fn machines_start(alloc: Global, refusals: &mut Refusals) -> Result<bool, No
 }
 
 /// The one observer of a table.
-pub fn observers(alloc: Global, program: &Arc<Accepted>) -> Result<Vec<Observer>, NoMemory>
+pub fn observers(alloc: Global, program: &Arc<Accepted>) -> Result<Vec<Observer>, Unready>
     ensures { IfOk result (λ v. length v.items ≤ 32) }
 {
     let mut observers = Vec::new(alloc);
@@ -136,7 +134,7 @@ fn observer(
     name: &str,
     column: u8,
     program: &Arc<Accepted>,
-) -> Result<Observer, NoMemory> {
+) -> Result<Observer, Unready> {
     Ok(Observer {
         name: String::from_str(alloc, name)?,
         column: column_of(column)?,
@@ -145,7 +143,7 @@ fn observer(
 }
 
 /// Observers of the columns 0 to 2, which do nothing.
-pub fn watchers(alloc: Global) -> Result<Vec<Observer>, NoMemory>
+pub fn watchers(alloc: Global) -> Result<Vec<Observer>, Unready>
     ensures { IfOk result (λ v. length v.items ≤ 32) }
 {
     let program = Arc::new(alloc, program(alloc)?)?;
@@ -167,7 +165,7 @@ fn are_the_schedules(events: &[Event]) -> bool {
 }
 
 /// `parse_schedule`.
-pub fn schedules_are_read(alloc: Global, refusals: &mut Refusals) -> Result<bool, NoMemory> {
+pub fn schedules_are_read(alloc: Global, refusals: &mut Refusals) -> Result<bool, Unready> {
     let program = Arc::new(alloc, program(alloc)?)?;
     let observers = observers(alloc, &program)?;
     match parse_schedule(alloc, SCHEDULE, &observers) {
@@ -176,7 +174,7 @@ pub fn schedules_are_read(alloc: Global, refusals: &mut Refusals) -> Result<bool
             refusals.note("parse_schedule");
             match parse_schedule(alloc, SCHEDULE, &observers) {
                 Ok(events) => {
-                    Ok(fault.line == 0 && fault.code == 1 && are_the_schedules(&events))
+                    Ok(fault.line() == 0 && fault.code() == 1 && are_the_schedules(&events))
                 }
                 Err(_) => Ok(false),
             }
@@ -203,7 +201,7 @@ fn keep_run(
 }
 
 /// `EndedRun::new`, and `Declaration::new` of a run.
-pub fn runs_are_ended(alloc: Global, refusals: &mut Refusals) -> Result<bool, NoMemory> {
+pub fn runs_are_ended(alloc: Global, refusals: &mut Refusals) -> Result<bool, Unready> {
     let program = Arc::new(alloc, program(alloc)?)?;
     let cell = Cell::Data(Row(7), column()?);
     let (Some(watch), Some(first), Some(second), Some(same)) = (
@@ -225,7 +223,7 @@ pub fn runs_are_ended(alloc: Global, refusals: &mut Refusals) -> Result<bool, No
 }
 
 /// `Shared::call` with the steps of an observer's run, and what is marked before it commits and after.
-pub fn runs_are_declared(alloc: Global, refusals: &mut Refusals) -> Result<bool, NoMemory> {
+pub fn runs_are_declared(alloc: Global, refusals: &mut Refusals) -> Result<bool, Unready> {
     let program = Arc::new(alloc, program(alloc)?)?;
     let cell = Cell::Data(Row(7), column()?);
     let Some(watch) = ObserverNo::new(0) else {

@@ -7,6 +7,7 @@ use pb_helpers::HelperTable;
 use pb_isa::{Insn, NoProgram, Profile, Program, Reg};
 use pb_verify::{VerifyFault, frames, verify};
 use std::alloc::Global;
+use test_fixtures::Unready;
 
 const TEXT: &str = "# five\nlddw r0, 5\nexit\n";
 
@@ -38,10 +39,11 @@ fn make_program(alloc: Global) -> Result<Result<Program, NoProgram>, NoMemory> {
 }
 
 // The program of those instructions.
-fn program(alloc: Global) -> Result<Program, NoMemory> {
+fn program(alloc: Global) -> Result<Program, Unready> {
     match make_program(alloc)? {
         Ok(program) => Ok(program),
-        Err(_) => Err(NoMemory),
+        Err(NoProgram::NoMemory(refused)) => Err(Unready::NoMemory(refused)),
+        Err(NoProgram::NotInRange(_)) => Err(Unready::Other("the profile lacks an instruction")),
     }
 }
 
@@ -59,11 +61,11 @@ fn is_it(program: &Program) -> bool {
 }
 
 /// `Program::new`.
-pub fn programs_are_made(alloc: Global, refusals: &mut Refusals) -> Result<bool, NoMemory> {
+pub fn programs_are_made(alloc: Global, refusals: &mut Refusals) -> Result<bool, Unready> {
     match make_program(alloc)? {
         Ok(program) => Ok(is_it(&program)),
         Err(NoProgram::NotInRange(_)) => Ok(false),
-        Err(NoProgram::NoMemory) => {
+        Err(NoProgram::NoMemory(_)) => {
             refusals.note("Program::new");
             match program(alloc) {
                 Ok(program) => Ok(is_it(&program)),
@@ -78,7 +80,7 @@ pub fn bytes_are_decoded(alloc: Global, refusals: &mut Refusals) -> Result<bool,
     match decode(alloc, BYTES) {
         Ok(program) => Ok(is_it(&program)),
         Err(DecodeFault::Refused(_)) => Ok(false),
-        Err(DecodeFault::NoMemory) => {
+        Err(DecodeFault::NoMemory(_)) => {
             refusals.note("decode");
             match decode(alloc, BYTES) {
                 Ok(program) => Ok(is_it(&program)),
@@ -89,7 +91,7 @@ pub fn bytes_are_decoded(alloc: Global, refusals: &mut Refusals) -> Result<bool,
 }
 
 /// `encode`.
-pub fn programs_are_encoded(alloc: Global, refusals: &mut Refusals) -> Result<bool, NoMemory> {
+pub fn programs_are_encoded(alloc: Global, refusals: &mut Refusals) -> Result<bool, Unready> {
     let program = program(alloc)?;
     let bytes = match encode(alloc, &program) {
         Ok(bytes) => bytes,
@@ -111,7 +113,7 @@ pub fn texts_are_assembled(alloc: Global, refusals: &mut Refusals) -> Result<boo
         Err(fault) => {
             refusals.note("assemble");
             match assemble(alloc, TEXT) {
-                Ok(program) => Ok(fault.line == 0 && fault.code == 1 && is_it(&program)),
+                Ok(program) => Ok(fault.line() == 0 && fault.code() == 1 && is_it(&program)),
                 Err(_) => Ok(false),
             }
         }
@@ -119,7 +121,7 @@ pub fn texts_are_assembled(alloc: Global, refusals: &mut Refusals) -> Result<boo
 }
 
 /// `disassemble`.
-pub fn programs_are_listed(alloc: Global, refusals: &mut Refusals) -> Result<bool, NoMemory> {
+pub fn programs_are_listed(alloc: Global, refusals: &mut Refusals) -> Result<bool, Unready> {
     let program = program(alloc)?;
     let text = match disassemble(alloc, &program) {
         Ok(text) => text,
@@ -135,11 +137,11 @@ pub fn programs_are_listed(alloc: Global, refusals: &mut Refusals) -> Result<boo
 }
 
 /// `verify`, which drops the program where memory is refused.
-pub fn programs_are_verified(alloc: Global, refusals: &mut Refusals) -> Result<bool, NoMemory> {
+pub fn programs_are_verified(alloc: Global, refusals: &mut Refusals) -> Result<bool, Unready> {
     match verify(alloc, program(alloc)?, HelperTable::none()) {
         Ok(accepted) => Ok(is_it(accepted.program())),
         Err(VerifyFault::Refused(_)) => Ok(false),
-        Err(VerifyFault::NoMemory) => {
+        Err(VerifyFault::NoMemory(_)) => {
             refusals.note("verify");
             match verify(alloc, program(alloc)?, HelperTable::none()) {
                 Ok(accepted) => Ok(is_it(accepted.program())),
@@ -149,19 +151,16 @@ pub fn programs_are_verified(alloc: Global, refusals: &mut Refusals) -> Result<b
     }
 }
 
-fn branching(alloc: Global) -> Result<Program, NoMemory> {
-    match assemble(alloc, BRANCHING) {
-        Ok(program) => Ok(program),
-        Err(_) => Err(NoMemory),
-    }
+fn branching(alloc: Global) -> Result<Program, Unready> {
+    Ok(assemble(alloc, BRANCHING)?)
 }
 
 /// `verify` of a program with jumps.
-pub fn jumps_are_verified(alloc: Global, refusals: &mut Refusals) -> Result<bool, NoMemory> {
+pub fn jumps_are_verified(alloc: Global, refusals: &mut Refusals) -> Result<bool, Unready> {
     match verify(alloc, branching(alloc)?, HelperTable::none()) {
         Ok(accepted) => Ok(accepted.slots() == 8),
         Err(VerifyFault::Refused(_)) => Ok(false),
-        Err(VerifyFault::NoMemory) => {
+        Err(VerifyFault::NoMemory(_)) => {
             refusals.note("verify");
             match verify(alloc, branching(alloc)?, HelperTable::none()) {
                 Ok(accepted) => Ok(accepted.slots() == 8),
@@ -172,7 +171,7 @@ pub fn jumps_are_verified(alloc: Global, refusals: &mut Refusals) -> Result<bool
 }
 
 /// `frames` of a program with jumps, each slot of which is led to.
-pub fn frames_are_told(alloc: Global, refusals: &mut Refusals) -> Result<bool, NoMemory> {
+pub fn frames_are_told(alloc: Global, refusals: &mut Refusals) -> Result<bool, Unready> {
     let program = branching(alloc)?;
     let known = match frames(alloc, &program) {
         Ok(known) => known,

@@ -2,17 +2,29 @@
 use pb_base::{Batch, Cell, Column, Content, NoMemory, Row, Ts};
 use pb_steps::{Declaration, Declared, Step, Work};
 use std::alloc::Global;
+use test_fixtures::Unready;
 
 /// Column 0.
-pub fn column() -> Result<Column, NoMemory> {
+pub fn column() -> Result<Column, NoSuchColumn> {
     column_of(0)
 }
 
+/// There is no column of a number. It is a type of its own, since no proof is made for what takes a `Column` beside the words
+/// of an `Unready`.
+#[derive(Drop)]
+pub struct NoSuchColumn;
+
+impl From<NoSuchColumn> for Unready {
+    fn from(_e: NoSuchColumn) -> Unready {
+        Unready::Other("there is no such column")
+    }
+}
+
 /// The column of this number.
-pub fn column_of(number: u8) -> Result<Column, NoMemory> {
+pub fn column_of(number: u8) -> Result<Column, NoSuchColumn> {
     match Column::new(number) {
         Some(column) => Ok(column),
-        None => Err(NoMemory),
+        None => Err(NoSuchColumn),
     }
 }
 
@@ -22,29 +34,29 @@ fn row_in(number: u8) -> Row {
 }
 
 /// The cell in this column.
-pub fn cell_of(number: u8) -> Result<Cell, NoMemory> {
+pub fn cell_of(number: u8) -> Result<Cell, NoSuchColumn> {
     Ok(Cell::Data(row_in(number), column_of(number)?))
 }
 
 // A batch of the cells in the first columns.
-fn batch_of(alloc: Global, count: u8) -> Result<Batch, NoMemory> {
+fn batch_of(alloc: Global, count: u8) -> Result<Batch, Unready> {
     let mut writes = Vec::new(alloc);
     for number in 0..count {
         writes.push((row_in(number), column_of(number)?, Content::Deleted))?;
     }
     match Batch::new(writes) {
         Ok(batch) => Ok(batch),
-        Err(_) => Err(NoMemory),
+        Err(_) => Err(Unready::Other("the cells make no batch")),
     }
 }
 
 /// A batch of three cells, in both tablets.
-pub fn three_cells(alloc: Global) -> Result<Batch, NoMemory> {
+pub fn three_cells(alloc: Global) -> Result<Batch, Unready> {
     batch_of(alloc, 3)
 }
 
 /// A batch of one cell.
-pub fn batch(alloc: Global) -> Result<Batch, NoMemory> {
+pub fn batch(alloc: Global) -> Result<Batch, Unready> {
     batch_of(alloc, 1)
 }
 
@@ -57,7 +69,7 @@ pub fn declares(alloc: Global, start: Ts, batch: Batch) -> Result<Step, NoMemory
 /// A step of each kind and more: a transaction of three cells, one of which is cleared by others once it is committed, one of two
 /// cells that is undone, and one that reads three times, which has room for two reads from the first on; and the first mark, and
 /// a sweep.
-pub fn steps(alloc: Global) -> Result<Vec<Step>, NoMemory> {
+pub fn steps(alloc: Global) -> Result<Vec<Step>, Unready> {
     let (one, three, four) = (Ts(1), Ts(3), Ts(4));
     let (first, second, third) = (cell_of(0)?, cell_of(1)?, cell_of(2)?);
     let writes_three = declares(alloc, one, three_cells(alloc)?)?;

@@ -4,13 +4,13 @@ ghost use Rattle.pb_store.specs.Contents.{nothing};
 
 use crate::refusals::Refusals;
 use crate::same::{are_shared_same, are_states_same, are_tables_same};
-use pb_base::{NoMemory, Refusal};
+use pb_base::Refusal;
 use pb_core::Shared;
 use pb_memtablet::EitherTablet;
 use pb_state::State;
 use pb_store::{Table, Tablet};
 use std::alloc::Global;
-use test_fixtures::{fill, table_of};
+use test_fixtures::{Unready, fill, table_of};
 
 /// A table, by itself or within what keeps more of it, whose tablets can be swapped.
 pub trait Swaps<T: Tablet> {
@@ -60,13 +60,13 @@ impl<T: Tablet> Swaps<T> for Shared<T> {
 const ROWS: [u64; 4] = [3, 7, 1000, 1001];
 
 // A table of two tablets with an entry and a mark in each row.
-fn filled_table(alloc: Global, slabs: [bool; 2]) -> Result<Table<EitherTablet>, NoMemory> {
+fn filled_table(alloc: Global, slabs: [bool; 2]) -> Result<Table<EitherTablet>, Unready> {
     let mut table = table_of(alloc, &slabs)?;
     match fill(&mut table, &ROWS) {
         Ok(()) => Ok(table),
         Err(fault) => {
             table.close();
-            Err(fault)
+            Err(Unready::NoMemory(fault))
         }
     }
 }
@@ -100,7 +100,7 @@ fn is_swapped<T: Tablet, S: Swaps<T>>(
         Err(refused) => refused,
     };
     refusals.note(call);
-    if refusal != Refusal(1) || !has_nothing(&spare) || !table.is_as(other) {
+    if refusal.code() != 1 || !has_nothing(&spare) || !table.is_as(other) {
         spare.end();
         return false;
     }
@@ -131,7 +131,7 @@ pub fn are_swapped<S: Swaps<EitherTablet>>(
 }
 
 // The same of two tables of these sorts.
-fn tables_take(alloc: Global, slabs: [bool; 2], refusals: &mut Refusals) -> Result<bool, NoMemory> {
+fn tables_take(alloc: Global, slabs: [bool; 2], refusals: &mut Refusals) -> Result<bool, Unready> {
     let mut table = filled_table(alloc, slabs)?;
     let other = match filled_table(alloc, slabs) {
         Ok(other) => other,
@@ -147,7 +147,7 @@ fn tables_take(alloc: Global, slabs: [bool; 2], refusals: &mut Refusals) -> Resu
 }
 
 /// `Table::swap`: refused, the table is as before and the spare comes back empty; made again, it is put in place.
-pub fn tablets_are_swapped(alloc: Global, refusals: &mut Refusals) -> Result<bool, NoMemory> {
+pub fn tablets_are_swapped(alloc: Global, refusals: &mut Refusals) -> Result<bool, Unready> {
     for slabs in [[false, false], [false, true], [true, false], [true, true]] {
         if !tables_take(alloc, slabs, refusals)? {
             return Ok(false);

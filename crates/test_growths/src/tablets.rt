@@ -5,7 +5,7 @@ use pb_base::{Cell, NoMemory};
 use pb_memtablet::{EitherTablet, ListTablet, SlabTablet};
 use pb_store::{Item, Table, Tablet};
 use std::alloc::Global;
-use test_fixtures::{cell_in, mark_edit, put_edit, slot_in, table_of};
+use test_fixtures::{Unready, cell_in, mark_edit, put_edit, slot_in, table_of};
 
 // How many entries, and how many marks, fill a chunk.
 const FULL: u64 = 64;
@@ -108,7 +108,7 @@ fn applies(table: &mut Table<EitherTablet>, row: u64, refusals: &mut Refusals) -
 }
 
 /// `Table::apply`, to the first tablet and to the second.
-pub fn tables_apply(alloc: Global, refusals: &mut Refusals) -> Result<bool, NoMemory> {
+pub fn tables_apply(alloc: Global, refusals: &mut Refusals) -> Result<bool, Unready> {
     for row in [7u64, 1007] {
         let mut table = table_of(alloc, &SORTS)?;
         let held = applies(&mut table, row, refusals);

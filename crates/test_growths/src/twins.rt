@@ -5,14 +5,14 @@ ghost use Rattle.pb_store.specs.Contents.{nothing};
 
 use crate::refusals::Refusals;
 use crate::same::{are_seats_same, are_shared_same};
-use pb_base::{NoMemory, Ts};
+use pb_base::Ts;
 use pb_core::{Seat, Shared};
 use pb_memtablet::EitherTablet;
 use pb_steps::{Answer, Step};
 use pb_store::Table;
 use pb_verify::Observer;
 use std::alloc::Global;
-use test_fixtures::{open_table_over, table_of};
+use test_fixtures::{Unready, open_table_over, table_of};
 
 /// Of the two tablets of a table, the first is a list, and the second a slab.
 pub const SORTS: [bool; 2] = [false, true];
@@ -26,15 +26,15 @@ pub struct Twins {
 }
 
 /// Two empty tables of two tablets each.
-pub fn two_tables(alloc: Global) -> Result<(Table<EitherTablet>, Table<EitherTablet>), NoMemory>
+pub fn two_tables(alloc: Global) -> Result<(Table<EitherTablet>, Table<EitherTablet>), Unready>
     ensures { IfOk result (λ p. (p.0.contents ≡ nothing) × (p.1.contents ≡ nothing)) }
 {
     let first = table_of(alloc, &SORTS)?;
     match table_of(alloc, &SORTS) {
         Ok(second) => Ok((first, second)),
-        Err(_) => {
+        Err(fault) => {
             first.close();
-            Err(NoMemory)
+            Err(fault)
         }
     }
 }
@@ -46,7 +46,7 @@ fn with_other(
     seats: Vec<Seat>,
     table: Table<EitherTablet>,
     observers: Vec<Observer>,
-) -> Result<Twins, NoMemory>
+) -> Result<Twins, Unready>
     requires empty { table.contents ≡ nothing }
     requires few { length observers.items ≤ 32 }
 {
@@ -69,7 +69,7 @@ pub fn open_twice(
     alloc: Global,
     first: Vec<Observer>,
     second: Vec<Observer>,
-) -> Result<Twins, NoMemory>
+) -> Result<Twins, Unready>
     requires few { length first.items ≤ 32 }
     requires as_few { length second.items ≤ 32 }
 {
@@ -107,7 +107,7 @@ fn first_called(twins: &mut Twins, step: &Step, refusals: &mut Refusals) -> Opti
             refusals.note_step("Shared::call", step);
             let is_same = are_shared_same(&twins.shared, &twins.other)
                 && are_seats_same(seat, other);
-            if refusal.0 != 1 || !is_same {
+            if refusal.code() != 1 || !is_same {
                 return None;
             }
             match twins.shared.call(seat, step) {

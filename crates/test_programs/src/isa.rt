@@ -107,7 +107,7 @@ fn slots_of(rt: &impl Abort, alloc: Global, profile: Profile, exits: usize, pair
     match Program::new(alloc, profile, insns) {
         Ok(program) => program.slots(),
         Err(NoProgram::NotInRange(_)) => 0,
-        Err(NoProgram::NoMemory) => 10_000,
+        Err(NoProgram::NoMemory(_)) => 10_000,
     }
 }
 

@@ -3,7 +3,7 @@ ghost use Rattle.std.specs.Prelude.{◌≡◌};
 ghost use Rattle.pb_notify.specs.declared.need.Need.TheVariants.{Local};
 ghost use Rattle.pb_notify.specs.Runs.{need_of};
 
-use pb_base::{Batch, Cell, NoMemory, ObserverNo, Row, Ts};
+use pb_base::{Batch, Cell, ObserverNo, Row, Ts};
 use pb_helpers::HelperTable;
 use pb_history::Entry;
 use pb_notify::{JobEnd, Need, ObserverJob};
@@ -13,6 +13,7 @@ use pb_txn::{ChangeJob, Outcome};
 use pb_verify::Accepted;
 use std::alloc::Global;
 use std::sync::Arc;
+use test_fixtures::Unready;
 use test_growths::observers::{finished_run, observers};
 use test_growths::refusals::Refusals;
 use test_growths::steps::{batch, column, column_of, declares, three_cells};
@@ -39,7 +40,7 @@ fn are_entries(journal: &[Entry], steps: &[Step]) -> bool {
 fn job_of(alloc: Global, batch: Batch, same: &Batch, refusals: &mut Refusals) -> Option<ChangeJob> {
     match ChangeJob::new(alloc, batch) {
         Ok(job) => Some(job),
-        Err(batch) => {
+        Err((batch, _)) => {
             refusals.note("ChangeJob::new");
             if !batch.is_same(same) {
                 return None;
@@ -64,7 +65,7 @@ fn changes(twins: &mut Twins, job: &mut ChangeJob, refusals: &mut Refusals) -> b
 }
 
 /// `ChangeJob::new`, and all that the job asks.
-pub fn changes_are_made(alloc: Global, refusals: &mut Refusals) -> Result<bool, NoMemory> {
+pub fn changes_are_made(alloc: Global, refusals: &mut Refusals) -> Result<bool, Unready> {
     let batch = three_cells(alloc)?;
     let same = batch.copy()?;
     let steps = [
@@ -162,11 +163,9 @@ fn follow_to_end(
 }
 
 /// A program that asks for a cell of its row, and deletes one.
-pub fn program(alloc: Global) -> Result<Arc<Accepted>, NoMemory> {
-    match accept(alloc, ASK_AND_DELETE, HelperTable::all()) {
-        Ok(program) => Ok(Arc::new(alloc, program)?),
-        Err(_) => Err(NoMemory),
-    }
+pub fn program(alloc: Global) -> Result<Arc<Accepted>, Unready> {
+    let program = accept(alloc, ASK_AND_DELETE, HelperTable::all())?;
+    Ok(Arc::new(alloc, program)?)
 }
 
 // The steps of a change of cell 7 0, and of the run on it: what that declares is made by a machine beside.
@@ -176,9 +175,9 @@ fn steps_of(
     program: &Arc<Accepted>,
     cell: Cell,
     refusals: &mut Refusals,
-) -> Result<Vec<Step>, NoMemory> {
+) -> Result<Vec<Step>, Unready> {
     let Some(finished) = finished_run(alloc, program, &cell, refusals) else {
-        return Err(NoMemory);
+        return Err(Unready::Other("no machine comes to its end"));
     };
     let what = Declared::Run(watch, EndedRun::new(alloc, finished)?);
     let ack = Cell::Ack(watch, Row(7), column()?);
@@ -212,7 +211,7 @@ fn observer_runs(
     pace: Pace,
     count: u32,
     refusals: &mut Refusals,
-) -> Result<bool, NoMemory> {
+) -> Result<bool, Unready> {
     let program = program(alloc)?;
     let Some(watch) = ObserverNo::new(0) else {
         return Ok(false);
@@ -236,7 +235,7 @@ fn observer_runs(
 
 /// `ObserverJob::local` and `ObserverJob::follow`, from the start of the machine to the declaration at its exit, by nine calls and
 /// by two, and all that the job asks.
-pub fn observers_run(alloc: Global, refusals: &mut Refusals) -> Result<bool, NoMemory> {
+pub fn observers_run(alloc: Global, refusals: &mut Refusals) -> Result<bool, Unready> {
     Ok(
         observer_runs(alloc, Pace::Steps, 9, refusals)?
             && observer_runs(alloc, Pace::Leaps, 2, refusals)?,

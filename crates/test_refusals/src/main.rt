@@ -14,12 +14,12 @@ mod runs;
 mod workers;
 mod worlds;
 
-use pb_base::NoMemory;
 use std::alloc::Global;
 use std::env;
 use std::process::ExitCode;
 use std::sync::Wait;
 use std::thread::Threads;
+use test_fixtures::Unready;
 use test_growths::refusals::Refusals;
 use test_growths::{calls, copies, machines, observers, programs, swaps, tablets};
 
@@ -27,7 +27,7 @@ use test_growths::{calls, copies, machines, observers, programs, swaps, tablets}
 const SWAPS: usize = 3;
 
 // Calls on programs, and machines.
-fn programs_hold(alloc: Global, refusals: &mut Refusals) -> Result<bool, NoMemory> {
+fn programs_hold(alloc: Global, refusals: &mut Refusals) -> Result<bool, Unready> {
     Ok(
         programs::programs_are_made(alloc, refusals)?
             && programs::bytes_are_decoded(alloc, refusals)?
@@ -43,7 +43,7 @@ fn programs_hold(alloc: Global, refusals: &mut Refusals) -> Result<bool, NoMemor
 }
 
 // Calls on batches, steps, tables and states.
-fn tables_hold(alloc: Global, refusals: &mut Refusals) -> Result<bool, NoMemory> {
+fn tables_hold(alloc: Global, refusals: &mut Refusals) -> Result<bool, Unready> {
     Ok(
         copies::batch_copies(alloc, refusals)?
             && copies::step_copies(alloc, refusals)?
@@ -66,7 +66,7 @@ fn runs_hold<R: Threads + Wait + Sync>(
     rt: &R,
     alloc: Global,
     refusals: &mut Refusals,
-) -> Result<bool, NoMemory> {
+) -> Result<bool, Unready> {
     Ok(
         runs::scripts_are_read(alloc, refusals)?
             && observers::manifests_are_read(alloc, refusals)?
@@ -78,12 +78,12 @@ fn runs_hold<R: Threads + Wait + Sync>(
     )
 }
 
-// Every check. It fails for memory only where a check's own preparation was refused.
+// Every check. It has an error only where a check's own preparation was refused.
 fn all<R: Threads + Wait + Sync>(
     rt: &R,
     alloc: Global,
     refusals: &mut Refusals,
-) -> Result<bool, NoMemory> {
+) -> Result<bool, Unready> {
     Ok(
         programs_hold(alloc, refusals)?
             && tables_hold(alloc, refusals)?
@@ -99,7 +99,7 @@ fn held_in(
     path: &str,
     count: &str,
     refusals: &mut Refusals,
-) -> Result<bool, NoMemory> {
+) -> Result<bool, Unready> {
     let Ok(count) = count.parse::<u16>() else {
         return Ok(false);
     };
@@ -115,9 +115,9 @@ fn checks_hold<R: Threads + Wait + Sync>(
     threads: &R,
     rt: &HostRuntime,
     refusals: &mut Refusals,
-) -> Result<bool, NoMemory> {
+) -> Result<bool, Unready> {
     let Ok(args) = env::args(rt) else {
-        return Err(NoMemory);
+        return Err(Unready::Other("the words can't be read"));
     };
     let words: Vec<String> = args.collect(rt.alloc())?;
     match (words.get(1), words.get(2), words.get(3)) {
@@ -145,7 +145,8 @@ fn main(rt: HostRuntime) -> ExitCode {
     let mut refusals = Refusals::none();
     let held = match checks_hold(&rt, &rt, &mut refusals) {
         Ok(held) => held,
-        // Only one request is refused: the second time neither a preparation is, nor a call.
+        // Only one request is refused: the second time neither a preparation is, nor a call; but what isn't as it has to be
+        // isn't so then either.
         Err(_) => {
             refusals.note("a preparation");
             checks_hold(&rt, &rt, &mut refusals) == Ok(true)

@@ -2,12 +2,13 @@
 ghost use Rattle.std.specs.Prelude.{◌≡◌, false};
 
 use crate::page::Page;
-use pb_base::{NoMemory, Sink, Ts};
+use pb_base::{Sink, Ts};
 use pb_core::Shared;
 use pb_script::report;
 use pb_steps::{Step, Work};
 use pb_store::Tablet;
 use std::alloc::Global;
+use test_fixtures::Unready;
 use test_growths::observers::watchers;
 use test_growths::refusals::Refusals;
 use test_growths::steps::{batch, cell_of, declares, three_cells};
@@ -34,7 +35,7 @@ pub fn is_reported<T: Tablet>(
 }
 
 /// `report`.
-pub fn tables_are_reported(alloc: Global, refusals: &mut Refusals) -> Result<bool, NoMemory> {
+pub fn tables_are_reported(alloc: Global, refusals: &mut Refusals) -> Result<bool, Unready> {
     let steps = [
         Step::Begin(Work::Script),
         declares(alloc, Ts(1), three_cells(alloc)?)?,

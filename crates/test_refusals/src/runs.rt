@@ -1,17 +1,17 @@
 //! Scripts, and tables that are opened.
 ghost use Rattle.std.specs.Prelude.{◌≤◌, length};
 
-use pb_base::{Batch, Cell, Content, NoMemory, Row, Ts};
+use pb_base::{Batch, Cell, Content, Row, Ts};
 use pb_core::{OpenRefused, Seat, Shared};
 use pb_memtablet::EitherTablet;
 use pb_parse::parse_script;
 use pb_verify::Observer;
 use std::alloc::Global;
-use test_fixtures::table_of;
+use test_fixtures::{Unready, table_of};
 use test_growths::observers::watchers;
 use test_growths::refusals::Refusals;
 use test_growths::same::are_observers_same;
-use test_growths::steps::column_of;
+use test_growths::steps::{NoSuchColumn, column_of};
 use test_growths::twins::SORTS;
 
 /// Two changes, of three cells.
@@ -24,12 +24,12 @@ fn value(first: u8) -> Content {
     Content::Value(bytes)
 }
 
-fn cell_at(row: u64, column: u8) -> Result<Cell, NoMemory> {
+fn cell_at(row: u64, column: u8) -> Result<Cell, NoSuchColumn> {
     Ok(Cell::Data(Row(row), column_of(column)?))
 }
 
 // Whether these are the changes of that script.
-fn are_its_changes(batches: &[Batch]) -> Result<bool, NoMemory> {
+fn are_its_changes(batches: &[Batch]) -> Result<bool, Unready> {
     let [first, second] = batches else {
         return Ok(false);
     };
@@ -42,14 +42,14 @@ fn are_its_changes(batches: &[Batch]) -> Result<bool, NoMemory> {
 }
 
 /// `parse_script`.
-pub fn scripts_are_read(alloc: Global, refusals: &mut Refusals) -> Result<bool, NoMemory> {
+pub fn scripts_are_read(alloc: Global, refusals: &mut Refusals) -> Result<bool, Unready> {
     match parse_script(alloc, SCRIPT) {
         Ok(batches) => are_its_changes(&batches),
         Err(fault) => {
             refusals.note("parse_script");
             match parse_script(alloc, SCRIPT) {
                 Ok(batches) => {
-                    Ok(fault.line == 0 && fault.code == 1 && are_its_changes(&batches)?)
+                    Ok(fault.line() == 0 && fault.code() == 1 && are_its_changes(&batches)?)
                 }
                 Err(_) => Ok(false),
             }
@@ -84,9 +84,9 @@ fn is_opened_again(alloc: Global, refused: OpenRefused<EitherTablet>, same: &[Ob
     let OpenRefused {
         table,
         observers,
-        code,
+        refusal,
     } = refused;
-    let is_handed_back = code == 1
+    let is_handed_back = refusal.code() == 1
         && table.is_empty()
         && table.places() == 2
         && are_observers_same(&observers, same);
@@ -104,7 +104,7 @@ fn is_opened_again(alloc: Global, refused: OpenRefused<EitherTablet>, same: &[Ob
             OpenRefused {
                 table,
                 observers: _,
-                code: _,
+                refusal: _,
             },
         ) => {
             table.close();
@@ -114,7 +114,7 @@ fn is_opened_again(alloc: Global, refused: OpenRefused<EitherTablet>, same: &[Ob
 }
 
 /// `Shared::open`, which hands table and observers back.
-pub fn tables_open(alloc: Global, refusals: &mut Refusals) -> Result<bool, NoMemory> {
+pub fn tables_open(alloc: Global, refusals: &mut Refusals) -> Result<bool, Unready> {
     let observers = watchers(alloc)?;
     let same = watchers(alloc)?;
     match Shared::open(alloc, table_of(alloc, &SORTS)?, observers, 3, Ts(5), 100) {

@@ -6,7 +6,7 @@ use crate::page::Page;
 use crate::reports::is_reported;
 use crate::runs::SCRIPT;
 use crate::worlds::used;
-use pb_base::{Batch, MAX_ENTRIES, NoMemory, Refusal};
+use pb_base::{Batch, MAX_ENTRIES, Refusal};
 use pb_core::{Seat, Shared};
 use pb_memtablet::EitherTablet;
 use pb_parse::parse_script;
@@ -16,7 +16,7 @@ use pb_worker::{NotRun, Open, Worked, finish, run_workers};
 use std::alloc::Global;
 use std::sync::Wait;
 use std::thread::Threads;
-use test_fixtures::spares_of;
+use test_fixtures::{Unready, spares_of};
 use test_growths::refusals::Refusals;
 use test_growths::same::{are_all_seats_same, are_batches_same, are_shared_same};
 use test_growths::twins::SORTS;
@@ -42,16 +42,13 @@ enum Remains {
     Wrong,
 }
 
-fn batches(alloc: Global) -> Result<Vec<Batch>, NoMemory> {
-    match parse_script(alloc, SCRIPT) {
-        Ok(batches) => Ok(batches),
-        Err(_) => Err(NoMemory),
-    }
+fn batches(alloc: Global) -> Result<Vec<Batch>, Unready> {
+    Ok(parse_script(alloc, SCRIPT)?)
 }
 
 // A used table with an observer, and two seats. Its journal has room for all passes: the lock that a refused run leaves on cell
 // 5 15 is in the way of each later run, since nobody reads that cell.
-fn open_used_table(alloc: Global) -> Result<(Shared<EitherTablet>, Vec<Seat>), NoMemory>
+fn open_used_table(alloc: Global) -> Result<(Shared<EitherTablet>, Vec<Seat>), Unready>
     ensures { IfOk result (λ s. AreSeats s.0 s.1.items) }
 {
     used(alloc, BEFORE, 2, MAX_ENTRIES)
@@ -77,7 +74,7 @@ fn are_handed_back(
     alloc: Global,
     handed: &NotRun<EitherTablet>,
     count: usize,
-) -> Result<bool, NoMemory> {
+) -> Result<bool, Unready> {
     let batches = batches(alloc)?;
     let spares = spares_of(alloc, SORTS, count)?;
     let (shared, seats) = open_used_table(alloc)?;
@@ -123,7 +120,7 @@ fn remains_of(
                 Remains::Wrong
             }
         }
-        [None, Some(Refusal(1))] | [Some(Refusal(1)), None] => {
+        [None, Some(refusal)] | [Some(refusal), None] if refusal.code() == 1 => {
             refusals.note("run_workers, a seat");
             let unmade = 2usize.saturating_sub(committed_changes(shared));
             if unfinished.len() == unmade {
@@ -173,6 +170,7 @@ fn left_again<R: Threads + Wait + Sync>(
         seats,
         batches,
         spares,
+        refused: _,
     } = handed;
     if held != Ok(true) || seats.len() < 2 {
         shared.close();
@@ -186,6 +184,7 @@ fn left_again<R: Threads + Wait + Sync>(
                 seats: _,
                 batches: _,
                 spares: _,
+                refused: _,
             },
         ) => {
             shared.close();
@@ -200,7 +199,7 @@ fn remains_of_script<R: Threads + Wait + Sync>(
     alloc: Global,
     count: usize,
     refusals: &mut Refusals,
-) -> Result<Remains, NoMemory> {
+) -> Result<Remains, Unready> {
     let batches = batches(alloc)?;
     let spares = spares_of(alloc, SORTS, count)?;
     let (shared, seats) = open_used_table(alloc)?;
@@ -224,7 +223,7 @@ pub fn workers_run<R: Threads + Wait + Sync>(
     alloc: Global,
     count: usize,
     refusals: &mut Refusals,
-) -> Result<bool, NoMemory> {
+) -> Result<bool, Unready> {
     match remains_of_script(rt, alloc, count, refusals)? {
         Remains::Whole => Ok(true),
         Remains::Short => Ok(remains_of_script(rt, alloc, count, refusals)? == Remains::Whole),

@@ -6,13 +6,13 @@ ghost use Rattle.pb_world.specs.Sound.{IsSoundWorld};
 
 use crate::jobs::program;
 use law_worlds::opened_worlds_are_sound;
-use pb_base::{Batch, NoMemory, Ts};
+use pb_base::{Batch, Ts};
 use pb_core::{Seat, Shared};
 use pb_memtablet::EitherTablet;
 use pb_parse::{Event, parse_schedule};
-use pb_world::{World, worlds_stay_sound};
+use pb_world::{EventFault, World, WorldFault, worlds_stay_sound};
 use std::alloc::Global;
-use test_fixtures::{open_table_over, table_of};
+use test_fixtures::{Unready, open_table_over, table_of};
 use test_growths::observers::observers;
 use test_growths::refusals::Refusals;
 use test_growths::same::{are_all_seats_same, are_batches_same, are_shared_same};
@@ -30,20 +30,25 @@ const SCHEDULE: &str =
 // How many events it has.
 const EVENTS: usize = 248;
 
-fn events(alloc: Global, schedule: &str) -> Result<Vec<Event>, NoMemory> {
+fn events(alloc: Global, schedule: &str) -> Result<Vec<Event>, Unready> {
     let observers = observers(alloc, &program(alloc)?)?;
-    match parse_schedule(alloc, schedule, &observers) {
-        Ok(events) => Ok(events),
-        Err(_) => Err(NoMemory),
-    }
+    Ok(parse_schedule(alloc, schedule, &observers)?)
 }
 
 // A change of three cells, and one of one.
-fn batches(alloc: Global) -> Result<Vec<Batch>, NoMemory> {
+fn batches(alloc: Global) -> Result<Vec<Batch>, Unready> {
     let mut batches = Vec::new(alloc);
     batches.push(three_cells(alloc)?)?;
     batches.push(batch(alloc)?)?;
     Ok(batches)
+}
+
+// Why the events that happen before didn't.
+fn unready_of(fault: WorldFault) -> Unready {
+    match fault.fault {
+        EventFault::NoMemory(refused) => Unready::NoMemory(refused),
+        _ => Unready::Other("an event can't happen"),
+    }
 }
 
 // What a world leaves once these events happened there.
@@ -51,7 +56,7 @@ fn left_after(
     alloc: Global,
     world: World<EitherTablet>,
     events: &[Event],
-) -> Result<(Shared<EitherTablet>, Vec<Seat>), NoMemory>
+) -> Result<(Shared<EitherTablet>, Vec<Seat>), Unready>
     requires { IsSoundWorld world }
     ensures { IfOk result (λ s. AreSeats s.0 s.1.items) }
 {
@@ -62,9 +67,9 @@ fn left_after(
     let (shared, seats) = world.close();
     match happened {
         Ok(_) => Ok((shared, seats)),
-        Err(_) => {
+        Err(fault) => {
             shared.close();
-            Err(NoMemory)
+            Err(unready_of(fault))
         }
     }
 }
@@ -75,7 +80,7 @@ pub fn used(
     schedule: &str,
     seats: u32,
     limit: usize,
-) -> Result<(Shared<EitherTablet>, Vec<Seat>), NoMemory>
+) -> Result<(Shared<EitherTablet>, Vec<Seat>), Unready>
     requires some { 1 ≤ seats }
     requires few { seats ≤ MAX_SEATS }
     requires bounded { limit ≤ MAX_ENTRIES }
@@ -90,9 +95,9 @@ pub fn used(
     let (shared, seats) = open_table_over(alloc, table, observers, seats, Ts(0), limit)?;
     match World::open(alloc, shared, seats, batches) {
         Ok(world) => left_after(alloc, world, &events),
-        Err((shared, _seats, _batches)) => {
+        Err((shared, _seats, _batches, refused)) => {
             shared.close();
-            Err(NoMemory)
+            Err(Unready::NoMemory(refused))
         }
     }
 }
@@ -103,7 +108,7 @@ fn are_handed_back(
     shared: &Shared<EitherTablet>,
     seats: &[Seat],
     changes: &[Batch],
-) -> Result<bool, NoMemory> {
+) -> Result<bool, Unready> {
     let batches = batches(alloc)?;
     let (other, others) = used(alloc, BEFORE, 4, 100)?;
     let held = are_shared_same(shared, &other)
@@ -123,7 +128,7 @@ fn reopened(
 {
     match World::open(alloc, shared, seats, batches) {
         Ok(world) => Some(world),
-        Err((shared, _seats, _batches)) => {
+        Err((shared, _seats, _batches, _)) => {
             shared.close();
             None
         }
@@ -134,12 +139,12 @@ fn reopened(
 fn open_world(
     alloc: Global,
     refusals: &mut Refusals,
-) -> Result<Option<World<EitherTablet>>, NoMemory> {
+) -> Result<Option<World<EitherTablet>>, Unready> {
     let batches = batches(alloc)?;
     let (shared, seats) = used(alloc, BEFORE, 4, 100)?;
     match World::open(alloc, shared, seats, batches) {
         Ok(world) => Ok(Some(world)),
-        Err((shared, seats, batches)) => {
+        Err((shared, seats, batches, _)) => {
             refusals.note("World::open");
             let held = are_handed_back(alloc, &shared, &seats, &batches);
             if held != Ok(true) {
@@ -162,7 +167,7 @@ fn is_after(
     world: &World<EitherTablet>,
     events: &[Event],
     refusals: &mut Refusals,
-) -> Result<bool, NoMemory> {
+) -> Result<bool, Unready> {
     let Some(other) = open_world(alloc, refusals)? else {
         return Ok(false);
     };
@@ -183,13 +188,13 @@ fn happen(
     world: &mut World<EitherTablet>,
     events: &[Event],
     refusals: &mut Refusals,
-) -> Result<bool, NoMemory> {
+) -> Result<bool, Unready> {
     let fault = match world.run(alloc, events) {
         Ok(notes) => return Ok(notes.len() == events.len()),
         Err(fault) => fault,
     };
     refusals.note("World::run");
-    if fault.code != 1 || fault.event >= events.len() {
+    if fault.code() != 1 || fault.event >= events.len() {
         return Ok(false);
     }
     let rest = &events[fault.event..];
@@ -219,7 +224,7 @@ fn happen_in_both(
     second: World<EitherTablet>,
     events: &[Event],
     refusals: &mut Refusals,
-) -> Result<bool, NoMemory> {
+) -> Result<bool, Unready> {
     let mut first = first;
     let mut second = second;
     let in_first = happen(alloc, &mut first, events, refusals);
@@ -229,7 +234,7 @@ fn happen_in_both(
 }
 
 /// `World::open` and `World::run`: refused, they go on to what is left where nothing is refused.
-pub fn worlds_run(alloc: Global, refusals: &mut Refusals) -> Result<bool, NoMemory> {
+pub fn worlds_run(alloc: Global, refusals: &mut Refusals) -> Result<bool, Unready> {
     let events = events(alloc, SCHEDULE)?;
     let Some(first) = open_world(alloc, refusals)? else {
         return Ok(false);

@@ -2,13 +2,14 @@
 use pb_base::NoMemory;
 use pb_script::ReportFault;
 use std::alloc::{AllocError, AllocFailed};
+use test_fixtures::Unready;
 use thiserror::Error;
 
 /// What of a run didn't hold, or that memory was refused.
-#[derive(Clone, Copy, Debug, PartialEq, Eq, Drop, Error)]
+#[derive(Debug, PartialEq, Eq, Drop, Error)]
 pub enum Fault {
     #[error("no memory, or the manifest or the script isn't read")]
-    NoMemory,
+    Unready(Unready),
     #[error("the seats don't agree with the journal")]
     Seats,
     #[error("a seat was refused a step")]
@@ -25,21 +26,27 @@ pub enum Fault {
     Fed,
 }
 
+impl From<Unready> for Fault {
+    fn from(e: Unready) -> Fault {
+        Fault::Unready(e)
+    }
+}
+
 impl From<NoMemory> for Fault {
-    fn from(_e: NoMemory) -> Fault {
-        Fault::NoMemory
+    fn from(e: NoMemory) -> Fault {
+        Fault::Unready(Unready::from(e))
     }
 }
 
 impl From<AllocError> for Fault {
-    fn from(_e: AllocError) -> Fault {
-        Fault::NoMemory
+    fn from(e: AllocError) -> Fault {
+        Fault::Unready(Unready::from(e))
     }
 }
 
 impl<T: Drop> From<AllocFailed<T>> for Fault {
-    fn from(_e: AllocFailed<T>) -> Fault {
-        Fault::NoMemory
+    fn from(e: AllocFailed<T>) -> Fault {
+        Fault::Unready(Unready::from(e))
     }
 }
 

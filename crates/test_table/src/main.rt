@@ -45,7 +45,7 @@ fn add_end<T: Tablet>(
     match shared.call(seat, step) {
         Ok(answer) => add_answer(text, shared.observers(), &answer),
         Err(refusal) => {
-            write!(text, "refused {}", refusal.0)?;
+            write!(text, "refused {}", refusal.code())?;
             if shared.journal().len() == entries && seat.received().len() == received {
                 return Ok(());
             }

@@ -30,7 +30,7 @@ pub fn add_refused<T: Tablet>(
     parts: &[(Row, T)],
     refusal: Refusal,
 ) -> Result<(), AllocError> {
-    write!(text, "refused {}", refusal.0)?;
+    write!(text, "refused {}", refusal.code())?;
     for part in parts {
         write!(text, " {}", part.0.0)?;
     }
@@ -72,7 +72,7 @@ pub fn add_swap(
     match shared.swap(place, spare) {
         Ok(old) => add_back(text, &old).ok(),
         Err((spare, refusal)) => {
-            write!(text, "refused {} ", refusal.0).ok()?;
+            write!(text, "refused {} ", refusal.code()).ok()?;
             add_back(text, &spare).ok()
         }
     }

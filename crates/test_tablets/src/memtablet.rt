@@ -123,13 +123,14 @@ fn is_swapped<T: Tablet>(table: &mut Table<T>, spare: T) -> bool {
     }
 }
 
-// What a table over the tablets answers once the item is put into the slot, its cell marked, and the spare swapped in.
+// What a table over the tablets answers once the item is put into the slot, its cell marked, and the spare swapped in; nothing
+// where they make no table.
 fn answers<T: Tablet>(
     parts: Vec<(Row, T)>,
     spare: T,
     slot: &Slot,
     item: &Item,
-) -> Result<Seen, NoMemory>
+) -> Result<Option<Seen>, NoMemory>
     requires { IsOfSort slot.now.sort item.now }
 {
     match Table::new(parts) {
@@ -147,7 +148,7 @@ fn answers<T: Tablet>(
             };
             table.close();
             done?;
-            Ok(seen)
+            Ok(Some(seen))
         }
         Err(refused) => {
             let (parts, _) = refused;
@@ -155,7 +156,7 @@ fn answers<T: Tablet>(
             let mut spare = spare;
             spare.clear();
             spare.end();
-            Err(NoMemory)
+            Ok(None)
         }
     }
 }
@@ -166,7 +167,10 @@ fn boxes_make_a_table(rt: HostRuntime) -> Result<(), Fail> {
     parts.push((Row(0), Box::new(rt.alloc(), ListTablet::new(rt.alloc()))?))?;
     parts.push((Row(3), Box::new(rt.alloc(), ListTablet::new(rt.alloc()))?))?;
     let spare: Box<dyn Tablet + Send + Drop> = Box::new(rt.alloc(), SlabTablet::new(rt.alloc()))?;
-    let seen = answers(parts, spare, &slot(Sort::Lock, 1), &Item::Lock(cell()))?;
+    let seen = answers(parts, spare, &slot(Sort::Lock, 1), &Item::Lock(cell()))?.expect(
+        &rt,
+        "the tablets make a table",
+    );
     assert!(rt; seen.swapped);
     assert_eq!(rt; seen.get, Some(Item::Lock(cell())));
     assert_eq!(rt; seen.newest, Some((Ts(1), Item::Lock(cell()))));

@@ -19,7 +19,7 @@ pub struct Met {
 }
 
 /// A replaced byte: its place, its new value, and what was wrong then.
-#[derive(Clone, Copy, Debug, PartialEq, Eq, Drop, Error)]
+#[derive(Debug, PartialEq, Eq, Drop, Error)]
 #[error("byte {at} as {value}: {fault}")]
 pub struct Wrong {
     at: usize,
@@ -73,10 +73,8 @@ fn with_byte(alloc: Global, code: &[u8], at: usize, value: u8) -> Result<Vec<u8>
 fn judge_with(alloc: Global, code: &[u8], at: usize, value: u8) -> Result<Verdict, Fault>
     requires { at < length code.now }
 {
-    match with_byte(alloc, code, at, value) {
-        Ok(turned) => judge(alloc, &turned),
-        Err(_) => Err(Fault::NoMemory),
-    }
+    let turned = with_byte(alloc, code, at, value)?;
+    judge(alloc, &turned)
 }
 
 // Has each other value stand in the place of a byte, where it is chosen.

@@ -1,11 +1,11 @@
 //! One program: it is refused at one of its slots, or accepted and run to its end.
-use pb_base::{Cell, Column, Content, Refused, Revision, Row, Ts, Value};
+use pb_base::{Cell, Column, Content, NoMemory, Refused, Revision, Row, Ts, Value};
 use pb_helpers::{HelperTable, Record, Reply, Version};
 use pb_isa::Profile;
 use pb_registry::accept_in;
 use pb_verify::{Accepted, VerifyFault};
 use pb_vm::{MachinePhase, Vm};
-use std::alloc::Global;
+use std::alloc::{AllocError, AllocFailed, Global};
 use std::sync::Arc;
 use thiserror::Error;
 
@@ -15,10 +15,10 @@ const PUT: Value = [42; 32];
 const FOUND: Value = [17; 32];
 
 /// What of a program isn't as it has to be, or that memory was refused.
-#[derive(Clone, Copy, Debug, PartialEq, Eq, Drop, Error)]
+#[derive(Debug, PartialEq, Eq, Drop, Error)]
 pub enum Fault {
-    #[error("no memory")]
-    NoMemory,
+    #[error("{0}")]
+    NoMemory(NoMemory),
     #[error("there is no change record for it")]
     NoRecord,
     #[error("{0}, as no program of its length is")]
@@ -27,6 +27,24 @@ pub enum Fault {
     NoEnd,
     #[error("{0} instructions were done, and {1} are told")]
     Count(u64, u16),
+}
+
+impl From<NoMemory> for Fault {
+    fn from(e: NoMemory) -> Fault {
+        Fault::NoMemory(e)
+    }
+}
+
+impl From<AllocError> for Fault {
+    fn from(e: AllocError) -> Fault {
+        Fault::NoMemory(NoMemory::from(e))
+    }
+}
+
+impl<T: Drop> From<AllocFailed<T>> for Fault {
+    fn from(e: AllocFailed<T>) -> Fault {
+        Fault::NoMemory(NoMemory::from(e))
+    }
 }
 
 /// How a program was judged, and how many runs of an accepted one came to their end.
@@ -61,10 +79,7 @@ fn start(alloc: Global, program: &Arc<Accepted>) -> Result<Vm, Fault> {
     if change.version() != version {
         return Err(Fault::NoRecord);
     }
-    match Vm::start(alloc, program, change, Ts(3)) {
-        Ok(vm) => Ok(vm),
-        Err(_) => Err(Fault::NoMemory),
-    }
+    Ok(Vm::start(alloc, program, change, Ts(3))?)
 }
 
 // Does one instruction, with this reply where it asks for a cell.
@@ -105,9 +120,7 @@ fn run(alloc: Global, program: &Arc<Accepted>, reply: Reply) -> Result<(), Fault
 
 // Runs a program with each reply, and tells how many runs these are.
 fn runs_of(alloc: Global, program: Accepted) -> Result<u64, Fault> {
-    let Ok(program) = Arc::new(alloc, program) else {
-        return Err(Fault::NoMemory);
-    };
+    let program = Arc::new(alloc, program)?;
     let mut runs: u64 = 0;
     for reply in [Reply::Absent, Reply::Found(FOUND)] {
         run(alloc, &program, reply)?;
@@ -130,7 +143,7 @@ fn judge_in(
             Ok(Verdict::Refused)
         }
         Err(VerifyFault::Refused(refused)) => Err(Fault::Verdict(refused)),
-        Err(VerifyFault::NoMemory) => Err(Fault::NoMemory),
+        Err(VerifyFault::NoMemory(refused)) => Err(Fault::NoMemory(refused)),
     }
 }
 

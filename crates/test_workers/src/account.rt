@@ -43,7 +43,7 @@ fn tell_refusals(rt: &HostRuntime, refusals: &[Option<Refusal>]) -> io::Result<(
     print!(rt; "refusals")?;
     for refusal in refusals {
         let code = match refusal {
-            Some(refusal) => refusal.0,
+            Some(refusal) => refusal.code(),
             None => 0,
         };
         print!(rt; " {code}")?;

@@ -11,7 +11,7 @@ fn code_of_call<T: Tablet>(shared: &mut Shared<T>, seats: &mut Vec<Seat>, step: 
     };
     match shared.call(main, step) {
         Ok(_) => 0,
-        Err(refusal) => refusal.0,
+        Err(refusal) => refusal.code(),
     }
 }
 

@@ -6,7 +6,7 @@ use pb_store::Tablet;
 use std::alloc::Global;
 use std::sync::Arc;
 use std::sync::atomic::AtomicUsize;
-use test_fixtures::{CountedTablet, mark_edit};
+use test_fixtures::{CountedTablet, Unready, mark_edit};
 
 /// How often a tablet was changed.
 pub type Count = Arc<AtomicUsize>;
@@ -28,6 +28,7 @@ fn tablet(
         calls: count.clone()?,
         refused,
         until: None,
+        alloc,
     })
 }
 
@@ -58,9 +59,9 @@ pub fn place_of(digit: u8) -> usize {
 }
 
 // The spare that a word names, with a mark in it where that is asked for, or refusing its first change.
-fn spare(alloc: Global, word: &[u8], count: &Count) -> Result<(usize, CountedTablet), NoMemory> {
+fn spare(alloc: Global, word: &[u8], count: &Count) -> Result<(usize, CountedTablet), Unready> {
     let (Some(place), Some(letter)) = (word.get(0), word.get(1)) else {
-        return Err(NoMemory);
+        return Err(Unready::Other("the word names no spare"));
     };
     let refused = match word.get(2) {
         Some(b'r') => Some(0),
@@ -80,7 +81,7 @@ pub struct Spares {
 }
 
 /// The spares that words name.
-pub fn spares_in(alloc: Global, words: &[String]) -> Result<Spares, NoMemory> {
+pub fn spares_in(alloc: Global, words: &[String]) -> Result<Spares, Unready> {
     let mut parts = Vec::new(alloc);
     let mut counts = Vec::new(alloc);
     for word in words {

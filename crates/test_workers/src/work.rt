@@ -4,7 +4,7 @@ ghost use Rattle.pb_core.specs.Calls.{AreSeats};
 ghost use Rattle.pb_store.specs.Contents.{nothing};
 
 use crate::task::Task;
-use pb_base::{MAX_ENTRIES, NoMemory, Row, Ts};
+use pb_base::{MAX_ENTRIES, Row, Ts};
 use pb_core::{Seat, Shared};
 use pb_store::Table;
 use pb_worker::{Gate, Worked};
@@ -12,14 +12,14 @@ use std::alloc::Global;
 use std::sync::Wait;
 use std::thread::Threads;
 use test_crew::worked_on;
-use test_fixtures::{CountedTablet, batches_of, observers_of, open_table_over};
+use test_fixtures::{CountedTablet, Unready, batches_of, observers_of, open_table_over};
 
-fn table(parts: Vec<(Row, CountedTablet)>) -> Result<Table<CountedTablet>, NoMemory>
+fn table(parts: Vec<(Row, CountedTablet)>) -> Result<Table<CountedTablet>, Unready>
     ensures { IfOk result (λ t. t.contents ≡ nothing) }
 {
     match Table::new(parts) {
         Ok(table) => Ok(table),
-        Err(_) => Err(NoMemory),
+        Err((_, refusal)) => Err(Unready::from(refusal)),
     }
 }
 
@@ -28,11 +28,11 @@ fn open_for(
     alloc: Global,
     task: &Task,
     parts: Vec<(Row, CountedTablet)>,
-) -> Result<(Shared<CountedTablet>, Vec<Seat>), NoMemory>
+) -> Result<(Shared<CountedTablet>, Vec<Seat>), Unready>
     ensures { IfOk result (λ s. AreSeats s.0 s.1.items) }
 {
     if task.workers < 1 || task.workers > 63 || task.limit > MAX_ENTRIES {
-        return Err(NoMemory);
+        return Err(Unready::Other("the task isn't in range"));
     }
     let observers = observers_of(alloc, task.manifest)?;
     let table = table(parts)?;
@@ -54,7 +54,7 @@ pub fn do_work<R: Threads + Wait + Sync, G: Gate>(
     parts: Vec<(Row, CountedTablet)>,
     spares: Vec<(usize, CountedTablet)>,
     gate: &G,
-) -> Result<Worked<CountedTablet>, NoMemory> {
+) -> Result<Worked<CountedTablet>, Unready> {
     let batches = batches_of(alloc, task.script)?;
     let (shared, seats) = open_for(alloc, task, parts)?;
     worked_on(rt, alloc, shared, seats, batches, spares, gate)

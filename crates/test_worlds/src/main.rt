@@ -56,7 +56,7 @@ fn add_events(
             }
             Ok(())
         }
-        Err(fault) => writeln!(text, "event {} code {}", fault.event, fault.code),
+        Err(fault) => writeln!(text, "event {} code {}", fault.event, fault.code()),
     }
 }
 
@@ -97,7 +97,7 @@ fn is_run(
             shared.close();
             is_told
         }
-        Err((shared, _seats, _batches)) => {
+        Err((shared, _seats, _batches, _)) => {
             shared.close();
             false
         }

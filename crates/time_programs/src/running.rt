@@ -84,7 +84,7 @@ pub fn last_of(rt: &HostRuntime, path: &str, runs: u32, is_by_steps: bool) -> Re
     let accepted = match accept(rt.alloc(), &bytes, HelperTable::all()) {
         Ok(accepted) => accepted,
         Err(VerifyFault::Refused(refused)) => return Err(NoRun::Refused(refused)),
-        Err(VerifyFault::NoMemory) => return Err(NoRun::Failed),
+        Err(VerifyFault::NoMemory(_)) => return Err(NoRun::Failed),
     };
     let Ok(program) = Arc::new(rt.alloc(), accepted) else {
         return Err(NoRun::Failed);

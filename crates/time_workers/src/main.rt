@@ -18,7 +18,9 @@ use std::process::ExitCode;
 use std::sync::Wait;
 use std::thread::Threads;
 use test_crew::worked_on;
-use test_fixtures::{COPY, batches_of, observers_of, open_table_over, spares_of, table_of};
+use test_fixtures::{
+    COPY, Unready, batches_of, observers_of, open_table_over, spares_of, table_of,
+};
 
 const NONE: &str = "{\"profile\":1,\"observers\":[]}";
 
@@ -94,7 +96,7 @@ fn do_task<R: Threads + Wait + Sync>(
     rt: &R,
     alloc: Global,
     task: &Task,
-) -> Result<Option<Met>, NoMemory> {
+) -> Result<Option<Met>, Unready> {
     let text = script(alloc, task.count, task.is_spread)?;
     let observers = observers_of(alloc, task.manifest)?;
     let batches = batches_of(alloc, &text)?;

@@ -69,7 +69,7 @@ pub fn parse_schedule(
         let (line, after) = first_line(lines);
         match add_line(observers, &mut events, line) {
             Ok(()) => {}
-            Err(LineFault::NoMemory) => return Err(ScriptFault::no_memory()),
+            Err(LineFault::NoMemory(e)) => return Err(ScriptFault::NoMemory(e)),
             Err(LineFault::Code(code)) => return Err(ScriptFault::at(index, code.code())),
         }
         index += 1;

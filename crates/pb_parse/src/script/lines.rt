@@ -103,7 +103,7 @@ pub fn parse_script(alloc: Global, text: &str) -> Result<Vec<Batch>, ScriptFault
         let (line, after) = first_line(lines);
         match add_line(alloc, &mut batches, line) {
             Ok(()) => {}
-            Err(LineFault::NoMemory) => return Err(ScriptFault::no_memory()),
+            Err(LineFault::NoMemory(e)) => return Err(ScriptFault::NoMemory(e)),
             Err(LineFault::Code(code)) => return Err(ScriptFault::at(index, code.code())),
         }
         index += 1;

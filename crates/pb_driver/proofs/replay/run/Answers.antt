@@ -12,4 +12,4 @@ returns-in-Ok g c = grind (arith, cut, g.S.Sink.taken, g.S.Sink.failed, c.args.s
 pub returns : goal.returns
 returns g c =
     let out = taking g.S.Sink.taken g.S.Sink.failed c.args.sink.now c.args.sink.now in
-    rw c.fault_of.ensures (stopped c.args.world.now c.args.events.now c.in-Err.fault c.run.new.self out (refl, c.requires.unfailed) c.in-Err.ensures.err)
+    rw c.fault_of.ensures (stopped c.args.world.now c.args.events.now c.in-Err.fault.event c.in-Err.fault.fault c.run.new.self out (refl, c.requires.unfailed) c.in-Err.ensures.err)

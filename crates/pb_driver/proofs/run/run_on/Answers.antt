@@ -8,6 +8,6 @@ pub returns-in-Ok : goal.returns-in-Ok
 returns-in-Ok g c =
     let w = c.in-Ok.worked in
     concluded c.changes_are_made.ensures c.args.shared c.args.seats.items c.args.batches.items (spares_of g.T.Tablet.contents c.args.spares.items)
-    c.requires.fresh c.requires.seated (omega (arith, c.requires.some, c.args.seats.ok))
+    c.requires.seated (omega (arith, c.requires.some, c.args.seats.ok))
     (record { table = w.shared; seats = w.seats.items; refusals = w.refusals.items; unfinished = w.unfinished.items }) (record { worked = c.in-Ok.ensures.worked; keeps = c.in-Ok.ensures.table })
     (taking g.S.Sink.taken g.S.Sink.failed c.args.sink.now c.conclude.new.sink) c.conclude.result c.conclude.ensures

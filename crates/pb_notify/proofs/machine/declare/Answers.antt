@@ -6,5 +6,5 @@ use Rattle.pb_notify.proofs.machine.declare.Goals.{in-Ok+in-Err-new+in-Run, in-E
 
 pub invariant_of-result : goal.invariant_of-result
 invariant_of-result c =
-    let same : c.match-new.left ≡ c.args.left = grind (arith, in-Ok+in-Err-new+in-Run, in-Err, c.match-new.branch) in
+    let same : c.match-new.left.0 ≡ c.args.left = grind (arith, in-Ok+in-Err-new+in-Run, in-Err, c.match-new.branch) in
     subst (λ f. Leaves (exit_at f c.args.taken) f × IsAtSlot (exit_at f c.args.taken) c.args.slot) (sym same) (c.requires.leaves, c.requires.at)

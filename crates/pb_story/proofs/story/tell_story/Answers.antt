@@ -1,4 +1,7 @@
-use Rattle.std.proofs.Common.{arith}
+use Rattle.std.proofs.Common.{arith, subst, Err}
+use Rattle.pb_base.specs.Taking.{taking}
+use Rattle.pb_script.specs.declared.fault.ReportFault.{ReportFault}
+use Rattle.pb_script.specs.TableReports.{Reports}
 use Rattle.pb_story.proofs.Retelling.{reported, report_cut, report_unmade}
 use Rattle.pb_story.proofs.story.tell_story.Goals as goal
 
@@ -9,4 +12,9 @@ pub returns-in-Err-Output : goal.returns-in-Err-Output
 returns-in-Err-Output g c = grind (arith, report_cut, g.S.Sink.taken, g.S.Sink.failed, c.tell_events.new.sink, c.report.new.sink, c.shared.result.now, c.in-Err-Output.field-0-is, c.in-Err-Output.ensures, c.args.world.now, c.args.events.now, c.tell_events.new.world, c.args.sink.now, c.in_ok-tell_events.ensures, c.shared.ensures)
 
 pub returns-in-Err-NoMemory : goal.returns-in-Err-NoMemory
-returns-in-Err-NoMemory g c = grind (arith, report_unmade, g.S.Sink.taken, g.S.Sink.failed, c.tell_events.new.sink, c.report.new.sink, c.shared.result.now, c.in-Err-NoMemory.field-0-is, c.in-Err-NoMemory.ensures, c.args.world.now, c.args.events.now, c.tell_events.new.world, c.args.sink.now, c.in_ok-tell_events.ensures, c.shared.ensures)
+returns-in-Err-NoMemory g c =
+    let e = c.in-Err-NoMemory in
+    let out = taking g.S.Sink.taken g.S.Sink.failed c.tell_events.new.sink c.report.new.sink in
+    let nothing = subst (λ (f : ReportFault). Reports c.shared.result.now out (Err f)) e.field-0-is e.ensures in
+    report_unmade c.args.world.now c.args.events.now c.tell_events.new.world (g.S.Sink.taken c.args.sink.now) (g.S.Sink.taken c.tell_events.new.sink) (g.S.Sink.taken c.report.new.sink)
+    (g.S.Sink.failed c.tell_events.new.sink) (g.S.Sink.failed c.report.new.sink) c.in_ok-tell_events.ensures nothing

@@ -15,13 +15,13 @@ use Rattle.pb_verify.proofs.verifier.verify_for.Goals as goal
 use Rattle.pb_verify.proofs.verifier.verify_for.Goals.{After-arrive-is_reached}
 
 pub loop-slot-init : goal.loop-slot-init
-loop-slot-init c = grind (arith, outs_none, none_resolved, none_within, c.in-Ok.ensures.len, c.slots.ensures.slots, c.in-Ok.ensures.each, c.entry-frame.ensures, c.args.program.insns, c.in-Ok-with_capacity.ensures.len, c.in-Ok-with_capacity.ensures.items)
+loop-slot-init c = grind (arith, outs_none, none_resolved, none_within, c.in_ok-jumps.ensures.len, c.slots.ensures.slots, c.in_ok-jumps.ensures.each, c.entry-frame.ensures, c.args.program.insns, c.in_ok-ops.ensures.len, c.in_ok-ops.ensures.items)
 
-pub loop-slot-preserved-in_default-at : goal.loop-slot-preserved-in_default-at
-loop-slot-preserved-in_default-at c =
+pub loop-slot-preserved-in_default : goal.loop-slot-preserved-in_default
+loop-slot-preserved-in_default c =
     let n = c.loop-slot.slot in
     let p = c.args.program.insns in
-    let none : insn_at p n ≡ None = sym c.at.ensures ∙ c.in_default-at.is in
+    let none : insn_at p n ≡ None = sym c.at.ensures ∙ c.in_default.is in
     record {
       len = c.loop-slot.invariant.len;
       known = λ k l h.
@@ -85,9 +85,9 @@ loop-slot-preserved c =
           let same = rw (not_here c.loop-slot.next k (omega (arith, l, low))) at (c.loop-slot.invariant.known k (omega (arith, l)) h) in
           let rest = ap (λ xs. option_map box_value (slice_index_or xs k None)) before ∙ ap (option_map box_value) (c.arrive-is_reached.ensures.rest k past ∙ ap (λ xs. slice_index_or xs k None) c.deref_mut.ensures.value) ∙ sym (merge_none _) ∙ same in
           rw (take_at c.spread.new.jumps _ c.loop-slot.jumps.len (c.spread.ensures.len ∙ c.deref_mut-in-loop-slot.ensures.len), more)
-          (c.in-Ok-spread.ensures.each k past (rw long h) ∙ ap (λ o. merge o (if_leads (Some c.in-Some.insn) n k (Some c.step.new.frame))) rest ∙ ap (λ i. merge (frame_before p k (outs p n)) (if_leads i n k (Some c.step.new.frame))) (sym insn) ∙ sym (before_next p k n (Some c.step.new.frame) past));
-      most = let most = c.in-Ok-spread.ensures.most in omega (arith, most);
-      pair = λ h. rw add-one (behind_pair p n c.in-Some.insn insn (c.in-Ok-spread.ensures.pair h));
+          (c.in_ok-next.ensures.each k past (rw long h) ∙ ap (λ o. merge o (if_leads (Some c.in-Some.insn) n k (Some c.step.new.frame))) rest ∙ ap (λ i. merge (frame_before p k (outs p n)) (if_leads i n k (Some c.step.new.frame))) (sym insn) ∙ sym (before_next p k n (Some c.step.new.frame) past));
+      most = let most = c.in_ok-next.ensures.most in omega (arith, most);
+      pair = λ h. rw add-one (behind_pair p n c.in-Some.insn insn (c.in_ok-next.ensures.pair h));
       fine = below_more (λ m. faults (judged_by c.args.version c.args.program c.args.helpers) m ≡ []) n c.loop-slot.invariant.fine (rw insn (none_broken _ (sym found ∙ c.in_default-code_at.is)));
       count = let count = c.loop-slot.invariant.count in let more = c.push_reserved-in-loop-slot.ensures.len in omega (arith, count, more);
       room = let room = c.loop-slot.invariant.room in let same = c.push_reserved-in-loop-slot.ensures.capacity in omega (arith, room, same);

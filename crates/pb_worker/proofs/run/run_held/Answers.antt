@@ -1,6 +1,7 @@
 use Rattle.std.proofs.Common.{rules, ◌≡◌, ◌<◌, ◌-◌, List, length, sym, subst}
 use Rattle.pb_base.specs.Batch.{Writes}
 use Rattle.pb_core.specs.Calls.{SeatOf, AreSeatsFrom}
+use Rattle.pb_worker.specs.Gains.{OpeningOf, opening_of}
 use Rattle.pb_worker.specs.Swaps.{Spare, spares_of}
 use Rattle.pb_worker.specs.Work.{AllWork, AreFilled, seats_in, refusals_in, flags_in, is_done, undone_below}
 use Rattle.pb_worker.proofs.Joined.{some_olds, joined}
@@ -12,7 +13,8 @@ returns-clause-worked g c =
     let news = c.run_all-workers.result.items in
     let obs = c.args.shared.state.observers in
     let spares : List Spare = spares_of g.T.Tablet.contents c.args.spares.items in
-    let all : AllWork obs c.args.batches.items spares olds news = search rules in
+    let held : AllWork g.J.Opening.opening obs c.args.batches.items spares olds news = search rules in
+    let all : AllWork (opening_of c.args.shared) obs c.args.batches.items spares olds news = subst (λ (o : OpeningOf). AllWork o obs c.args.batches.items spares olds news) (sym c.requires.opened) held in
     let were : seats_in olds ≡ c.args.seats.items = search rules in
     let are : AreSeatsFrom 0 c.args.shared.journal (seats_in olds) = subst (λ (ss : List SeatOf). AreSeatsFrom 0 c.args.shared.journal ss) (sym were) c.requires.seated.each in
     let many : 1 < length c.args.seats.items = search rules in

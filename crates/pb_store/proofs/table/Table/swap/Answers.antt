@@ -4,7 +4,6 @@ use Rattle.pb_store.specs.TableOf.{firsts_of}
 use Rattle.pb_store.specs.Tiles.{tiles_of, joined, IsTiling}
 use Rattle.pb_store.proofs.Fresh.{nothing_from_test}
 use Rattle.pb_store.proofs.Routing.{tiles_kept, firsts_kept, length-firsts_of}
-use Rattle.pb_store.proofs.Applying.{ok_holds}
 use Rattle.pb_store.proofs.table.Table.swap.Given.{Over}
 use Rattle.pb_store.proofs.table.Table.swap.Goals as goal
 use Rattle.pb_store.proofs.table.Table.swap.Goals.{After-clear_tablet-2}
@@ -20,7 +19,7 @@ module _ (g : Over) (c : After-clear_tablet-2 g) where
   one = c.index.ensures ∙ get_or_default c.self.inside.parts.items c.args.place c.index.result.now c.index_mut-part.result.now within ∙ sym c.index_mut-part.ensures.value
 
   copied : g.T.Tablet.contents c.replace-old.new.dest ≡ g.T.Tablet.contents c.index_mut-part.result.now.1
-  copied = grind (arith, ok_holds, one, g.T.Tablet.contents, c.replace-old.ensures.after, c.copy_all.result, c.if-is_err.ensures.value, c.copy_all.ensures)
+  copied = grind (arith, one, g.T.Tablet.contents, c.replace-old.ensures.after, c.copy_all.result, c.in_default, c.copy_all.ensures)
 
   same : tiles_of g.T.Tablet.contents (set c.self.inside.parts.items c.args.place (c.index_mut-part.result.now.0, c.replace-old.new.dest)) ≡ tiles_of g.T.Tablet.contents c.self.inside.parts.items
   same = tiles_kept g.T.Tablet.contents c.self.inside.parts.items c.args.place c.index_mut-part.result.now c.replace-old.new.dest within c.index_mut-part.ensures.value copied

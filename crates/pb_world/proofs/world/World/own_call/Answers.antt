@@ -19,7 +19,7 @@ returns g c =
           let refused = subst (λ y. IsRefusedBy w.shared seat.number c.args.step.now y) is z.in-Err-Refused.ensures.refused in
           rw z.result-is (own_refused w c.args.self.now c.self.view_is seat c.call.new.seat c.call.new.shared c.args.step.now z.in-Err-Refused.code c.self.invariant.some at refused z.in-Err-Refused.ensures.table z.in-Err-Refused.ensures.seat)
       | in-Err-NoMemory z ↦
-          let is : z.in-Err-NoMemory.field-0 ≡ NotCalled.NoMemory = search rules in
+          let is : z.in-Err-NoMemory.field-0 ≡ NotCalled.NoMemory z.in-Err-NoMemory.refused = search rules in
           let none = subst (λ y. IsRefusedBy w.shared seat.number c.args.step.now y) is z.in-Err-NoMemory.ensures.refused in
           rw z.result-is (own_same w c.args.self.now c.self.view_is seat c.call.new.seat c.call.new.shared at z.in-Err-NoMemory.ensures.table z.in-Err-NoMemory.ensures.seat, own_wants w c.args.self.now c.self.view_is seat c.args.step.now c.self.invariant.some at none)
     ]

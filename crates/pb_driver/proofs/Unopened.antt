@@ -1,0 +1,12 @@
+-- A table that has nothing in it is refused for memory alone.
+use Rattle.std.proofs.Common.{arith, ◌≡◌, ap, ◌∙◌, true}
+use Rattle.std.specs.FinMap as map
+use Rattle.pb_base.specs.declared.refusal.Refusal.{Refusal}
+use Rattle.pb_base.specs.Reasons.{memory_refusal}
+use Rattle.pb_store.specs.Contents.{Contents, nothing, is_nothing}
+
+nothing_is_nothing : is_nothing nothing ≡ true
+nothing_is_nothing = grind (arith, map.len-empty)
+
+pub for_memory : (c : Contents) (r : Refusal) → c ≡ nothing → (is_nothing c ≡ true → r ≡ memory_refusal) → r ≡ memory_refusal
+for_memory c r e h = h (ap is_nothing e ∙ nothing_is_nothing)
