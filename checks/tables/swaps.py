@@ -55,6 +55,8 @@ CHOICES = ("ll", "ls", "sl", "ss")
 SWAPPED = [
     *(swapped(sorts, 1000, count) for sorts in CHOICES for count in (0, 1, 2, 7, 16)),
     *(swapped("lslslslsl"[:places], 125, places * rounds) for places in (1, 3, 9) for rounds in (0, 1, 2, 8)),
+    # of one sort, so that a swap at any other place comes back as the wrong sort, then or when its turn comes
+    *(swapped("l" * places, 1000 // places, places * rounds) for places in (10, 64, 1000) for rounds in (1, 2)),
 ]
 
 
