@@ -13,7 +13,7 @@ from functools import cache
 
 # how many tables there are, and how many rows in all, so that a lost one is noticed
 TABLE_COUNT = 277
-ROW_COUNT = 9711
+ROW_COUNT = 9719
 
 TOO_LARGE = bytes(16_777_217)
 
