@@ -26,12 +26,14 @@ class BadEdit(Exception):
 
 @dataclass(frozen=True)
 class Function:
-    """A function of a source file: its name, the type of its `impl` (or none), its text by parts, without comments, and the lines
-    of the file at which that begins and ends. One that a trait declares without a body has an empty one."""
+    """A function of a source file: its name, the type of its `impl`, or the trait that declares it (or none), its text by parts,
+    without comments, and the lines of the file at which that begins and ends. One that a trait declares without a body has an
+    empty one."""
 
     file: str
     owner: str
     is_of_trait: bool
+    is_in_trait: bool
     name: str
     head: str
     body: str
@@ -58,7 +60,7 @@ class Function:
             between = words[len(inside) : -1]
             if words[: len(inside)] != inside or words[-1] != self.name:
                 continue
-            if not self.is_of_trait and between == ([self.owner] if self.owner else []):
+            if (self.is_in_trait or not self.is_of_trait) and between == ([self.owner] if self.owner else []):
                 return True
             if self.is_of_trait and len(between) == 1 and between[0].startswith(self.owner) and between[0] != self.owner:
                 return True
@@ -111,7 +113,7 @@ def head_end(text, at):
     return len(text)
 
 
-def functions_in(file, text, owner="", is_of_trait=False, base=0):
+def functions_in(file, text, owner="", is_of_trait=False, is_in_trait=False, base=0):
     """The functions of a file's text without comments, and what is left of it beside them. `base` is where the text begins."""
     found, rest, at = [], [], 0
     while (start := head_end(text, at)) < len(text):
@@ -125,9 +127,9 @@ def functions_in(file, text, owner="", is_of_trait=False, base=0):
             begun = at + len(text[at:start]) - len(text[at:start].lstrip())
             body = text[start:end] if text[start] == "{" else ""
             places = base + begun, base + end
-            found.append(Function(file, owner, is_of_trait, named[1], text[at:start].strip(), body, *places))
+            found.append(Function(file, owner, is_of_trait, is_in_trait, named[1], text[at:start].strip(), body, *places))
         elif is_brace and held and held["kind"] in ("impl", "trait", "mod"):
-            inner, left = functions_in(file, text[start + 1 : end - 1], *owner_of(held), base + start + 1)
+            inner, left = functions_in(file, text[start + 1 : end - 1], *owner_of(held), base=base + start + 1)
             found += inner
             rest += [head, *left]
         else:
@@ -137,12 +139,12 @@ def functions_in(file, text, owner="", is_of_trait=False, base=0):
 
 
 def owner_of(held):
-    """The type that an `impl` is for, and whether the functions there are a trait's."""
+    """The type that an `impl` is for, or the trait, and whether the functions there are a trait's, and stand in the trait itself."""
     head = held["head"].strip()
     while head.startswith("<"):
         head = head[1:].partition(">")[2].strip()
     of_trait, _, of_type = head.rpartition(" for ")
-    return re.match(r"\W*(\w*)", of_type)[1], bool(of_trait) or held["kind"] == "trait"
+    return re.match(r"\W*(\w*)", of_type)[1], bool(of_trait) or held["kind"] == "trait", held["kind"] == "trait"
 
 
 def texts_of(crate):

@@ -419,17 +419,18 @@ SPARES = [
     beside(0, "1l", NEVER),
 ]
 
-MORE = range(2, 100)
+# more than the two of a spare into which the lock is copied and which is emptied at once
+MORE = range(4, 100)
 
 # the first spare takes the first tablet's place before the worker has its stamp, and the second before it goes on, so that the
 # lock is copied into it, and the commit comes to it; where it refuses the copy, that is told of main, and all else is as without
-# it; the last rows are the same of the second place, which has the changed row
+# it; in the last rows the second spare takes the second tablet's place, where the lock is
 MEANWHILE = [
     *(beside(0, spares, SOME, MORE, turns="swapping", sorts=sorts) for sorts in CHOICES for spares in ("0l 0s", "0s 0l")),
     *(beside(1, f"0l 0{sort}r", MORE, ONCE, turns="swapping") for sort in "ls"),
     beside(1, "0l 0sr 0l", SOME, ONCE, SOME, turns="swapping"),
     beside(1, "0s 0lr 2l 0lm 1l", MORE, ONCE, NEVER, ONCE, NEVER, turns="swapping"),
-    *(beside(0, spares, SOME, MORE, turns="swapping", sorts=sorts, row=1000) for sorts in CHOICES for spares in ("1l 1s", "1s 1l")),
+    *(beside(0, spares, NEVER, MORE, turns="swapping", sorts=sorts, row=1000) for sorts in CHOICES for spares in ("0l 1s", "0s 1l")),
 ]
 
 
