@@ -7,7 +7,7 @@ from __future__ import annotations
 
 from tables import (
     COPY, ONE, Row, Tables, accepted, asm, asm_fails, dis, dis_refused, encoded, in_profile, manifest_of, observer, refused,
-    replay, run, run_fails, slot,
+    replay, run, run_fails,
 )
 
 MOV = bytes.fromhex("b700000000000000")

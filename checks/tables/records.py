@@ -5,7 +5,7 @@ Worked out by hand from docs/MACHINE.md, "The change record", docs/FORMATS.md, "
 from __future__ import annotations
 
 from tables import (
-    COPY, ONE, WATCH, Row, Tables, accepted, encoded, in_profile, manifest_of, observer, refused, replay, run, run_fails,
+    COPY, ONE, Row, Tables, accepted, encoded, in_profile, manifest_of, observer, refused, replay, run, run_fails,
 )
 
 

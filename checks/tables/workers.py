@@ -10,7 +10,7 @@ import re
 from collections.abc import Callable
 from dataclasses import dataclass
 
-from tables import COPIED, COPY, NOBODY, ONE, WATCHED, Row, Tables, manifest_of, observer
+from tables import COPIED, NOBODY, ONE, WATCHED, Row, Tables, manifest_of, observer
 
 WORKERS = "test_workers"
 

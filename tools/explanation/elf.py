@@ -15,9 +15,8 @@ RELOCATABLE = 1
 SYMBOLS, RELOCATIONS_WITH_ADDEND, NOTHING_IN_THE_FILE, RELOCATIONS = 2, 4, 8, 9
 VARIABLE, FUNCTION, SECTION = 1, 2, 3
 
-# kinds of relocations, by LLVM's documentation of BPF: of a 64-bit constant, and of a call
-OF_A_CONSTANT, OF_A_CALL = 1, 10
-
+# the kind of a call's relocation, by LLVM's documentation of BPF
+OF_A_CALL = 10
 
 # what is raised where a place that the file names isn't in it
 NOT_WHOLE = (struct.error, IndexError, OverflowError)
