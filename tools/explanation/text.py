@@ -12,6 +12,8 @@ from explanation.subject import Subject
 JUMP = re.compile(r"j\w+ (?:.*, )?(?P<offset>[+-]\d+)")
 CALL = re.compile(r"call (?P<helper>-?\d+)")
 READ, WRITE, DELETE = 1, 2, 3
+# codes of the verifier: a jump backward, and a slot that nothing leads to
+BACKWARD, UNREACHED = 32, 35
 MOST_WRITES = 16
 
 Listing = list[tuple[int, str]]
@@ -29,7 +31,7 @@ def explained(path: Path, options: Options) -> tuple[str, int]:
     listing = programs.listing(its.code, options)
     parts = [[f"{path}: {line}" for line in its.first], lines_of_listing(its, listing, refused)]
     if refused:
-        parts.append(lines_of_rule(its, refused))
+        parts.append(lines_of_rule(its, refused, listing))
         parts.append(known(its, refused, options) if refused.slot in dict(listing) else [])
         parts.append([*elsewhere(its, options), *its.last])
     else:
@@ -51,9 +53,15 @@ def told_of_text(path: Path, refused: TextRefused) -> str:
 # The listing
 
 
-def target_of(slot: int, text: str) -> str:
+def target_of(slot: int, text: str) -> int | None:
+    """The slot that a jump leads to, or None of another instruction."""
     found = JUMP.fullmatch(text)
-    return f"{text}    -> {slot + 1 + int(found['offset'])}" if found else text
+    return slot + 1 + int(found["offset"]) if found else None
+
+
+def with_target(slot: int, text: str) -> str:
+    target = target_of(slot, text)
+    return text if target is None else f"{text}    -> {target}"
 
 
 def lines_of_listing(its: Subject, listing: Listing, refused: Refused | None) -> list[str]:
@@ -68,7 +76,7 @@ def lines_of_listing(its: Subject, listing: Listing, refused: Refused | None) ->
         if its.is_object and place and place != above:
             lines.append(f"        {place.short()}")
             above = place
-        lines.append(f"{'>' if slot == marked else ' '}{slot:5}  {target_of(slot, text)}")
+        lines.append(f"{'>' if slot == marked else ' '}{slot:5}  {with_target(slot, text)}")
     if is_unread and len(its.code) > 8 * marked + 8:
         lines.append("        the slots behind it are not read")
     return lines
@@ -77,13 +85,22 @@ def lines_of_listing(its: Subject, listing: Listing, refused: Refused | None) ->
 # The verdict
 
 
-def lines_of_rule(its: Subject, refused: Refused) -> list[str]:
+def jump_back_to(slot: int, listing: Listing) -> int | None:
+    """The first instruction behind a slot that jumps back to it."""
+    return next((at for at, text in listing if at > slot and target_of(at, text) == slot), None)
+
+
+def lines_of_rule(its: Subject, refused: Refused, listing: Listing) -> list[str]:
     rule = codes.rule_of(refused.code)
     lines = [f"refused slot {refused.slot} code {refused.code}: {rule.meaning}"]
     if refused.code in programs.OF_ALL_BYTES:
         lines.append(f"it has {counted(len(its.code), 'byte')}, {counted(len(its.code) // 8, 'slot')}")
     elif place := its.places.get(refused.slot):
         lines.append(f"at {place}")
+    back = jump_back_to(refused.slot, listing) if refused.code == UNREACHED else None
+    if back is not None:
+        lines.append(f"slot {back} jumps back to it: it is in a loop, which is refused too ({BACKWARD})")
+        rule = codes.rule_of(BACKWARD)
     if its.is_object and rule.cause_in_c:
         lines += [f"what does it in C: {rule.cause_in_c}", f"what to write instead: {rule.remedy_in_c}"]
     elif rule.remedy:
@@ -116,13 +133,19 @@ def counted(number: int, what: str) -> str:
     return f"{number} {what}" if number == 1 else f"{number} {what}s"
 
 
+def more_writes(calls: int) -> str:
+    return f"it has {calls} calls that write: one for a {MOST_WRITES + 1}th cell returns 3 and writes nothing"
+
+
 def lines_of_accepted(its: Subject, listing: Listing) -> list[str]:
     """No jump leads back, so that each instruction is done once at most: the listing has all calls that it can make."""
     calls = [int(found["helper"]) for _, text in listing if (found := CALL.fullmatch(text))]
-    asks, writes = calls.count(READ), min(calls.count(WRITE) + calls.count(DELETE), MOST_WRITES)
+    asks, writing = calls.count(READ), calls.count(WRITE) + calls.count(DELETE)
+    writes = min(writing, MOST_WRITES)
     called = ", ".join(str(helper) for helper in sorted(set(calls)))
     helpers = f"calls helpers {called}" if len(set(calls)) > 1 else f"calls helper {called}" if calls else "calls no helper"
     return [
         f"accepted {len(its.code) // 8} slots" + (", which lack what is told above" if its.first else ""),
         f"{helpers}; asks for {counted(asks, 'cell')} and writes {counted(writes, 'cell')} at most",
+        *([more_writes(writing)] if writing > MOST_WRITES else []),
     ]
