@@ -61,4 +61,12 @@ static u64 (*const run_start)(void) = (void *)4;
 /* Before the observer's function. */
 #define OBSERVER __attribute__((section("observer"), used))
 
+/* The same for an observer of this column, so that `./manifest` reads the column, and the version of the change record, from
+ * the object: OBSERVER_OF(0) u64 NAME(const struct change *change), or, of version 2,
+ * OBSERVER_WITH_OLD_OF(0) u64 NAME(const struct change_with_old *change). */
+#define OBSERVER_ABOUT(column, version) \
+    static const u32 observer_about[2] __attribute__((section("observer.about"), used)) = {column, version};
+#define OBSERVER_OF(column) OBSERVER_ABOUT(column, 1) OBSERVER
+#define OBSERVER_WITH_OLD_OF(column) OBSERVER_ABOUT(column, 2) OBSERVER
+
 #endif
