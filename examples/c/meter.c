@@ -1,6 +1,6 @@
 /* Adds up the signed readings of the changed cell, which stand in its first eight bytes: one byte, half a word from byte 2 on
- * and a word from byte 4 on, the lowest byte first. Column 13 of the row keeps their sum, which may be negative, and behind
- * it the first reading less the second.
+ * and a word from byte 4 on, the lowest byte first. Column 13 of the row keeps their sum, which may be negative, and
+ * after it the first reading less the second.
  *
  * With -mcpu=v4 the compiler extends signs by instructions of their own, which profile 2 has. */
 #include "percobpf.h"

@@ -7,7 +7,7 @@
  *
  * It gets the address of the change, runs to its end without loops, and returns 0. With another result its writes are
  * dropped. Its stack has 512 bytes; a pointer may not be stored there, compared, or moved by a number that isn't known
- * when it is compiled. `percobpf check NAME.bin` tells whether a program is accepted, and where it isn't. */
+ * when it is compiled. `percobpf check NAME.bin` reports whether a program is accepted, and where it isn't. */
 #ifndef PERCOBPF_H
 #define PERCOBPF_H
 

@@ -82,9 +82,9 @@ def of_object(path: Path, content: bytes) -> Subject:
     except elf.NOT_WHOLE:
         raise elf.NotRead("it begins as an object file does, and isn't a whole one") from None
     if read.section(".debug_line") is None:
-        subject.last.append("the object has no lines of C: compile with -g besides")
+        subject.last.append("the object has no lines of C: compile with -g too")
     elif objdump() is None:
-        subject.last.append("llvm-objdump isn't here, which would tell the lines of C")
+        subject.last.append("llvm-objdump, which would print the lines of C, isn't here")
     else:
         subject.places = places_of(path)
     return subject

@@ -78,7 +78,7 @@ def lines_of_listing(its: Subject, listing: Listing, refused: Refused | None) ->
             above = place
         lines.append(f"{'>' if slot == marked else ' '}{slot:5}  {with_target(slot, text)}")
     if is_unread and len(its.code) > 8 * marked + 8:
-        lines.append("        the slots behind it are not read")
+        lines.append("        the slots after it are not read")
     return lines
 
 
@@ -145,7 +145,7 @@ def lines_of_accepted(its: Subject, listing: Listing) -> list[str]:
     called = ", ".join(str(helper) for helper in sorted(set(calls)))
     helpers = f"calls helpers {called}" if len(set(calls)) > 1 else f"calls helper {called}" if calls else "calls no helper"
     return [
-        f"accepted {len(its.code) // 8} slots" + (", which lack what is told above" if its.first else ""),
+        f"accepted {len(its.code) // 8} slots" + (", which lack what is reported above" if its.first else ""),
         f"{helpers}; asks for {counted(asks, 'cell')} and writes {counted(writes, 'cell')} at most",
         *([more_writes(writing)] if writing > MOST_WRITES else []),
     ]
