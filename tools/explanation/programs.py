@@ -1,4 +1,4 @@
-"""What the proved programs tell of the bytes of a program, or of its text."""
+"""What the programs tell of the bytes of a program, or of its text."""
 from __future__ import annotations
 
 import functools
@@ -30,10 +30,12 @@ class TextRefused(Exception):
 
 @dataclass(frozen=True)
 class Options:
-    """The profile and the version of the change record that a program is judged by, where they are named."""
+    """The profile and the version of the change record that a program is judged by, where they are named; and whether a build is
+    asked of which nothing is proved."""
 
     profile: str | None = None
     record: str | None = None
+    is_unproved: bool = False
 
     def words(self, *names: str) -> list[str]:
         """The words for those of these that are named."""
@@ -47,30 +49,32 @@ class Refused:
 
 
 @functools.cache
-def program(name: str) -> Path:
-    """A proved program, which is proved and built first where it isn't yet, and says so on standard error."""
-    build = subprocess.Popen([TOP / "checks/build", name, "--help"], stdin=subprocess.DEVNULL)
+def words_of(name: str, is_unproved: bool) -> tuple[str, ...]:
+    """The words that run a program, which is built first where it isn't yet, and says so on standard error."""
+    build = [TOP / "tools/unproved", "--words", name] if is_unproved else [TOP / "checks/build", name, "--help"]
+    building = subprocess.Popen(build, stdin=subprocess.DEVNULL, stdout=subprocess.PIPE, text=True)
     try:
-        status = build.wait()
+        said, _ = building.communicate()
     except KeyboardInterrupt:
         # ^C came to it too, and it removes what it has made so far
-        build.wait()
+        building.wait()
         raise
-    if status:
+    if building.returncode:
         raise NotTold(f"{name} can't be asked")
-    return TOP / "crates" / name / "out" / name
+    return tuple(said.splitlines()) if is_unproved else (str(TOP / "crates" / name / "out" / name),)
 
 
-def told(name: str, *words: str | Path) -> subprocess.CompletedProcess[str]:
-    return subprocess.run([program(name), *words], stdin=subprocess.DEVNULL, capture_output=True, text=True)
+def told(options: Options, name: str, *words: str | Path) -> subprocess.CompletedProcess[str]:
+    its = words_of(name, options.is_unproved)
+    return subprocess.run([*its, *words], stdin=subprocess.DEVNULL, capture_output=True, text=True)
 
 
-def told_of(code: bytes, name: str, verb: str, words: list[str]) -> str:
-    """What a program prints of these bytes with this verb."""
+def told_of(code: bytes, options: Options, name: str, verb: str, *named: str) -> str:
+    """What a program prints of these bytes with this verb, and with those of these options that are named."""
     with tempfile.NamedTemporaryFile(prefix="explain-") as file:
         file.write(code)
         file.flush()
-        done = told(name, verb, file.name, *words)
+        done = told(options, name, verb, file.name, *options.words(*named))
     if not done.stdout:
         raise NotTold(f"{name} {verb}: {done.stderr.strip()}")
     return done.stdout
@@ -83,12 +87,12 @@ def refused_of(output: str) -> Refused | None:
 
 def verdict(code: bytes, options: Options) -> Refused | None:
     """Why a program isn't accepted, or None where it is."""
-    return refused_of(told_of(code, "percobpf", "check", options.words("profile", "record")))
+    return refused_of(told_of(code, options, "percobpf", "check", "profile", "record"))
 
 
 def listing(code: bytes, options: Options) -> list[tuple[int, str]]:
     """The instructions, each with its first slot; of bytes that are no program's, those before the first slot at fault."""
-    output = told_of(code, "percobpf", "dis", options.words("profile"))
+    output = told_of(code, options, "percobpf", "dis", "profile")
     refused = refused_of(output)
     if refused:
         is_first = refused.slot == 0 or refused.code in OF_ALL_BYTES
@@ -102,7 +106,7 @@ def listing(code: bytes, options: Options) -> list[tuple[int, str]]:
 
 def frame_before(slot: int, code: bytes, options: Options) -> frames.Frame | None:
     """What is known before a slot, or None where nothing leads to it."""
-    output = told_of(code, "percobpf_story", "frames", options.words("profile", "record"))
+    output = told_of(code, options, "percobpf_story", "frames", "profile", "record")
     return dict(frames.frame_of(line) for line in output.splitlines())[slot]
 
 
@@ -110,7 +114,7 @@ def assembled(text: Path, options: Options) -> bytes:
     """The bytes of a program's text."""
     with tempfile.TemporaryDirectory(prefix="explain-") as folder:
         to = Path(folder) / "bytes"
-        done = told("percobpf", "asm", text, to, *options.words("profile"))
+        done = told(options, "percobpf", "asm", text, to, *options.words("profile"))
         if done.returncode == 0:
             return to.read_bytes()
     found = re.fullmatch(r"line (\d+) code (\d+)\n", done.stderr)
