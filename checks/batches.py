@@ -6,7 +6,7 @@ import re
 from sources import BadEdit, applied, functions_in, without_comments
 
 # More bodies in one check leave processors idle.
-MOST_IN_A_CHECK = 8
+MOST_IN_A_CHECK = 12
 
 
 def calls_in(crate):

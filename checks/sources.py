@@ -18,6 +18,9 @@ NOT_CODE = re.compile(r"""//[^\n]*|/\*.*?\*/|"(?:\\.|[^"\\])*"|(?<!\w)'(?:\\.[^'
 CLAUSE = re.compile(r"\b(?:requires|ensures|decreases)\b[^{}]*$")
 OWNER = re.compile(r"(?P<kind>impl|trait|mod|struct|enum)\b(?P<head>[^{;]*)$", re.S)
 FUNCTION = re.compile(r"\bfn\s+(\w+)")
+# The last name of each path in the text of a trait.
+HEADS = re.compile(r"\w+(?!\w|::)")
+CYCLE = re.compile(r"#\[cycle\((\w+)\)\]")
 
 
 class BadEdit(Exception):
@@ -28,7 +31,7 @@ class BadEdit(Exception):
 class Function:
     """A function of a source file: its name, the type of its `impl`, or the trait that declares it (or none), its text by parts,
     without comments, and the lines of the file at which that begins and ends. One that a trait declares without a body has an
-    empty one."""
+    empty one. `trait` is the trait of an `impl` of one, in one word."""
 
     file: str
     owner: str
@@ -41,15 +44,23 @@ class Function:
     end: int
     first_line: int = 0
     last_line: int = 0
+    trait: str = ""
 
     @property
     def key(self):
         return self.file, self.owner, self.is_of_trait, self.name
 
     def path_in(self, files):
-        """Its path below the crate. A method stands in the module of the file that declares its type, and `files` has that of each."""
-        owner = [self.owner] if self.owner else []
+        """Its path below the crate. A method stands in the module of the file that declares its type, and `files` has that of each; one
+        of a trait's `impl` below the names of type and trait in one."""
+        owner = [f"{self.owner}{self.trait}"] if self.owner else []
         return "::".join([*module_of(files.get(self.owner, self.file)), *owner, self.name])
+
+    def folder_in(self, files):
+        """The folder of its own proof, that of all where functions call each other in a cycle."""
+        path = self.path_in(files).split("::")
+        cycle = CYCLE.search(self.head)
+        return "/".join(["proofs", *path[:-1], f"+{cycle[1]}" if cycle else path[-1]])
 
     def is_meant_by(self, path, files):
         """Whether this path of a check's line is the function's. A method stands in the module of the file that declares its type,
@@ -113,7 +124,7 @@ def head_end(text, at):
     return len(text)
 
 
-def functions_in(file, text, owner="", is_of_trait=False, is_in_trait=False, base=0):
+def functions_in(file, text, owner="", is_of_trait=False, is_in_trait=False, trait="", base=0):
     """The functions of a file's text without comments, and what is left of it beside them. `base` is where the text begins."""
     found, rest, at = [], [], 0
     while (start := head_end(text, at)) < len(text):
@@ -127,7 +138,7 @@ def functions_in(file, text, owner="", is_of_trait=False, is_in_trait=False, bas
             begun = at + len(text[at:start]) - len(text[at:start].lstrip())
             body = text[start:end] if text[start] == "{" else ""
             places = base + begun, base + end
-            found.append(Function(file, owner, is_of_trait, is_in_trait, named[1], text[at:start].strip(), body, *places))
+            found.append(Function(file, owner, is_of_trait, is_in_trait, named[1], text[at:start].strip(), body, *places, trait=trait))
         elif is_brace and held and held["kind"] in ("impl", "trait", "mod"):
             inner, left = functions_in(file, text[start + 1 : end - 1], *owner_of(held), base=base + start + 1)
             found += inner
@@ -139,12 +150,14 @@ def functions_in(file, text, owner="", is_of_trait=False, is_in_trait=False, bas
 
 
 def owner_of(held):
-    """The type that an `impl` is for, or the trait, and whether the functions there are a trait's, and stand in the trait itself."""
+    """The type that an `impl` is for, or the trait, whether the functions there are a trait's, and stand in the trait itself, and the
+    trait of an `impl` in one word, with the types that it is given, but without theirs."""
     head = held["head"].strip()
     while head.startswith("<"):
         head = head[1:].partition(">")[2].strip()
     of_trait, _, of_type = head.rpartition(" for ")
-    return re.match(r"\W*(\w*)", of_type)[1], bool(of_trait) or held["kind"] == "trait", held["kind"] == "trait"
+    trait = "".join(HEADS.findall(re.sub(r"<(\w[\w:]*)<[^<>]*>>", r"<\1>", of_trait)))
+    return re.match(r"\W*(\w*)", of_type)[1], bool(of_trait) or held["kind"] == "trait", held["kind"] == "trait", trait
 
 
 def texts_of(crate):

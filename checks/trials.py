@@ -64,7 +64,7 @@ class Room:
 
     folder: Path
     lanes: queue.SimpleQueue
-    # Whether each edit changes a body and is tried alone, by a check of that function only.
+    # Whether the crates aren't proved as they stand before edits of them are tried.
     is_quick: bool = False
     # The libraries, by the names of their crates.
     libraries: dict = field(default_factory=dict)
@@ -135,7 +135,7 @@ def library_of(crate, room):
 
 
 def prepare(crate, room, known):
-    """Has the libraries below the crate, and proves a copy of it as it stands, but where single functions are tried."""
+    """Has the libraries below the crate, and proves a copy of it as it stands, but in a quick room."""
     for name in crate.below:
         if name not in room.libraries:
             room.libraries[name] = library_of(known[name], room)

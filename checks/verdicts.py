@@ -5,6 +5,10 @@ A function isn't proved for one of several reasons, of which only the first spea
   false: antt found such values and checked them;
 - a goal is left open, since the search found nothing or gave up at one of its limits: it may hold;
 - the text of the function's proof doesn't fit: it names what is gone, or an answer there no longer proves its goal.
+
+Where a function isn't proved the prover makes its goals once more, to offer the text of their answers, which takes as long as the
+search did. It offers none where that text has a fault of its own. So a check has one planted there, which is no answer: a function
+with it never counts as proved, and what the prover says of its goals is the same.
 """
 from __future__ import annotations
 
@@ -28,6 +32,11 @@ IS_UNREAD = re.compile(r"is not in scope|has no field|is no name|operand is miss
 # The files of a function's own proof, an answer to a goal in one, and a line there that names goals.
 OWN_FILES = ("Answers.antt", "Proof.antt", "Invariants.antt")
 ANSWER = re.compile(r"(?:abbrev |unfoldable )*pub (\S+) : goal\.")
+# What is planted, and the goal that its fault is told of.
+PLANTED_GOAL = "left-to-see"
+PLANTED = f"\npub {PLANTED_GOAL} : Type 0\n"
+# The goals of a function that aren't tried, since it calls one that isn't proved.
+WAITING = re.compile(r"^note: `search` has not tried the goals of `(\S+)`", re.M)
 USE_OF_GOALS = re.compile(r"use \S+\.(?:Goals|Given)\.\{(?P<names>[^}]*)\}\s*$")
 
 
@@ -71,12 +80,22 @@ class Said:
         goals = [it for it in OPEN.finditer(self.text) if FALSE in it["why"] and AT_CLAUSE.search(it["goal"])]
         return any(not functions or any(is_at(its, it) for its in functions) for it in goals)
 
+    def shows_why(self, functions):
+        """Whether a goal of one of these functions is left open, or its own proof doesn't fit."""
+        return any(is_at(its, it) for its in functions for it in OPEN.finditer(self.text)) or bool(self.own_errors(functions))
+
+    def waits(self, functions, files):
+        """Whether goals of one of these functions weren't tried."""
+        return any(its.is_meant_by(path, files) for its in functions for path in WAITING.findall(self.text))
+
     def own_errors(self, functions):
-        """What it says against the text of the proof of these functions, or of any where there are none: by file, the lines and the
-        names that are gone."""
+        """What it says against the text of the proof of these functions, or of any where there are none, but for what is planted: by
+        file, the lines and the names that are gone."""
         found = {}
         for it in ERROR.finditer(self.text):
             path = Path(it["file"])
+            if it["goal"] == f"`{PLANTED_GOAL}`: ":
+                continue
             if path.name in OWN_FILES and (not functions or any(is_proof_of(its, path) for its in functions)):
                 gone = GONE.findall(it["said"]) or (["?"] if NAME_GONE.search(it["said"]) else [])
                 found.setdefault(it["file"], []).append((int(it["line"]), gone))
