@@ -298,4 +298,4 @@ def try_rule(tell):
     for is_made_up, said in [(True, MADE_UP), (False, RIGHT)]:
         for line in lines_of(said):
             if bool(told_of(line, constants_unmet([line]))[0]) != is_made_up:
-                tell(f"checks/receipts.py: {'nothing' if is_made_up else 'something'} is told of '{line}'")
+                tell(f"checks/receipts.py: {'nothing' if is_made_up else 'something'} is found in '{line}'")

@@ -114,7 +114,7 @@ def known(its: Subject, refused: Refused, options: Options) -> list[str]:
     try:
         frame = programs.frame_before(refused.slot, its.code, options)
     except NotTold as fault:
-        return [f"{head} that isn't told: {fault}"]
+        return [f"{head} that can't be shown: {fault}"]
     if frame is None:
         return [f"{head} nothing, since nothing leads to it"]
     return [head, *(f"  {line}" for line in frames.lines_of(frame))]
