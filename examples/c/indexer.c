@@ -1,5 +1,7 @@
-/* Keeps an index of what the cells of a column have: the row that is numbered by a cell's first word has in column 12 the
- * row of that cell. An entry is deleted when its cell has another word or none. It takes the change record of version 2. */
+/* Keeps an index of a column in which no two cells have the same first word: the row that is numbered by a cell's
+ * first word has in column 12 the row of that cell. An entry is deleted when its cell has another word or none.
+ * Where two cells have one word, they share an entry, and the first that leaves deletes it; patterns/posting.c takes
+ * such columns. It takes the change record of version 2. */
 #include "percobpf.h"
 
 OBSERVER u64 indexer(const struct change_with_old *change) {
