@@ -15,3 +15,7 @@ JournalLeads old (e ∷ es) new = (mid : StateOf) × TableStep old e.seat e.step
 pub record IsLegal (observers : List ObserverOf) (seats clock : ℕ) (journal : List Entry) (state : StateOf) : Type 0 where
   pub fits : clock < 2 ^ 64
   pub run : JournalLeads (opening observers seats clock) journal state
+
+-- what holds of each legal journal, and of the state to which it leads
+abbrev pub OfLegal : (List ObserverOf → ℕ → ℕ → List Entry → StateOf → Type 0) → Type 0
+OfLegal Holds = (observers : List ObserverOf) (seats clock : ℕ) (journal : List Entry) (state : StateOf) → IsLegal observers seats clock journal state → Holds observers seats clock journal state

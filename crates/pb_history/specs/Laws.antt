@@ -8,7 +8,7 @@ use Rattle.pb_steps.specs.State.{StateOf, opening}
 use Rattle.pb_steps.specs.Answers.{CanAnswer}
 use Rattle.pb_steps.specs.Steps.{TableStep, step_reasons}
 use Rattle.pb_history.specs.declared.entry.Entry.{Entry}
-use Rattle.pb_history.specs.Journals.{IsLegal}
+use Rattle.pb_history.specs.Journals.{OfLegal}
 use Rattle.pb_history.specs.History.{TellsHistory}
 use Rattle.pb_history.specs.Sound.{IsSoundTable, KeepsData}
 use Rattle.pb_history.specs.ReadsTold.{TellsReads}
@@ -44,55 +44,55 @@ SoundHasData = (state : StateOf) → IsSoundTable state → KeepsData state
 
 -- the state tells the journal's committed transactions, and its declarations
 abbrev pub HistoriesAreTold : Type 0
-HistoriesAreTold = (observers : List ObserverOf) (seats clock : ℕ) (journal : List Entry) (state : StateOf) → IsLegal observers seats clock journal state → TellsHistory journal state
+HistoriesAreTold = OfLegal (λ _ _ _ journal state. TellsHistory journal state)
 
 -- each read tells what the table held when it was made
 abbrev pub ReadsAreTold : Type 0
-ReadsAreTold = (observers : List ObserverOf) (seats clock : ℕ) (journal : List Entry) (state : StateOf) → IsLegal observers seats clock journal state → TellsReads observers seats clock journal
+ReadsAreTold = OfLegal (λ observers seats clock journal _. TellsReads observers seats clock journal)
 
 -- each committed run wrote what its program means on what a snapshot had
 abbrev pub RunsAreTold : Type 0
-RunsAreTold = (observers : List ObserverOf) (seats clock : ℕ) (journal : List Entry) (state : StateOf) → IsLegal observers seats clock journal state → TellsRuns journal state
+RunsAreTold = OfLegal (λ _ _ _ journal state. TellsRuns journal state)
 
 -- starts and commits rise in the order in which they were given out
 abbrev pub TimestampsRise : Type 0
-TimestampsRise = (observers : List ObserverOf) (seats clock : ℕ) (journal : List Entry) (state : StateOf) → IsLegal observers seats clock journal state → TellsTimestamps clock journal state
+TimestampsRise = OfLegal (λ _ _ clock journal state. TellsTimestamps clock journal state)
 
 -- a report may count an observer's committed runs by the entries that began them
 abbrev pub RunsAreCounted : Type 0
-RunsAreCounted = (observers : List ObserverOf) (seats clock : ℕ) (journal : List Entry) (state : StateOf) → IsLegal observers seats clock journal state → TellsRunCounts journal state
+RunsAreCounted = OfLegal (λ _ _ _ journal state. TellsRunCounts journal state)
 
 -- the state is sound, and was after each entry
 abbrev pub JournalsAreSound : Type 0
-JournalsAreSound = (observers : List ObserverOf) (seats clock : ℕ) (journal : List Entry) (state : StateOf) → IsLegal observers seats clock journal state → TellsSoundness observers seats clock journal state
+JournalsAreSound = OfLegal (λ observers seats clock journal state. TellsSoundness observers seats clock journal state)
 
 -- who begins after a commit was answered has it in its snapshot
 abbrev pub CommitsAreOrdered : Type 0
-CommitsAreOrdered = (observers : List ObserverOf) (seats clock : ℕ) (journal : List Entry) (state : StateOf) → IsLegal observers seats clock journal state → TellsCommitOrder journal state
+CommitsAreOrdered = OfLegal (λ _ _ _ journal state. TellsCommitOrder journal state)
 
 -- each read tells a snapshot of the whole history, whatever is committed later
 abbrev pub ReadsTellSnapshots : Type 0
-ReadsTellSnapshots = (observers : List ObserverOf) (seats clock : ℕ) (journal : List Entry) (state : StateOf) → IsLegal observers seats clock journal state → TellsSnapshots journal state
+ReadsTellSnapshots = OfLegal (λ _ _ _ journal state. TellsSnapshots journal state)
 
 -- no run reads an acknowledgment of a time after its own start
 abbrev pub AcknowledgedIsEarlier : Type 0
-AcknowledgedIsEarlier = (observers : List ObserverOf) (seats clock : ℕ) (journal : List Entry) (state : StateOf) → IsLegal observers seats clock journal state → TellsAcknowledged journal
+AcknowledgedIsEarlier = OfLegal (λ _ _ _ journal _. TellsAcknowledged journal)
 
 -- two committed writers of a cell don't overlap
 abbrev pub WritersAreApart : Type 0
-WritersAreApart = (observers : List ObserverOf) (seats clock : ℕ) (journal : List Entry) (state : StateOf) → IsLegal observers seats clock journal state → TellsWriters journal state
+WritersAreApart = OfLegal (λ _ _ _ journal state. TellsWriters journal state)
 
 -- a script's committed transaction writes distinct data cells
 abbrev pub ScriptsWriteBatches : Type 0
-ScriptsWriteBatches = (observers : List ObserverOf) (seats clock : ℕ) (journal : List Entry) (state : StateOf) → IsLegal observers seats clock journal state → TellsScripts journal state
+ScriptsWriteBatches = OfLegal (λ _ _ _ journal state. TellsScripts journal state)
 
 -- locks and write records are those of the history, and no others
 abbrev pub RecordsAreTold : Type 0
-RecordsAreTold = (observers : List ObserverOf) (seats clock : ℕ) (journal : List Entry) (state : StateOf) → IsLegal observers seats clock journal state → TellsRecords journal state
+RecordsAreTold = OfLegal (λ _ _ _ journal state. TellsRecords journal state)
 
 -- each transaction follows from the entries that name its start
 abbrev pub TransactionsAreTold : Type 0
-TransactionsAreTold = (observers : List ObserverOf) (seats clock : ℕ) (journal : List Entry) (state : StateOf) → IsLegal observers seats clock journal state → TellsTransactions journal state
+TransactionsAreTold = OfLegal (λ _ _ _ journal state. TellsTransactions journal state)
 
 -- no step has an answer of another kind's
 abbrev pub StepsCanAnswer : Type 0
@@ -100,15 +100,15 @@ StepsCanAnswer = (old : StateOf) (seat : ℕ) (step : Step) (answer : Answer) (n
 
 -- no observer is behind on a cell without its mark
 abbrev pub BehindIsMarked : Type 0
-BehindIsMarked = (observers : List ObserverOf) (seats clock : ℕ) (journal : List Entry) (state : StateOf) → IsLegal observers seats clock journal state → TellsMarks state
+BehindIsMarked = OfLegal (λ _ _ _ _ state. TellsMarks state)
 
 -- no change is handled by two committed runs of one observer
 abbrev pub HandledAtMostOnce : Type 0
-HandledAtMostOnce = (observers : List ObserverOf) (seats clock : ℕ) (journal : List Entry) (state : StateOf) → IsLegal observers seats clock journal state → TellsOneHandler journal state
+HandledAtMostOnce = OfLegal (λ _ _ _ journal state. TellsOneHandler journal state)
 
 -- and none is left unhandled where neither mark nor lock stands
 abbrev pub HandledWhenQuiet : Type 0
-HandledWhenQuiet = (observers : List ObserverOf) (seats clock : ℕ) (journal : List Entry) (state : StateOf) → IsLegal observers seats clock journal state → TellsHandlers journal state
+HandledWhenQuiet = OfLegal (λ _ _ _ journal state. TellsHandlers journal state)
 
 -- of each step, in each state, the reasons to refuse it are listed by rising numbers, so that the first is the lowest
 abbrev pub ReasonsRise : Type 0
@@ -116,7 +116,7 @@ ReasonsRise = (state : StateOf) (seat : ℕ) (step : Step) → RiseAbove 0 (step
 
 -- a report of the last timestamp given out is one of the clock
 abbrev pub ClockIsLastGiven : Type 0
-ClockIsLastGiven = (observers : List ObserverOf) (seats clock : ℕ) (journal : List Entry) (state : StateOf) → IsLegal observers seats clock journal state → IsLastGiven clock (timestamps journal) state.clock
+ClockIsLastGiven = OfLegal (λ _ _ clock journal state. IsLastGiven clock (timestamps journal) state.clock)
 
 -- a pass goes past no mark
 abbrev pub FirstMarksAreFound : Type 0
@@ -128,7 +128,7 @@ SweepsUnmark = (old : StateOf) (seat : ℕ) (step : Step) (answer : Answer) (new
 
 -- a report's counts of marks and locks tell whether it is quiet
 abbrev pub QuietIsCounted : Type 0
-QuietIsCounted = (observers : List ObserverOf) (seats clock : ℕ) (journal : List Entry) (state : StateOf) → IsLegal observers seats clock journal state → TellsQuiet state
+QuietIsCounted = OfLegal (λ _ _ _ _ state. TellsQuiet state)
 
 -- two answers of one step are one, and so are the states that it leaves
 abbrev pub StepsHaveOneOutcome : Type 0
