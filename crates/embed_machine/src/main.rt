@@ -5,9 +5,10 @@
 use anyhow::{Context, Result, bail};
 use pb_base::{Cell, Column, Content, Revision, Row, Ts};
 use pb_decode::decode;
+use pb_finished::Finished;
 use pb_helpers::{HelperTable, Record, Reply};
 use pb_verify::verify;
-use pb_vm::{Finished, MachinePhase, Vm};
+use pb_vm::{MachinePhase, Vm};
 use std::sync::Arc;
 
 // Adds one to what column 1 of the changed row holds. A line is a slot; beside it stands what `percobpf dis` lists.

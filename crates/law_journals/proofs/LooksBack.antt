@@ -9,7 +9,7 @@ use Rattle.pb_isa.specs.Machine.{Reply}
 use Rattle.pb_isa.specs.Meaning.{Talk}
 use Rattle.pb_helpers.specs.OldRecord.{tells_old}
 use Rattle.pb_verify.specs.Observers.{ObserverOf, observed_cell, observed_column, acknowledgment}
-use Rattle.pb_vm.specs.Finished.{Meant}
+use Rattle.pb_finished.specs.Finished.{Meant}
 use Rattle.pb_steps.specs.declared.seen.RecordedRead.{RecordedRead}
 use Rattle.pb_steps.specs.declared.step.Answer.{Answer}
 use Rattle.pb_steps.specs.declared.step.Declared.{Declared}

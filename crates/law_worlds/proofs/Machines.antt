@@ -7,7 +7,7 @@ use Rattle.pb_helpers.specs.declared.ask.Ask.{Ask}
 use Rattle.pb_sound.specs.OneMeaning.{EachHasOneMeaning}
 use Rattle.pb_vm.specs.Position.{Position}
 use Rattle.pb_vm.specs.Moves.{SameGiven, Went, AskedFor}
-use Rattle.pb_vm.specs.Finished.{Meant}
+use Rattle.pb_finished.specs.Finished.{Meant}
 use Rattle.pb_steps.specs.declared.step.Declared.{Declared}
 use Rattle.pb_txn.specs.Plans.{fresh}
 use Rattle.pb_notify.specs.declared.look.Look.{Look}

@@ -13,6 +13,7 @@ mod seat;
 mod shared;
 
 pub use laws::legal_tables_tell;
+pub use pb_finished::Finished;
 pub use pb_helpers::Record;
 pub use pb_history::{Entry, KeptAnswer, Received};
 pub use pb_steps::{
@@ -20,6 +21,6 @@ pub use pb_steps::{
     acknowledged_in, version_in,
 };
 pub use pb_verify::{Accepted, Observer};
-pub use pb_vm::{Finished, Moved, Vm};
+pub use pb_vm::{Moved, Vm};
 pub use seat::Seat;
 pub use shared::{OpenRefused, Shared};

@@ -4,7 +4,7 @@ use Rattle.pb_vm.specs.declared.moved.Moved.{Moved}
 use Rattle.pb_vm.specs.MachineSlot.{IsAtSlot}
 use Rattle.pb_vm.specs.Position.{Position}
 use Rattle.pb_vm.specs.Moves.{Finishes}
-use Rattle.pb_vm.specs.Finished.{Meant, IsMeant}
+use Rattle.pb_finished.specs.Finished.{Meant, IsMeant}
 use Rattle.pb_notify.specs.Machines.{exit_at, Leaves}
 use Rattle.pb_notify.specs.Steps.{MovesOn}
 

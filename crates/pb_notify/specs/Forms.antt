@@ -7,7 +7,7 @@ use Rattle.pb_base.specs.declared.content.Revision.{Revision}
 use Rattle.pb_isa.specs.Machine as machine
 use Rattle.pb_isa.specs.Meaning.{Talk}
 use Rattle.pb_helpers.specs.OldRecord.{tells_old, record_by}
-use Rattle.pb_vm.specs.Finished.{Meant, IsMeant}
+use Rattle.pb_finished.specs.Finished.{Meant, IsMeant}
 use Rattle.pb_steps.specs.declared.seen.Seen.{Seen}
 use Rattle.pb_steps.specs.declared.step.Work.{Work}
 use Rattle.pb_steps.specs.declared.step.Declared.{Declared}

@@ -7,7 +7,7 @@ use Rattle.pb_isa.specs.Machine.{Placement, IsPlacement, State}
 use Rattle.pb_helpers.specs.OldRecord.{tells_old, record_by}
 use Rattle.pb_vm.specs.Position.{Position}
 use Rattle.pb_vm.specs.Moves.{IsAtState, AsksAt}
-use Rattle.pb_vm.specs.Finished.{Meant, IsMeant}
+use Rattle.pb_finished.specs.Finished.{Meant, IsMeant}
 use Rattle.pb_isa.specs.Meaning.{Talk}
 use Rattle.pb_steps.specs.declared.step.Declared.{Declared}
 use Rattle.pb_steps.specs.declared.step.Step.{Step}

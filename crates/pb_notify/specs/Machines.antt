@@ -12,7 +12,7 @@ use Rattle.pb_vm.specs.declared.moved.MachinePhase.{MachinePhase}
 use Rattle.pb_vm.specs.Position.{Position}
 use Rattle.pb_vm.specs.Moves.{EndsAt, RepliedWith}
 use Rattle.pb_vm.specs.MachineSlot.{IsAtSlot}
-use Rattle.pb_vm.specs.Finished.{Meant, IsMeant}
+use Rattle.pb_finished.specs.Finished.{Meant, IsMeant}
 use Rattle.pb_steps.specs.declared.step.Answer.{Answer}
 use Rattle.pb_steps.specs.Reads.{value_in}
 use Rattle.pb_notify.specs.declared.machine.Standing.{Standing}

@@ -7,7 +7,7 @@ use Rattle.pb_vm.specs.Position.{Position}
 use Rattle.pb_vm.specs.declared.moved.Moved.{Moved}
 use Rattle.pb_vm.specs.declared.moved.MachinePhase.{MachinePhase}
 use Rattle.pb_vm.specs.Moves.{Went, EndsAt, Moves, IsStop}
-use Rattle.pb_vm.specs.Finished.{Meant}
+use Rattle.pb_finished.specs.Finished.{Meant}
 use Rattle.pb_steps.specs.declared.step.Declared.{Declared}
 use Rattle.pb_notify.specs.Machines.{Leaves}
 

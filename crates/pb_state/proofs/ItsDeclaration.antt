@@ -13,7 +13,7 @@ use Rattle.std.specs.Coded.{coded_ℕ, coded_list}
 use Rattle.pb_isa.specs.Programs.{judged_code}
 use Rattle.pb_isa.specs.Meaning.{Talk}
 use Rattle.pb_helpers.specs.OldRecord.{tells_old, record_by}
-use Rattle.pb_vm.specs.Finished.{Meant}
+use Rattle.pb_finished.specs.Finished.{Meant}
 use Rattle.pb_steps.specs.declared.seen.RecordedRead.{RecordedRead}
 use Rattle.pb_steps.specs.declared.seen.Seen.{Seen}
 use Rattle.pb_steps.specs.declared.step.Work.{Work}

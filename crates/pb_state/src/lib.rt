@@ -31,11 +31,11 @@ mod transaction;
 mod transactions;
 
 pub use admitted::{Admitted, TransactionAt};
+pub use pb_finished::Finished;
 pub use pb_helpers::Record;
 pub use pb_steps::{
     Answer, Declaration, Declared, EndedRun, Phase, RecordedRead, Seen, Step, Work,
     acknowledged_in, version_in,
 };
 pub use pb_verify::{Accepted, Observer};
-pub use pb_vm::{Finished, Moved, Vm};
 pub use state::State;

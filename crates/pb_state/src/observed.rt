@@ -4,7 +4,7 @@ ghost use Rattle.std.specs.Prelude.{◌≡◌, ◌↔◌, ◌&&◌, nat_lt, IsTr
 ghost use Rattle.std.specs.Option.{option_copied};
 ghost use Rattle.pb_base.specs.Batch.{primary_in};
 ghost use Rattle.pb_helpers.specs.Replies.{ask_of, reply_of};
-ghost use Rattle.pb_vm.specs.Position.{talk_of};
+ghost use Rattle.pb_finished.specs.Talk.{talk_of};
 ghost use Rattle.pb_steps.specs.Reads.{value_in};
 ghost use Rattle.pb_steps.specs.Declarations.{IsKnown, is_at, is_read_of, with_old, seen_by, seen_in, asked_in, is_replied, are_replies, is_made_of, is_run, is_run_by, is_run_of, is_its};
 ghost use Rattle.pb_helpers.specs.OldRecord as versions;
@@ -12,12 +12,12 @@ ghost use Rattle.pb_steps.specs.State.{cells_of};
 ghost use Rattle.pb_state.specs.Cells.{acknowledgment_by, cells_in};
 
 use pb_base::{Cell, ObserverNo, Revision, Row, Ts};
+use pb_finished::Finished;
 use pb_helpers::{Ask, Record, Reply};
 use pb_steps::{
     Answer, Declared, RecordedRead, Seen, Work, acknowledged_in, old_at, reply_in, version_in,
 };
 use pb_verify::{Accepted, Observer};
-use pb_vm::Finished;
 use std::sync::Arc;
 
 // Whether two reads named one timestamp, or none.

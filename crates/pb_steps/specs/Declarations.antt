@@ -15,7 +15,7 @@ use Rattle.pb_isa.specs.Programs.{JudgedOf, judged_code}
 use Rattle.pb_isa.specs.Machine.{Ask, Reply}
 use Rattle.pb_isa.specs.Meaning.{Talk}
 use Rattle.pb_sound.specs.RunWrites.{AreRunWrites}
-use Rattle.pb_vm.specs.Finished.{Meant, IsMeant}
+use Rattle.pb_finished.specs.Finished.{Meant, IsMeant}
 use Rattle.pb_helpers.specs.OldRecord.{tells_old, record_by}
 use Rattle.pb_steps.specs.declared.seen.RecordedRead.{RecordedRead}
 use Rattle.pb_steps.specs.declared.seen.Seen.{Seen}

@@ -1,7 +1,7 @@
 //! What an ended run left, on the heap.
 ghost use Rattle.std.specs.Prelude.{◌≡◌, IfOk, IfErr};
 
-use pb_vm::Finished;
+use pb_finished::Finished;
 use std::alloc::{AllocFailed, Global};
 use std::marker::Model;
 
@@ -13,7 +13,7 @@ pub struct EndedRun {
 }
 
 impl Model for EndedRun {
-    ghost use Rattle.pb_vm.specs.Finished.{Meant, meant_code};
+    ghost use Rattle.pb_finished.specs.Finished.{Meant, meant_code};
 
     ghost Value = { Meant };
 

@@ -1,11 +1,9 @@
-pub mod Regions
 pub mod Replacing
 pub mod Calling
 pub mod Running
 pub mod Stepping
 pub mod Starting
 pub mod Advancing
-pub mod Skipping
 pub mod OfProfile
 pub mod Doing
 pub mod LeadingOn

@@ -1,7 +1,5 @@
 pub mod Places
 pub mod Core
-pub mod Acting
-pub mod Finished
 pub mod Position
 pub mod Moves
 pub mod Keeping

@@ -8,20 +8,15 @@
 //! its ask, told the reply, followed to its end, and finished.
 #![tactic(auto)]
 
-mod acting;
-mod cells;
-mod finished;
 mod instructions;
 mod interpreter;
 mod local;
-mod memory;
 mod moved;
-mod operations;
 mod vm;
 mod writes;
 
-pub use finished::Finished;
 pub use moved::{MachinePhase, Moved};
+pub use pb_finished::Finished;
 pub use pb_helpers::{Ask, Record, Reply};
 pub use pb_verify::Accepted;
 pub use vm::Vm;

@@ -5,7 +5,7 @@ use Rattle.pb_base.specs.declared.content.Revision.{Revision}
 use Rattle.pb_base.specs.declared.names.Ts.{Ts}
 use Rattle.pb_base.specs.Batch.{Writes}
 use Rattle.pb_isa.specs.Meaning.{Talk}
-use Rattle.pb_vm.specs.Finished.{Meant}
+use Rattle.pb_finished.specs.Finished.{Meant}
 use Rattle.pb_steps.specs.declared.seen.Seen.{Seen}
 use Rattle.pb_steps.specs.declared.step.Work.{Work}
 use Rattle.pb_steps.specs.declared.step.Declared.{Declared}

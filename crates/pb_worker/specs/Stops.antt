@@ -6,7 +6,7 @@ use Rattle.pb_base.specs.declared.names.Ts.{Ts}
 use Rattle.pb_base.specs.declared.refusal.Refusal.{Refusal}
 use Rattle.pb_base.specs.Batch.{Writes}
 use Rattle.pb_base.specs.Cell.{row_of}
-use Rattle.pb_vm.specs.Finished.{Meant}
+use Rattle.pb_finished.specs.Finished.{Meant}
 use Rattle.pb_steps.specs.declared.step.Step.{Step}
 use Rattle.pb_steps.specs.declared.step.Answer.{Answer}
 use Rattle.pb_verify.specs.Observers.{ObserverOf}

@@ -5,7 +5,7 @@ use Rattle.pb_isa.specs.Slots.{slots}
 use Rattle.pb_isa.specs.Machine.{Placement, IsPlacement, State, Stuck, act}
 use Rattle.pb_vm.specs.Position.{Position}
 use Rattle.pb_vm.specs.Moves.{IsAtState, environment_at}
-use Rattle.pb_vm.specs.Finished.{Meant}
+use Rattle.pb_finished.specs.Finished.{Meant}
 use Rattle.pb_history.specs.declared.entry.Received.{Received}
 use Rattle.pb_history.specs.Places.{entries_of}
 use Rattle.pb_history.specs.RecordsTold.{TellsRecords}

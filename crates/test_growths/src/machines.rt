@@ -1,10 +1,11 @@
 //! Machines, also of the program in a file.
 use crate::refusals::Refusals;
 use pb_base::{Cell, Column, Content, Revision, Row, Ts};
+use pb_finished::Finished;
 use pb_helpers::{HelperTable, Record, Reply};
 use pb_registry::accept;
 use pb_verify::Accepted;
-use pb_vm::{Finished, MachinePhase, Vm};
+use pb_vm::{MachinePhase, Vm};
 use std::alloc::Global;
 use std::fs;
 use std::io::Read;

@@ -1,8 +1,8 @@
 //! What a run left, in words.
 use crate::moves::add_ask;
 use pb_base::{Cell, Content, NoMemory, Value};
+use pb_finished::Finished;
 use pb_helpers::{Ask, Reply};
-use pb_vm::Finished;
 use std::alloc::Global;
 
 fn add_value(alloc: Global, text: &mut String, value: &Value) -> Result<(), NoMemory> {

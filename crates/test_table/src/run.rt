@@ -5,10 +5,11 @@ ghost use Rattle.pb_helpers.specs.Bytes.{size_of};
 
 use crate::words::Words;
 use pb_base::{Content, Revision, Value};
+use pb_finished::Finished;
 use pb_helpers::{Record, Reply, Version};
 use pb_steps::EndedRun;
 use pb_verify::Observer;
-use pb_vm::{Finished, MachinePhase, Vm};
+use pb_vm::{MachinePhase, Vm};
 use std::alloc::Global;
 
 fn value_in(words: &mut Words) -> Option<Option<Value>> {
