@@ -1,7 +1,7 @@
 /* Counts the rows of each group, and adds up their amounts. A value's first word is its row's group, and the second
- * the amount. Row G has in column 13 the number of rows in group G, and then their sum; a group without rows has no
- * cell. It takes the change record of version 2: the old value is what the row's group and amount counted for until
- * now. */
+ * the amount. A group's cell is in column 13, at the row whose number is the group: how many rows are in the group, and
+ * then their sum. A group without rows has no cell. It takes the change record of version 2: the old value is what the
+ * row's group and amount counted for until now. */
 #include "percobpf.h"
 
 enum { TOTAL = 13 };

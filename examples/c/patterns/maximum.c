@@ -1,7 +1,8 @@
 /* Keeps the greatest number of a column, also when it is lowered or deleted. A value's first word is its row's
  * number. It takes rows 0 to 1023, the leaves of a tree. Nodes are numbered from the root, 1; below node N are 2N
- * and 2N + 1, and row R is leaf 1024 + R. Row N has in column 14 the greatest number below node N, a row that has
- * it, and 1; or zeros, if no row below has any. */
+ * and 2N + 1, and the leaf of a row is 1024 and the row's number. A node's cell is in column 14, at the row whose
+ * number is the node's: the greatest number below the node, a row that has it, and 1; or zeros, if no row below has
+ * any. */
 #include "percobpf.h"
 
 enum { LEVELS = 10, ROWS = 1 << LEVELS, NODE = 14 };

@@ -1,6 +1,6 @@
 /* Keeps an index with duplicates: for each value of a column, the list of the rows that have it. A value's key is
- * its first word. Row K has in column 12 the first row of the list of K, if there is one. Each row of a list has in
- * column 13 the rows before and after it there. It takes the change record of version 2: the old value names the
+ * its first word. The first row of a list is in column 12, at the row whose number is the key. Each row of a list has
+ * in column 13 the rows before and after it there. It takes the change record of version 2: the old value names the
  * list that the row leaves. */
 #include "percobpf.h"
 

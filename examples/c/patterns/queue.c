@@ -4,9 +4,9 @@
  * this program, one of each column. */
 #include "percobpf.h"
 
-/* Column 10 has the number of a row that was put, and column 11 that of one that takes. Row N of column 12 has the
- * row that waits under number N, on either side. Column 13 has what a row that takes was given. Of column 14, row 0
- * counts the rows that were put, and row 1 those that take. */
+/* Column 10 has the number of a row that was put, and column 11 that of one that takes. Column 12 has, at the row with
+ * a number, the row that waits under it, on either side. Column 13 has what a row that takes was given. Of column 14,
+ * row 0 counts the rows that were put, and row 1 those that take. */
 enum { OWN = 10, WAITS = 12, GIVEN = 13, ENDS = 14 };
 
 OBSERVER u64 queue(const struct change *change) {
