@@ -4,5 +4,3 @@
 mod finished;
 
 pub use finished::Finished;
-pub use pb_helpers::{Ask, Record, Reply};
-pub use pb_verify::Accepted;
