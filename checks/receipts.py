@@ -23,11 +23,11 @@ MAKER = "pb_base/src/refusal.rt"
 MADE = {"NoMemory { refused: () }": 4, "Refusal(1)": 1, "Refusal(": 3}
 
 # How many lines of a crate turn a library's want of memory into a receipt.
-DOORS = {"pb_command": 1, "pb_registry": 2, "percobpf": 2, "percobpf_story": 2}
+DOORS = {"pb_command": 3, "pb_registry": 2}
 
 # Where the text stands, but for clauses, and how often: in the first as what `NoMemory` displays, and in the others in a function
 # that is given a receipt, or in the arm of a variant that holds one.
-TEXTS = {MAKER: 1, "pb_command/src/fault.rt": 2, "pb_driver/src/fault.rt": 1, "percobpf/src/main.rt": 1, "percobpf_story/src/main.rt": 1}
+TEXTS = {MAKER: 1, "pb_command/src/fault.rt": 2, "pb_command/src/words.rt": 1, "pb_driver/src/fault.rt": 1}
 OF_RECEIPT = re.compile(r":\s*&?\s*NoMemory\b")
 ARM = re.compile(r"\bNoMemory\(\w+\)\s*=>[^;]*$")
 

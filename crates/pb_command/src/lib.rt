@@ -15,6 +15,7 @@ mod laws;
 mod paths;
 mod programs;
 mod reading;
+mod words;
 
 pub use answer::Verdict;
 pub use carry::{command, sequential_command, status_of};
@@ -24,3 +25,4 @@ pub use laws::{first_file_fault_is_told, known_programs_are_judged};
 pub use paths::{PathFault, Paths};
 pub use programs::{ProgramText, tell_file};
 pub use reading::three_texts_at;
+pub use words::{exit_status, lent, refuse, words_given};

@@ -15,29 +15,14 @@ ghost use Rattle.pb_texts.specs.CommandLines.{IsInRange, swaps_asked};
 mod tablets;
 
 use crate::tablets::{first_tablets, spares_for};
-use clap::error::ErrorKind;
 use pb_base::{NoMemory, Out, Row};
-use pb_command::{Files, command};
+use pb_command::{Files, command, exit_status, lent, refuse, words_given};
 use pb_store::{Table, Tablet};
 use pb_texts::{Options, options};
 use pb_worker::end_spares;
-use std::alloc::AllocError;
 use std::process::ExitCode;
 use std::sync::Wait;
 use std::thread::Threads;
-use std::{env, io};
-
-// Reports a refused growth. Where even that can't be written, the status says it alone.
-fn no_memory(rt: &HostRuntime, _refused: NoMemory) -> u8 {
-    let _ = eprintln!(rt; "no memory");
-    1
-}
-
-// Tells that a word of the command line isn't text.
-fn not_text(rt: &HostRuntime) -> u8 {
-    let _ = eprintln!(rt; "error: a word of the command line is not UTF-8");
-    2
-}
 
 // Clears and ends tablets, one by one, since they are linear and no table took them.
 fn end_all<T: Tablet>(mut parts: Vec<(Row, T)>) {
@@ -101,49 +86,20 @@ fn run<R: Threads + Wait + Sync>(
     Ok(carry_out(threads, rt, options, parts, spares))
 }
 
-// Tells what is wrong with a command line, or the help that it asks for.
-fn refuse(rt: &HostRuntime, error: &clap::Error) -> Result<u8, NoMemory> {
-    match error.kind() {
-        ErrorKind::OutOfMemory => return Err(NoMemory::from(AllocError)),
-        _ => {}
-    }
-    let _ = error.print(rt);
-    Ok(error.exit_code() as u8)
-}
-
-// Does what the words ask for, the program's own first.
-fn obey<R: Threads + Wait + Sync>(
-    threads: &R,
-    rt: &HostRuntime,
-    words: &[&str],
-) -> Result<u8, NoMemory> {
-    match options(rt.alloc(), words) {
+// The status of the program. All words are handed on, the program's own first.
+fn status<R: Threads + Wait + Sync>(threads: &R, rt: &HostRuntime) -> Result<u8, NoMemory> {
+    let owned = match words_given(rt)? {
+        Ok(owned) => owned,
+        Err(status) => return Ok(status),
+    };
+    let words = lent(rt.alloc(), &owned)?;
+    match options(rt.alloc(), &words) {
         Ok(options) => run(threads, rt, &options),
         Err(error) => refuse(rt, &error),
     }
 }
 
-// The status of the program.
-fn status<R: Threads + Wait + Sync>(threads: &R, rt: &HostRuntime) -> Result<u8, NoMemory> {
-    let args = match env::args(rt) {
-        Ok(args) => args,
-        Err(error) => match error.kind() {
-            io::ErrorKind::OutOfMemory => return Err(NoMemory::from(AllocError)),
-            _ => return Ok(not_text(rt)),
-        },
-    };
-    let owned: Vec<String> = args.collect(rt.alloc())?;
-    let mut words = Vec::new(rt.alloc());
-    for word in &owned {
-        words.push(word.as_str())?;
-    }
-    obey(threads, rt, &words)
-}
-
 // The handle goes down twice, as the host and as what may wait, since a `HostRuntime` may wait in `main` alone.
 fn main(rt: HostRuntime) -> ExitCode {
-    match status(&rt, &rt) {
-        Ok(status) => ExitCode::from(status),
-        Err(refused) => ExitCode::from(no_memory(&rt, refused)),
-    }
+    ExitCode::from(exit_status(&rt, status(&rt, &rt)))
 }
