@@ -12,8 +12,8 @@ from dataclasses import dataclass, field, replace
 from functools import cache
 
 # how many tables there are, and how many rows in all, so that a lost one is noticed
-TABLE_COUNT = 277
-ROW_COUNT = 9719
+TABLE_COUNT = 280
+ROW_COUNT = 9735
 
 TOO_LARGE = bytes(16_777_217)
 
@@ -29,6 +29,10 @@ COPY = (
     "79624800000000007b2af8ff000000007961000000000000b702000001000000bfa300000000000007030000e0ffffff8500000002000000"
     "b7000000000000009500000000000000"
 )
+
+
+# The program of rows that no program of the product has words for.
+ROWS = "test_rows"
 
 
 @dataclass(frozen=True)

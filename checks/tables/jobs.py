@@ -7,7 +7,7 @@ from __future__ import annotations
 
 from dataclasses import dataclass, field
 
-from tables import COPY, START, WATCH, Row, Tables, encoded
+from tables import COPY, ROWS, START, WATCH, Row, Tables, encoded
 
 # asks for cell 7 1 with its fifth instruction, and ends with the sixth: with 0 where there is a value, else with 1
 ASK = "b701000007000000b702000001000000bfa300000000000007030000e0ffffff85000000010000009500000000000000"
@@ -18,7 +18,7 @@ DELETE_TWO = "b701000007000000b7020000010000008500000003000000b701000007000000b7
 
 def jobs(digits: str, tasks: str, turns: str, text: str, first: int = 0) -> Row:
     """Jobs that take these turns over a table of an observer, as they say: the journal has this of the seats from that one on."""
-    return Row([digits, str(first), tasks, turns], out=text.encode(), program="test_jobs")
+    return Row(["jobs", digits, str(first), tasks, turns], out=text.encode(), program=ROWS)
 
 
 # the result of a run: a number, one that is -1 with its sign, and its start

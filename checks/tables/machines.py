@@ -1,4 +1,4 @@
-"""The machine, move by move: what `test_machine` tells of what it asks and is replied, of how many instructions it has done, and of
+"""The machine, move by move: what `test_machine` prints of what it asks and is replied, of how many instructions it has done, and of
 what a run leaves.
 
 Each program has all helpers, and runs at 3 on a change of row 7 and column 9, or another. All is worked out by hand from RFC 9669
@@ -6,7 +6,7 @@ and docs/MACHINE.md, or from the source in C.
 """
 from __future__ import annotations
 
-from tables import COPY, Row, Tables, encoded
+from tables import COPY, ROWS, Row, Tables, encoded
 from tables.compiled import EXAMPLES, VALUE
 from tables.profiles import EXIT, LOADS, MOV, MOVES
 
@@ -44,7 +44,7 @@ def machine(code: bytes, moves: str, left: str, column: int = 9, content: str = 
     words = [line.partition(" -> ")[0] for line in moves.splitlines()]
     result = moves.rpartition("over ")[2].partition(",")[0]
     told = f"{moves}run 3 result {result}\n{left}of profile {profile}\n"
-    return Row([str(profile), code.hex(), str(column), content, *words], out=told.encode(), program="test_machine")
+    return Row(["machine", str(profile), code.hex(), str(column), content, *words], out=told.encode(), program=ROWS)
 
 
 def plain(code: bytes, end: int, done: int, profile: int = 1) -> Row:

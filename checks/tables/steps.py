@@ -8,7 +8,7 @@ from __future__ import annotations
 import re
 from collections.abc import Iterator
 
-from tables import NOBODY, START, WATCHED, Row, Tables, manifest_of, observer
+from tables import NOBODY, ROWS, START, WATCHED, Row, Tables, manifest_of, observer
 
 # what the program is given of a run alone, in brackets
 GIVEN = re.compile(r" \[([^]]*)\]")
@@ -25,7 +25,7 @@ def steps(text: str, manifest: str = NOBODY, last: int = 0, limit: int = 100, ta
     """The steps of this story."""
     words = [asked(line) for line in text.splitlines() if " -> " in line]
     told = GIVEN.sub("", text).encode()
-    return Row([tablets, str(last), str(limit), manifest, *words], out=told, program="test_table")
+    return Row(["table", tablets, str(last), str(limit), manifest, *words], out=told, program=ROWS)
 
 
 def of_run(

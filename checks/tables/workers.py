@@ -10,9 +10,7 @@ import re
 from collections.abc import Callable
 from dataclasses import dataclass
 
-from tables import COPIED, NOBODY, ONE, WATCHED, Row, Tables, manifest_of, observer
-
-WORKERS = "test_workers"
+from tables import COPIED, NOBODY, ONE, ROWS, WATCHED, Row, Tables, manifest_of, observer
 
 # an observer that deletes the cell that it runs on, and so is due again in each pass
 AGAIN = manifest_of(observer("again", 0, "3", "7912080000000000791100000000000085000000030000009500000000000000"))
@@ -53,7 +51,7 @@ def ended_as(text: str) -> str:
 
 def told(words: list[str], text: str) -> Row:
     """Workers of whom this is told, where no spare is swapped in."""
-    return Row(words, out=ended_as(text).encode(), program=WORKERS)
+    return Row(["workers", *words], out=ended_as(text).encode(), program=ROWS)
 
 
 @dataclass(frozen=True)
@@ -148,13 +146,13 @@ def judged(words: list[str], facts: Callable[[Account], dict[str, bool]]) -> Row
             return ["no account of kept turns and accepted seats, each step of which passed the gate"]
         return [f"it isn't so that {fact}" for fact, holds in facts(account).items() if not holds]
 
-    return Row(words, out=None, judge=judge, program=WORKERS)
+    return Row(["workers", *words], out=None, judge=judge, program=ROWS)
 
 
 def starred(words: list[str], text: str) -> Row:
     """Workers of whom this is told, where a star stands for any number."""
     pattern = re.compile(re.escape(ended_as(text)).replace(r"\*", r"\d+"))
-    return Row(words, out=None, judge=lambda out: [] if pattern.fullmatch(out.decode()) else [f"wanted {text}"], program=WORKERS)
+    return Row(["workers", *words], out=None, judge=lambda out: [] if pattern.fullmatch(out.decode()) else [f"wanted {text}"], program=ROWS)
 
 
 def spares_of(sorts: str, count: int) -> tuple[str, ...]:
@@ -464,7 +462,7 @@ SWAPS = [
 def finish(other: str, operations: str) -> Row:
     """A change by the first of two workers, whose seats `finish` accepts once they are moved so, beside those of another script."""
     words = ["finish", NOBODY, ONE, other, *operations.split()]
-    return Row(words, out=f"accepted\n{MADE_ONE}quiet\n".encode(), program=WORKERS)
+    return Row(["workers", *words], out=f"accepted\n{MADE_ONE}quiet\n".encode(), program=ROWS)
 
 
 # a seat left out; a seat twice, each list of which is the journal's, without and beside the third; and a list of another table,

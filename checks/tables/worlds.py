@@ -5,7 +5,7 @@ All is worked out by hand from docs/FORMATS.md, docs/CODES.md and docs/TABLE.md.
 """
 from __future__ import annotations
 
-from tables import ONE, WATCHED, Row, Tables
+from tables import ONE, ROWS, WATCHED, Row, Tables
 
 REPORT = "runs watch 0\nquiet\n"
 
@@ -13,7 +13,7 @@ REPORT = "runs watch 0\nquiet\n"
 def world(seats: int, lists: list[str], notes: str, report: str = REPORT, limit: int = 1000) -> Row:
     """A world of one change and one observer, in which these lists of events are run one after another, and have these notes."""
     told = "".join(f"{note}\n" for note in notes.split("; ") if note)
-    return Row([str(seats), str(limit), WATCHED, ONE, *lists], out=f"{told}{report}".encode(), program="test_worlds")
+    return Row(["worlds", str(seats), str(limit), WATCHED, ONE, *lists], out=f"{told}{report}".encode(), program=ROWS)
 
 
 def steps(actor: int, count: int) -> str:

@@ -9,7 +9,7 @@
 //! left before the seats are compared.
 //!
 //! With `finish MANIFEST SCRIPT OTHER OPERATION..` the seats of two runs are moved about before they are compared (finishes.rt).
-//! With `--help` it names its words. It ends with status 1 where it has no such words or no memory.
+//! With `--help` it names its words. It has no answer where there are no such words or no memory.
 #![tactic(auto)]
 
 mod account;
@@ -21,8 +21,6 @@ mod turns;
 mod work;
 
 use account::{How, is_told};
-use std::env;
-use std::process::ExitCode;
 use std::sync::Wait;
 use std::sync::atomic::{AtomicU64, Ordering};
 use std::thread::Threads;
@@ -91,22 +89,16 @@ fn work_is_told<R: Threads + Wait + Clock + Sync>(
     Some(is_told && are_kept_told && are_passes_told && are_counts_told(rt, &counts))
 }
 
-// Whether what the words ask for was done and told.
-fn is_done<R: Threads + Wait + Clock + Sync>(threads: &R, rt: &HostRuntime) -> Option<bool> {
-    let args = env::args(rt).ok()?;
-    let words: Vec<String> = args.collect(rt.alloc()).ok()?;
+/// Whether what these words ask for, the crate's own first, was done and printed.
+pub fn is_done<R: Threads + Wait + Clock + Sync>(
+    threads: &R,
+    rt: &HostRuntime,
+    words: &[String],
+) -> Option<bool> {
     let rest = words.get(2..)?;
     match words.get(1)?.as_str() {
         "--help" => Some(println!(rt; "{WORDS}").is_ok()),
         "finish" => finishes::are_told(threads, rt, rest),
         how => work_is_told(threads, rt, How::of(how)?, rest),
-    }
-}
-
-fn main(rt: HostRuntime) -> ExitCode {
-    if is_done(&rt, &rt) == Some(true) {
-        ExitCode::SUCCESS
-    } else {
-        ExitCode::FAILURE
     }
 }

@@ -6,7 +6,7 @@
 //! ask or the end; and a reply to an ask, as a content is written.
 //!
 //! It prints for each move what it did, where the machine stands then, and how many instructions it has done; and of one that has
-//! ended what it left, and in which profiles its digits are its program's. With `--help` it names its words. It ends with status 1
+//! ended what it left, and in which profiles its digits are its program's. With `--help` it names its words. It has no answer
 //! where it has no such words or no memory, and where a move can't be made.
 #![tactic(auto)]
 
@@ -23,8 +23,6 @@ use pb_registry::accept_in;
 use pb_verify::Accepted;
 use pb_vm::{MachinePhase, Vm};
 use std::alloc::Global;
-use std::env;
-use std::process::ExitCode;
 use std::sync::Arc;
 
 const WORDS: &str = "PROFILE DIGITS COLUMN CONTENT MOVE..";
@@ -101,20 +99,11 @@ fn told_by(alloc: Global, words: &[String]) -> Option<String> {
     Some(text)
 }
 
-fn is_told(rt: &HostRuntime) -> Option<bool> {
-    let args = env::args(rt).ok()?;
-    let words: Vec<String> = args.collect(rt.alloc()).ok()?;
+/// Whether what these words ask for, the crate's own first, was done and printed.
+pub fn is_told(rt: &HostRuntime, words: &[String]) -> Option<bool> {
     if words.get(1)?.as_str() == "--help" {
         return Some(println!(rt; "{WORDS}").is_ok());
     }
-    let text = told_by(rt.alloc(), &words)?;
+    let text = told_by(rt.alloc(), words)?;
     Some(print!(rt; "{text}").is_ok())
-}
-
-fn main(rt: HostRuntime) -> ExitCode {
-    if is_told(&rt) == Some(true) {
-        ExitCode::SUCCESS
-    } else {
-        ExitCode::FAILURE
-    }
 }

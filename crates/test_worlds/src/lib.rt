@@ -6,7 +6,7 @@
 //! there.
 //!
 //! It runs the lists one after another, and prints the note of each event, or the event at fault and its code, and then the report.
-//! With `--help` it names its words. It ends with status 1 where it has no such words or no memory.
+//! With `--help` it names its words. It has no answer where there are no such words or no memory.
 #![tactic(auto)]
 
 ghost use Rattle.pb_core.specs.Calls.{AreSeats};
@@ -23,8 +23,6 @@ use pb_story::add_answer;
 use pb_verify::Observer;
 use pb_world::{Note, World};
 use std::alloc::{AllocError, Global};
-use std::env;
-use std::process::ExitCode;
 use test_fixtures::{batches_of, observers_of, open_table};
 
 const WORDS: &str = "SEATS LIMIT MANIFEST SCRIPT EVENTS..";
@@ -104,10 +102,9 @@ fn is_run(
     }
 }
 
-fn is_told(rt: &HostRuntime) -> Option<bool> {
+/// Whether what these words ask for, the crate's own first, was done and printed.
+pub fn is_told(rt: &HostRuntime, words: &[String]) -> Option<bool> {
     let alloc = rt.alloc();
-    let args = env::args(rt).ok()?;
-    let words: Vec<String> = args.collect(alloc).ok()?;
     if words.get(1)?.as_str() == "--help" {
         return Some(println!(rt; "{WORDS}").is_ok());
     }
@@ -121,12 +118,4 @@ fn is_told(rt: &HostRuntime) -> Option<bool> {
     }
     let (shared, seats) = open_table(alloc, observers, seats, Ts(0), limit).ok()?;
     Some(is_run(rt, shared, seats, batches, lists))
-}
-
-fn main(rt: HostRuntime) -> ExitCode {
-    if is_told(&rt) == Some(true) {
-        ExitCode::SUCCESS
-    } else {
-        ExitCode::FAILURE
-    }
 }

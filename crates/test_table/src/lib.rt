@@ -9,7 +9,7 @@
 //!
 //! It prints each step with its answer, or with the number that it is refused with, and then how many marks and locks are left; or
 //! the number that the tablets are refused with, and the first rows of those that are handed back. With `--help` it names its
-//! words. It ends with status 1 where it has no such words or no memory.
+//! words. It has no answer where there are no such words or no memory.
 #![tactic(auto)]
 
 mod run;
@@ -24,8 +24,6 @@ use pb_steps::Step;
 use pb_store::{Table, Tablet};
 use pb_story::{add_answer, add_step};
 use std::alloc::{AllocError, Global};
-use std::env;
-use std::process::ExitCode;
 use step::step_of;
 use tablets::{add_entries, add_refused, add_swap, parts_in};
 use test_fixtures::{observers_of, open_table_over};
@@ -130,20 +128,11 @@ fn told_by(alloc: Global, words: &[String]) -> Option<String> {
     Some(text)
 }
 
-fn is_told(rt: &HostRuntime) -> Option<bool> {
-    let args = env::args(rt).ok()?;
-    let words: Vec<String> = args.collect(rt.alloc()).ok()?;
+/// Whether what these words ask for, the crate's own first, was done and printed.
+pub fn is_told(rt: &HostRuntime, words: &[String]) -> Option<bool> {
     if words.get(1)?.as_str() == "--help" {
         return Some(println!(rt; "{WORDS}").is_ok());
     }
-    let text = told_by(rt.alloc(), &words)?;
+    let text = told_by(rt.alloc(), words)?;
     Some(print!(rt; "{text}").is_ok())
-}
-
-fn main(rt: HostRuntime) -> ExitCode {
-    if is_told(&rt) == Some(true) {
-        ExitCode::SUCCESS
-    } else {
-        ExitCode::FAILURE
-    }
 }
