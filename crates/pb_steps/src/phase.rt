@@ -16,7 +16,7 @@ pub enum Phase {
 
 impl Phase {
     ghost use Rattle.std.specs.Prelude.{◌≡◌};
-    ghost use Rattle.pb_steps.specs.Phases.{is_reading, is_declared, is_stamped, is_committed};
+    ghost use Rattle.pb_steps.specs.Phases.{is_reading, is_declared};
 
     /// Whether it reads, and has declared nothing so far.
     pub fn is_reading(self) -> bool
@@ -30,19 +30,5 @@ impl Phase {
         ensures { result ≡ is_declared self }
     {
         matches!(self, Phase::Declared)
-    }
-
-    /// Whether it has its commit timestamp, and isn't committed so far.
-    pub fn is_stamped(self) -> bool
-        ensures { result ≡ is_stamped self }
-    {
-        matches!(self, Phase::Stamped(_))
-    }
-
-    /// Whether it is committed.
-    pub fn is_committed(self) -> bool
-        ensures { result ≡ is_committed self }
-    {
-        matches!(self, Phase::Committed(_))
     }
 }
