@@ -4,6 +4,7 @@ use Rattle.std.specs.Prelude.{ℕ, ◌-◌, ◌^◌, replicate, ◌||◌, ◌==�
 use Rattle.std.specs.Char.{is_ascii_uppercase}
 use Rattle.std.specs.List.{list_any}
 use Rattle.hex.specs.Hex.{decode_of}
+use Rattle.pb_base.specs.declared.limits.TheConstants.{COLUMNS}
 use Rattle.pb_base.specs.declared.cell.Cell.{Cell}
 use Rattle.pb_base.specs.declared.content.Content.{Content}
 use Rattle.pb_parse.specs.declared.script.code.ScriptCode.{ScriptCode}
@@ -28,7 +29,7 @@ cell_at words = do
   first ← next_word ScriptCode.Form words
   row ← number_upto (2 ^ 64 - 1) first.0
   second ← next_word ScriptCode.Form first.1
-  column ← number_upto 15 second.0
+  column ← number_upto (COLUMNS - 1) second.0
   Ok (Cell.Data (record { 0 = row }) column, second.1)
 
 -- `put ROW COL HEX`, behind its verb: the content is read before it is asked whether a word is left

@@ -1,5 +1,6 @@
 -- An instruction whose rules hold does the same at two placements.
 use Rattle.std.proofs.Common.{◌≡◌, ℕ, ◌+◌, ℤ, pos, ◌+ℤ◌, Bool, true, false, not, ◌&&◌, cond, nat_lt, List, [], ◌++◌, length, replicate, Option, Some, None, is_some, refl, sym, ap, ◌∙◌, arith}
+use Rattle.pb_base.specs.declared.limits.TheConstants.{COLUMNS}
 use Rattle.pb_base.specs.Batch.{Writes}
 use Rattle.pb_base.specs.declared.content.Content.{Content}
 use Rattle.pb_isa.specs.declared.limits.TheConstants.{STACK_BYTES}
@@ -139,7 +140,7 @@ write_agrees x a b f s t k y row column c same hx l =
     let v = m.write_result (m.cell_of row column) t.writes in
     let on : (us : Writes) (v : ℕ) → Alike a b (after f (Insn.Call k)) (m.state_after_call s us v) (m.state_after_call t us v) = λ us v. to_call a b f k y _ _ hx (rw same (alike_returned a b f s t (m.state_after_call s us v) (m.state_after_call t us v) v l (ap (λ n. n + 1) l.slot) refl refl refl refl refl)) in
     let go : (low : Bool) → Agree a b f (Insn.Call k) (cond low (Goes (m.state_after_call s ws v)) (Goes (m.state_after_call s t.writes 2))) (cond low (Goes (m.state_after_call t ws v)) (Goes (m.state_after_call t t.writes 2))) = λ low. elim low as (λ low. Agree a b f (Insn.Call k) (cond low (Goes (m.state_after_call s ws v)) (Goes (m.state_after_call s t.writes 2))) (cond low (Goes (m.state_after_call t ws v)) (Goes (m.state_after_call t t.writes 2)))) [ true ↦ on ws v | false ↦ on t.writes 2 ] in
-    rw l.writes (go (nat_lt column 16))
+    rw l.writes (go (nat_lt column COLUMNS))
 
 -- both ask for the same cell, and each reply leaves both alike
 read_agrees : (x : Setting) (a b : Placement) (f : Frame) (s t : State) (k : ℤ) → helper_of k ≡ Some Read → read_rules f ≡ [] → Two x a b f s t → Agree a b f (Insn.Call k) (m.helps (run x a) s Read) (m.helps (run x b) t Read)
@@ -155,7 +156,7 @@ read_agrees x a b f s t k hx h two =
       | true ↦ (refl, λ r n. on (m.reply_bytes r) (m.reply_result r) (reply_long r n))
       | false ↦ on (replicate 32 0) 2 refl
     ] in
-    rw (c.row_a, c.row_b, c.column_a, c.column_b, y.is_a, y.is_b, y.inside_a, y.inside_b) (go (nat_lt c.column 16))
+    rw (c.row_a, c.row_b, c.column_a, c.column_b, y.is_a, y.is_b, y.inside_a, y.inside_b) (go (nat_lt c.column COLUMNS))
 
 helps_agree : (x : Setting) (a b : Placement) (f : Frame) (s t : State) (k : ℤ) (y : Helper) → helper_of k ≡ Some y → call_rules f (Some y) ≡ [] → Two x a b f s t → Agree a b f (Insn.Call k) (m.helps (run x a) s y) (m.helps (run x b) t y)
 helps_agree x a b f s t k Read hx h two = read_agrees x a b f s t k hx h two

@@ -1,5 +1,6 @@
 -- Calls of the four helpers.
 use Rattle.std.proofs.Common.{◌≡◌, ℕ, ◌+◌, ℤ, pos, ◌+ℤ◌, Bool, true, false, cond, not, ◌&&◌, nat_lt, List, [], ◌++◌, length, replicate, Option, Some, None, refl, sym, ap, ◌∙◌, arith, is_some}
+use Rattle.pb_base.specs.declared.limits.TheConstants.{COLUMNS}
 use Rattle.pb_base.specs.Batch.{Writes}
 use Rattle.pb_base.specs.declared.content.Content.{Content}
 use Rattle.pb_isa.specs.declared.limits.TheConstants.{STACK_BYTES}
@@ -118,11 +119,11 @@ read_on e f s k pl hx lands b t =
     let ok = and_true (is_cell f) (is_place (kind_of f 3)) (not_false _ (when_not _ _ p4.1)) in
     let c = cell_is e f s ok.0 t in
     let x = filled_at e f s (kind_of f 3) pl ok.1 p3.1 (t.reg 3) refl t in
-    let go : (low : Bool) → nat_lt c.column 16 ≡ low → GoesOn e f s.slot (Insn.Call k) (cond low (m.Asks (record { row = c.row; column = c.column }) (λ r. m.state_after_read s x.at (m.reply_bytes r) (m.reply_result r))) (m.Goes (m.state_after_read s x.at (replicate 32 0) 2))) = λ low. elim low as (λ low. nat_lt c.column 16 ≡ low → GoesOn e f s.slot (Insn.Call k) (cond low (m.Asks (record { row = c.row; column = c.column }) (λ r. m.state_after_read s x.at (m.reply_bytes r) (m.reply_result r))) (m.Goes (m.state_after_read s x.at (replicate 32 0) 2)))) [
+    let go : (low : Bool) → nat_lt c.column COLUMNS ≡ low → GoesOn e f s.slot (Insn.Call k) (cond low (m.Asks (record { row = c.row; column = c.column }) (λ r. m.state_after_read s x.at (m.reply_bytes r) (m.reply_result r))) (m.Goes (m.state_after_read s x.at (replicate 32 0) 2))) = λ low. elim low as (λ low. nat_lt c.column COLUMNS ≡ low → GoesOn e f s.slot (Insn.Call k) (cond low (m.Asks (record { row = c.row; column = c.column }) (λ r. m.state_after_read s x.at (m.reply_bytes r) (m.reply_result r))) (m.Goes (m.state_after_read s x.at (replicate 32 0) 2)))) [
       | true ↦ λ q. (below _ _ q, λ r l. arrives e f s _ k Read hx lands refl (x.fits (m.reply_bytes r) (m.reply_result r) (reply_long r l)))
       | false ↦ λ q. arrives e f s _ k Read hx lands refl (x.fits (replicate 32 0) 2 refl)
     ] in
-    rw (c.row_is, c.column_is, x.is, x.inside) (go (nat_lt c.column 16) refl)
+    rw (c.row_is, c.column_is, x.is, x.inside) (go (nat_lt c.column COLUMNS) refl)
 
 -- a helper after which no byte is filled
 write_on : (e : Environment) (f : Frame) (s : State) (k : ℤ) (x : Helper) (row column : ℕ) (c : Content) → after_call f (Some x) ≡ clobber f → helper_of k ≡ Some x → is_some (insn_at e.judged.program.insns (s.slot + 1)) ≡ true → FitsFrame e f s → GoesOn e f s.slot (Insn.Call k) (writes_cell s row column c)
@@ -131,7 +132,7 @@ write_on e f s k x row column c same hx lands t =
     let ws = m.add_write (m.cell_of row column) c s.writes in
     let v = m.write_result (m.cell_of row column) s.writes in
     let go : (low : Bool) → GoesOn e f s.slot (Insn.Call k) (cond low (m.Goes (m.state_after_call s ws v)) (m.Goes (m.state_after_call s s.writes 2))) = λ low. elim low as (λ low. GoesOn e f s.slot (Insn.Call k) (cond low (m.Goes (m.state_after_call s ws v)) (m.Goes (m.state_after_call s s.writes 2)))) [ true ↦ on ws v | false ↦ on s.writes 2 ] in
-    go (nat_lt column 16)
+    go (nat_lt column COLUMNS)
 
 -- each of the four helpers, where its arguments are accepted
 helps_on : (e : Environment) (f : Frame) (s : State) (k : ℤ) (x : Helper) → IsPlaced e → helper_of k ≡ Some x → is_some (insn_at e.judged.program.insns (s.slot + 1)) ≡ true → call_rules f (Some x) ≡ [] → FitsFrame e f s → GoesOn e f s.slot (Insn.Call k) (helps e s x)

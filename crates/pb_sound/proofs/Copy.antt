@@ -4,6 +4,7 @@ use Rattle.std.proofs.lemmas.List.{length-set, get_or_append_left, get_or-append
 use Rattle.std.proofs.lemmas.Bool.{cases_eq, cases_lt}
 use Rattle.std.proofs.lemmas.Bool.Decides.{nat_tests}
 use Rattle.std.specs.Int.{from_le_bytes, to_le_bytes, byte_len}
+use Rattle.pb_base.specs.declared.limits.TheConstants.{COLUMNS}
 use Rattle.pb_base.specs.Batch.{Writes}
 use Rattle.pb_base.specs.declared.content.Content.{Content}
 use Rattle.pb_isa.specs.declared.limits.TheConstants.{MAX_RECORD_BYTES, STACK_BYTES}
@@ -290,7 +291,7 @@ read_copy e c s pl t =
       | true ↦ (safe, refl, λ r l. filled_copy e c s x (cell.argument c 3) (m.reply_bytes r) (m.reply_result r) t a.low (let n = reply_long r l in let k = a.high in omega arith) a.is)
       | false ↦ (safe, filled_copy e c s x (cell.argument c 3) (replicate 32 0) 2 t a.low a.high a.is)
     ] in
-    rw (r1, r2) (go (nat_lt column 16))))))
+    rw (r1, r2) (go (nat_lt column COLUMNS))))))
 
 write_copy : (e : Environment) (p : Type 0) (c : Cells) (s : State) (row column : ℕ) (x y : Content) → Mirrors e c s → p → cell.argument c 1 ≡ row → cell.argument c 2 ≡ column → y ≡ x → Copies e p (m.writes_cell s row column x) (cell.cells_write c y)
 write_copy e p c s row column x y t safe r1 r2 ex =
@@ -300,7 +301,7 @@ write_copy e p c s row column x y t safe r1 r2 ex =
       | true ↦ (safe, returned_copy e c s ws ws v v t refl refl)
       | false ↦ (safe, returned_copy e c s s.writes s.writes 2 2 t refl refl)
     ] in
-    rw (r1, r2, ex, t.writes) (go (nat_lt column 16))
+    rw (r1, r2, ex, t.writes) (go (nat_lt column COLUMNS))
 
 -- each of the four helpers
 helps_copy : (e : Environment) (c : Cells) (s : State) (x : Helper) → IsHere e → Mirrors e c s → Copies e (cell.IsSafeCall c (Some x)) (m.helps e s x) (cell.cells_call e.start c (Some x))

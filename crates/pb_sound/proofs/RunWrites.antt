@@ -20,7 +20,7 @@ use Rattle.pb_base.proofs.SameCells.{cell_is}
 
 -- what a run may have written so far
 record AreMade (ws : Writes) : Type 0 where
-  few : length ws ≤ 16
+  few : length ws ≤ MAX_CELLS
   plain : list_all is_data_write ws ≡ true
   distinct : are_distinct ws ≡ true
 
@@ -99,13 +99,13 @@ none_if o e = grind arith
 made_more : (ws : Writes) (x : Cell) (c : Content) → is_data_write (x, c) ≡ true → AreMade ws → AreMade (add_write x c ws)
 made_more ws x c p m = by (is_some (content_in ws x)) refl
   where
-    room : (b : Bool) → nat_lt (length ws) 16 ≡ b → is_none (content_in ws x) ≡ true → AreMade (cond b (ws ++ (x, c) ∷ []) ws)
+    room : (b : Bool) → nat_lt (length ws) MAX_CELLS ≡ b → is_none (content_in ws x) ≡ true → AreMade (cond b (ws ++ (x, c) ∷ []) ws)
     room true e none = let small = ltb-true _ _ e in record { few = simp length-append (omega (arith, small)); plain = plain_more ws (x, c) m.plain p; distinct = distinct_more ws x c m.distinct none }
     room false e none = m
 
-    by : (b : Bool) → is_some (content_in ws x) ≡ b → AreMade (cond b (replace_write x c ws) (cond (nat_lt (length ws) 16) (ws ++ (x, c) ∷ []) ws))
+    by : (b : Bool) → is_some (content_in ws x) ≡ b → AreMade (cond b (replace_write x c ws) (cond (nat_lt (length ws) MAX_CELLS) (ws ++ (x, c) ∷ []) ws))
     by true e = record { few = let same = length_replaced x c ws in let few = m.few in omega (arith, same, few); plain = plain_replaced x c ws p m.plain; distinct = distinct_replaced x c ws m.distinct }
-    by false e = room (nat_lt (length ws) 16) refl (none_if _ e)
+    by false e = room (nat_lt (length ws) MAX_CELLS) refl (none_if _ e)
 
 -- ---- one instruction
 

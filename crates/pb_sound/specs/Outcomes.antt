@@ -1,6 +1,7 @@
 -- What an instruction does whose rules hold: the step of the proof that nothing is stuck, said of one instruction and
 -- any state that fits the frame before it.
 use Rattle.std.specs.Prelude.{◌≡◌, ℕ, ◌<◌, IsTrue, is_some}
+use Rattle.pb_base.specs.declared.limits.TheConstants.{COLUMNS}
 use Rattle.pb_isa.specs.declared.insn.Insn.{Insn}
 use Rattle.pb_isa.specs.Slots.{insn_at}
 use Rattle.pb_isa.specs.Machine.{Environment, State, Reply, IsReply, Outcome, Goes, Asks, Ends, Stuck}
@@ -18,6 +19,6 @@ pub record Arrives (e : Environment) (f : Frame) (n : ℕ) (i : Insn) (t : State
 -- never stuck: it arrives, for each reply where it asks for a cell of a column up to 15; and exit alone ends
 abbrev pub GoesOn : Environment → Frame → ℕ → Insn → Outcome → Type 0
 GoesOn e f n i (Goes t) = Arrives e f n i t
-GoesOn e f n i (Asks a go) = (a.column < 16) × ((r : Reply) → IsReply r → Arrives e f n i (go r))
+GoesOn e f n i (Asks a go) = (a.column < COLUMNS) × ((r : Reply) → IsReply r → Arrives e f n i (go r))
 GoesOn e f n i (Ends v ws) = i ≡ Insn.Exit
 GoesOn e f n i Stuck = ⊥

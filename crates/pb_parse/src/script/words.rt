@@ -7,7 +7,7 @@ ghost use Rattle.pb_reading.specs.Reading.{Gives, words_left};
 ghost use Rattle.pb_parse.specs.ScriptWords.{content_of, cell_at, put_of, del_of, write_of, operation};
 
 use crate::script::code::ScriptCode;
-use pb_base::{Column, Content, Row, Value};
+use pb_base::{COLUMNS, Column, Content, Row, Value};
 use pb_reading::{LineWords, numeral_upto};
 
 /// What an operation writes.
@@ -22,7 +22,7 @@ struct CellNumbers {
 
 impl CellNumbers {
     fn with(self, content: Content) -> Change
-        requires { self.column < 16 }
+        requires { self.column < COLUMNS }
         ensures { result ≡ (record { 0 = self.row }, self.column, content) }
     {
         match Column::new(self.column) {
@@ -64,12 +64,17 @@ fn cell_at(words: &mut LineWords) -> Result<CellNumbers, ScriptCode>
     ensures value { Gives (λ _. false)
         (λ x. (Data (record { 0 = x.row }) x.column, words_left words.new.rest)) result
         (cell_at (words_left words.old.rest)) }
-    ensures bound { IfOk result (λ x. x.column < 16) }
+    ensures bound { IfOk result (λ x. x.column < COLUMNS) }
 {
     let word = words.next_word(ScriptCode::Form)?;
     let row = numeral_upto(ScriptCode::Form, ScriptCode::Range, u64::MAX, word)?;
     let word = words.next_word(ScriptCode::Form)?;
-    let column = numeral_upto(ScriptCode::Form, ScriptCode::Range, 15, word)? as u8;
+    let column = numeral_upto(
+        ScriptCode::Form,
+        ScriptCode::Range,
+        u64::from(COLUMNS) - 1,
+        word,
+    )? as u8;
     Ok(CellNumbers { row, column })
 }
 
