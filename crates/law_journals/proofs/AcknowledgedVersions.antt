@@ -15,21 +15,21 @@ use Rattle.pb_steps.specs.Steps.{StepCase}
 use Rattle.pb_history.specs.declared.entry.Entry.{Entry}
 use Rattle.pb_history.specs.History.{Has, Member, InHistory, WritesTo, IsSnapshot}
 use Rattle.pb_history.specs.Sound.{IsSoundTable}
-use Rattle.pb_history.specs.TableView.{reads_by}
+use Rattle.pb_history.specs.TableView.{reads_recorded}
 use Rattle.pb_history.proofs.Agreement.{read_of, Agrees}
 use Rattle.pb_history.proofs.StepsAgree.{legal_agrees}
 use Rattle.pb_history.proofs.JournalsAreSound.{legal_sound}
 use Rattle.pb_history.proofs.SnapshotsTold.{phase_in_view, stands_at, tells_snapshots}
 use Rattle.pb_history.proofs.Acknowledgments.{acknowledged_by}
 use Rattle.pb_history.proofs.RunsTold.{run_of_member}
-use Rattle.law_journals.specs.AcknowledgedVersions.{IsFound, AcknowledgedVersionsAreFound}
+use Rattle.law_journals.specs.AcknowledgedVersions.{IsVersionAnswer, AcknowledgedVersionsAreFound}
 
 module _ (journal : List Entry) (state : StateOf) (g : Agrees journal state) (i : IsSoundTable state) where
   -- the write record that a read found still stands
   still_written : (seat : ℕ) (s : Ts) (x : Cell) (start c : Ts) (content : Content) → Has journal (record { seat = seat; step = Step.Read s x; answer = Answer.Found start c content }) → write_at state.entries x c.0 ≡ Some start.0
   still_written seat s x start c content e =
       let told = g.told _ e in
-      (i.tells s.0 (read_of x None (Answer.Found start c content)) (subst (λ o. Has (reads_by o) (read_of x None (Answer.Found start c content))) (sym told.1) told.2)).1
+      (i.tells s.0 (read_of x None (Answer.Found start c content)) (subst (λ o. Has (reads_recorded o) (read_of x None (Answer.Found start c content))) (sym told.1) told.2)).1
 
   -- a version of a cell, up to an acknowledgment of it in a snapshot: a run found it, and wrote the acknowledgment
   pub record HasVersionUpTo (x : Cell) (a : ℕ) : Type 0 where
@@ -60,7 +60,7 @@ module _ (journal : List Entry) (state : StateOf) (g : Agrees journal state) (i 
           absurd (omega (arith, above, committed, low)))
     ]
 
-    finds : (seat : ℕ) (s : Ts) (at : Ts) → at.0 ≡ a → (answer : Answer) (new : StateOf) → StepCase state seat (Step.ReadAt s x at) answer new → IsFound answer
+    finds : (seat : ℕ) (s : Ts) (at : Ts) → at.0 ≡ a → (answer : Answer) (new : StateOf) → StepCase state seat (Step.ReadAt s x at) answer new → IsVersionAnswer answer
     finds seat s at is (Answer.Found b e content) new step = tt
     finds seat s at is (Answer.Locked lock primary) new step =
         let above = i.behind_lock x lock.0 primary c start step.locked written in

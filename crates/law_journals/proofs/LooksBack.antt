@@ -22,7 +22,7 @@ use Rattle.pb_steps.specs.State.{StateOf, TransactionOf}
 use Rattle.pb_history.specs.declared.entry.Entry.{Entry}
 use Rattle.pb_history.specs.History.{Has, IsEntry, Member, InHistory, IsSnapshot}
 use Rattle.pb_history.specs.Sound.{IsSoundTable}
-use Rattle.pb_history.specs.TableView.{reads_by}
+use Rattle.pb_history.specs.TableView.{reads_recorded}
 use Rattle.pb_history.proofs.Agreement.{got, read_of, ts, Agrees}
 use Rattle.pb_history.proofs.StepsAgree.{legal_agrees}
 use Rattle.pb_history.proofs.HistoryTold.{is_committed}
@@ -92,16 +92,16 @@ module _ (journal : List Entry) (state : StateOf) (g : Agrees journal state) (i 
   read_at_start s r x is h = subst (λ n. TellsRecorded state.observers journal (read_up_to s n) x r.answer) is.at (subst (λ y. TellsRecorded state.observers journal (read_up_to s r.at) y r.answer) is.cell h)
 
   -- a read at a timestamp that was answered is one that its transaction recorded
-  is_recorded : (seat s : ℕ) (x : Cell) (t : Ts) (answer : Answer) → IsEntry journal seat (Step.ReadAt (ts s) x t) answer → IsAnswered answer → Has (reads_by (got state s)) (read_of x (Some t) answer)
-  is_recorded seat s x t (Answer.Found start commit content) e is = let told = g.told _ e in subst (λ o. Has (reads_by o) (read_of x (Some t) (Answer.Found start commit content))) (sym told.1) told.2
-  is_recorded seat s x t Answer.Absent e is = let told = g.told _ e in subst (λ o. Has (reads_by o) (read_of x (Some t) Answer.Absent)) (sym told.1) told.2
+  is_recorded : (seat s : ℕ) (x : Cell) (t : Ts) (answer : Answer) → IsEntry journal seat (Step.ReadAt (ts s) x t) answer → IsAnswered answer → Has (reads_recorded (got state s)) (read_of x (Some t) answer)
+  is_recorded seat s x t (Answer.Found start commit content) e is = let told = g.told _ e in subst (λ o. Has (reads_recorded o) (read_of x (Some t) (Answer.Found start commit content))) (sym told.1) told.2
+  is_recorded seat s x t Answer.Absent e is = let told = g.told _ e in subst (λ o. Has (reads_recorded o) (read_of x (Some t) Answer.Absent)) (sym told.1) told.2
   is_recorded seat s x t _ e is = absurd is
 
-  recorded_in : (s : ℕ) (r : RecordedRead) (u : TransactionOf) → got state s ≡ Some u → Has (reads_by (got state s)) r → Has u.reads r
-  recorded_in s r u there h = subst (λ o. Has (reads_by o) r) there h
+  recorded_in : (s : ℕ) (r : RecordedRead) (u : TransactionOf) → got state s ≡ Some u → Has (reads_recorded (got state s)) r → Has u.reads r
+  recorded_in s r u there h = subst (λ o. Has (reads_recorded o) r) there h
 
-  recorded_by : (s : ℕ) (r : RecordedRead) (u : TransactionOf) → got state s ≡ Some u → Has u.reads r → Has (reads_by (got state s)) r
-  recorded_by s r u there h = subst (λ o. Has (reads_by o) r) (sym there) h
+  recorded_by : (s : ℕ) (r : RecordedRead) (u : TransactionOf) → got state s ≡ Some u → Has u.reads r → Has (reads_recorded (got state s)) r
+  recorded_by s r u there h = subst (λ o. Has (reads_recorded o) r) (sym there) h
 
   same_stamp : (s : ℕ) (x : Cell) (by at : ℕ) (a t : Ts) → a ≡ t → IsSnapshot state.observers journal s x by at (Content.Stamp a) → IsSnapshot state.observers journal s x by at (Content.Stamp t)
   same_stamp s x by at a t e h = subst (λ u. IsSnapshot state.observers journal s x by at (Content.Stamp u)) e h

@@ -13,9 +13,9 @@ use Rattle.pb_history.specs.History.{IsEntry}
 use Rattle.pb_history.specs.Journals.{IsLegal}
 
 -- the answer is a version
-abbrev pub IsFound : Answer → Type 0
-IsFound (Answer.Found start commit content) = Unit {0}
-IsFound answer = ⊥
+abbrev pub IsVersionAnswer : Answer → Type 0
+IsVersionAnswer (Answer.Found start commit content) = Unit {0}
+IsVersionAnswer answer = ⊥
 
 -- in its snapshot, the transaction of start s found a version of commit c in an observer's cell of this row, and in the
 -- acknowledgment of that cell the stamp a
@@ -33,4 +33,4 @@ abbrev pub AcknowledgedVersionsAreFound : Type 0
 AcknowledgedVersionsAreFound =
     (observers : List ObserverOf) (seats clock : ℕ) (journal : List Entry) (state : StateOf) → IsLegal observers seats clock journal state
     → (s : Ts) (o : ℕ) (row : Row) (c a : Ts) → FoundBoth state.observers journal s o row c a → a.0 < c.0
-    → (seat : ℕ) (answer : Answer) (new : StateOf) → TableStep state seat (Step.ReadAt s (observed_cell state.observers o row) a) answer new → IsFound answer
+    → (seat : ℕ) (answer : Answer) (new : StateOf) → TableStep state seat (Step.ReadAt s (observed_cell state.observers o row) a) answer new → IsVersionAnswer answer

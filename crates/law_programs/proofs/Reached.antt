@@ -16,7 +16,7 @@ use Rattle.pb_verify.specs.Forward.{LeadsAreLater}
 use Rattle.pb_verify.specs.Ways.{IsWay, Fact, HasKind, Says, IsMeetOfWays, FramesAreMeets}
 use Rattle.law_programs.specs.Targets.{JumpsTo, next_slot}
 use Rattle.law_programs.specs.Breaks.{Breaks, RulesAreByCode}
-use Rattle.law_programs.specs.Reached.{LeadsTo, IsUnreached, IsReachable, ByEntry, ByStep, TellsReached, IsToldAt}
+use Rattle.law_programs.specs.Reached.{LeadsTo, IsUnreached, IsReachable, ByEntry, ByStep, TellsReached, IsCodeTold}
 use Rattle.law_programs.proofs.Told.{each_one, stands_one}
 
 -- ---- where instructions lead
@@ -185,10 +185,10 @@ reached_are_told meets later p = tells p (meets p) later
 -- ---- codes at a slot
 
 -- the codes at a slot, by the frame before it or for want of one
-pub faults_are_told : FramesAreMeets → LeadsAreLater → RulesAreByCode → (c : RuleCode) (j : JudgedOf) (n : ℕ) → Contains (faults j n) c ↔ IsToldAt c j n
+pub faults_are_told : FramesAreMeets → LeadsAreLater → RulesAreByCode → (c : RuleCode) (j : JudgedOf) (n : ℕ) → Contains (faults j n) c ↔ IsCodeTold c j n
 faults_are_told meets later rules c j n = by (insn_at j.program.insns n) (in_at j.program.insns n) refl refl ((reached_are_told meets later j.program.insns).some n)
   where
-    by : (x : Option Insn) (s : Option Frame) → insn_at j.program.insns n ≡ x → in_at j.program.insns n ≡ s → (in_at j.program.insns n ≢ None) ↔ IsReachable j.program.insns n → Contains (codes_at j n x s) c ↔ IsToldAt c j n
+    by : (x : Option Insn) (s : Option Frame) → insn_at j.program.insns n ≡ x → in_at j.program.insns n ≡ s → (in_at j.program.insns n ≢ None) ↔ IsReachable j.program.insns n → Contains (codes_at j n x s) c ↔ IsCodeTold c j n
     by None s e h t = ((λ k. absurd (not_in_none k)), (λ k. let q = k.1 in cc))
       where
         not_in_none : ¬ (Contains [] c)

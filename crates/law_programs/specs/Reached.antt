@@ -38,14 +38,14 @@ ReachedAreTold = (p : List Insn) → TellsReached p
 
 -- the code is told at a slot: as unreachable, or as the instruction breaks it with the frame before it. A second slot has no
 -- rules
-abbrev pub IsToldAt : RuleCode → JudgedOf → ℕ → Type 0
-IsToldAt c j n =
+abbrev pub IsCodeTold : RuleCode → JudgedOf → ℕ → Type 0
+IsCodeTold c j n =
     (i : Insn) × (insn_at j.program.insns n ≡ Some i) × (((c ≡ RuleCode.Unreachable) × ¬ (IsReachable j.program.insns n)) ⊎
     ((f : Frame) × (in_at j.program.insns n ≡ Some f) × Breaks c j n f i))
 
 -- the codes at a slot are those that are told there, of every program with any helpers
 abbrev pub FaultsAreTold : Type 0
-FaultsAreTold = (c : RuleCode) (j : JudgedOf) (n : ℕ) → Contains (faults j n) c ↔ IsToldAt c j n
+FaultsAreTold = (c : RuleCode) (j : JudgedOf) (n : ℕ) → Contains (faults j n) c ↔ IsCodeTold c j n
 
 -- an instruction is told as unreachable exactly where its slot isn't reached
 abbrev pub UnreachableIsTold : Type 0

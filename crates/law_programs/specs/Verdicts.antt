@@ -5,18 +5,18 @@ use Rattle.pb_isa.specs.Slots.{slots}
 use Rattle.pb_helpers.specs.declared.code.RuleCode.{RuleCode}
 use Rattle.pb_helpers.specs.Codes.{code_number}
 use Rattle.pb_verify.specs.Arriving.{Accepts, Refuses}
-use Rattle.law_programs.specs.Reached.{IsToldAt}
+use Rattle.law_programs.specs.Reached.{IsCodeTold}
 
 -- n is the first slot at which a code is told, and c the lowest of those there
 pub record IsFirstTold (j : JudgedOf) (n : ℕ) (c : RuleCode) : Type 0 where
   pub inside : n < slots j.program.insns
-  pub told : IsToldAt c j n
-  pub lowest : (d : RuleCode) → IsToldAt d j n → code_number c ≤ code_number d
-  pub before : (m : ℕ) (d : RuleCode) → m < n → ¬ (IsToldAt d j m)
+  pub told : IsCodeTold c j n
+  pub lowest : (d : RuleCode) → IsCodeTold d j n → code_number c ≤ code_number d
+  pub before : (m : ℕ) (d : RuleCode) → m < n → ¬ (IsCodeTold d j m)
 
 -- a program is accepted exactly where no code is told at any of its slots, and refused with the first that is
 pub record TellsVerdict (j : JudgedOf) : Type 0 where
-  pub accepts : Accepts j ↔ ((n : ℕ) (c : RuleCode) → n < slots j.program.insns → ¬ (IsToldAt c j n))
+  pub accepts : Accepts j ↔ ((n : ℕ) (c : RuleCode) → n < slots j.program.insns → ¬ (IsCodeTold c j n))
   pub refuses : (n : ℕ) (c : RuleCode) → Refuses j n c ↔ IsFirstTold j n c
 
 -- of every program, with any helpers, for a record of any size

@@ -7,7 +7,7 @@ use Rattle.pb_reading.specs.Reading.{◌>>=◌}
 use Rattle.pb_helpers.specs.Bytes.{size_of}
 use Rattle.pb_helpers.specs.declared.change.Version.{Version}
 use Rattle.pb_registry.specs.declared.code.ManifestCode.{ManifestCode}
-use Rattle.pb_registry.specs.Manifests.{WrittenOf, name_in, text_at, column_in, number_at, helpers_in, elements_at, version_in, bytes_in, manifest_in, members_of}
+use Rattle.pb_registry.specs.Manifests.{WrittenOf, name_in, text_at, column_in, number_at, helpers_in, elements_at, record_version, bytes_in, manifest_in, members_of}
 use Rattle.law_texts.specs.ManifestNumbers.{manifest, ManifestsNameProfiles, with_record, OnlyTwoHasRecords, HasRecordSize, ManifestsNameRecords}
 
 -- no other number names a profile
@@ -26,19 +26,19 @@ first_made (Ok x) f y e = (x, refl, e)
 first_made (Err c) f y e = absurd cc
 
 -- an observer that is read has the version that its member names
-version_is : (d : Data) (w : WrittenOf) → members_of d ≡ Ok w → version_in (number_at (codes "record") d) ≡ Ok w.version
+version_is : (d : Data) (w : WrittenOf) → members_of d ≡ Ok w → record_version (number_at (codes "record") d) ≡ Ok w.version
 unfolding members_of
 version_is d w e =
     let name = first_made (name_in (text_at (codes "name") d)) _ w e in
     let column = first_made (column_in (number_at (codes "column") d)) _ w name.2 in
     let helpers = first_made (helpers_in (elements_at (codes "helpers") d)) _ w column.2 in
-    let version = first_made (version_in (number_at (codes "record") d)) _ w helpers.2 in
+    let version = first_made (record_version (number_at (codes "record") d)) _ w helpers.2 in
     let bytes = first_made (bytes_in (text_at (codes "code") d)) _ w version.2 in
     let same : w.version ≡ version.0 = (let is = bytes.2 in cc) in
     version.1 ∙ ap Ok (sym same)
 
 -- a version of a record has so many bytes
-has_size : (r : Option ℕ) (v : Version) → version_in r ≡ Ok v → HasRecordSize r (size_of v)
+has_size : (r : Option ℕ) (v : Version) → record_version r ≡ Ok v → HasRecordSize r (size_of v)
 has_size None v e = let first : Version.First ≡ v = cc in subst (λ z. HasRecordSize None (size_of z)) first HasRecordSize.left_out
 has_size (Some n) v e = one (n == 1) refl e
   where
@@ -50,7 +50,7 @@ has_size (Some n) v e = one (n == 1) refl e
     one true is f = let first : Version.First ≡ v = cc in subst (λ z. HasRecordSize (Some n) (size_of z)) first (subst (λ k. HasRecordSize (Some k) 80) (sym (eqb-true n 1 is)) HasRecordSize.first)
     one false is f = two (n == 2) refl f
 
-other : (n : ℕ) → 2 < n → version_in (Some n) ≡ Err ManifestCode.Record
+other : (n : ℕ) → 2 < n → record_version (Some n) ≡ Err ManifestCode.Record
 other n more = grind (arith, nat_tests)
 
 -- a fault of the first of two steps is the fault of both
@@ -60,7 +60,7 @@ then_fails r f c e = ap (λ v. v >>= f) e
 -- an observer for another version is refused
 refused : (n : ℕ) (code : List ℕ) → 2 < n → members_of (with_record n (codes "watch") 0 code) ≡ Err ManifestCode.Record
 unfolding members_of
-refused n code more = then_fails (version_in (Some n)) _ ManifestCode.Record (other n more)
+refused n code more = then_fails (record_version (Some n)) _ ManifestCode.Record (other n more)
 
 pub name_records : ManifestsNameRecords
 name_records = record {

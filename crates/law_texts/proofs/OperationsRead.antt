@@ -11,7 +11,7 @@ use Rattle.pb_base.specs.declared.cell.Cell.{Cell}
 use Rattle.pb_base.specs.declared.content.Content.{Content}
 use Rattle.pb_reading.specs.Reading.{words_of}
 use Rattle.pb_parse.specs.declared.script.code.ScriptCode.{ScriptCode}
-use Rattle.pb_parse.specs.ScriptWords.{padded, content_of, cell_at, put_of, del_of, write_of, operation}
+use Rattle.pb_parse.specs.ScriptWords.{padded_value, content_of, cell_at, put_of, del_of, write_of, operation}
 use Rattle.law_texts.specs.OperationTexts.{AreDigitsOf, AreInRange, IsOperationOf}
 use Rattle.law_texts.proofs.LowerHex.{digit_of, digits_hold, none_upper}
 use Rattle.pb_reading.proofs.Parts.{Lacks, AreParts, IsNoDigit, blank_no_digit, decimal_lacks, joined_parts, lacks_joined}
@@ -39,8 +39,8 @@ digits_back value digits d =
     let full : (length (encode_lower d.bytes) == 0) ≡ false = not_zero _ (omega (arith, twice, some)) in
     let short : nat_lt 64 (length (encode_lower d.bytes)) ≡ false = le-ltb _ _ (omega (arith, twice, few)) in
     ap content_of d.written
-    ∙ tested (length (encode_lower d.bytes) == 0) (nat_lt 64 (length (encode_lower d.bytes))) (list_any is_ascii_uppercase (encode_lower d.bytes)) (padded (decode_of (encode_lower d.bytes))) full short (none_upper d.bytes d.fit)
-    ∙ ap padded (decode_of-encode_lower d.bytes d.fit)
+    ∙ tested (length (encode_lower d.bytes) == 0) (nat_lt 64 (length (encode_lower d.bytes))) (list_any is_ascii_uppercase (encode_lower d.bytes)) (padded_value (decode_of (encode_lower d.bytes))) full short (none_upper d.bytes d.fit)
+    ∙ ap padded_value (decode_of-encode_lower d.bytes d.fit)
     ∙ ap (λ (zeros : List ℕ). Ok (d.bytes ++ zeros)) (drop-replicate (length d.bytes) 32 0)
     ∙ ap Ok (sym d.padded)
 

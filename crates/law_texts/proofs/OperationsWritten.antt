@@ -15,7 +15,7 @@ use Rattle.pb_reading.specs.Reading.{next_word, no_word, words_of}
 use Rattle.pb_reading.proofs.NumeralValues.{numeral_is}
 use Rattle.pb_reading.proofs.Readings.{then_ok, ok_is, else_ok, next_is, none_left}
 use Rattle.pb_parse.specs.declared.script.code.ScriptCode.{ScriptCode}
-use Rattle.pb_parse.specs.ScriptWords.{padded, content_of, cell_at, put_of, del_of, write_of, operation}
+use Rattle.pb_parse.specs.ScriptWords.{padded_value, content_of, cell_at, put_of, del_of, write_of, operation}
 use Rattle.pb_parse.proofs.NextWords.{same_text}
 use Rattle.law_texts.specs.OperationTexts.{AreDigitsOf, AreInRange, IsOperationOf}
 use Rattle.law_texts.proofs.LowerHex.{lower_written}
@@ -38,7 +38,7 @@ place_is words x h = grind (arith, then_ok, numeral_is, ok_is, next_is)
 
 -- ---- values
 
-padded_is : (r : Result (List ℕ) FromHexError) (value : List ℕ) → padded r ≡ Ok value → (bytes : List ℕ) × (r ≡ Ok bytes) × (bytes ++ drop (length bytes) (replicate 32 0) ≡ value)
+padded_is : (r : Result (List ℕ) FromHexError) (value : List ℕ) → padded_value r ≡ Ok value → (bytes : List ℕ) × (r ≡ Ok bytes) × (bytes ++ drop (length bytes) (replicate 32 0) ≡ value)
 padded_is r value h = grind arith
 
 all_fail : (a b c : Bool) → (a || (b || c)) ≡ false → (a ≡ false) × (b ≡ false) × (c ≡ false)
@@ -47,7 +47,7 @@ all_fail a b c h = grind arith
 -- what is read as a value is written as digits of it
 digits_are : (word value : List ℕ) → content_of word ≡ Ok value → AreDigitsOf value word
 digits_are word value h =
-    let p = else_ok ((length word == 0) || (nat_lt 64 (length word) || list_any is_ascii_uppercase word)) (padded (decode_of word)) ScriptCode.Hex value h in
+    let p = else_ok ((length word == 0) || (nat_lt 64 (length word) || list_any is_ascii_uppercase word)) (padded_value (decode_of word)) ScriptCode.Hex value h in
     let t = all_fail (length word == 0) (nat_lt 64 (length word)) (list_any is_ascii_uppercase word) p.0 in
     let q = padded_is (decode_of word) value p.1 in
     let d = decode_of-ok word q.0 q.1 in

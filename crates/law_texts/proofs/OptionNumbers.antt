@@ -2,10 +2,10 @@
 use Rattle.std.proofs.Common.{◌≡◌, ◌<◌, Some, None, refl, arith}
 use Rattle.std.proofs.lemmas.Bool.Decides.{nat_tests}
 use Rattle.clap.specs.Words.{Text}
-use Rattle.pb_texts.specs.CommandLines.{count_number, profile_of, version_of}
+use Rattle.pb_texts.specs.CommandLines.{count_number, profile_named, version_of}
 use Rattle.law_texts.specs.OptionNumbers.{OptionsNameProfiles, OptionsNameVersions}
 
-no_profile : (text : Text) → 2 < count_number text → profile_of (Some text) ≡ None
+no_profile : (text : Text) → 2 < count_number text → profile_named (Some text) ≡ None
 no_profile text more = grind (arith, nat_tests)
 
 no_version : (text : Text) → 2 < count_number text → version_of (Some text) ≡ None

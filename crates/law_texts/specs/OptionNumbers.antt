@@ -4,15 +4,15 @@ use Rattle.std.specs.Prelude.{◌≡◌, ◌<◌, codes, Some, None}
 use Rattle.clap.specs.Words.{Text}
 use Rattle.pb_isa.specs.declared.profile.Profile.{Profile}
 use Rattle.pb_helpers.specs.declared.change.Version.{Version}
-use Rattle.pb_texts.specs.CommandLines.{count_number, profile_of, version_of}
+use Rattle.pb_texts.specs.CommandLines.{count_number, profile_named, version_of}
 
 -- 1 where none is named, else 1 or 2
 pub record OptionsNameProfiles : Type 0 where
-  pub left_out : profile_of None ≡ Some Profile.One
-  pub one : profile_of (Some (codes "1")) ≡ Some Profile.One
-  pub two : profile_of (Some (codes "2")) ≡ Some Profile.Two
-  pub zero : profile_of (Some (codes "0")) ≡ None
-  pub more : (text : Text) → 2 < count_number text → profile_of (Some text) ≡ None
+  pub left_out : profile_named None ≡ Some Profile.One
+  pub one : profile_named (Some (codes "1")) ≡ Some Profile.One
+  pub two : profile_named (Some (codes "2")) ≡ Some Profile.Two
+  pub zero : profile_named (Some (codes "0")) ≡ None
+  pub more : (text : Text) → 2 < count_number text → profile_named (Some text) ≡ None
 
 -- and so for versions of the change record
 pub record OptionsNameVersions : Type 0 where

@@ -38,7 +38,7 @@ module _ (v : Position) (a : Placement) (p : IsPlacement (length v.bytes) a) whe
       let one = law v.judged v.bytes v.start v.talk f.result g.result f.writes g.writes (meant_by f l) (meant_by g m) in
       grind (arith, l.judged, m.judged, l.bytes, m.bytes, l.start, m.start, l.talk, m.talk)
 
-  ends_once : EachHasOneMeaning → (o : ℕ) (s : Ts) (r n : ℕ) (what more : Declared) → steps.Ends o v r what → steps.Ends o v n more → RunPlace.Planning r (fresh s.0 what) ≡ RunPlace.Planning n (fresh s.0 more)
+  ends_once : EachHasOneMeaning → (o : ℕ) (s : Ts) (r n : ℕ) (what more : Declared) → steps.ExitsAs o v r what → steps.ExitsAs o v n more → RunPlace.Planning r (fresh s.0 what) ≡ RunPlace.Planning n (fresh s.0 more)
   ends_once law o s r n what more x y =
       let e : x.left ≡ y.left = leaves_once law x.left y.left x.leaves y.leaves in
       λ i. RunPlace.Planning ((x.result ∙ (ap (λ (f : Meant). f.result) e ∙ sym y.result)) i) (fresh s.0 ((x.declares ∙ (ap (Declared.Run o) e ∙ sym y.declares)) i))

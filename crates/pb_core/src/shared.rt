@@ -161,7 +161,7 @@ impl<T: Tablet> Shared<T> {
     ghost use Rattle.pb_steps.specs.State.{opening, phase_in};
     ghost use Rattle.pb_steps.specs.Readings.{lock_count};
     ghost use Rattle.pb_steps.specs.Answers.{CanAnswer};
-    ghost use Rattle.pb_state.specs.Admitted.{Admits, step_of};
+    ghost use Rattle.pb_state.specs.Admitted.{Admits, step_admitted};
     ghost use Rattle.pb_core.specs.Calls.{AreSeats, Calls, call_reason};
     ghost use Rattle.pb_history.specs.Handled.{TellsQuiet};
     ghost use Rattle.pb_history.specs.History.{TellsHistory};
@@ -373,7 +373,7 @@ impl<T: Tablet> Shared<T> {
     // A step with what it needs, or why its call is refused: of the reasons that apply, the one with the lowest number.
     fn admit<'s>(&self, seat: u32, step: &'s Step) -> Result<Admitted<'s>, Reason>
         ensures reason { result_err result ≡ call_reason self.now seat step.now }
-        ensures step { IfOk result (λ a. step_of a ≡ step.now) }
+        ensures step { IfOk result (λ a. step_admitted a ≡ step.now) }
         ensures admitted { IfOk result (λ a. Admits self.now.state seat a) }
     {
         // 44 lies between the state's own numbers, so that it is told before those above it.
@@ -431,7 +431,7 @@ impl<T: Tablet> Shared<T> {
         admitted: &Admitted<'_>,
     ) -> Result<Answer, NoMemory>
         requires allowed { call_reason self.old seat.old.number step.now ≡ None }
-        requires step { step_of admitted.now ≡ step.now }
+        requires step { step_admitted admitted.now ≡ step.now }
         requires admitted { Admits self.old.state seat.old.number admitted.now }
         ensures taken { IfOk result (λ a. Calls self.old seat.old step.now a self.new seat.new) }
         ensures table { OnErr result (self.new ≡ self.old) }

@@ -20,7 +20,7 @@ use Rattle.pb_decode.specs.Opcodes.{opcode, IsFormOf, form_of}
 use Rattle.pb_decode.specs.Fields.{slot_bytes, slot_of_bytes}
 use Rattle.pb_decode.specs.Encoding.{first_slot, second_slot, second_bytes, insn_bytes}
 use Rattle.pb_reading.specs.Reading.{◌>>=◌}
-use Rattle.pb_decode.specs.Reading.{is_alu_offset, is_clean, is_second, pair_of, size_of_bits, insn_of_form, clean_or_code, first_with, first_of}
+use Rattle.pb_decode.specs.Reading.{is_alu_offset, is_clean, is_second_slot, pair_of, size_of_bits, insn_of_form, clean_or_code, first_with, first_of}
 use Rattle.pb_decode.specs.Faults.{AreBytes}
 use Rattle.pb_decode.proofs.SlotBytes.{IsSlot, front_slot, is_slot, rest_bytes, same_slot, slot_back}
 use Rattle.pb_decode.proofs.OpcodeTable.{form_front, form_back, reg_back, reg_front}
@@ -60,15 +60,15 @@ single : (p : Profile) (i : Insn) (s : SlotFields) (rest : List ℕ) (x : Read) 
 single p i s rest x is alone fits of e = grind arith
 
 -- a pair that is read has its second slot, with nothing but an immediate
-pair_cases : (d : Reg) (s : SlotFields) (rest : List ℕ) (x : Read) (short clean : Bool) → nat_lt (length rest) 8 ≡ short → is_second (slot_of_bytes rest) ≡ clean
+pair_cases : (d : Reg) (s : SlotFields) (rest : List ℕ) (x : Read) (short clean : Bool) → nat_lt (length rest) 8 ≡ short → is_second_slot (slot_of_bytes rest) ≡ clean
     → cond short (Err DecodeCode.CutOff) (cond clean (Ok (Insn.LoadImm d (s.imm + 2 ^ 32 * (slot_of_bytes rest).imm), drop 8 rest)) (Err DecodeCode.SecondSlot)) ≡ done x
-    → (8 ≤ length rest) × (is_second (slot_of_bytes rest) ≡ true) × ((Insn.LoadImm d (s.imm + 2 ^ 32 * (slot_of_bytes rest).imm), drop 8 rest) ≡ x)
+    → (8 ≤ length rest) × (is_second_slot (slot_of_bytes rest) ≡ true) × ((Insn.LoadImm d (s.imm + 2 ^ 32 * (slot_of_bytes rest).imm), drop 8 rest) ≡ x)
 pair_cases d s rest x short clean p q e = grind arith
 
 -- a pair that is read is spelt so: both halves are those of its number
 pair_takes : (profile : Profile) (d : Reg) (s : SlotFields) (rest : List ℕ) (x : Read) → opcode Form.LoadImm ≡ s.opcode → number d ≡ s.dst → 0 ≡ s.src → 0 ≡ s.offset → IsSlot s → AreBytes rest → pair_of d s.imm rest ≡ Ok x → Takes profile s rest x
 pair_takes profile d s rest x o p z f is fits e =
-    let c = pair_cases d s rest x (nat_lt (length rest) 8) (is_second (slot_of_bytes rest)) refl refl e in
+    let c = pair_cases d s rest x (nat_lt (length rest) 8) (is_second_slot (slot_of_bytes rest)) refl refl e in
     let t = slot_of_bytes rest in
     let low = s.imm in
     let high = t.imm in

@@ -11,7 +11,7 @@ use Rattle.pb_decode.specs.declared.fault.DecodeCode.{DecodeCode}
 use Rattle.pb_decode.specs.Opcodes.{opcode, IsFormOf, form_of}
 use Rattle.pb_decode.specs.Fields.{slot_of_bytes}
 use Rattle.pb_reading.specs.Reading.{◌>>=◌}
-use Rattle.pb_decode.specs.Reading.{is_clean, is_second, insn_of_form, clean_or_code, first_with, first_of}
+use Rattle.pb_decode.specs.Reading.{is_clean, is_second_slot, insn_of_form, clean_or_code, first_with, first_of}
 use Rattle.pb_decode.specs.Faults.{decode_code, Applies, IsLowest}
 use Rattle.pb_decode.specs.Encoding.{insn_bytes}
 use Rattle.pb_isa.specs.Bounds.{Fits}
@@ -90,9 +90,9 @@ least_second : (profile : Profile) (bytes : List ℕ) → Passed profile bytes F
 least_second profile bytes p long other h = grind (arith, known_opcode, low_registers, clean_fields, not_short)
 
 -- of a pair the end is told before the second slot
-pair_told : (profile : Profile) (bytes : List ℕ) (x : Read) → Passed profile bytes Form.LoadImm → (short second : Bool) → nat_lt (length (drop 8 bytes)) 8 ≡ short → is_second (slot_of_bytes (drop 8 bytes)) ≡ second → Told profile bytes (cond short (Err DecodeCode.CutOff) (cond second (Ok x) (Err DecodeCode.SecondSlot)))
+pair_told : (profile : Profile) (bytes : List ℕ) (x : Read) → Passed profile bytes Form.LoadImm → (short second : Bool) → nat_lt (length (drop 8 bytes)) 8 ≡ short → is_second_slot (slot_of_bytes (drop 8 bytes)) ≡ second → Told profile bytes (cond short (Err DecodeCode.CutOff) (cond second (Ok x) (Err DecodeCode.SecondSlot)))
 pair_told profile bytes x p true second a b = record { applies = ((form_front profile (slot_of_bytes bytes).opcode Form.LoadImm p.is).0, ltb-true (length (drop 8 bytes)) 8 a); least = least_cut profile bytes p }
-pair_told profile bytes x p false true a b = only_pair profile bytes Form.LoadImm p (not_short profile bytes (ltb-false (length (drop 8 bytes)) 8 a)) (λ h. not_false (is_second (slot_of_bytes (drop 8 bytes))) b h.2)
+pair_told profile bytes x p false true a b = only_pair profile bytes Form.LoadImm p (not_short profile bytes (ltb-false (length (drop 8 bytes)) 8 a)) (λ h. not_false (is_second_slot (slot_of_bytes (drop 8 bytes))) b h.2)
 pair_told profile bytes x p false false a b =
     let long = ltb-false (length (drop 8 bytes)) 8 a in
     record { applies = ((form_front profile (slot_of_bytes bytes).opcode Form.LoadImm p.is).0, long, b); least = least_second profile bytes p long }

@@ -15,7 +15,7 @@ use Rattle.pb_decode.specs.declared.forms.Form.{Form}
 use Rattle.pb_decode.specs.Opcodes.{opcode, IsFormOf}
 use Rattle.pb_decode.specs.Fields.{slot_of_bytes}
 use Rattle.pb_decode.specs.Encoding.{encoding, Encodes}
-use Rattle.pb_decode.specs.Reading.{is_clean, is_second}
+use Rattle.pb_decode.specs.Reading.{is_clean, is_second_slot}
 
 -- the numbers by which the faults are told
 abbrev pub decode_code : DecodeCode → ℕ
@@ -37,7 +37,7 @@ Applies p bytes DecodeCode.Opcode = (f : Form) → IsFormOf p f → opcode f ≢
 Applies p bytes DecodeCode.Register = (10 < (slot_of_bytes bytes).dst) ⊎ (10 < (slot_of_bytes bytes).src)
 Applies p bytes DecodeCode.Unused = (f : Form) × IsFormOf p f × (opcode f ≡ (slot_of_bytes bytes).opcode) × (is_clean p f (slot_of_bytes bytes) ≡ false)
 Applies p bytes DecodeCode.CutOff = (opcode Form.LoadImm ≡ (slot_of_bytes bytes).opcode) × (length (drop 8 bytes) < 8)
-Applies p bytes DecodeCode.SecondSlot = (opcode Form.LoadImm ≡ (slot_of_bytes bytes).opcode) × (8 ≤ length (drop 8 bytes)) × (is_second (slot_of_bytes (drop 8 bytes)) ≡ false)
+Applies p bytes DecodeCode.SecondSlot = (opcode Form.LoadImm ≡ (slot_of_bytes bytes).opcode) × (8 ≤ length (drop 8 bytes)) × (is_second_slot (slot_of_bytes (drop 8 bytes)) ≡ false)
 
 -- the lowest code that applies
 pub record IsLowest (p : Profile) (bytes : List ℕ) (code : DecodeCode) : Type 0 where

@@ -40,14 +40,14 @@ is_clean p Form.Call s = (s.dst == 0) && ((s.src == 0) && (s.offset == 0))
 is_clean p Form.Exit s = (s.dst == 0) && ((s.src == 0) && ((s.offset == 0) && (s.imm == 0)))
 
 -- a second slot has nothing but an immediate
-abbrev pub is_second : SlotFields → Bool
-is_second s = (s.opcode == 0) && ((s.dst == 0) && ((s.src == 0) && (s.offset == 0)))
+abbrev pub is_second_slot : SlotFields → Bool
+is_second_slot s = (s.opcode == 0) && ((s.dst == 0) && ((s.src == 0) && (s.offset == 0)))
 
 -- the 64-bit immediate of this low half, whose high half stands in the slot behind
 abbrev pub pair_of : Reg → ℕ → List ℕ → Result (Insn × List ℕ) DecodeCode
 pair_of dst low rest =
     if nat_lt (length rest) 8 then Err DecodeCode.CutOff
-    else if is_second (slot_of_bytes rest) then Ok (Insn.LoadImm dst (low + 2 ^ 32 * (slot_of_bytes rest).imm), drop 8 rest)
+    else if is_second_slot (slot_of_bytes rest) then Ok (Insn.LoadImm dst (low + 2 ^ 32 * (slot_of_bytes rest).imm), drop 8 rest)
     else Err DecodeCode.SecondSlot
 
 -- the source operand

@@ -12,7 +12,7 @@ ghost use Rattle.pb_decode.specs.declared.fault.DecodeCode.{DecodeCode};
 ghost use Rattle.pb_decode.specs.declared.fault.DecodeCode.TheVariants.{Register};
 ghost use Rattle.pb_decode.specs.Fields.{slot_of_bytes};
 ghost use Rattle.pb_decode.specs.Encoding.{insn_bytes, encoding, Encodes, in_profile};
-ghost use Rattle.pb_decode.specs.Reading.{is_second, pair_of, operand_of_source, size_of_bits, alu_of, insn_of_form, first_of};
+ghost use Rattle.pb_decode.specs.Reading.{is_second_slot, pair_of, operand_of_source, size_of_bits, alu_of, insn_of_form, first_of};
 ghost use Rattle.pb_decode.specs.Faults.{Applies, whole_fault, told_as, IsDecodeFault, AreRefusedAs, IsRefusal, IsRefusalInside, IsNoMemory, IsNoMemoryOr, AreSpelt, AreBytes, HasProgram, HasFault};
 
 use crate::fault::{DecodeCode, DecodeFault};
@@ -33,8 +33,8 @@ fn register(number: u8) -> Result<Reg, DecodeCode>
 }
 
 // Whether a slot has nothing but an immediate.
-fn is_second(slot: SlotFields) -> bool
-    ensures { result ≡ is_second slot }
+fn is_second_slot(slot: SlotFields) -> bool
+    ensures { result ≡ is_second_slot slot }
 {
     slot.opcode == 0 && slot.dst == 0 && slot.src == 0 && slot.offset == 0
 }
@@ -48,7 +48,7 @@ fn pair_of(dst: Reg, low: u32, bytes: &[u8]) -> Result<(Insn, &[u8]), DecodeCode
         return Err(DecodeCode::CutOff);
     }
     let second = SlotFields::at(bytes);
-    if !is_second(second) {
+    if !is_second_slot(second) {
         return Err(DecodeCode::SecondSlot);
     }
     let imm = u64::from(low) + 0x1_0000_0000 * u64::from(second.imm);

@@ -12,7 +12,7 @@ use Rattle.pb_worker.specs.Work.{KeepsOpening}
 use Rattle.pb_base.specs.Taking.{Taking}
 use Rattle.pb_driver.specs.declared.fault.RunFault.{RunFault}
 use Rattle.pb_driver.specs.declared.run.Ran.{Ran}
-use Rattle.pb_driver.specs.Runs.{Remains, WorkersLeave, FinishAccepts, Concludes, RunsOn}
+use Rattle.pb_driver.specs.Runs.{Remains, WorkersLeave, FinishAccepts, Concludes, RunsOnTable}
 
 -- a legal journal is so from what the table was opened with
 legal_from : (before after : SharedOf) → KeepsOpening before after → IsLegalTable after → IsLegal before.state.observers before.state.seats before.opened after.journal after.state
@@ -31,7 +31,7 @@ module _ (law : ChangesAreMade) (before : SharedOf) (olds : List SeatOf) (batche
     made = law (opening_of before) before.state.observers batches spares olds left.seats left.refusals left.unfinished before left.table seated some leave.worked legal agree;
   }
 
-  pub concluded : (out : Taking) (r : Result Ran RunFault) → Concludes left out r → RunsOn before olds batches spares out r
+  pub concluded : (out : Taking) (r : Result Ran RunFault) → Concludes left out r → RunsOnTable before olds batches spares out r
   concluded out (Ok ran) c = record { left = left; accepts = accepts c.0 c.1; undone = c.2; wrote = c.3 }
   concluded out (Err RunFault.Output) c = record { left = left; accepts = accepts c.0 c.1; began = c.2 }
   concluded out (Err RunFault.SeatsDiffer) c = (record { left = left; leave = leave; differ = c.0 }, c.1)

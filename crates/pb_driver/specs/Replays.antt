@@ -14,7 +14,7 @@ use Rattle.pb_world.specs.Events.{WorldOf, idle_actors, RunsTo, StopsAtEvent}
 use Rattle.pb_base.specs.Taking.{Taking, TookNothing}
 use Rattle.pb_script.specs.TableReports.{Wrote, Began}
 use Rattle.pb_driver.specs.declared.fault.RunFault.{RunFault}
-use Rattle.pb_driver.specs.Texts.{IsReplayRead, IsReplayUnread, fresh}
+use Rattle.pb_driver.specs.Texts.{IsReplayRead, IsReplayUnread, table_opened}
 
 -- the fault of a replay with an event at fault
 abbrev pub of_event : ℕ → EventFault → RunFault
@@ -24,30 +24,30 @@ of_event event fault = RunFault.Event (record { event = event; fault = fault })
 -- ---- the events and their report
 
 -- the events happened, and the report of the world that they lead to was written
-pub record Reported (w : WorldOf) (events : List Event) (out : Taking) : Type 0 where
+pub record ReplayReported (w : WorldOf) (events : List Event) (out : Taking) : Type 0 where
   pub notes : List Note
   pub after : WorldOf
   pub runs : RunsTo w events notes after
   pub wrote : Wrote after.shared out
 
 -- a beginning of that report was written
-pub record BeganReport (w : WorldOf) (events : List Event) (out : Taking) : Type 0 where
+pub record BeganReplayReport (w : WorldOf) (events : List Event) (out : Taking) : Type 0 where
   pub notes : List Note
   pub after : WorldOf
   pub runs : RunsTo w events notes after
   pub began : Began after.shared out
 
 -- an event was at fault by itself
-pub record Stopped (w : WorldOf) (events : List Event) (f : WorldFault) : Type 0 where
+pub record ReplayStopped (w : WorldOf) (events : List Event) (f : WorldFault) : Type 0 where
   pub other : f.fault ≢ memory_fault
   pub after : WorldOf
   pub stops : StopsAtEvent w events f.event (fault_code f.fault) after
 
 -- how a run of events in a world ended, and what the sink took
 abbrev pub EventsEnd : WorldOf → List Event → Taking → Result (Unit {0}) RunFault → Type 0
-EventsEnd w events out (Ok u) = Reported w events out
-EventsEnd w events out (Err RunFault.Output) = BeganReport w events out
-EventsEnd w events out (Err (RunFault.Event f)) = Stopped w events f × TookNothing out
+EventsEnd w events out (Ok u) = ReplayReported w events out
+EventsEnd w events out (Err RunFault.Output) = BeganReplayReport w events out
+EventsEnd w events out (Err (RunFault.Event f)) = ReplayStopped w events f × TookNothing out
 EventsEnd w events out (Err (RunFault.NoMemory refused)) = TookNothing out
 EventsEnd w events out (Err _) = ⊥
 
@@ -64,8 +64,8 @@ pub record OpensReplay (places last : ℕ) (manifest script schedule : List ℕ)
   pub batches : List Writes
   pub read : IsReplayRead manifest script schedule observers batches events
   pub seats : List SeatOf
-  pub seated : AreSeats (fresh places observers MAX_SEATS last) seats
-  pub opened : world ≡ opened_world (fresh places observers MAX_SEATS last) seats batches
+  pub seated : AreSeats (table_opened places observers MAX_SEATS last) seats
+  pub opened : world ≡ opened_world (table_opened places observers MAX_SEATS last) seats batches
 
 -- the schedule's events ended so in the world that the three texts open
 pub record ReplayedOn (places last : ℕ) (manifest script schedule : List ℕ) (out : Taking) (result : Result (Unit {0}) RunFault) : Type 0 where

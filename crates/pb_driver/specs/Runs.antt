@@ -17,7 +17,7 @@ use Rattle.pb_base.specs.Taking.{Taking, TookNothing}
 use Rattle.pb_script.specs.TableReports.{Wrote, Began}
 use Rattle.pb_driver.specs.declared.fault.RunFault.{RunFault}
 use Rattle.pb_driver.specs.declared.run.Ran.{Ran}
-use Rattle.pb_driver.specs.Texts.{IsRunRead, IsRunUnread, fresh}
+use Rattle.pb_driver.specs.Texts.{IsRunRead, IsRunUnread, table_opened}
 
 -- ---- what workers leave
 
@@ -75,12 +75,12 @@ pub record Differ (before : SharedOf) (olds : List SeatOf) (batches : List Write
   pub differ : Agree left.table left.seats → ⊥
 
 -- how a run on a table as opened ended, and what the sink took
-abbrev pub RunsOn : SharedOf → List SeatOf → List Writes → List Spare → Taking → Result Ran RunFault → Type 0
-RunsOn before olds batches spares out (Ok ran) = Reported before olds batches spares ran out
-RunsOn before olds batches spares out (Err RunFault.Output) = BeganReport before olds batches spares out
-RunsOn before olds batches spares out (Err RunFault.SeatsDiffer) = Differ before olds batches spares × TookNothing out
-RunsOn before olds batches spares out (Err (RunFault.NoMemory refused)) = TookNothing out
-RunsOn before olds batches spares out (Err _) = ⊥
+abbrev pub RunsOnTable : SharedOf → List SeatOf → List Writes → List Spare → Taking → Result Ran RunFault → Type 0
+RunsOnTable before olds batches spares out (Ok ran) = Reported before olds batches spares ran out
+RunsOnTable before olds batches spares out (Err RunFault.Output) = BeganReport before olds batches spares out
+RunsOnTable before olds batches spares out (Err RunFault.SeatsDiffer) = Differ before olds batches spares × TookNothing out
+RunsOnTable before olds batches spares out (Err (RunFault.NoMemory refused)) = TookNothing out
+RunsOnTable before olds batches spares out (Err _) = ⊥
 
 -- ---- the whole
 
@@ -91,8 +91,8 @@ pub record RanOn (places : ℕ) (manifest script : List ℕ) (workers last : ℕ
   pub batches : List Writes
   pub read : IsRunRead manifest script observers batches
   pub seats : List SeatOf
-  pub seated : AreSeats (fresh places observers (workers + 1) last) seats
-  pub ends : RunsOn (fresh places observers (workers + 1) last) seats batches spares out result
+  pub seated : AreSeats (table_opened places observers (workers + 1) last) seats
+  pub ends : RunsOnTable (table_opened places observers (workers + 1) last) seats batches spares out result
 
 -- how a run of two texts ended, and what the sink took
 abbrev pub RunsTexts : ℕ → List ℕ → List ℕ → ℕ → ℕ → List Spare → Taking → Result Ran RunFault → Type 0

@@ -79,5 +79,5 @@ IsReplayUnread manifest script schedule f = IsRunUnread manifest script f
 -- ---- the table
 
 -- a table of so many tablets with these observers, so many seats and room for the most entries, as opened
-abbrev pub fresh : ℕ → List ObserverOf → ℕ → ℕ → SharedOf
-fresh places observers seats last = record { journal = []; state = opening observers seats last; opened = last; limit = MAX_ENTRIES; places = places }
+abbrev pub table_opened : ℕ → List ObserverOf → ℕ → ℕ → SharedOf
+table_opened places observers seats last = record { journal = []; state = opening observers seats last; opened = last; limit = MAX_ENTRIES; places = places }

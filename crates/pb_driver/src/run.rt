@@ -5,7 +5,7 @@ ghost use Rattle.pb_store.specs.Contents.{nothing};
 ghost use Rattle.pb_core.specs.Calls.{AreSeats};
 ghost use Rattle.pb_worker.specs.Swaps.{spares_of};
 ghost use Rattle.pb_base.specs.Taking.{taking};
-ghost use Rattle.pb_driver.specs.Runs.{Concludes, RunsOn, RunsTexts};
+ghost use Rattle.pb_driver.specs.Runs.{Concludes, RunsOnTable, RunsTexts};
 
 use crate::fault::RunFault;
 use crate::replay::unopened;
@@ -84,7 +84,7 @@ fn run_on<R: Threads + Wait + Sync, T: Tablet + Send, S: Sink>(
     requires seated { AreSeats shared seats.items }
     requires some { 1 < vec_len seats }
     requires unfailed { S.failed sink.old ≡ false }
-    ensures { RunsOn shared seats.items batches.items (spares_of T.contents spares.items)
+    ensures { RunsOnTable shared seats.items batches.items (spares_of T.contents spares.items)
         (taking S.taken S.failed sink.old sink.new) result }
 {
     // For the proof: where the seats agree, the journal's committed changes are those that aren't named as unfinished.

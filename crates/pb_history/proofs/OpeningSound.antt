@@ -8,7 +8,7 @@ use Rattle.pb_store.specs.declared.slot.Sort.{Sort}
 use Rattle.pb_verify.specs.Observers.{ObserverOf}
 use Rattle.pb_steps.specs.State.{TransactionOf, opening, is_in}
 use Rattle.pb_steps.specs.Readings.{data_of, primary_of, start_of}
-use Rattle.pb_history.specs.TableView.{TableView, declared_by, prewritten_by, reads_by, view_of}
+use Rattle.pb_history.specs.TableView.{TableView, declared_by, prewritten_by, reads_recorded, view_of}
 use Rattle.pb_history.specs.Sound.{IsSoundView, IsSoundTable}
 
 -- a table without entries and transactions
@@ -23,7 +23,7 @@ view_at_opening observers seats clock i = record {
   content = λ s. content_in (declared_by (map.get-empty nat_cmp s i));
   primary = λ s. primary_in (declared_by (map.get-empty nat_cmp s i));
   prewritten = λ s. is_in (prewritten_by (map.get-empty nat_cmp s i));
-  reads = λ s. reads_by (map.get-empty nat_cmp s i);
+  reads = λ s. reads_recorded (map.get-empty nat_cmp s i);
   lock = λ x s. primary_of (map.get-empty slot_cmp (slot_at x Sort.Lock s) i);
   stored = λ x s. data_of (map.get-empty slot_cmp (slot_at x Sort.Data s) i);
   write = λ x c. start_of (map.get-empty slot_cmp (slot_at x Sort.Write c) i);

@@ -25,7 +25,7 @@ use Rattle.pb_steps.specs.Reads.{asked_cell, read_up_to, stamp_of, value_in, fou
 use Rattle.pb_steps.specs.Steps.{StepCase}
 use Rattle.pb_history.specs.declared.entry.Entry.{Entry}
 use Rattle.pb_history.specs.Journals.{JournalLeads, IsLegal}
-use Rattle.pb_history.specs.TableView.{reads_by}
+use Rattle.pb_history.specs.TableView.{reads_recorded}
 use Rattle.pb_history.specs.Sound.{IsSoundTable}
 use Rattle.pb_history.specs.History.{Has, Member, InHistory, IsSnapshot, NoSnapshot}
 use Rattle.pb_history.specs.ReadsTold.{TellsVersion, TellsReads}
@@ -145,7 +145,7 @@ module _ (journal : List Entry) (state : StateOf) (a : Agrees journal state) (i 
       let r = run_declared state.observers o row m.start c.t.reads d.0 may in
       let known = subst IsKnown r.2 d.3 in
       run_is m o row c.t.reads r.0 r.1
-      (λ q g. recorded_tells journal state a i m.start q.cell q.at q.answer (subst (λ o. Has (reads_by o) q) (sym c.there) g))
+      (λ q g. recorded_tells journal state a i m.start q.cell q.at q.answer (subst (λ o. Has (reads_recorded o) q) (sym c.there) g))
       r.3 known (c.writes ∙ d.2 ∙ (λ j. cells_of state.observers (mine j) m.start (r.2 j)))
 
 pub tells_runs : (observers : List ObserverOf) (seats clock : ℕ) (journal : List Entry) (state : StateOf) → IsLegal observers seats clock journal state → TellsRuns journal state

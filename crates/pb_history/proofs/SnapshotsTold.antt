@@ -15,7 +15,7 @@ use Rattle.pb_steps.specs.Readings.{lock_at, write_at}
 use Rattle.pb_history.specs.declared.entry.Entry.{Entry}
 use Rattle.pb_history.specs.Journals.{JournalLeads, IsLegal}
 use Rattle.pb_history.specs.History.{Has, IsEntry, Member, InHistory, WritesTo, IsSnapshot, NoSnapshot}
-use Rattle.pb_history.specs.TableView.{declared_by, reads_by, view_of}
+use Rattle.pb_history.specs.TableView.{declared_by, reads_recorded, view_of}
 use Rattle.pb_history.specs.Sound.{IsSoundTable}
 use Rattle.pb_history.specs.SnapshotsTold.{TellsSnapshot, TellsSnapshots}
 use Rattle.pb_history.specs.WritersTold.{DoNotOverlap, TellsWriters}
@@ -111,13 +111,13 @@ module _ (journal : List Entry) (state : StateOf) (a : Agrees journal state) (i 
   recorded_tells s x at answer is = grind (arith, found_at, absent_at)
 
   read_tells : (seat : ℕ) (s : Ts) (x : Cell) (answer : Answer) → IsEntry journal seat (Step.Read s x) answer → TellsSnapshot state.observers journal s.0 x answer
-  read_tells seat s x (Answer.Found start commit content) e = let told = a.told _ e in found_at s.0 x None start commit content (subst (λ o. Has (reads_by o) (read_of x None (Answer.Found start commit content))) (sym told.1) told.2)
-  read_tells seat s x Answer.Absent e = let told = a.told _ e in absent_at s.0 x None (subst (λ o. Has (reads_by o) (read_of x None Answer.Absent)) (sym told.1) told.2)
+  read_tells seat s x (Answer.Found start commit content) e = let told = a.told _ e in found_at s.0 x None start commit content (subst (λ o. Has (reads_recorded o) (read_of x None (Answer.Found start commit content))) (sym told.1) told.2)
+  read_tells seat s x Answer.Absent e = let told = a.told _ e in absent_at s.0 x None (subst (λ o. Has (reads_recorded o) (read_of x None Answer.Absent)) (sym told.1) told.2)
   read_tells seat s x _ e = tt
 
   read_at_tells : (seat : ℕ) (s : Ts) (x : Cell) (t : Ts) (answer : Answer) → IsEntry journal seat (Step.ReadAt s x t) answer → TellsSnapshot state.observers journal t.0 x answer
-  read_at_tells seat s x t (Answer.Found start commit content) e = let told = a.told _ e in found_at s.0 x (Some t) start commit content (subst (λ o. Has (reads_by o) (read_of x (Some t) (Answer.Found start commit content))) (sym told.1) told.2)
-  read_at_tells seat s x t Answer.Absent e = let told = a.told _ e in absent_at s.0 x (Some t) (subst (λ o. Has (reads_by o) (read_of x (Some t) Answer.Absent)) (sym told.1) told.2)
+  read_at_tells seat s x t (Answer.Found start commit content) e = let told = a.told _ e in found_at s.0 x (Some t) start commit content (subst (λ o. Has (reads_recorded o) (read_of x (Some t) (Answer.Found start commit content))) (sym told.1) told.2)
+  read_at_tells seat s x t Answer.Absent e = let told = a.told _ e in absent_at s.0 x (Some t) (subst (λ o. Has (reads_recorded o) (read_of x (Some t) Answer.Absent)) (sym told.1) told.2)
   read_at_tells seat s x t _ e = tt
 
 -- a read at a timestamp names none above its transaction's start, else it is refused

@@ -28,7 +28,7 @@ use Rattle.pb_steps.specs.CommitSecondary.{CommitsSecondary, if_locked}
 use Rattle.pb_steps.specs.Settle.{Settles}
 use Rattle.pb_steps.specs.Clear.{ClearsCommitted, ClearsBack}
 use Rattle.pb_steps.specs.Steps.{StepCase, TableStep}
-use Rattle.pb_history.specs.TableView.{TableView, declared_by, prewritten_by, reads_by, view_of}
+use Rattle.pb_history.specs.TableView.{TableView, declared_by, prewritten_by, reads_recorded, view_of}
 use Rattle.pb_history.specs.Sound.{HasStamp, ReadTells, IsSoundView, IsSoundTable}
 use Rattle.pb_history.proofs.Updates.{set1, set1_here, set1_same, none_if, same_cell}
 use Rattle.pb_history.proofs.Agreement.{read_of}
@@ -127,7 +127,7 @@ module _ (old : StateOf) (i : IsSoundTable old) (seat : ℕ) (new : StateOf) whe
         content = field_same content_by old.transactions s t (ap content_by (sym unknown)) j;
         primary = field_same primary_by old.transactions s t (ap primary_by (sym unknown)) j;
         prewritten = field_same cells_by old.transactions s t (ap cells_by (sym unknown)) j;
-        reads = field_same reads_by old.transactions s t (ap reads_by (sym unknown)) j;
+        reads = field_same reads_recorded old.transactions s t (ap reads_recorded (sym unknown)) j;
         lock = (view_of old).lock;
         stored = (view_of old).stored;
         write = (view_of old).write;
@@ -143,7 +143,7 @@ module _ (old : StateOf) (i : IsSoundTable old) (seat : ℕ) (new : StateOf) whe
         content = field_same content_by old.transactions s t (sym (ap content_by is)) j;
         primary = field_same primary_by old.transactions s t (sym (ap primary_by is)) j;
         prewritten = field_same cells_by old.transactions s t (sym (ap cells_by is)) j;
-        reads = (field_after reads_by old.transactions s t ∙ ap (λ l. set1 (view_of old).reads s (l ++ read_of x at answer ∷ [])) (sym (ap reads_by is))) j;
+        reads = (field_after reads_recorded old.transactions s t ∙ ap (λ l. set1 (view_of old).reads s (l ++ read_of x at answer ∷ [])) (sym (ap reads_recorded is))) j;
         lock = (view_of old).lock;
         stored = (view_of old).stored;
         write = (view_of old).write;
@@ -165,7 +165,7 @@ module _ (old : StateOf) (i : IsSoundTable old) (seat : ℕ) (new : StateOf) whe
         content = field_same content_by old.transactions s t (sym (ap content_by is)) j;
         primary = field_same primary_by old.transactions s t (sym (ap primary_by is)) j;
         prewritten = field_same cells_by old.transactions s t (sym (ap cells_by is)) j;
-        reads = field_same reads_by old.transactions s t (sym (ap reads_by is)) j;
+        reads = field_same reads_recorded old.transactions s t (sym (ap reads_recorded is)) j;
         lock = (view_of old).lock;
         stored = (view_of old).stored;
         write = (view_of old).write;
@@ -182,7 +182,7 @@ module _ (old : StateOf) (i : IsSoundTable old) (seat : ℕ) (new : StateOf) whe
         content = field_after content_by old.transactions s t j;
         primary = field_after primary_by old.transactions s t j;
         prewritten = field_same cells_by old.transactions s t (sym (ap cells_by is)) j;
-        reads = field_same reads_by old.transactions s t (sym (ap reads_by is)) j;
+        reads = field_same reads_recorded old.transactions s t (sym (ap reads_recorded is)) j;
         lock = (view_of old).lock;
         stored = (view_of old).stored;
         write = (view_of old).write;
@@ -206,7 +206,7 @@ module _ (old : StateOf) (i : IsSoundTable old) (seat : ℕ) (new : StateOf) whe
         content = field_same content_by old.transactions s t (sym (ap content_by is)) j;
         primary = field_same primary_by old.transactions s t (sym (ap primary_by is)) j;
         prewritten = (field_after cells_by old.transactions s t ∙ ap (set1 (view_of old).prewritten s) (one_more_here m.t.prewritten x) ∙ ap (λ (f : Cell → Bool). set1 (view_of old).prewritten s (λ y. f y || same_cell x y)) (sym (ap cells_by is))) j;
-        reads = field_same reads_by old.transactions s t (sym (ap reads_by is)) j;
+        reads = field_same reads_recorded old.transactions s t (sym (ap reads_recorded is)) j;
         lock = lock_after_put old.entries x s m.content m.primary j;
         stored = data_after_put old.entries x s m.content m.primary j;
         write = write_after_put old.entries x s m.content m.primary j;
@@ -227,7 +227,7 @@ module _ (old : StateOf) (i : IsSoundTable old) (seat : ℕ) (new : StateOf) whe
         content = field_same content_by old.transactions s t (sym (ap content_by is)) j;
         primary = field_same primary_by old.transactions s t (sym (ap primary_by is)) j;
         prewritten = field_same cells_by old.transactions s t (sym (ap cells_by is)) j;
-        reads = field_same reads_by old.transactions s t (sym (ap reads_by is)) j;
+        reads = field_same reads_recorded old.transactions s t (sym (ap reads_recorded is)) j;
         lock = (view_of old).lock;
         stored = (view_of old).stored;
         write = (view_of old).write;
@@ -246,7 +246,7 @@ module _ (old : StateOf) (i : IsSoundTable old) (seat : ℕ) (new : StateOf) whe
         content = field_same content_by old.transactions s t (sym (ap content_by is)) j;
         primary = field_same primary_by old.transactions s t (sym (ap primary_by is)) j;
         prewritten = field_same cells_by old.transactions s t (sym (ap cells_by is)) j;
-        reads = field_same reads_by old.transactions s t (sym (ap reads_by is)) j;
+        reads = field_same reads_recorded old.transactions s t (sym (ap reads_recorded is)) j;
         lock = lock_after_commit old.entries m.primary s m.c j;
         stored = data_after_commit old.entries m.primary s m.c j;
         write = write_after_commit old.entries m.primary s m.c j;

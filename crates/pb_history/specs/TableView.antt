@@ -38,9 +38,9 @@ prewritten_by None = []
 prewritten_by (Some t) = t.prewritten
 
 -- its recorded reads
-abbrev pub reads_by : Option TransactionOf → List RecordedRead
-reads_by None = []
-reads_by (Some t) = t.reads
+abbrev pub reads_recorded : Option TransactionOf → List RecordedRead
+reads_recorded None = []
+reads_recorded (Some t) = t.reads
 
 -- a state as these functions
 abbrev pub view_of : StateOf → TableView
@@ -50,7 +50,7 @@ view_of state = record {
   content = λ s. content_in (declared_by (map.get state.transactions s));
   primary = λ s. primary_in (declared_by (map.get state.transactions s));
   prewritten = λ s. is_in (prewritten_by (map.get state.transactions s));
-  reads = λ s. reads_by (map.get state.transactions s);
+  reads = λ s. reads_recorded (map.get state.transactions s);
   lock = lock_at state.entries;
   stored = data_at state.entries;
   write = write_at state.entries;

@@ -11,7 +11,7 @@ use Rattle.pb_store.specs.declared.slot.Slot.{Slot as Name}
 use Rattle.pb_store.specs.declared.slot.Item.{Item}
 use Rattle.pb_store.specs.Slot.{slot_cmp, slot_cmp_total}
 use Rattle.pb_store.specs.Contents.{entries_after}
-use Rattle.pb_memtablet.specs.Stored.{Items, KeyList, found_at, HasItem, item_at, seen, AllKeys, AreApart, AreStored}
+use Rattle.pb_memtablet.specs.Stored.{Items, KeyList, found_at, HasItem, item_at, seen, AllKeys, AreKeysApart, AreStored}
 use Rattle.pb_memtablet.specs.Listed.{EntryList}
 use Rattle.pb_base.proofs.Logic.{truth}
 
@@ -72,21 +72,21 @@ all-put P slot n (k ∷ ks) new all =
       | Greater ↦ (all.0, all-put P slot n ks new all.1)
     ]
 
-apart-where : (p : Name → Bool) (ks : KeyList) → AreApart ks → AreApart (where_key slot_cmp p ks)
+apart-where : (p : Name → Bool) (ks : KeyList) → AreKeysApart ks → AreKeysApart (where_key slot_cmp p ks)
 apart-where p [] a = tt
 apart-where p (k ∷ ks) a = grind (arith, all-where, apart-where p ks a.1)
 
-apart-put : (slot : Name) (n : ℕ) (ks : KeyList) → AllKeys (λ m. m ≢ n) ks → AreApart ks → AreApart (put slot_cmp slot n ks)
+apart-put : (slot : Name) (n : ℕ) (ks : KeyList) → AllKeys (λ m. m ≢ n) ks → AreKeysApart ks → AreKeysApart (put slot_cmp slot n ks)
 apart-put slot n [] new a = (tt, tt)
 apart-put slot n (k ∷ ks) new a =
-    elim (slot_cmp slot k.0) as (λ r. AreApart (by_order r ((slot, n) ∷ k ∷ ks) ((k.0, n) ∷ ks) (k ∷ put slot_cmp slot n ks))) [
+    elim (slot_cmp slot k.0) as (λ r. AreKeysApart (by_order r ((slot, n) ∷ k ∷ ks) ((k.0, n) ∷ ks) (k ∷ put slot_cmp slot n ks))) [
       | Less ↦ (new, a)
       | Equal ↦ (new.1, a.1)
       | Greater ↦ (all-put (λ m. m ≢ k.1) slot n ks (λ e. new.0 (sym e)) a.0, apart-put slot n ks new.1 a.1)
     ]
 
 -- without a slot, the key that stood there is gone
-gone_apart : (slot : Name) (n : ℕ) (ks : KeyList) → find slot_cmp slot ks ≡ Some n → AreApart ks → AllKeys (λ m. m ≢ n) (without slot ks)
+gone_apart : (slot : Name) (n : ℕ) (ks : KeyList) → find slot_cmp slot ks ≡ Some n → AreKeysApart ks → AllKeys (λ m. m ≢ n) (without slot ks)
 gone_apart slot n [] e a = tt
 gone_apart slot n (k ∷ ks) e a =
     elim (eq_by_cmp slot_cmp slot k.0) as (λ b. cond b (Some k.1) (find slot_cmp slot ks) ≡ Some n → AllKeys (λ m. m ≢ n) (cond (not b) (k ∷ without slot ks) (without slot ks))) [
@@ -148,7 +148,7 @@ module _ (s t : Items) (ks ls : KeyList) (slot : Name) (n : ℕ) (item : Item) (
   pub stored_put : T (is_sorted slot_cmp ks) → find slot_cmp slot ks ≡ None → count_by is_some t ≡ count_by is_some s + 1 → AreStored t ls
   stored_put sorted none more = record {
     stored = subst (AllKeys (HasItem t)) (sym e) put_stored;
-    apart = subst AreApart (sym e) (apart-put slot n ks fresh kept.apart);
+    apart = subst AreKeysApart (sym e) (apart-put slot n ks fresh kept.apart);
     counted = more ∙ ap (λ k. k + 1) kept.counted ∙ sym (ap length e ∙ length-put slot_cmp slot_cmp_total slot n ks sorted ∙ ap (λ o. cond (is_some o) (length ks) (length ks + 1)) none);
   }
 
@@ -166,7 +166,7 @@ module _ (s t : Items) (ks ls : KeyList) (slot : Name) (n : ℕ) (kept : AreStor
       let same = ap length e in
       record {
         stored = subst (AllKeys (HasItem t)) (sym e) (still_stored s t n (without slot ks) others left (all-where (HasItem s) _ ks kept.stored));
-        apart = subst AreApart (sym e) (apart-where _ ks kept.apart);
+        apart = subst AreKeysApart (sym e) (apart-where _ ks kept.apart);
         counted = omega (arith, size, same, fewer, kept.counted);
       }
 

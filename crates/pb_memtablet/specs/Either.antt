@@ -4,11 +4,11 @@ use Rattle.pb_store.specs.Contents.{Contents}
 use Rattle.pb_memtablet.specs.declared.either.EitherTablet.{EitherTablet}
 
 -- what the tablet inside contains
-abbrev pub contents_of : EitherTablet → Contents
-contents_of (EitherTablet.List t) = t
-contents_of (EitherTablet.Slab t) = t
+abbrev pub contents_inside : EitherTablet → Contents
+contents_inside (EitherTablet.List t) = t
+contents_inside (EitherTablet.Slab t) = t
 
 -- whether it is a slab, else a list
-abbrev pub is_slab : EitherTablet → Bool
-is_slab (EitherTablet.List t) = false
-is_slab (EitherTablet.Slab t) = true
+abbrev pub is_slab_inside : EitherTablet → Bool
+is_slab_inside (EitherTablet.List t) = false
+is_slab_inside (EitherTablet.Slab t) = true

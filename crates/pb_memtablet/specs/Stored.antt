@@ -36,14 +36,14 @@ AllKeys P [] = Unit {0}
 AllKeys P (k ∷ ks) = P k.1 × AllKeys P ks
 
 -- no key stands twice
-abbrev pub AreApart : KeyList → Type 0
-AreApart [] = Unit {0}
-AreApart (k ∷ ks) = AllKeys (λ n. n ≢ k.1) ks × AreApart ks
+abbrev pub AreKeysApart : KeyList → Type 0
+AreKeysApart [] = Unit {0}
+AreKeysApart (k ∷ ks) = AllKeys (λ n. n ≢ k.1) ks × AreKeysApart ks
 
 -- each key has its own item, and the slab no other
 pub record AreStored (s : Items) (ks : KeyList) : Type 0 where
   pub stored : AllKeys (HasItem s) ks
-  pub apart : AreApart ks
+  pub apart : AreKeysApart ks
   pub counted : count_by is_some s ≡ length ks
 
 -- slots in order, each with an item of its own and of its sort, and marks in order

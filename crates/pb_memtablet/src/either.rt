@@ -1,7 +1,7 @@
 //! A tablet of either sort: a table is generic over one type, so that one with tablets of both sorts needs this.
 ghost use Rattle.std.specs.Prelude.{◌≡◌};
 ghost use Rattle.pb_store.specs.Contents.{nothing};
-ghost use Rattle.pb_memtablet.specs.Either.{contents_of, is_slab};
+ghost use Rattle.pb_memtablet.specs.Either.{contents_inside, is_slab_inside};
 
 use crate::list::ListTablet;
 use crate::slab_tablet::SlabTablet;
@@ -19,8 +19,8 @@ pub enum EitherTablet {
 impl EitherTablet {
     /// An empty one of this sort. It takes no memory.
     pub fn new(alloc: Global, as_slab: bool) -> EitherTablet
-        ensures contents { contents_of result ≡ nothing }
-        ensures sort { is_slab result ≡ as_slab }
+        ensures contents { contents_inside result ≡ nothing }
+        ensures sort { is_slab_inside result ≡ as_slab }
     {
         if as_slab {
             EitherTablet::Slab(SlabTablet::new(alloc))
@@ -32,7 +32,7 @@ impl EitherTablet {
 
 // Each body passes the call on, so that what it contains is what the tablet inside does.
 impl Tablet for EitherTablet {
-    ghost contents = { contents_of };
+    ghost contents = { contents_inside };
 
     fn get(&self, slot: Slot) -> Option<Item> {
         match self {

@@ -31,7 +31,7 @@ use Rattle.pb_txn.specs.Places as steps
 use Rattle.pb_txn.specs.Plans.{PlanOf}
 use Rattle.pb_txn.specs.Plans as plans
 use Rattle.pb_txn.specs.Conversations.{told}
-use Rattle.pb_txn.specs.Allowed.{IsInRange, IsTimely, PlansAreAllowed}
+use Rattle.pb_txn.specs.Allowed.{IsWorkInRange, IsTimely, PlansAreAllowed}
 use Rattle.pb_txn.specs.Forms.{PlansConverse, PlansEnd}
 use Rattle.pb_notify.specs.declared.look.Look.{Look}
 use Rattle.pb_notify.specs.declared.place.RunPlace.{RunPlace}
@@ -151,8 +151,8 @@ module _ (observers : List ObserverOf) (seats clock : ℕ) (journal : List Entry
           let own : IsOwn state seat i.s.0 u = record { there = got_is ∙ ap (λ l. after state.observers seat i.s l (Some u)) nothing; mine = refl } in
           declares_in_time state seat why seated i.s.0 u own i.s what refl refl its (subst (λ z. step_reason state seat z ≡ Some why) (sym (same_step (Step.Declare i.s what) step next)) refused)
 
-      in_range : (t : TransactionOf) → t.work ≡ Work.Run o row → IsInRange observers t.work
-      in_range t is = subst (IsInRange observers) (sym is) (row_fits, subst (λ c. c < 2 ^ 64) (sym (ap column_or_zero first_there)) column_fits)
+      in_range : (t : TransactionOf) → t.work ≡ Work.Run o row → IsWorkInRange observers t.work
+      in_range t is = subst (IsWorkInRange observers) (sym is) (row_fits, subst (λ c. c < 2 ^ 64) (sym (ap column_or_zero first_there)) column_fits)
 
       timely : plans.next_of p ≡ Some step → IsTimely why
       timely next =

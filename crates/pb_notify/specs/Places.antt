@@ -29,7 +29,7 @@ use Rattle.pb_notify.specs.declared.need.JobEnd.{JobEnd}
 use Rattle.pb_notify.specs.declared.place.RunPlace.{RunPlace}
 use Rattle.pb_notify.specs.Looks.{look_step, look_after, locked_after}
 use Rattle.pb_notify.specs.Machines.{first_position, after_reply, HearsReply}
-use Rattle.pb_notify.specs.Steps.{WentOn, Ends, MovesOn, IsAtExit}
+use Rattle.pb_notify.specs.Steps.{WentOn, ExitsAs, MovesOn, IsAtExit}
 use Rattle.pb_vm.specs.declared.moved.Moved.{Moved}
 use Rattle.pb_vm.specs.Moves.{AskedFor}
 
@@ -149,7 +149,7 @@ locked_at locked _ a = locked
 pub data Comes (o : ℕ) (s : Ts) (v : Position) : RunPlace → Type 0 where
   goes : (w : Position) → WentOn v w → Comes o s v (RunPlace.Computing s w)
   waits : (w : Position) (q : Ask) → AskedFor v q w → Comes o s v (RunPlace.Asking s w q Look.Reading)
-  declares : (r : ℕ) (what : Declared) → Ends o v r what → Comes o s v (RunPlace.Planning r (fresh s.0 what))
+  declares : (r : ℕ) (what : Declared) → ExitsAs o v r what → Comes o s v (RunPlace.Planning r (fresh s.0 what))
 
 -- the machine begins on the record of what was seen of the cell
 pub record Starts (o : ℕ) (judged : JudgedOf) (x : Cell) (s : Ts) (seen : Seen) (place : RunPlace) : Type 0 where

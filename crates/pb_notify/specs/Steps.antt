@@ -17,7 +17,7 @@ pub record WentOn (v w : Position) : Type 0 where
   pub most : w.taken ≤ slots w.judged.program.insns
 
 -- the exit, with register 0, and what the run of this observer declares
-pub record Ends (o : ℕ) (v : Position) (r : ℕ) (what : Declared) : Type 0 where
+pub record ExitsAs (o : ℕ) (v : Position) (r : ℕ) (what : Declared) : Type 0 where
   pub left : Meant
   pub leaves : Leaves v left
   pub result : r ≡ left.result

@@ -3,7 +3,7 @@
 ghost use Rattle.std.specs.Prelude.{◌≡◌, ℕ, length, IfOk, IfErr};
 ghost use Rattle.pb_steps.specs.Reads.{value_in};
 ghost use Rattle.pb_notify.specs.Machines.{first_position, after_reply, HearsReply, exit_at, Leaves};
-ghost use Rattle.pb_notify.specs.Steps.{Ends, MovesOn, FollowsOn};
+ghost use Rattle.pb_notify.specs.Steps.{ExitsAs, MovesOn, FollowsOn};
 ghost use Rattle.pb_vm.specs.MachineSlot.{IsAtSlot};
 ghost use Rattle.pb_vm.specs.Position.{Position};
 ghost use Rattle.pb_vm.specs.declared.moved.Moved.TheVariants.{Ended};
@@ -132,7 +132,7 @@ impl Machine {
     ) -> Result<(u64, Declaration), (Machine, NoMemory)>
         requires { (v : Position) × (r : ℕ) × MovesOn v (Ended r) self }
         ensures ok { (v : Position) (r : ℕ) → MovesOn v (Ended r) self
-            → IfOk result (λ d. Ends observer v d.0 d.1) }
+            → IfOk result (λ d. ExitsAs observer v d.0 d.1) }
         ensures same { (v : Position) (r : ℕ) → MovesOn v (Ended r) self
             → IfErr result (λ e. e.0 ≡ v) }
     {
@@ -167,7 +167,7 @@ fn declare(
 ) -> Result<(u64, Declaration), (Machine, NoMemory)>
     requires leaves { Leaves (exit_at left taken) left }
     requires at { IsAtSlot (exit_at left taken) slot }
-    ensures ok { IfOk result (λ d. Ends observer (exit_at left taken) d.0 d.1) }
+    ensures ok { IfOk result (λ d. ExitsAs observer (exit_at left taken) d.0 d.1) }
     ensures same { IfErr result (λ e. e.0 ≡ exit_at left taken) }
 {
     let end = left.result();

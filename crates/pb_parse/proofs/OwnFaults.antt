@@ -6,7 +6,7 @@ use Rattle.hex.specs.Hex.{decode_of}
 use Rattle.pb_parse.specs.declared.script.code.ScriptCode.{ScriptCode}
 use Rattle.pb_reading.specs.Reading.{next_word, no_word, words_of}
 use Rattle.pb_reading.proofs.Readings.{FailsBy, then_fails, if_fails, next_fails, end_fails, numeral_fails}
-use Rattle.pb_parse.specs.ScriptWords.{number_upto, padded, content_of, cell_at, put_of, del_of, write_of, operation}
+use Rattle.pb_parse.specs.ScriptWords.{number_upto, padded_value, content_of, cell_at, put_of, del_of, write_of, operation}
 
 -- a fault that an operation can have by itself: 70, 71 or 72
 abbrev pub IsOwn : ScriptCode → Type 0
@@ -25,12 +25,12 @@ FaultIsOwn r = FailsBy IsOwn r
 number : (greatest : ℕ) (word : List ℕ) → FaultIsOwn (number_upto greatest word)
 number greatest word = numeral_fails IsOwn ScriptCode.Form ScriptCode.Range greatest word tt tt
 
-pads : {E : Type 0} (r : Result (List ℕ) E) → FaultIsOwn (padded r)
+pads : {E : Type 0} (r : Result (List ℕ) E) → FaultIsOwn (padded_value r)
 pads r = grind arith
 
 -- a value is refused by 72 alone
 content : (word : List ℕ) → FaultIsOwn (content_of word)
-content word = if_fails IsOwn ((length word == 0) || (nat_lt 64 (length word) || list_any is_ascii_uppercase word)) (Err ScriptCode.Hex) (padded (decode_of word)) tt (pads (decode_of word))
+content word = if_fails IsOwn ((length word == 0) || (nat_lt 64 (length word) || list_any is_ascii_uppercase word)) (Err ScriptCode.Hex) (padded_value (decode_of word)) tt (pads (decode_of word))
 
 cell : (words : List (List ℕ)) → FaultIsOwn (cell_at words)
 unfolding cell_at

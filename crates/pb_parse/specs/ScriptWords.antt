@@ -15,13 +15,13 @@ abbrev pub number_upto : ℕ → List ℕ → Result ℕ ScriptCode
 number_upto greatest word = numeral_upto ScriptCode.Form ScriptCode.Range greatest word
 
 -- 32 bytes: those that were read, and zeros
-abbrev pub padded : {E : Type 0} → Result (List ℕ) E → Result (List ℕ) ScriptCode
-padded (Ok bytes) = Ok (bytes ++ drop (length bytes) (replicate 32 0))
-padded (Err e) = Err ScriptCode.Hex
+abbrev pub padded_value : {E : Type 0} → Result (List ℕ) E → Result (List ℕ) ScriptCode
+padded_value (Ok bytes) = Ok (bytes ++ drop (length bytes) (replicate 32 0))
+padded_value (Err e) = Err ScriptCode.Hex
 
 -- 2 to 64 lower-case hexadecimal digits, two for a byte
 abbrev pub content_of : List ℕ → Result (List ℕ) ScriptCode
-content_of word = if (length word == 0) || (nat_lt 64 (length word) || list_any is_ascii_uppercase word) then Err ScriptCode.Hex else padded (decode_of word)
+content_of word = if (length word == 0) || (nat_lt 64 (length word) || list_any is_ascii_uppercase word) then Err ScriptCode.Hex else padded_value (decode_of word)
 
 -- a row and a column, and the words after them
 unfoldable pub cell_at : List (List ℕ) → Result (Cell × List (List ℕ)) ScriptCode

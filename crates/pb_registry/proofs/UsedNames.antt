@@ -10,7 +10,7 @@ use Rattle.pb_helpers.specs.declared.change.Version.{Version}
 use Rattle.pb_verify.specs.Observers.{ObserverOf}
 use Rattle.pb_registry.specs.declared.code.ManifestCode.{ManifestCode}
 use Rattle.pb_registry.specs.declared.observer.RegisteredObserver.{RegisteredObserver}
-use Rattle.pb_registry.specs.Manifests.{WrittenOf, name_in, text_at, column_in, number_at, helpers_in, elements_at, version_in, bytes_in, members_of}
+use Rattle.pb_registry.specs.Manifests.{WrittenOf, name_in, text_at, column_in, number_at, helpers_in, elements_at, record_version, bytes_in, members_of}
 use Rattle.pb_registry.specs.Observers.{observers_of}
 use Rattle.pb_registry.specs.Judging.{IsObserver, is_among, is_used, names_of}
 use Rattle.pb_base.proofs.Logic.{none_is as nothing_found}
@@ -36,7 +36,7 @@ name_of t a h v b w e = grind arith
 -- what is read of an element has the name that the element has
 named : (d : Data) (w : WrittenOf) → members_of d ≡ Ok w → text_at (codes "name") d ≡ Some w.name
 unfolding members_of
-named d w e = name_of (text_at (codes "name") d) (column_in (number_at (codes "column") d)) (helpers_in (elements_at (codes "helpers") d)) (version_in (number_at (codes "record") d)) (bytes_in (text_at (codes "code") d)) w e
+named d w e = name_of (text_at (codes "name") d) (column_in (number_at (codes "column") d)) (helpers_in (elements_at (codes "helpers") d)) (record_version (number_at (codes "record") d)) (bytes_in (text_at (codes "code") d)) w e
 
 -- a key that is a new name isn't in the map
 pub new_name : (p : Profile) (es : List (String Global × RegisteredObserver)) (d : Data) (o : ObserverOf) (k : String Global) → IsObserver p d o → o.name ≡ string_bytes k → is_used (names_of (observers_of es)) d ≡ false → lookup (λ y. bytes_eq (string_bytes k) (string_bytes y)) es ≡ None

@@ -149,9 +149,9 @@ bytes_in None = Err ManifestCode.Form
 bytes_in (Some s) = if list_any is_ascii_uppercase s then Err ManifestCode.Digits else decoded (decode_of s)
 
 -- the version of the change record: 1 where none is named
-abbrev pub version_in : Option ℕ → Result Version ManifestCode
-version_in None = Ok Version.First
-version_in (Some n) = if n == 1 then Ok Version.First else if n == 2 then Ok Version.Second else Err ManifestCode.Record
+abbrev pub record_version : Option ℕ → Result Version ManifestCode
+record_version None = Ok Version.First
+record_version (Some n) = if n == 1 then Ok Version.First else if n == 2 then Ok Version.Second else Err ManifestCode.Record
 
 -- an observer as it is written: its name's bytes, its column, its helpers, the version of its record, and its code's bytes
 pub record WrittenOf : Type 0 where
@@ -167,7 +167,7 @@ members_of d = do
   name ← name_in (text_at (codes "name") d)
   column ← column_in (number_at (codes "column") d)
   helpers ← helpers_in (elements_at (codes "helpers") d)
-  version ← version_in (number_at (codes "record") d)
+  version ← record_version (number_at (codes "record") d)
   bytes ← bytes_in (text_at (codes "code") d)
   Ok (record { name = name; column = column; helpers = helpers; version = version; bytes = bytes })
 

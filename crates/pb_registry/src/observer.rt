@@ -3,7 +3,7 @@ ghost use Rattle.std.specs.Prelude.{◌≡◌, ◌≢◌, Ok, map, IfOk, IfErr, 
 ghost use Rattle.std.specs.List.{list_all, list_any};
 ghost use Rattle.std.specs.Char.{is_ascii_uppercase};
 ghost use Rattle.serde_json.specs.View.{view};
-ghost use Rattle.pb_registry.specs.Manifests.{is_name_letter, is_name, name_in, column_in, numbers_of, helpers_in, version_in, bytes_in, members_of, text_at, number_at, elements_at};
+ghost use Rattle.pb_registry.specs.Manifests.{is_name_letter, is_name, name_in, column_in, numbers_of, helpers_in, record_version, bytes_in, members_of, text_at, number_at, elements_at};
 ghost use Rattle.pb_registry.specs.Helpers.{helpers_of};
 ghost use Rattle.pb_registry.specs.Accepting.{IsAcceptedCode};
 ghost use Rattle.pb_registry.specs.Judging.{IsProgramFault, IsOwnFault, IsObserver};
@@ -119,9 +119,9 @@ fn helpers_in(value: &Value) -> Result<HelperTable, ManifestCode>
     }
 }
 
-fn version_in(value: &Value) -> Result<Version, ManifestCode>
+fn record_version(value: &Value) -> Result<Version, ManifestCode>
     ensures { Gives is_memory (λ v. v) result
-        (version_in (number_at (codes "record") (view value.now))) }
+        (record_version (number_at (codes "record") (view value.now))) }
 {
     match number_at(value, "record") {
         None | Some(1) => Ok(Version::First),
@@ -192,7 +192,7 @@ fn members_of(alloc: Global, value: &Value) -> Result<Written, ManifestCode>
     let name = name_in(value)?;
     let column = column_in(value)?;
     let helpers = helpers_in(value)?;
-    let version = version_in(value)?;
+    let version = record_version(value)?;
     let bytes = bytes_in(alloc, value)?;
     let name = copy_of(alloc, name)?;
     Ok(Written {

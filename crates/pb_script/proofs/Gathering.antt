@@ -20,7 +20,7 @@ use Rattle.pb_history.specs.declared.entry.Entry.{Entry}
 use Rattle.pb_history.specs.History.{Has, Member, TellsHistory}
 use Rattle.pb_script.specs.declared.reports.newest.Put.{Put}
 use Rattle.pb_script.specs.Committed.{IsWrite, Gathers}
-use Rattle.pb_script.specs.Puts.{put_by, if_committed, written_in, writes_by, puts_by}
+use Rattle.pb_script.specs.Puts.{put_by, if_committed, written_in, puts_of_entry, puts_by}
 use Rattle.pb_base.proofs.Logic.{and_true as both}
 use Rattle.pb_base.proofs.SameCells.{cell_is}
 use Rattle.pb_history.proofs.Updates.{has_before as has_left, has_right, has_which}
@@ -148,7 +148,7 @@ module _ (journal : List Entry) (state : StateOf) (tells : TellsHistory journal 
       → Has (if_committed h (written_in what)) p → IsWrite state.observers journal p.cell p.commit.0 p.content
   committed_write seat start what p h is entry has = grind (arith, map_has, write_of)
 
-  by_step : (seat : ℕ) (step : Step) (answer : Answer) (p : Put) → Has journal (record { seat = seat; step = step; answer = answer }) → Has (writes_by state step answer) p → IsWrite state.observers journal p.cell p.commit.0 p.content
+  by_step : (seat : ℕ) (step : Step) (answer : Answer) (p : Put) → Has journal (record { seat = seat; step = step; answer = answer }) → Has (puts_of_entry state step answer) p → IsWrite state.observers journal p.cell p.commit.0 p.content
   by_step seat step answer p entry has = grind (arith, committed_write)
 
   sound_from : (es : List Entry) (p : Put) → ((e : Entry) → Has es e → Has journal e) → Has (all_puts state es) p → IsWrite state.observers journal p.cell p.commit.0 p.content

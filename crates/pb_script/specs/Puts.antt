@@ -28,10 +28,10 @@ written_in (Declared.Script batch) = batch
 written_in (Declared.Run o f) = f.writes
 
 -- the writes that an entry declared, if they are committed
-abbrev pub writes_by : StateOf → Step → Answer → List Put
-writes_by state (Step.Declare start what) Answer.Done = if_committed (phase_in state start.0) (written_in what)
-writes_by state _ _ = []
+abbrev pub puts_of_entry : StateOf → Step → Answer → List Put
+puts_of_entry state (Step.Declare start what) Answer.Done = if_committed (phase_in state start.0) (written_in what)
+puts_of_entry state _ _ = []
 
 -- what an entry adds to the gathered writes; none but a declaration that was answered adds any
 abbrev pub puts_by : StateOf → Entry → List Put
-puts_by state e = writes_by state e.step e.answer
+puts_by state e = puts_of_entry state e.step e.answer

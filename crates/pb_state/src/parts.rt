@@ -43,7 +43,7 @@ impl<T: Tablet> Parts<T> {
     ghost use Rattle.pb_history.specs.Sound.{IsSoundTable};
     ghost use Rattle.pb_steps.specs.Reasons.{own_transaction, first_reason, seat_reasons};
     ghost use Rattle.pb_steps.specs.Steps.{TableStep};
-    ghost use Rattle.pb_state.specs.Admitted.{IsFound, Admits, TellsAdmission, step_of};
+    ghost use Rattle.pb_state.specs.Admitted.{IsOwnAt, Admits, TellsAdmission, step_admitted};
 
     // Whether the table has this seat.
     pub(crate) fn admit_seat(&self, seat: u32) -> Result<(), Reason>
@@ -58,7 +58,7 @@ impl<T: Tablet> Parts<T> {
     // The transaction of this start, if the table has this seat and it is one of it.
     pub(crate) fn own(&self, seat: u32, start: Ts) -> Result<(TransactionAt, &Transaction), Reason>
         ensures found { IfOk result (λ f. (f.0.start ≡ start)
-            × IsFound self.now seat f.0 f.1.now) }
+            × IsOwnAt self.now seat f.0 f.1.now) }
         ensures own { IfOk result (λ f. own_transaction self.now seat start.0 ≡ Some f.1.now) }
         ensures refused { IfErr result (λ r. (r ≡ NotOfSeat)
             × (own_transaction self.now seat start.0 ≡ None)) }
@@ -114,7 +114,7 @@ impl<T: Tablet> Parts<T> {
         requires sound { IsSoundTable self.old }
         requires admitted { Admits self.old seat admitted.now }
         ensures taken { IfOk result (λ a. TableStep self.old seat
-            (step_of admitted.now) a self.new) }
+            (step_admitted admitted.now) a self.new) }
         ensures same { OnErr result (self.new ≡ self.old) }
     {
         match admitted {

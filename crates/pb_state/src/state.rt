@@ -44,7 +44,7 @@ impl<T: Tablet> State<T> {
     ghost use Rattle.pb_steps.specs.State.{opening, phase_in};
     ghost use Rattle.pb_steps.specs.Readings.{lock_count};
     ghost use Rattle.pb_steps.specs.Steps.{step_reason, TableStep};
-    ghost use Rattle.pb_state.specs.Admitted.{Admits, TellsAdmission, step_of};
+    ghost use Rattle.pb_state.specs.Admitted.{Admits, TellsAdmission, step_admitted};
 
     /// A state over an empty table, with seats numbered from 0 and the last timestamp given out. It has no entry, no mark
     /// and no transaction.
@@ -173,7 +173,7 @@ impl<T: Tablet> State<T> {
     pub fn take_admitted(&mut self, seat: u32, admitted: &Admitted<'_>) -> Result<Answer, NoMemory>
         requires { Admits self.old seat admitted.now }
         ensures taken { IfOk result (λ a. TableStep self.old seat
-            (step_of admitted.now) a self.new) }
+            (step_admitted admitted.now) a self.new) }
         ensures same { OnErr result (self.new ≡ self.old) }
     {
         self.parts.take(seat, admitted)

@@ -80,7 +80,7 @@ impl Transactions {
     ghost use Rattle.std.specs.FinMap as map;
     ghost use Rattle.std.specs.Borrow.{sem};
     ghost use Rattle.pb_steps.specs.State.{TransactionOf};
-    ghost use Rattle.pb_state.specs.Admitted.{StandsAt};
+    ghost use Rattle.pb_state.specs.Admitted.{IsTransactionAt};
     ghost use Rattle.pb_state.specs.Lending.{LendsTransaction};
 
     pub(crate) fn new(alloc: Global) -> Transactions
@@ -95,7 +95,7 @@ impl Transactions {
     pub(crate) fn find(&self, start: Ts) -> Option<(TransactionAt, &Transaction)>
         ensures { MatchOption result (map.get self.now start.0 ≡ None)
             (λ f. (f.0.start ≡ start) × (map.get self.now start.0 ≡ Some f.1.now)
-            × StandsAt self.now f.0 f.1.now) }
+            × IsTransactionAt self.now f.0 f.1.now) }
     {
         match place_of(&self.list, start.0) {
             Some(place) => Some((TransactionAt { start, place }, &self.list[place].1)),
@@ -105,7 +105,7 @@ impl Transactions {
 
     /// The transaction that stands there, to change it.
     pub(crate) fn at_mut(&mut self, at: TransactionAt) -> &mut Transaction
-        requires { (t : TransactionOf) × StandsAt self.old at t }
+        requires { (t : TransactionOf) × IsTransactionAt self.old at t }
         ensures* changed { sem 𝓛 (LendsTransaction self.entry at result) }
         ensures there { map.get self.old at.start.0 ≡ Some result.now }
     {

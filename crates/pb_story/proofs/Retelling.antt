@@ -10,20 +10,20 @@ use Rattle.pb_script.specs.declared.fault.ReportFault.{ReportFault}
 use Rattle.pb_base.specs.Taking.{Taking, TookAll, TookPart, TookNothing}
 use Rattle.pb_script.specs.TableReports.{Reports}
 use Rattle.pb_story.specs.declared.fault.StoryFault.{StoryFault}
-use Rattle.pb_story.specs.Stories.{Recounts, IsTold, EventEnds, AreTold, LeftOff, LinesEnd, StoryEnds}
+use Rattle.pb_story.specs.Stories.{Recounts, IsEventTold, EventEnds, AreTold, LeftOff, LinesEnd, StoryEnds}
 
 -- ---- one event more
 
 -- a story of some events grows by the line of the one that happens next
 recounts_more : (w : WorldOf) (number : ℕ) (es : List Event) (text : List ℕ) (v u : WorldOf) (e : Event) (line : List ℕ)
-    → Recounts w number es text v → IsTold v (number + length es) e u line → Recounts w number (es ++ e ∷ []) (text ++ line) u
+    → Recounts w number es text v → IsEventTold v (number + length es) e u line → Recounts w number (es ++ e ∷ []) (text ++ line) u
 recounts_more w number [] text v u e line r t =
     let at : number + 0 ≡ number = omega arith in
-    let told : IsTold w number e u line = subst (λ x. IsTold x number e u line) r.1 (subst (λ k. IsTold v k e u line) at t) in
+    let told : IsEventTold w number e u line = subst (λ x. IsEventTold x number e u line) r.1 (subst (λ k. IsEventTold v k e u line) at t) in
     (told.note, u, line, [], told.happens, told.is_line, (refl, refl), ap (λ (x : List ℕ). x ++ line) r.0 ∙ sym (append-nil line))
 recounts_more w number (f ∷ es) text v u e line r t =
     let at : number + length (f ∷ es) ≡ (number + 1) + length es = omega arith in
-    let more = recounts_more r.1 (number + 1) es r.3 v u e line r.6 (subst (λ k. IsTold v k e u line) at t) in
+    let more = recounts_more r.1 (number + 1) es r.3 v u e line r.6 (subst (λ k. IsEventTold v k e u line) at t) in
     (r.0, r.1, r.2, r.3 ++ line, r.4, r.5, more, ap (λ (x : List ℕ). x ++ line) r.7 ∙ append_assoc r.2 r.3 line)
 
 -- the first events with one more are those and that one
@@ -31,10 +31,10 @@ next_is : (es : List Event) (i : ℕ) (e : Event) → slice_get es i ≡ Some e 
 next_is es i e h = take_more es i e (slice_get_within es i e h) ∙ ap (λ (x : Event). take i es ++ x ∷ []) (get_or_from_slice_get es i e e h)
 
 recounts_next : (w : WorldOf) (es : List Event) (i : ℕ) (lines : List ℕ) (v u : WorldOf) (e : Event) (line : List ℕ)
-    → slice_get es i ≡ Some e → Recounts w 0 (take i es) lines v → IsTold v i e u line → Recounts w 0 (take (i + 1) es) (lines ++ line) u
+    → slice_get es i ≡ Some e → Recounts w 0 (take i es) lines v → IsEventTold v i e u line → Recounts w 0 (take (i + 1) es) (lines ++ line) u
 recounts_next w es i lines v u e line is r t =
     let at : i ≡ 0 + length (take i es) = let inside = slice_get_within es i e is in let long = length-take-le i es (omega (arith, inside)) in omega (arith, long) in
-    subst (λ (xs : List Event). Recounts w 0 xs (lines ++ line) u) (sym (next_is es i e is)) (recounts_more w 0 (take i es) lines v u e line r (subst (λ k. IsTold v k e u line) at t))
+    subst (λ (xs : List Event). Recounts w 0 xs (lines ++ line) u) (sym (next_is es i e is)) (recounts_more w 0 (take i es) lines v u e line r (subst (λ k. IsEventTold v k e u line) at t))
 
 -- ---- what a sink took, in two pieces
 

@@ -10,13 +10,13 @@ use Rattle.pb_verify.specs.Observers.{ObserverOf}
 use Rattle.pb_script.specs.ReportLines.{trimmed}
 
 -- an observer's name, and no letters where there is no observer
-abbrev pub name_in : Option ObserverOf → List ℕ
-name_in None = []
-name_in (Some x) = x.name
+abbrev pub name_told : Option ObserverOf → List ℕ
+name_told None = []
+name_told (Some x) = x.name
 
 -- the name of the observer of this number, nothing where there is none
 abbrev pub observer_name : List ObserverOf → ℕ → List ℕ
-observer_name observers o = name_in (slice_get observers o)
+observer_name observers o = name_told (slice_get observers o)
 
 -- a place as scripts name it
 abbrev pub row_and_column : Row → ℕ → List ℕ

@@ -22,7 +22,7 @@ Recounts w number (e ∷ es) text v =
 -- ---- how one event was told
 
 -- it happened, and its line is this
-pub record IsTold (w : WorldOf) (number : ℕ) (e : Event) (v : WorldOf) (line : List ℕ) : Type 0 where
+pub record IsEventTold (w : WorldOf) (number : ℕ) (e : Event) (v : WorldOf) (line : List ℕ) : Type 0 where
   pub note : Note
   pub happens : Happens w e note v
   pub is_line : IsLine w number e note v line
@@ -43,8 +43,8 @@ IsUntold w e v = (v ≡ w) ⊎ ((n : Note) × Happens w e n v)
 
 -- what the sink took: a line, a beginning of it where a write failed, or else nothing
 abbrev pub EventEnds : WorldOf → ℕ → Event → WorldOf → Taking → Result (Unit {0}) StoryFault → Type 0
-EventEnds w number e v out (Ok _) = (line : List ℕ) × IsTold w number e v line × TookAll out line
-EventEnds w number e v out (Err StoryFault.Output) = (line : List ℕ) × IsTold w number e v line × TookPart out line
+EventEnds w number e v out (Ok _) = (line : List ℕ) × IsEventTold w number e v line × TookAll out line
+EventEnds w number e v out (Err StoryFault.Output) = (line : List ℕ) × IsEventTold w number e v line × TookPart out line
 EventEnds w number e v out (Err (StoryFault.Event f)) = IsEventFault w number e v (StoryFault.Event f) × TookNothing out
 EventEnds w number e v out (Err (StoryFault.NoMemory refused)) = IsUntold w e v × TookNothing out
 

@@ -8,7 +8,7 @@ use Rattle.clap.specs.Takes.{is_given}
 use Rattle.clap.specs.Faults.{fault_of, entered_fault, check_fault, walk_fault, turn_fault, word_fault, other_fault}
 use Rattle.pb_isa.specs.declared.profile.Profile.{Profile}
 use Rattle.pb_helpers.specs.declared.change.Version.{Version}
-use Rattle.pb_texts.specs.CommandLines.{most_workers, most_swaps, run_app, last_clock, replay_app, last_profile, asm_app, dis_app, check_app, program_app, Request, Run, Replay, Asm, Dis, Check, both, all_three, workers_of, swaps_of, clock_of, profile_numbered, profile_of, with_profile, last_version, version_numbered, version_of, with_version, command_in, command_of, has_plus, has_plus_at}
+use Rattle.pb_texts.specs.CommandLines.{most_workers, most_swaps, run_app, last_clock, replay_app, last_profile, asm_app, dis_app, check_app, program_app, Request, Run, Replay, Asm, Dis, Check, with_both, all_three, workers_of, swaps_of, clock_of, profile_numbered, profile_named, with_profile, last_version, version_numbered, version_of, with_version, command_in, command_of, has_plus, has_plus_at}
 use Rattle.pb_texts.proofs.Kept.{Each, HasNoDefault, or_else_none, level_none, unless_stopped, rows_kept}
 use Rattle.pb_texts.proofs.Filled.{HasValue, ReadsNumber, help_keeps, operand_has_value, operand_keeps_number, number_has_value, number_keeps_number, number_reads, given_first, first_number, one_number}
 use Rattle.pb_texts.proofs.Clocks.{has_clock}
@@ -94,11 +94,11 @@ one_asks make id rows f e =
     let m = given_first id rows f (one_given (is_given id rows) (checked _ e)) in
     (make m.0, ap (option_map make) m.1)
 
-both_some : (make : Text → Text → Request) (a b : Option Text) (s t : Text) → a ≡ Some s → b ≡ Some t → both make a b ≡ Some (make s t)
-both_some make a b s t e f = ap (λ x. both make x b) e ∙ ap (both make (Some s)) f
+both_some : (make : Text → Text → Request) (a b : Option Text) (s t : Text) → a ≡ Some s → b ≡ Some t → with_both make a b ≡ Some (make s t)
+both_some make a b s t e f = ap (λ x. with_both make x b) e ∙ ap (with_both make (Some s)) f
 
 both_ask : (make : Text → Text → Request) (first second : Text) (rows : List Row) → Each HasValue rows → check_kinds false false (not (is_given first rows) || (not (is_given second rows) || false)) ≡ []
-    → (r : Request) × (both make (first_of first rows) (first_of second rows) ≡ Some r)
+    → (r : Request) × (with_both make (first_of first rows) (first_of second rows) ≡ Some r)
 both_ask make first second rows f e =
     let g = both_given (is_given first rows) (is_given second rows) (checked _ e) in
     let m = given_first first rows f g.0 in
@@ -128,7 +128,7 @@ with_value o ask x e asked = (asked.0, ap (option_and_then ask) e ∙ asked.1)
 
 -- the request of a run, by so many workers beside so many swaps
 abbrev pub run_with : List Row → ℕ → ℕ → Option Request
-run_with rows workers swaps = both (λ manifest script. Run manifest script workers swaps) (first_of (codes "MANIFEST") rows) (first_of (codes "SCRIPT") rows)
+run_with rows workers swaps = with_both (λ manifest script. Run manifest script workers swaps) (first_of (codes "MANIFEST") rows) (first_of (codes "SCRIPT") rows)
 
 -- the same, where the number of swaps is named, too
 abbrev pub run_by : List Row → ℕ → Option Request
@@ -193,7 +193,7 @@ profile_asks : (rows : List Row) (ask : Profile → Option Request) → Each (Re
     → ((profile : Profile) → (r : Request) × (ask profile ≡ Some r)) → (r : Request) × (with_profile ask rows ≡ Some r)
 profile_asks rows ask numbers no_plus asked =
     let count = has_count 1 last_profile (omega arith) (first_of (codes "profile") rows) (first_number (codes "profile") 1 last_profile rows numbers) no_plus in
-    with_value (profile_of (first_of (codes "profile") rows)) ask (profile_numbered count.0) (ap (option_map profile_numbered) count.1) (asked (profile_numbered count.0))
+    with_value (profile_named (first_of (codes "profile") rows)) ask (profile_numbered count.0) (ap (option_map profile_numbered) count.1) (asked (profile_numbered count.0))
 
 asm_asks : (words : List Text) → entered_fault (built program_app) (Some (codes "asm", words)) ≡ [] → Asks (codes "asm") words
 asm_asks words f no_plus =
@@ -205,7 +205,7 @@ asm_asks words f no_plus =
     let numbers = rows_kept s (ReadsNumber name 1 last_profile)
     (operand_keeps_number 1 (codes "IN") name 1 last_profile (λ e. absurd cc), (operand_keeps_number 2 (codes "OUT") name 1 last_profile (λ e. absurd cc), (number_reads name 1 last_profile, (help_keeps (ReadsNumber name 1 last_profile), tt))))
     words bare f in
-    profile_asks rows (λ profile. both (λ input output. Asm input output profile) (first_of (codes "IN") rows) (first_of (codes "OUT") rows)) numbers no_plus
+    profile_asks rows (λ profile. with_both (λ input output. Asm input output profile) (first_of (codes "IN") rows) (first_of (codes "OUT") rows)) numbers no_plus
     (λ profile. both_ask (λ input output. Asm input output profile) (codes "IN") (codes "OUT") rows values (level_none s [] nothing_held words false [] f).3)
 
 dis_asks : (words : List Text) → entered_fault (built program_app) (Some (codes "dis", words)) ≡ [] → Asks (codes "dis") words

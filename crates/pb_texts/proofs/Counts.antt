@@ -8,7 +8,7 @@ use Rattle.clap.specs.Walk.{Text}
 use Rattle.clap.specs.ValueTests.{is_unsigned_in}
 use Rattle.clap.specs.declared.builder.value_parser.ValueParser.{ValueParser}
 use Rattle.clap.proofs.ValueTestLemmas.{accepts-Accepts, Accepts-accepts}
-use Rattle.pb_texts.specs.CommandLines.{is_within, is_count, count_number, count_of, begins_with_plus}
+use Rattle.pb_texts.specs.CommandLines.{is_within, is_count, count_number, count_named, begins_with_plus}
 use Rattle.pb_texts.proofs.Filled.{IsNumberIn}
 use Rattle.pb_base.proofs.Logic.{and_true as both_true}
 use Rattle.pb_texts.proofs.Clocks.{some_if, none_unless}
@@ -51,15 +51,15 @@ module _ (low high : ℕ) where
       within_is_count : (x : ℕ) → IsNumeral 10 (without_leading_plus t) × (digits_value 10 (without_leading_plus t) < 2 ^ 32) → x ≡ digits_value 10 (without_leading_plus t) → (low ≤ x) × (x ≤ high) → is_count low high t ≡ true
       within_is_count x p is h = sym (plain_count t plain) ∙ Accepts-accepts false (ValueParser.Unsigned low high) t (p.0, omega (arith, p.1), omega (arith, is, h.0), omega (arith, is, h.1))
 
-      pub count_read : (x : ℕ) → ParsesUnsigned {E = ParseIntError} 32 10 t (Ok x) → is_within low high x ≡ true → Some x ≡ count_of low high (Some t)
+      pub count_read : (x : ℕ) → ParsesUnsigned {E = ParseIntError} 32 10 t (Ok x) → is_within low high x ≡ true → Some x ≡ count_named low high (Some t)
       count_read x p h = some_if (is_count low high t) x (count_number t) (within_is_count x p.0 p.1 (within x h)) (p.1 ∙ same_number)
 
-      pub count_unread : (e : ParseIntError) → ParsesUnsigned 32 10 t (Err e) → None ≡ count_of low high (Some t)
+      pub count_unread : (e : ParseIntError) → ParsesUnsigned 32 10 t (Err e) → None ≡ count_named low high (Some t)
       count_unread e p = none_unless (is_count low high t) (count_number t) (λ is. let a = accepts-Accepts false (ValueParser.Unsigned low high) t (plain_count t plain ∙ is) in p (a.0, omega (arith, fits, a.3)))
 
     -- ---- what `clap` takes
 
     -- the option has a number, named or not, where no plus stands before it
-    pub has_count : (o : Option Text) → IsNumberIn low high o → option_map_or begins_with_plus o false ≡ false → (n : ℕ) × (count_of low high o ≡ Some n)
+    pub has_count : (o : Option Text) → IsNumberIn low high o → option_map_or begins_with_plus o false ≡ false → (n : ℕ) × (count_named low high o ≡ Some n)
     has_count None e plain = (low, refl)
     has_count (Some t) e plain = (count_number t, rw (sym (plain_count t plain) ∙ e) refl)

@@ -10,17 +10,17 @@ use Rattle.clap.specs.declared.error.kind.ErrorKind.{ErrorKind}
 use Rattle.pb_texts.specs.declared.words.choice.Options.{Options}
 use Rattle.pb_isa.specs.declared.profile.Profile.{Profile}
 use Rattle.pb_helpers.specs.declared.change.Version.{Version}
-use Rattle.pb_texts.specs.CommandLines.{most_workers, most_swaps, last_profile, program_app, Request, Run, Asm, Dis, Check, both, count_of, workers_of, clock_of, profile_numbered, profile_of, with_profile, last_version, version_numbered, version_of, with_version, asm_in, dis_in, check_in, command_in, command_of, begins_with_plus, has_plus, has_plus_at, request_of, IsInRange}
+use Rattle.pb_texts.specs.CommandLines.{most_workers, most_swaps, last_profile, program_app, Request, Run, Asm, Dis, Check, with_both, count_named, workers_of, clock_of, profile_numbered, profile_named, with_profile, last_version, version_numbered, version_of, with_version, asm_in, dis_in, check_in, command_in, command_of, begins_with_plus, has_plus, has_plus_at, request_of, IsInRange}
 use Rattle.pb_texts.proofs.Asked.{run_with, run_by, replay_from, asks}
 use Rattle.std.proofs.lemmas.Bool.{true_from_ne_false as true_unless, false_from_ne_true as false_unless}
 use Rattle.pb_base.proofs.Logic.{or_cases as either}
 
 -- ---- the fault of a plus
 
-none_at : (low high : ℕ) (o : Option Text) → option_map_or begins_with_plus o false ≡ true → count_of low high o ≡ None
+none_at : (low high : ℕ) (o : Option Text) → option_map_or begins_with_plus o false ≡ true → count_named low high o ≡ None
 none_at low high o h = grind arith
 
-plus_names_none : (low high : ℕ) (name : Text) (rows : List Row) → has_plus_at name rows ≡ true → count_of low high (first_of name rows) ≡ None
+plus_names_none : (low high : ℕ) (name : Text) (rows : List Row) → has_plus_at name rows ≡ true → count_named low high (first_of name rows) ≡ None
 plus_names_none low high name rows h = none_at low high (first_of name rows) h
 
 none_then : {A B : Type 0} (o : Option A) (f : A → Option B) → ((x : A) → f x ≡ None) → option_and_then f o ≡ None
@@ -56,7 +56,7 @@ plus_asks_none (Some p) h =
     (λ plus. none_if (bytes_eq p.0 (codes "check")) (check_in p.1) None (check_names_none p.1 (either (has_plus_at (codes "profile") p.1) (has_plus_at (codes "record") p.1) plus)) refl)))) h
 
 none_is_some : (o : Option Request) (r : Request) → o ≡ None → o ≡ Some r → ⊥
-none_is_some o r e f = let both : None ≡ Some r = sym e ∙ f in cc
+none_is_some o r e f = let absurd_some : None ≡ Some r = sym e ∙ f in cc
 
 some_has_no_plus : (q : Option (Text × List Row)) (r : Request) → command_in q ≡ Some r → has_plus q ≡ false
 some_has_no_plus q r e = false_unless (has_plus q) (λ h. none_is_some (command_in q) r (plus_asks_none q h) e)
@@ -97,7 +97,7 @@ IfAsked (Some r) = InRange r
 asked_if : (b : Bool) (x y : Option Request) → IfAsked x → IfAsked y → IfAsked (cond b x y)
 asked_if b x y f g = grind arith
 
-both_in_range : (make : Text → Text → Request) (a b : Option Text) → ((m s : Text) → InRange (make m s)) → IfAsked (both make a b)
+both_in_range : (make : Text → Text → Request) (a b : Option Text) → ((m s : Text) → InRange (make m s)) → IfAsked (with_both make a b)
 both_in_range make a b f = grind arith
 
 run_in_range : (rows : List Row) → IfAsked (option_and_then (run_by rows) (workers_of (first_of (codes "workers") rows)))
@@ -113,7 +113,7 @@ one_in_range : (make : Text → Request) (o : Option Text) → ((f : Text) → I
 one_in_range make o h = grind arith
 
 profile_in_range : (rows : List Row) (ask : Profile → Option Request) → ((p : Profile) → IfAsked (ask p)) → IfAsked (with_profile ask rows)
-profile_in_range rows ask f = then_in_range ask (profile_of (first_of (codes "profile") rows)) f
+profile_in_range rows ask f = then_in_range ask (profile_named (first_of (codes "profile") rows)) f
 
 version_in_range : (rows : List Row) (ask : Version → Option Request) → ((v : Version) → IfAsked (ask v)) → IfAsked (with_version ask rows)
 version_in_range rows ask f = then_in_range ask (version_of (first_of (codes "record") rows)) f

@@ -103,14 +103,14 @@ pub data Request : Type 0 where
   Dis : Text → Profile → Request
   Check : Text → Profile → Version → Request
 
-abbrev pub both : (Text → Text → Request) → Option Text → Option Text → Option Request
-both make None second = None
-both make (Some first) None = None
-both make (Some first) (Some second) = Some (make first second)
+abbrev pub with_both : (Text → Text → Request) → Option Text → Option Text → Option Request
+with_both make None second = None
+with_both make (Some first) None = None
+with_both make (Some first) (Some second) = Some (make first second)
 
 abbrev pub all_three : (Text → Text → Text → Request) → Option Text → Option Text → Option Text → Option Request
 all_three make None second third = None
-all_three make (Some first) second third = both (make first) second third
+all_three make (Some first) second third = with_both (make first) second third
 
 abbrev pub is_within : ℕ → ℕ → ℕ → Bool
 is_within low high number = nat_le low number && nat_le number high
@@ -123,23 +123,23 @@ abbrev pub is_count : ℕ → ℕ → Text → Bool
 is_count low high text = is_numeral text && is_within low high (count_number text)
 
 -- the number that a text names, `low` where there is no text, and none where it names none
-abbrev pub count_of : ℕ → ℕ → Option Text → Option ℕ
-count_of low high None = Some low
-count_of low high (Some text) = if is_count low high text then Some (count_number text) else None
+abbrev pub count_named : ℕ → ℕ → Option Text → Option ℕ
+count_named low high None = Some low
+count_named low high (Some text) = if is_count low high text then Some (count_number text) else None
 
 -- there is a worker at least, and a seat for each: 1 where none is named
 abbrev pub is_workers : Text → Bool
 is_workers text = is_count 1 most_workers text
 
 abbrev pub workers_of : Option Text → Option ℕ
-workers_of text = count_of 1 most_workers text
+workers_of text = count_named 1 most_workers text
 
 -- no swap where none is named
 abbrev pub is_swaps : Text → Bool
 is_swaps text = is_count 0 most_swaps text
 
 abbrev pub swaps_of : Option Text → Option ℕ
-swaps_of text = count_of 0 most_swaps text
+swaps_of text = count_named 0 most_swaps text
 
 -- the text is a number of `u64`: decimal digits, before which a plus may stand
 abbrev pub is_clock : Text → Bool
@@ -161,12 +161,12 @@ abbrev pub is_profile : Text → Bool
 is_profile text = is_count 1 last_profile text
 
 -- the profile that a text names, the first where there is no text, and none where it names none
-abbrev pub profile_of : Option Text → Option Profile
-profile_of text = option_map profile_numbered (count_of 1 last_profile text)
+abbrev pub profile_named : Option Text → Option Profile
+profile_named text = option_map profile_numbered (count_named 1 last_profile text)
 
 -- what is asked for with the profile that the matches name
 abbrev pub with_profile : (Profile → Option Request) → List Row → Option Request
-with_profile ask rows = option_and_then ask (profile_of (first_of (codes "profile") rows))
+with_profile ask rows = option_and_then ask (profile_named (first_of (codes "profile") rows))
 
 -- the version of this number, which is 1 or 2
 abbrev pub version_numbered : ℕ → Version
@@ -177,7 +177,7 @@ is_version text = is_count 1 last_version text
 
 -- the version that a text names, the first where there is no text, and none where it names none
 abbrev pub version_of : Option Text → Option Version
-version_of text = option_map version_numbered (count_of 1 last_version text)
+version_of text = option_map version_numbered (count_named 1 last_version text)
 
 -- what is asked for with the version that the matches name
 abbrev pub with_version : (Version → Option Request) → List Row → Option Request
@@ -186,7 +186,7 @@ with_version ask rows = option_and_then ask (version_of (first_of (codes "record
 -- what the matches of each subcommand ask for
 abbrev pub run_in : List Row → Option Request
 run_in rows =
-    option_and_then (λ workers. option_and_then (λ swaps. both (λ manifest script. Run manifest script workers swaps)
+    option_and_then (λ workers. option_and_then (λ swaps. with_both (λ manifest script. Run manifest script workers swaps)
     (first_of (codes "MANIFEST") rows) (first_of (codes "SCRIPT") rows))
     (swaps_of (first_of (codes "swaps") rows)))
     (workers_of (first_of (codes "workers") rows))
@@ -198,7 +198,7 @@ replay_in rows =
     (clock_of (one_of (codes "clock") rows))
 
 abbrev pub asm_in : List Row → Option Request
-asm_in rows = with_profile (λ profile. both (λ input output. Asm input output profile) (first_of (codes "IN") rows) (first_of (codes "OUT") rows)) rows
+asm_in rows = with_profile (λ profile. with_both (λ input output. Asm input output profile) (first_of (codes "IN") rows) (first_of (codes "OUT") rows)) rows
 
 abbrev pub dis_in : List Row → Option Request
 dis_in rows = with_profile (λ profile. option_map (λ file. Dis file profile) (first_of (codes "FILE") rows)) rows

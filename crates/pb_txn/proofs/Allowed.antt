@@ -18,7 +18,7 @@ use Rattle.pb_history.specs.Laws.{HistoriesAreTold, TransactionsAreTold, Journal
 use Rattle.pb_txn.specs.declared.place.PlanPlace.{PlanPlace}
 use Rattle.pb_txn.specs.Places.{declared_cells, step_at}
 use Rattle.pb_txn.specs.Plans.{fresh}
-use Rattle.pb_txn.specs.Allowed.{IsInRange, IsTimely, PlansAreAllowed}
+use Rattle.pb_txn.specs.Allowed.{IsWorkInRange, IsTimely, PlansAreAllowed}
 use Rattle.pb_txn.proofs.DistinctCells.{cells_in, has_content, not_before, in_order, all_in}
 use Rattle.pb_txn.proofs.WithoutReads.{bare}
 use Rattle.pb_txn.proofs.PlanPlaces.{IsAt, cell_of}
@@ -111,5 +111,5 @@ plans_allowed histories transactions sound observers seats clock journal state l
     let told = transactions observers seats clock journal state legal in
     at_place state seat s what why q.place step (λ t h. (
       stands journal state seat s what said q t told h talk has,
-      cells_by_now seat s what journal state said q t history h (subst (λ os. IsInRange os t.work) (sym os-is) (range t h)) talk has,
+      cells_by_now seat s what journal state said q t history h (subst (λ os. IsWorkInRange os t.work) (sym os-is) (range t h)) talk has,
     )) here refused

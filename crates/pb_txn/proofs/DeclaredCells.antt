@@ -12,7 +12,7 @@ use Rattle.pb_steps.specs.State.{cells_of}
 use Rattle.pb_verify.specs.Observers.{ObserverOf, observed_cell}
 use Rattle.pb_history.specs.History.{IsForWork}
 use Rattle.pb_txn.specs.Places.{declared_cells}
-use Rattle.pb_txn.specs.Allowed.{IsInRange}
+use Rattle.pb_txn.specs.Allowed.{IsWorkInRange}
 
 -- the row in a record of either version is that of its cell, since a row fits into its 8 bytes
 row_recorded : (second : Bool) (x : Cell) (v : Revision) (a : ℕ) (old : Option (List ℕ)) → (row_of x).0 < 2 ^ 64 → recorded_row (record_by second x v a old) ≡ (row_of x).0
@@ -25,7 +25,7 @@ column_recorded true x v a old lt = from_le_bytes-to_le_bytes_8 (column_of x) lt
 column_recorded false x v a old lt = from_le_bytes-to_le_bytes_8 (column_of x) lt
 
 -- the cells that the table keeps of a declaration for this work are those that a plan reads off it
-pub cells_are : (observers : List ObserverOf) (work : Work) (s : ℕ) (what : Declared) → IsForWork observers work what → IsInRange observers work
+pub cells_are : (observers : List ObserverOf) (work : Work) (s : ℕ) (what : Declared) → IsForWork observers work what → IsWorkInRange observers work
     → map (λ w. w.0) (cells_of observers work s what) ≡ declared_cells what
 cells_are observers Work.Script s (Declared.Script batch) f r = refl
 cells_are observers Work.Script s (Declared.Run o m) f r = absurd f

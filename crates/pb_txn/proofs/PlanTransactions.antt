@@ -15,7 +15,7 @@ use Rattle.pb_txn.specs.declared.place.PlanPlace.{PlanPlace}
 use Rattle.pb_txn.specs.Places.{declared_cells}
 use Rattle.pb_txn.specs.Plans.{PlanOf, fresh, answered}
 use Rattle.pb_txn.specs.Conversations.{Converses}
-use Rattle.pb_txn.specs.Allowed.{names, HasSaid, IsInRange}
+use Rattle.pb_txn.specs.Allowed.{names, HasSaid, IsWorkInRange}
 use Rattle.pb_txn.proofs.DeclaredCells.{cells_are}
 use Rattle.pb_txn.proofs.WithoutReads.{bare, named_in, follows}
 use Rattle.pb_txn.proofs.PlanPlaces.{IsAt, entry_of, stays}
@@ -65,12 +65,12 @@ module _ (seat s : ℕ) (what : Declared) where
       let first = subst (λ z. CanAnswer z r.answer → Has (map (entry_of seat) (cond (names s z) (record { step = z; answer = r.answer } ∷ rest) rest)) declaration) (same_step _ r.step next) (λ c. first_said r.answer rest c) can in
       in_filter s journal declaration (subst (λ l. Has l declaration) (sym has) first)
 
-  cells_at : (journal : List Entry) (state : StateOf) (t : TransactionOf) → TellsHistory journal state → finite.get state.transactions s ≡ Some t → IsInRange state.observers t.work
+  cells_at : (journal : List Entry) (state : StateOf) (t : TransactionOf) → TellsHistory journal state → finite.get state.transactions s ≡ Some t → IsWorkInRange state.observers t.work
       → IsEntry journal seat (Step.Declare (record { 0 = s }) what) Answer.Done → HasCells what t
   cells_at journal state t tells there range said = grind (arith, same_transaction, cells_are, tells.declared, state.transactions, t.work, t.declared, state.observers)
 
   pub cells_by_now : (journal : List Entry) (state : StateOf) (said : List Received) (q : PlanOf) (t : TransactionOf) → TellsHistory journal state → finite.get state.transactions s ≡ Some t
-      → IsInRange state.observers t.work → Converses (fresh s what) said q → HasSaid journal seat s said → HasCellsAt q.place what t
+      → IsWorkInRange state.observers t.work → Converses (fresh s what) said q → HasSaid journal seat s said → HasCellsAt q.place what t
   cells_by_now journal state [] q t tells there range talk has = subst (λ (z : PlanOf). HasCellsAt z.place what t) (sym talk) tt
   cells_by_now journal state (r ∷ rs) q t tells there range talk has = grind (arith, has_cells, cells_at, is_declared, q.place)
 

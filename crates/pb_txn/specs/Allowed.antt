@@ -31,9 +31,9 @@ HasSaid journal seat s said =
     filter (λ e. names s e.step) journal ≡ map (λ r. record { seat = seat; step = r.step; answer = r.answer }) (filter (λ r. names s r.step) said)
 
 -- row and column are numbers that a record has room for
-abbrev pub IsInRange : List ObserverOf → Work → Type 0
-IsInRange observers Work.Script = Unit {0}
-IsInRange observers (Work.Run o row) = (row.0 < 2 ^ 64) × (observed_column observers o < 2 ^ 64)
+abbrev pub IsWorkInRange : List ObserverOf → Work → Type 0
+IsWorkInRange observers Work.Script = Unit {0}
+IsWorkInRange observers (Work.Run o row) = (row.0 < 2 ^ 64) × (observed_column observers o < 2 ^ 64)
 
 -- the refusal isn't 42, 45 or 46; 40, 41, 43 and 44 are for the plan's owner to see to
 pub record IsTimely (why : Reason) : Type 0 where
@@ -46,6 +46,6 @@ pub record IsTimely (why : Reason) : Type 0 where
 abbrev pub PlansAreAllowed : Type 0
 PlansAreAllowed = (observers : List ObserverOf) (seats clock : ℕ) (journal : List Entry) (state : StateOf) → IsLegal observers seats clock journal state
     → (seat s : ℕ) (what : Declared) (said : List Received) (q : PlanOf) (step : Step) (why : Reason)
-    → ((t : TransactionOf) → finite.get state.transactions s ≡ Some t → IsInRange observers t.work)
+    → ((t : TransactionOf) → finite.get state.transactions s ≡ Some t → IsWorkInRange observers t.work)
     → Converses (fresh s what) said q → HasSaid journal seat s said → next_of q ≡ Some step
     → step_reason state seat step ≡ Some why → IsTimely why

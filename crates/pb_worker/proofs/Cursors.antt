@@ -9,7 +9,7 @@ use Rattle.pb_history.specs.declared.entry.Entry.{Entry}
 use Rattle.pb_history.specs.Places.{entries_of}
 use Rattle.pb_core.specs.Calls.{SeatOf}
 use Rattle.pb_worker.specs.Agrees.{EachTold, no_twice}
-use Rattle.pb_worker.specs.Cursors.{told_by, AreBelow, ArePlaces, IsAt, HasNone, AreAtEnd}
+use Rattle.pb_worker.specs.Cursors.{told_by, AreNumberedBelow, ArePlaces, IsAt, HasNoSeat, AreAtEnd}
 use Rattle.pb_worker.proofs.Walks.{unlike, skipped, matched, ended}
 use Rattle.pb_base.proofs.Logic.{same_some as same_place}
 
@@ -81,7 +81,7 @@ module _ (j : List Entry) (i : ℕ) (e : Entry) (lt : i < length j) (is : e ≡ 
 
   module _ (seats : List SeatOf) (cursors : List ℕ) (along : AreAlong j i seats cursors) where
     -- an entry of none of these
-    pub none_on : HasNone seats e.seat → AreAlong j (i + 1) seats cursors
+    pub none_on : HasNoSeat seats e.seat → AreAlong j (i + 1) seats cursors
     none_on none k d in' = passed (slice_index_or seats k d) (slice_index_or cursors k 0) (λ h. none k d in' (sym h)) (along k d in')
 
     module _ (place : ℕ) (s : SeatOf) (at : IsAt seats e.seat place) (s-is : s ≡ slice_index_or seats place s) where
@@ -113,7 +113,7 @@ module _ (j : List Entry) (i : ℕ) (e : Entry) (lt : i < length j) (is : e ≡ 
           by false b-is = grind (arith, eqb-false, same_place, get_or-set_other, passed, e.seat, at.numbered, at.within)
 
 -- at the journal's end
-pub all_told : (j : List Entry) (i : ℕ) (seats : List SeatOf) (cursors : List ℕ) (count : ℕ) → length j ≤ i → AreBelow count seats → AreAlong j i seats cursors → AreAtEnd seats cursors ↔ EachTold count j seats
+pub all_told : (j : List Entry) (i : ℕ) (seats : List SeatOf) (cursors : List ℕ) (count : ℕ) → length j ≤ i → AreNumberedBelow count seats → AreAlong j i seats cursors → AreAtEnd seats cursors ↔ EachTold count j seats
 all_told j i seats cursors count end below along = (
   λ at k d lt. record { seated = below k d lt; same = (done k d lt).0 (at k d lt) },
   λ told k d lt. (done k d lt).1 (told k d lt).same,

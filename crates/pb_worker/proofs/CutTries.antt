@@ -18,7 +18,7 @@ use Rattle.pb_txn.specs.Forms.{IsWhole, AreCleared, committed, conflicted_first,
 use Rattle.pb_txn.specs.Changes.{ChangeOf, new_change, Converses}
 use Rattle.pb_txn.proofs.ChangeConversation.{HasBegun, begins as has_begun}
 use Rattle.pb_txn.proofs.Conversation.{SoFar, declaring, prewriting, stamping, committing, finishing, settling, clearing, over, said_all, clears, are_cleared}
-use Rattle.pb_worker.specs.Tries.{is_committed, is_commit, has_commit}
+use Rattle.pb_worker.specs.Tries.{is_commit_outcome, is_commit, has_commit}
 use Rattle.pb_worker.proofs.Committing.{HasCommitted}
 use Rattle.std.proofs.lemmas.Bool.{or_from as both_false, or_right as true_right}
 use Rattle.pb_base.proofs.Logic.{not_both}
@@ -93,7 +93,7 @@ cleared (x ∷ xs) [] c = absurd c
 cleared (x ∷ xs) (r ∷ rs) c = both_false (is_commit r.answer) (has_commit rs) (clear_answer x r.answer (subst (λ s. CanAnswer s r.answer) c.0 c.1)) (cleared xs rs c.2)
 
 -- a whole conversation that ended otherwise has no commit
-pub uncommitted : (s : Ts) (what : Declared) (cells : List Cell) (said : List Received) (o : Outcome) → is_committed o ≡ false → IsWhole s what cells said o → has_commit said ≡ false
+pub uncommitted : (s : Ts) (what : Declared) (cells : List Cell) (said : List Received) (o : Outcome) → is_commit_outcome o ≡ false → IsWhole s what cells said o → has_commit said ≡ false
 uncommitted s what cells said o otherwise (committed x others c) = cc
 uncommitted s what cells said o otherwise (conflicted_first x after) = refl
 uncommitted s what cells said o otherwise (conflicted_later x y before after a cs can c) = grind (arith, none_after, both_false, settle_answer, cleared)

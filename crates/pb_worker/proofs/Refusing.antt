@@ -7,7 +7,7 @@ use Rattle.pb_steps.specs.declared.step.Step.{Step}
 use Rattle.pb_steps.specs.declared.step.Answer.{Answer}
 use Rattle.pb_core.specs.Calls.{SharedOf, call_reason}
 use Rattle.pb_core.specs.Histories.{IsLegalTable}
-use Rattle.pb_worker.specs.Gains.{OpeningOf, IsOpenedAs, MayRefuse, IsStop}
+use Rattle.pb_worker.specs.Gains.{OpeningOf, IsOpenedAs, MayRefuse, IsSeatStop}
 
 -- what is refused for want of memory may be refused
 want : (opens : Option OpeningOf) (n : ℕ) (step : Step) (res : Result Answer Refusal) → IfErr res (λ r. r ≡ memory_refusal) → IfErr res (λ r. MayRefuse opens n step r)
@@ -23,5 +23,5 @@ may_refuse opens s n step res opened legal refused allowed = by (call_reason s n
     by (Some w) e = subst (λ (z : Result Answer Refusal). IfErr z (λ r. MayRefuse opens n step r)) (sym (refused w e)) (inr (record { shared = s; opened = opened; legal = legal; why = w; refused = e; told = refl }))
 
 -- the step that was asked next was refused
-pub stops_at : {opens : Option OpeningOf} (n : ℕ) (next : Option Step) (step : Step) (r : Refusal) → next ≡ Some step → MayRefuse opens n step r → IsStop opens n next r
+pub stops_at : {opens : Option OpeningOf} (n : ℕ) (next : Option Step) (step : Step) (r : Refusal) → next ≡ Some step → MayRefuse opens n step r → IsSeatStop opens n next r
 stops_at n next step r e w = grind arith

@@ -14,7 +14,7 @@ use Rattle.pb_notify.specs.declared.need.Need.{Need}
 use Rattle.pb_notify.specs.Runs.{RunOf, watch_of, next_of, need_of, HasNext, answered, HearsLook, ComputesOn, at_first, one_more}
 use Rattle.pb_notify.specs.Conversations.{Reaches, made, took, computed}
 use Rattle.pb_notify.specs.Forms.{JobsConverse, JobsEnd}
-use Rattle.pb_worker.specs.Gains.{OpeningOf, Gains, Told, MayRefuse, IsStop, IsWant}
+use Rattle.pb_worker.specs.Gains.{OpeningOf, Gains, Told, MayRefuse, IsSeatStop, IsWant}
 use Rattle.pb_worker.specs.Passes.{IsObserverOf, HasColumn, IsRun, IsJobOn, job_on, ReachesOn}
 use Rattle.pb_worker.specs.Stops.{RunStops}
 use Rattle.pb_worker.proofs.Refusing.{stops_at}
@@ -73,7 +73,7 @@ module _ (observers : List ObserverOf) (n : ℕ) (x : Cell) (a b : SeatOf) (job 
     gains = gains_more a b c step answer along.gains t (λ said h. on_to (job_on n along.o x) (said ++ told step answer ∷ []) (took said job (told step answer) l h e can is hears));
   }
 
-  stopped : {opens : Option OpeningOf} → JobsConverse → (r : Refusal) → IsStop opens a.number (next_of job) r → Gains (RunStops opens a.number observers n x r) a b
+  stopped : {opens : Option OpeningOf} → JobsConverse → (r : Refusal) → IsSeatStop opens a.number (next_of job) r → Gains (RunStops opens a.number observers n x r) a b
   stopped law r stop = gains_as a b (λ said h. record { o = along.o; observer = along.observer; job = job; reaches = h; begins = law (watch_of n along.o (row_of x)) said job h; stop = stop }) along.gains
 
   pub refused : {opens : Option OpeningOf} → JobsConverse → (step : Step) → next_of job ≡ Some step → (r : Refusal) → MayRefuse opens b.number step r → Gains (RunStops opens a.number observers n x r) a b

@@ -14,7 +14,7 @@ use Rattle.pb_txn.specs.Conversations.{told}
 use Rattle.pb_worker.specs.Gains.{OpeningOf}
 use Rattle.pb_worker.specs.Tries.{AreTried, before_all, tried}
 use Rattle.pb_worker.specs.Stops.{ChangesStop}
-use Rattle.pb_worker.specs.Work.{share_of, IsWork, IsPart, in_changes, in_passes, AreFilled}
+use Rattle.pb_worker.specs.Work.{share_of, IsWork, IsWorkBegun, in_changes, in_passes, AreFilled}
 use Rattle.pb_worker.proofs.Committing.{commit_of, HasCommitted, within}
 use Rattle.pb_worker.proofs.RunCommits.{HasBegunRun, CommitRuns, run_left, run_right, of_drain, of_drain_stop}
 use Rattle.pb_worker.proofs.TryCommits.{TellsCommit, of_tries, of_cut}
@@ -167,7 +167,7 @@ module _ (batches : List Writes) (n first : ℕ) where
         neither : (b : Bool) → b ≡ true → b ≡ false → ⊥
         neither b p q = cc
 
-    of_part : {opens : Option OpeningOf} → (r : Refusal) (said : List Received) → IsPart opens seat observers (share_of batches n first) done r said → StartsOf done said
+    of_part : {opens : Option OpeningOf} → (r : Refusal) (said : List Received) → IsWorkBegun opens seat observers (share_of batches n first) done r said → StartsOf done said
     of_part r said (in_changes said' c) = of_changes_stop r said c
     of_part r all (in_passes said part t d) = with_runs done said part (of_drain_stop seat observers r part d) (of_tried done said t.tried)
 

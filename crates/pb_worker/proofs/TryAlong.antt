@@ -14,7 +14,7 @@ use Rattle.pb_txn.specs.Conversations.{told}
 use Rattle.pb_txn.specs.Forms.{PlansStop}
 use Rattle.pb_txn.specs.Changes.{ChangeOf, new_change, next_of, answered, outcome_of, Converses, ChangesConverse, ChangesEnd}
 use Rattle.pb_txn.proofs.ChangeConversation.{HasBegun, begins as has_begun}
-use Rattle.pb_worker.specs.Gains.{OpeningOf, Gains, Told, MayRefuse, IsStop, IsWant}
+use Rattle.pb_worker.specs.Gains.{OpeningOf, Gains, Told, MayRefuse, IsSeatStop, IsWant}
 use Rattle.pb_worker.specs.Tries.{IsTry, committed_in, is_commit, has_commit}
 use Rattle.pb_worker.specs.Stops.{TryStops}
 use Rattle.pb_worker.proofs.Refusing.{stops_at}
@@ -49,7 +49,7 @@ module _ (batch : Writes) (a b : SeatOf) (job : ChangeOf) (committed : Bool) (al
   pub next : (step : Step) → next_of job ≡ Some step → (answer : Answer) → CanAnswer step answer → (c : SeatOf) → Told b step answer c → (k : ChangeOf) → k ≡ answered job answer → (now : Bool) → now ≡ (committed || is_commit answer) → IsAlong batch a c k now
   next step e answer can c t k is now now-is = grind (arith, gains_more, converse_on, commit_on)
 
-  stopped : {opens : Option OpeningOf} → ChangesConverse → batch ≢ [] → (r : Refusal) → IsStop opens a.number (next_of job) r → Gains (TryStops opens a.number batch committed r) a b
+  stopped : {opens : Option OpeningOf} → ChangesConverse → batch ≢ [] → (r : Refusal) → IsSeatStop opens a.number (next_of job) r → Gains (TryStops opens a.number batch committed r) a b
   stopped law some r stop = gains_as a b (λ said h. record { told = h.told; job = job; converses = h.converses; begins = law batch said job some h.converses; stop = stop }) along
 
   pub refused : {opens : Option OpeningOf} → ChangesConverse → batch ≢ [] → (step : Step) → next_of job ≡ Some step → (r : Refusal) → MayRefuse opens b.number step r → Gains (TryStops opens a.number batch committed r) a b

@@ -14,7 +14,7 @@ use Rattle.pb_txn.specs.Conversations.{told}
 use Rattle.pb_txn.specs.Forms.{IsWhole, committed, conflicted_first, conflicted_later, lost, prewrites, secondaries}
 use Rattle.pb_txn.specs.Changes.{IsWholeChange}
 use Rattle.pb_worker.specs.Gains.{OpeningOf}
-use Rattle.pb_worker.specs.Tries.{is_committed, is_commit, has_commit, IsTry, AreVain, at_first, one_more, IsDone, AreTries}
+use Rattle.pb_worker.specs.Tries.{is_commit_outcome, is_commit, has_commit, IsTry, AreVain, at_first, one_more, IsDone, AreTries}
 use Rattle.pb_worker.specs.Stops.{TriesStop}
 use Rattle.pb_worker.proofs.Committing.{commit_of, HasCommitted, within}
 use Rattle.pb_worker.proofs.CutTries.{commit_in, uncommitted, cut_commits}
@@ -46,7 +46,7 @@ tries_in_vain batch m all (one_more n said more before t) = commit_in said more 
 -- ---- a committed try
 
 -- of the forms of a conversation only one commits, and it says all that a commit takes
-by_form : (batch : Writes) (start : Ts) (cells : List Cell) (rest : List Received) (o : Outcome) → is_committed o ≡ true → IsWhole start (Declared.Script batch) cells rest o
+by_form : (batch : Writes) (start : Ts) (cells : List Cell) (rest : List Received) (o : Outcome) → is_commit_outcome o ≡ true → IsWhole start (Declared.Script batch) cells rest o
     → (c : Ts) × Has rest (told (Step.Declare start (Declared.Script batch)) Answer.Done) × Has rest (told (Step.Stamp start) (Answer.At c)) × Has rest (commit_of start)
 by_form batch start cells rest o is (committed x others c) = (
   c,
@@ -58,7 +58,7 @@ by_form batch start cells rest o is (conflicted_first x after) = cc
 by_form batch start cells rest o is (conflicted_later x y before after a cs can cleared) = cc
 by_form batch start cells rest o is (lost x others c cs cleared) = cc
 
-by_change : (batch : Writes) (start : Ts) (said : List Received) (o : Outcome) → is_committed o ≡ true → IsWholeChange batch start said o → HasCommitted batch start said
+by_change : (batch : Writes) (start : Ts) (said : List Received) (o : Outcome) → is_commit_outcome o ≡ true → IsWholeChange batch start said o → HasCommitted batch start said
 by_change batch start said o is w = grind (arith, by_form, w.rest, w.whole, w.said_is)
 
 -- ---- all tries of a change

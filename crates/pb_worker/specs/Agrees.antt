@@ -9,13 +9,13 @@ use Rattle.pb_core.specs.Codes.{shared_code}
 use Rattle.pb_core.specs.contracts.seat.Seat as seat
 
 -- the seat is one of the table, and its list is its entries in the journal
-pub record IsTold (count : ℕ) (journal : List Entry) (seat : SeatOf) : Type 0 where
+pub record IsSeatTold (count : ℕ) (journal : List Entry) (seat : SeatOf) : Type 0 where
   pub seated : seat.number < count
   pub same : entries_of seat.number journal ≡ seat.received
 
 -- each list is the journal's entries of its seat
 abbrev pub EachTold : ℕ → List Entry → List SeatOf → Type 0
-EachTold count journal seats = (k : ℕ) (d : SeatOf) → k < length seats → IsTold count journal (slice_index_or seats k d)
+EachTold count journal seats = (k : ℕ) (d : SeatOf) → k < length seats → IsSeatTold count journal (slice_index_or seats k d)
 
 -- no two seats have one number
 abbrev pub no_twice : List SeatOf → Bool

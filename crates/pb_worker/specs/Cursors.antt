@@ -9,8 +9,8 @@ abbrev pub told_by : Entry → Received
 told_by e = record { step = e.step; answer = e.answer }
 
 -- each seat's number is below this
-abbrev pub AreBelow : ℕ → List SeatOf → Type 0
-AreBelow count seats = (k : ℕ) (d : SeatOf) → k < length seats → (slice_index_or seats k d).number < count
+abbrev pub AreNumberedBelow : ℕ → List SeatOf → Type 0
+AreNumberedBelow count seats = (k : ℕ) (d : SeatOf) → k < length seats → (slice_index_or seats k d).number < count
 
 -- by the number of each seat, its place among these
 abbrev pub ArePlaces : List ℕ → List SeatOf → Type 0
@@ -22,8 +22,8 @@ pub record IsAt (seats : List SeatOf) (number place : ℕ) : Type 0 where
   pub numbered : (d : SeatOf) → (slice_index_or seats place d).number ≡ number
 
 -- no seat has this number
-abbrev pub HasNone : List SeatOf → ℕ → Type 0
-HasNone seats number = (k : ℕ) (d : SeatOf) → k < length seats → (slice_index_or seats k d).number ≢ number
+abbrev pub HasNoSeat : List SeatOf → ℕ → Type 0
+HasNoSeat seats number = (k : ℕ) (d : SeatOf) → k < length seats → (slice_index_or seats k d).number ≢ number
 
 -- each cursor has come to the end of its seat's list
 abbrev pub AreAtEnd : List SeatOf → List ℕ → Type 0

@@ -42,7 +42,7 @@ IsOpenedAs None s = Unit {0}
 IsOpenedAs (Some o) s = opening_of s ≡ o
 
 -- some table that was opened so, with a legal journal, refuses this seat the step with this number
-pub record IsRefused (opens : Option OpeningOf) (seat : ℕ) (step : Step) (r : Refusal) : Type 0 where
+pub record IsSeatRefused (opens : Option OpeningOf) (seat : ℕ) (step : Step) (r : Refusal) : Type 0 where
   pub shared : SharedOf
   pub opened : IsOpenedAs opens shared
   pub legal : IsLegalTable shared
@@ -56,8 +56,8 @@ IsWant r = r ≡ memory_refusal
 
 -- a call was refused: for want of memory, or by the table
 abbrev pub MayRefuse : Option OpeningOf → ℕ → Step → Refusal → Type 0
-MayRefuse opens seat step r = IsWant r ⊎ IsRefused opens seat step r
+MayRefuse opens seat step r = IsWant r ⊎ IsSeatRefused opens seat step r
 
 -- it stopped for want of memory, or at the step that it asked next, which was refused
-abbrev pub IsStop : Option OpeningOf → ℕ → Option Step → Refusal → Type 0
-IsStop opens seat next r = IsWant r ⊎ ((step : Step) × (next ≡ Some step) × IsRefused opens seat step r)
+abbrev pub IsSeatStop : Option OpeningOf → ℕ → Option Step → Refusal → Type 0
+IsSeatStop opens seat next r = IsWant r ⊎ ((step : Step) × (next ≡ Some step) × IsSeatRefused opens seat step r)

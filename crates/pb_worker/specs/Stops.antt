@@ -22,7 +22,7 @@ use Rattle.pb_notify.specs.Conversations.{Reaches}
 use Rattle.pb_notify.specs.Forms.{IsRunConversation}
 use Rattle.pb_worker.specs.declared.tries.TheConstants.{MAX_TRIES}
 use Rattle.pb_worker.specs.declared.passes.TheConstants.{MAX_PASSES}
-use Rattle.pb_worker.specs.Gains.{OpeningOf, IsStop}
+use Rattle.pb_worker.specs.Gains.{OpeningOf, IsSeatStop}
 use Rattle.pb_worker.specs.Tries.{has_commit, AreVain, AreTried}
 use Rattle.pb_worker.specs.Passes.{IsObserverOf, job_on, AreRuns, IsWalk, ArePasses}
 
@@ -32,7 +32,7 @@ pub record TryStops (opens : Option OpeningOf) (seat : ℕ) (batch : Writes) (co
   pub job : ChangeOf
   pub converses : Converses (new_change batch) said job
   pub begins : (start : Ts) × (rest : List Received) × (o : Outcome) × IsWholeChange batch start (said ++ rest) o
-  pub stop : IsStop opens seat (changes.next_of job) r
+  pub stop : IsSeatStop opens seat (changes.next_of job) r
 
 -- after tries in vain, in the next
 pub record TriesStop (opens : Option OpeningOf) (seat : ℕ) (batch : Writes) (committed : Bool) (r : Refusal) (said : List Received) : Type 0 where
@@ -64,7 +64,7 @@ pub record RunStops (opens : Option OpeningOf) (seat : ℕ) (observers : List Ob
   pub job : RunOf
   pub reaches : Reaches (job_on i o x) said job
   pub begins : (rest : List Received) × (end : JobEnd) × (run : Option Meant) × IsRunConversation (watch_of i o (row_of x)) (said ++ rest) end run
-  pub stop : IsStop opens seat (runs.next_of job) r
+  pub stop : IsSeatStop opens seat (runs.next_of job) r
 
 -- after the runs of the observers before it
 pub record RunsStop (opens : Option OpeningOf) (seat : ℕ) (observers : List ObserverOf) (x : Cell) (r : Refusal) (said : List Received) : Type 0 where
@@ -77,7 +77,7 @@ pub record RunsStop (opens : Option OpeningOf) (seat : ℕ) (observers : List Ob
 
 -- in a pass: at the next mark, or in the runs on the cell that was found
 pub data PassStops (opens : Option OpeningOf) (seat : ℕ) (observers : List ObserverOf) (r : Refusal) : List Received → Type 0 where
-  at_a_mark : (said : List Received) (after : Option Cell) → IsWalk observers said after → IsStop opens seat (Some (Step.NextMark after)) r → PassStops opens seat observers r said
+  at_a_mark : (said : List Received) (after : Option Cell) → IsWalk observers said after → IsSeatStop opens seat (Some (Step.NextMark after)) r → PassStops opens seat observers r said
   in_runs : (said : List Received) (after : Option Cell) (x : Cell) (part : List Received) → IsWalk observers said after → RunsStop opens seat observers x r part
       → PassStops opens seat observers r (said ++ told (Step.NextMark after) (Answer.Marked x) ∷ part)
 

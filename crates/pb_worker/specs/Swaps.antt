@@ -19,8 +19,8 @@ IsSwapped places spare None = swap_reason spare.1 spare.0 places ≡ None
 IsSwapped places spare (Some r) = r ≡ refusal_or_want (swap_reason spare.1 spare.0 places)
 
 -- each of them was taken
-abbrev pub AreTaken : ℕ → List Spare → Type 0
-AreTaken places spares = All (λ (s : Spare). IsSwapped places s None) spares
+abbrev pub AreSparesTaken : ℕ → List Spare → Type 0
+AreSparesTaken places spares = All (λ (s : Spare). IsSwapped places s None) spares
 
 -- the first that was refused, and what came before it
 pub record FirstRefused (places : ℕ) (spares : List Spare) (r : Refusal) : Type 0 where
@@ -28,10 +28,10 @@ pub record FirstRefused (places : ℕ) (spares : List Spare) (r : Refusal) : Typ
   pub spare : Spare
   pub after : List Spare
   pub spares_are : spares ≡ before ++ spare ∷ after
-  pub taken : AreTaken places before
+  pub taken : AreSparesTaken places before
   pub refused : IsSwapped places spare (Some r)
 
 -- they were swapped in their order, and this is the first refusal among them, if there was one
 abbrev pub AreSwapped : ℕ → List Spare → Option Refusal → Type 0
-AreSwapped places spares None = AreTaken places spares
+AreSwapped places spares None = AreSparesTaken places spares
 AreSwapped places spares (Some r) = FirstRefused places spares r

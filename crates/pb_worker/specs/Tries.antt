@@ -9,14 +9,14 @@ use Rattle.pb_txn.specs.Changes.{IsWholeChange}
 use Rattle.pb_worker.specs.declared.tries.TheConstants.{MAX_TRIES}
 
 -- the outcome of a committed transaction, at whatever timestamp
-abbrev pub is_committed : Outcome → Bool
-is_committed (Outcome.Committed c) = true
-is_committed _ = false
+abbrev pub is_commit_outcome : Outcome → Bool
+is_commit_outcome (Outcome.Committed c) = true
+is_commit_outcome _ = false
 
 -- one that isn't over isn't told as committed
 abbrev pub committed_in : Option Outcome → Bool
 committed_in None = false
-committed_in (Some o) = is_committed o
+committed_in (Some o) = is_commit_outcome o
 
 -- the transaction was committed
 abbrev pub is_commit : Answer → Bool
@@ -33,7 +33,7 @@ pub record IsTry (batch : Writes) (committed : Bool) (said : List Received) : Ty
   pub start : Ts
   pub outcome : Outcome
   pub whole : IsWholeChange batch start said outcome
-  pub ended : is_committed outcome ≡ committed
+  pub ended : is_commit_outcome outcome ≡ committed
 
 -- so many tries, none of which committed
 pub data AreVain (batch : Writes) : ℕ → List Received → Type 0 where

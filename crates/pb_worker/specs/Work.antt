@@ -25,7 +25,7 @@ abbrev pub share_of : List Writes → ℕ → ℕ → Share
 share_of batches workers first = record { batches = batches; workers = workers; first = first }
 
 -- all changes, and then passes up to one without a mark, or so many as may be made
-pub record IsWhole (observers : List ObserverOf) (share : Share) (done : List Bool) (said : List Received) : Type 0 where
+pub record IsWorkDone (observers : List ObserverOf) (share : Share) (done : List Bool) (said : List Received) : Type 0 where
   pub changes : List Received
   pub tried : AreAllTried share.batches share.workers share.first done changes
   pub passes : List Received
@@ -33,14 +33,14 @@ pub record IsWhole (observers : List ObserverOf) (share : Share) (done : List Bo
   pub said_is : said ≡ changes ++ passes
 
 -- just a beginning of that
-pub data IsPart (opens : Option OpeningOf) (seat : ℕ) (observers : List ObserverOf) (share : Share) (done : List Bool) (r : Refusal) : List Received → Type 0 where
-  in_changes : (said : List Received) → ChangesStop opens seat share.batches share.workers share.first done r said → IsPart opens seat observers share done r said
-  in_passes : (said part : List Received) → AreAllTried share.batches share.workers share.first done said → DrainStops opens seat observers r part → IsPart opens seat observers share done r (said ++ part)
+pub data IsWorkBegun (opens : Option OpeningOf) (seat : ℕ) (observers : List ObserverOf) (share : Share) (done : List Bool) (r : Refusal) : List Received → Type 0 where
+  in_changes : (said : List Received) → ChangesStop opens seat share.batches share.workers share.first done r said → IsWorkBegun opens seat observers share done r said
+  in_passes : (said part : List Received) → AreAllTried share.batches share.workers share.first done said → DrainStops opens seat observers r part → IsWorkBegun opens seat observers share done r (said ++ part)
 
 -- what a worker's seat gained: only with a refusal just a beginning
 abbrev pub IsWork : Option OpeningOf → ℕ → List ObserverOf → Share → List Bool → Option Refusal → List Received → Type 0
-IsWork opens seat observers share done None said = IsWhole observers share done said
-IsWork opens seat observers share done (Some r) said = IsPart opens seat observers share done r said
+IsWork opens seat observers share done None said = IsWorkDone observers share done said
+IsWork opens seat observers share done (Some r) said = IsWorkBegun opens seat observers share done r said
 
 -- passes alone: only with a refusal just a beginning
 abbrev pub IsDrainTo : Option OpeningOf → ℕ → List ObserverOf → Option Refusal → List Received → Type 0

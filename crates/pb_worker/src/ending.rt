@@ -4,7 +4,7 @@ ghost use Rattle.std.specs.Prelude.{◌≡◌, ◌≢◌, ◌<◌, ◌≤◌, �
 ghost use Rattle.std.specs.List.{list_any};
 ghost use Rattle.pb_base.specs.declared.limits.TheConstants.{MAX_SEATS};
 ghost use Rattle.pb_worker.specs.Agrees.{Agree, EachTold, no_twice};
-ghost use Rattle.pb_worker.specs.Cursors.{told_by, AreBelow, ArePlaces, IsAt, HasNone, AreAtEnd};
+ghost use Rattle.pb_worker.specs.Cursors.{told_by, AreNumberedBelow, ArePlaces, IsAt, HasNoSeat, AreAtEnd};
 
 use crate::same::is_same;
 use pb_base::MAX_SEATS;
@@ -36,7 +36,7 @@ impl<T: Tablet> Model for Ended<T> {
 
 // Each seat is one of so many.
 fn are_seated(count: u32, seats: &[Seat]) -> bool
-    ensures { IsTrue result ↔ AreBelow count seats.now }
+    ensures { IsTrue result ↔ AreNumberedBelow count seats.now }
 {
     for seat in seats {
         if seat.number() >= count {
@@ -67,7 +67,7 @@ fn are_distinct(seats: &[Seat]) -> bool
 
 // By its number, the place of each seat among these, so that the list of an entry is found without a search.
 fn places_of(seats: &[Seat]) -> [usize; SEATS]
-    requires few { AreBelow MAX_SEATS seats.now }
+    requires few { AreNumberedBelow MAX_SEATS seats.now }
     requires distinct { IsTrue (no_twice seats.now) }
     ensures { ArePlaces result seats.now }
 {
@@ -83,7 +83,7 @@ fn places_of(seats: &[Seat]) -> [usize; SEATS]
 fn place_of(number: u32, seats: &[Seat], places: &[usize; SEATS]) -> Option<usize>
     requires { ArePlaces places.now seats.now }
     ensures some { IfSome result (IsAt seats.now number) }
-    ensures none { result ≡ None → HasNone seats.now number }
+    ensures none { result ≡ None → HasNoSeat seats.now number }
 {
     if number >= MAX_SEATS {
         return None;
@@ -125,7 +125,7 @@ fn are_at_end(seats: &[Seat], cursors: &[usize; SEATS]) -> bool
 fn are_told(count: u32, journal: &[Entry], seats: &[Seat]) -> bool
     requires few { count ≤ MAX_SEATS }
     requires counted { length seats.now ≡ count }
-    requires seated { AreBelow count seats.now }
+    requires seated { AreNumberedBelow count seats.now }
     requires distinct { IsTrue (no_twice seats.now) }
     ensures { IsTrue result ↔ EachTold count journal.now seats.now }
 {

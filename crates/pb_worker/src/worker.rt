@@ -3,7 +3,7 @@ ghost use Rattle.std.specs.Prelude.{◌≡◌, ◌<◌, ◌≤◌, ℕ, [], List
 ghost use Rattle.pb_base.specs.declared.limits.TheConstants.{MAX_SEATS, MAX_OBSERVERS};
 ghost use Rattle.pb_worker.specs.Gains.{Gains};
 ghost use Rattle.pb_worker.specs.Swaps.{Spare, AreSwapped};
-ghost use Rattle.pb_worker.specs.Work.{share_of, IsWhole, IsPart, Works, Drains};
+ghost use Rattle.pb_worker.specs.Work.{share_of, IsWorkDone, IsWorkBegun, Works, Drains};
 
 use crate::desk::Callee;
 use crate::gate::Gate;
@@ -41,10 +41,10 @@ fn work_on<R: Wait, C: Callee, G: Gate>(
     requires numbered { length observers.now ≤ MAX_OBSERVERS }
     requires none { done.old.items ≡ [] }
     ensures ok { OnOk result
-        (Gains (IsWhole observers.now (share_of batches.now count first) done.new.items)
+        (Gains (IsWorkDone observers.now (share_of batches.now count first) done.new.items)
         seat.old seat.new) }
     ensures err { IfErr result (λ r. Gains
-        (IsPart C.opening seat.old.number observers.now
+        (IsWorkBegun C.opening seat.old.number observers.now
         (share_of batches.now count first) done.new.items r)
         seat.old seat.new) }
 {

@@ -20,7 +20,7 @@ use Rattle.pb_world.specs.declared.note.Note.{Note}
 use Rattle.pb_world.specs.Jobs.{next_of, is_local, is_over, Computes}
 use Rattle.pb_world.specs.Actors.{Stepped, AnswersJob, RefusesJob, CallSteps, Instructs, IsIdle, StepsTo, launched, crashed}
 use Rattle.pb_world.specs.Events.{WorldOf, change_of, job_for, actor_of, no_launch, no_launch_by, fault_of, Launches, StepsActor, CrashesActor, OwnAnswers, OwnCalls, Does, RunsTo}
-use Rattle.pb_world.specs.GivenJobs.{Renews, IsLastLaunch, IsOf, IsGivenJob, JobsAreGiven, BusyActorsAreLeft, BusyActorsAreTold, RefusedJobsEnd}
+use Rattle.pb_world.specs.GivenJobs.{Renews, IsLastLaunch, IsJobOf, IsGivenJob, JobsAreGiven, BusyActorsAreLeft, BusyActorsAreTold, RefusedJobsEnd}
 use Rattle.pb_world.proofs.Soundness.{IsAfterSet, changed, unchanged, after_set}
 use Rattle.pb_world.proofs.Opening.{idle}
 use Rattle.pb_base.proofs.Logic.{same_some as some_same, none_some}
@@ -49,11 +49,11 @@ longer es k job d isnt l = record {
 -- ---- jobs
 
 -- and with each instruction
-of_by : (w : WorldOf) (job : Job) (j k : ActorJob) → IsOf w job j → Computes j k → IsOf w job k
+of_by : (w : WorldOf) (job : Job) (j k : ActorJob) → IsJobOf w job j → Computes j k → IsJobOf w job k
 of_by w job j k is did = grind arith
 
 -- it depends on the observers and the changes alone
-of_in : (w v : WorldOf) (job : Job) (j : ActorJob) → v.shared.state.observers ≡ w.shared.state.observers → v.batches ≡ w.batches → IsOf w job j → IsOf v job j
+of_in : (w v : WorldOf) (job : Job) (j : ActorJob) → v.shared.state.observers ≡ w.shared.state.observers → v.batches ≡ w.batches → IsJobOf w job j → IsJobOf v job j
 of_in w v (Job.Change n) (ActorJob.Change c) os bs is = subst (λ x. change_of x n ≡ Some c.batch) (sym bs) is
 of_in w v (Job.Run o row) (ActorJob.Run r) os bs is =
     (is.0, is.1, record { observer = is.2.observer; there = subst (λ x. slice_get x r.watch.observer ≡ Some is.2.observer) (sym os) is.2.there; program = is.2.program; column = is.2.column })
@@ -68,7 +68,7 @@ computed_goes j k did = grind arith
 
 module _ (w : WorldOf) where
   pub record IsMade (job : Job) (j : ActorJob) : Type 0 where
-    pub is : IsOf w job j
+    pub is : IsJobOf w job j
     pub goes_on : is_over j ≡ false
 
   change_made : (k : ℕ) (found : Option Writes) (made : ActorJob) → change_of w.batches k ≡ found → option_map (λ batch. ActorJob.Change (new_change batch)) found ≡ Some made → IsMade (Job.Change k) made
@@ -88,7 +88,7 @@ module _ (w : WorldOf) where
 -- what a step leaves is of the job that there was
 record IsLeftOf (w : WorldOf) (j : Option ActorJob) (to : Stepped) : Type 0 where
   pub observers : to.table.state.observers ≡ w.shared.state.observers
-  pub goes : (k : ActorJob) → to.job ≡ Some k → (i : ActorJob) × (j ≡ Some i) × ((job : Job) → IsOf w job i → IsOf w job k) × (is_over k ≡ false)
+  pub goes : (k : ActorJob) → to.job ≡ Some k → (i : ActorJob) × (j ≡ Some i) × ((job : Job) → IsJobOf w job i → IsJobOf w job k) × (is_over k ≡ false)
 
 -- of what is gone nothing is to be shown
 left_none : (w : WorldOf) (j : Option ActorJob) (to : Stepped) → to.table ≡ w.shared → to.job ≡ None → IsLeftOf w j to

@@ -97,12 +97,12 @@ abbrev pub StepsTo : SharedOf → SeatOf → Option ActorJob → Stepped → Typ
 StepsTo s seat job to = MatchOption job (IsIdle s seat to) (λ j. JobSteps s seat j to)
 
 -- what a job does next may want memory: an instruction that takes some, or a call that isn't refused
-abbrev pub MayWant : SharedOf → ℕ → ActorJob → Type 0
-MayWant s seat j = MatchBool (is_local j) (GrowsNext j) (MatchOption (next_of j) ⊥ (λ step. call_reason s seat step ≡ None))
+abbrev pub JobMayWant : SharedOf → ℕ → ActorJob → Type 0
+JobMayWant s seat j = MatchBool (is_local j) (GrowsNext j) (MatchOption (next_of j) ⊥ (λ step. call_reason s seat step ≡ None))
 
 -- a step of an actor without job wants no memory
 abbrev pub ActorMayWant : SharedOf → ℕ → Actor → Type 0
-ActorMayWant s seat a = MatchOption a.job ⊥ (MayWant s seat)
+ActorMayWant s seat a = MatchOption a.job ⊥ (JobMayWant s seat)
 
 -- a step of an actor, which stays launched as it was
 pub record ActorSteps (s : SharedOf) (seat : SeatOf) (a : Actor) (n : Note) (t : SharedOf) (told : SeatOf) (b : Actor) : Type 0 where

@@ -25,16 +25,16 @@ pub record IsLastLaunch (es : List Event) (k : ℕ) (job : Job) : Type 0 where
   pub last : (e : Event) → Has after e → Renews k e → ⊥
 
 -- the change of this number, or a run of this observer on the cell of this row
-abbrev pub IsOf : WorldOf → Job → ActorJob → Type 0
-IsOf w (Job.Change k) (ActorJob.Change c) = change_of w.batches k ≡ Some c.batch
-IsOf w (Job.Run o row) (ActorJob.Run r) = (r.watch.observer ≡ o) × (r.watch.row ≡ row) × HasObserver w r.watch
-IsOf w job j = ⊥
+abbrev pub IsJobOf : WorldOf → Job → ActorJob → Type 0
+IsJobOf w (Job.Change k) (ActorJob.Change c) = change_of w.batches k ≡ Some c.batch
+IsJobOf w (Job.Run o row) (ActorJob.Run r) = (r.watch.observer ≡ o) × (r.watch.row ≡ row) × HasObserver w r.watch
+IsJobOf w job j = ⊥
 
 -- the actor's last launch among these events was for this job, which isn't at its end
 pub record IsGivenJob (es : List Event) (w : WorldOf) (k : ℕ) (j : ActorJob) : Type 0 where
   pub job : Job
   pub launch : IsLastLaunch es k job
-  pub is : IsOf w job j
+  pub is : IsJobOf w job j
   pub goes_on : is_over j ≡ false
 
 -- whatever events happen in an opened world, each actor's job is such a one

@@ -3,7 +3,7 @@
 ghost use Rattle.std.specs.Prelude.{◌≡◌, None, Some, MatchOption, MatchResult, IfOk, IfErr, OnErr, OnOk};
 ghost use Rattle.pb_steps.specs.Answers.{CanAnswer};
 ghost use Rattle.pb_core.specs.Calls.{Calls, call_reason};
-ghost use Rattle.pb_world.specs.Actors.{IsRefusedBy, AsksNothing, Answers, IsNotAnswered, JobSteps, ActorSteps, OnNote, MayWant, ActorMayWant, launched, crashed, crash_note};
+ghost use Rattle.pb_world.specs.Actors.{IsRefusedBy, AsksNothing, Answers, IsNotAnswered, JobSteps, ActorSteps, OnNote, JobMayWant, ActorMayWant, launched, crashed, crash_note};
 ghost use Rattle.pb_world.specs.Jobs.{kept};
 ghost use Rattle.pb_world.specs.declared.note.Note.TheVariants.{Called};
 
@@ -109,7 +109,7 @@ fn step_job<T: Tablet>(
         }))
         ((shared.new ≡ shared.old)
         × (seat.new ≡ seat.old) × (result.job ≡ Some job)
-        × MayWant shared.old seat.old.number job) }
+        × JobMayWant shared.old seat.old.number job) }
 {
     if job.is_local() {
         return match job.local(alloc) {

@@ -2,7 +2,7 @@
 -- the one before it put there. `spares_for` promises them.
 use Rattle.std.specs.Prelude.{ℕ, ◌==◌, ◌+◌, ◌/◌, ◌%◌, zero, suc, Bool, not, List, [], ◌∷◌, ◌++◌}
 use Rattle.pb_memtablet.specs.declared.either.EitherTablet.{EitherTablet}
-use Rattle.pb_memtablet.specs.Either.{is_slab as sort_of}
+use Rattle.pb_memtablet.specs.Either.{is_slab_inside}
 
 -- whether the tablet at a place is a slab after so many swaps there
 abbrev pub is_slab : ℕ → ℕ → Bool
@@ -11,7 +11,7 @@ is_slab place (suc swaps) = not (is_slab place swaps)
 
 -- a spare's place, and whether it is a slab
 abbrev pub placed : ℕ × EitherTablet → ℕ × Bool
-placed s = (s.0, sort_of s.1)
+placed s = (s.0, is_slab_inside s.1)
 
 -- the spare of this number: at each place they are swapped in one after another
 abbrev pub spare_at : ℕ → ℕ × Bool

@@ -1,7 +1,7 @@
 //! The tablets of the program's table, and the spares that replace them: of two sorts, in turn. Programs alone know
 //! which sorts there are, since the libraries over tablets are generic in them.
 ghost use Rattle.std.specs.Prelude.{◌≡◌, ◌+◌, ◌/◌, ◌%◌, ◌∷◌, [], false, true, map, vec_len, IfOk};
-ghost use Rattle.pb_memtablet.specs.Either.{is_slab as sort_of};
+ghost use Rattle.pb_memtablet.specs.Either.{is_slab_inside};
 ghost use Rattle.pb_store.specs.TableOf.{firsts_of};
 ghost use Rattle.percobpf.specs.Places.{is_slab, placed, spare_at, spares};
 
@@ -35,7 +35,8 @@ fn spare_at(alloc: Global, number: usize) -> (usize, EitherTablet)
 /// The first tablets: of the rows from 0 on a list, and of those from 1,000 on a slab.
 pub fn first_tablets(alloc: Global) -> Result<Vec<(Row, EitherTablet)>, NoMemory>
     ensures rows { IfOk result (λ parts. firsts_of parts.items ≡ 0 ∷ 1000 ∷ []) }
-    ensures sorts { IfOk result (λ parts. map (λ p. sort_of p.1) parts.items ≡ false ∷ true ∷ []) }
+    ensures sorts { IfOk result (λ parts.
+        map (λ p. is_slab_inside p.1) parts.items ≡ false ∷ true ∷ []) }
 {
     let mut parts = Vec::new(alloc);
     parts.push((Row(0), EitherTablet::new(alloc, is_slab(0, 0))))?;

@@ -1,6 +1,6 @@
 //! A tablet that counts how often it is changed, and may refuse a change.
 ghost use Rattle.std.specs.Prelude.{◌≡◌};
-ghost use Rattle.pb_memtablet.specs.Either.{contents_of};
+ghost use Rattle.pb_memtablet.specs.Either.{contents_inside};
 ghost use Rattle.pb_store.specs.Contents.{Contents};
 
 use crate::unready::refused;
@@ -40,7 +40,7 @@ fn wait_for(number: &AtomicUsize) {
 }
 
 impl Tablet for CountedTablet {
-    ghost contents = { λ t. contents_of t.inner };
+    ghost contents = { λ t. contents_inside t.inner };
 
     fn get(&self, slot: Slot) -> Option<Item> {
         self.inner.get(slot)

@@ -2,7 +2,7 @@
 ghost use Rattle.std.specs.Prelude.{◌≡◌, ℕ, List, true, IfOk, Some, [], false, option_map, codes};
 ghost use Rattle.clap.specs.Words.{FailsBy, app_of, new_app, fault_of, first_of, found_of, kind_of, one_of, rows_of, rule_of, subcommand_of, subcommand_rows_of};
 ghost use Rattle.pb_reading.specs.Reading.{texts_of};
-ghost use Rattle.pb_texts.specs.CommandLines.{required_rule, number_rule, run_app, clock_rule, profile_rule, profile_numbered, profile_of, record_rule, version_numbered, version_of, replay_app, asm_app, dis_app, check_app, texts_app, program_app, is_within, count_of, workers_of, run_in, clock_of, replay_in, asm_in, dis_in, check_in, command_in, command_of, words_fault, request_of, replay_request, check_request, IsInRange, is_plain_word, is_workers, is_swaps, count_number, is_clock, clock_number, run_words, workers_words, swaps_words, replay_words, clock_words, asm_words, dis_words, check_words, Run, Replay, Asm, Dis, Check, AskFor, HaveBadValue, TakeProfiles, RefuseOtherProfiles, TakeVersions, RefuseOtherVersions};
+ghost use Rattle.pb_texts.specs.CommandLines.{required_rule, number_rule, run_app, clock_rule, profile_rule, profile_numbered, profile_named, record_rule, version_numbered, version_of, replay_app, asm_app, dis_app, check_app, texts_app, program_app, is_within, count_named, workers_of, run_in, clock_of, replay_in, asm_in, dis_in, check_in, command_in, command_of, words_fault, request_of, replay_request, check_request, IsInRange, is_plain_word, is_workers, is_swaps, count_number, is_clock, clock_number, run_words, workers_words, swaps_words, replay_words, clock_words, asm_words, dis_words, check_words, Run, Replay, Asm, Dis, Check, AskFor, HaveBadValue, TakeProfiles, RefuseOtherProfiles, TakeVersions, RefuseOtherVersions};
 ghost use Rattle.pb_isa.specs.declared.profile.Profile.TheVariants.{One};
 ghost use Rattle.pb_helpers.specs.declared.change.Version.TheVariants.{First};
 ghost use Rattle.clap.specs.declared.builder.command.Command.TheViews.{out-Command as fields_of};
@@ -222,7 +222,7 @@ fn is_within(low: u32, high: u32, number: u32) -> bool
 
 // The number from `low` to `high` that a text names. `clap` takes a plus before the digits, and so does `parse`.
 fn number_named(text: &str, low: u32, high: u32) -> Option<u32>
-    ensures { result ≡ count_of low high (Some text.now) }
+    ensures { result ≡ count_named low high (Some text.now) }
 {
     if text.starts_with('+') {
         return None;
@@ -236,7 +236,7 @@ fn number_named(text: &str, low: u32, high: u32) -> Option<u32>
 
 // The number from `low` to `high` that the matches name for an option, `low` where they name none.
 fn count_in(matches: &ArgMatches, option: &str, low: u32, high: u32) -> Option<u32>
-    ensures { result ≡ count_of low high (first_of option.now (rows_of (found_of matches.now))) }
+    ensures { result ≡ count_named low high (first_of option.now (rows_of (found_of matches.now))) }
 {
     match value_in(matches, option) {
         Some(text) => number_named(text, low, high),
@@ -296,7 +296,7 @@ fn profile_numbered(number: u32) -> Profile
 
 // The profile that the matches of `asm`, `dis` or `check` name.
 pub fn profile_in(program: &ArgMatches) -> Option<Profile>
-    ensures { result ≡ profile_of (first_of (codes "profile") (rows_of (found_of program.now))) }
+    ensures { result ≡ profile_named (first_of (codes "profile") (rows_of (found_of program.now))) }
 {
     let number = count_in(program, "profile", 1, LAST_PROFILE)?;
     Some(profile_numbered(number))

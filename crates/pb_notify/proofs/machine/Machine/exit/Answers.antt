@@ -2,7 +2,7 @@ use Rattle.std.proofs.Common.{◌≡◌, ◌-◌, IfOk, rules, subst, arith}
 use Rattle.pb_vm.specs.MachineSlot.{IsAtSlot}
 use Rattle.pb_vm.specs.Moves.{Finishes}
 use Rattle.pb_vm.specs.Position.{Position}
-use Rattle.pb_notify.specs.Steps.{Ends}
+use Rattle.pb_notify.specs.Steps.{ExitsAs}
 use Rattle.pb_notify.proofs.Exits.{at_exit, at_slot, left}
 use Rattle.pb_notify.proofs.machine.Machine.exit.Goals as goal
 
@@ -25,4 +25,4 @@ returns-in-Running-clause-ok c v r did =
     let finishes : Finishes c.args.self c.finish-finished.result = subst (λ w. Finishes w c.finish-finished.result) inner (rw c.in-Running.is at c.finish-finished.ensures) in
     let taken : c.taken-taken.result ≡ c.args.self.taken = search rules in
     let here = at_exit v c.args.self r c.finish-finished.result (c.taken-taken.result - 1) did finishes (omega (arith, did.moves.taken, taken)) in
-    subst (λ (w : Position). IfOk c.declare.result (λ d. Ends c.args.observer w d.0 d.1)) here c.declare.ensures.ok
+    subst (λ (w : Position). IfOk c.declare.result (λ d. ExitsAs c.args.observer w d.0 d.1)) here c.declare.ensures.ok
