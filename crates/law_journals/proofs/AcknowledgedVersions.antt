@@ -1,21 +1,7 @@
 -- An observer's acknowledgment was written by a run that found its cell, so that the cell has a version there; and above the
 -- newer version that stands, a lock is later than both.
 use Rattle.std.proofs.Common.{◌≡◌, ℕ, ◌<◌, ◌≤◌, inl, inr, List, Some, None, refl, sym, ap, subst, arith}
-use Rattle.pb_base.specs.declared.cell.Cell.{Cell}
-use Rattle.pb_base.specs.declared.content.Content.{Content}
-use Rattle.pb_base.specs.declared.names.Row.{Row}
-use Rattle.pb_base.specs.declared.names.Ts.{Ts}
-use Rattle.pb_verify.specs.Observers.{observed_cell, observed_column, acknowledgment}
-use Rattle.pb_steps.specs.declared.step.Answer.{Answer}
-use Rattle.pb_steps.specs.declared.step.Step.{Step}
-use Rattle.pb_steps.specs.Readings.{write_at}
-use Rattle.pb_steps.specs.Reads.{stamp_of}
-use Rattle.pb_steps.specs.State.{StateOf}
-use Rattle.pb_steps.specs.Steps.{StepCase}
-use Rattle.pb_history.specs.declared.entry.Entry.{Entry}
-use Rattle.pb_history.specs.History.{Has, Member, InHistory, WritesTo, IsSnapshot}
-use Rattle.pb_history.specs.Sound.{IsSoundTable}
-use Rattle.pb_history.specs.TableView.{reads_recorded}
+use Rattle.law_journals.specs.Words.{Cell, Content, Row, Ts, observed_cell, observed_column, acknowledgment, Answer, Step, write_at, stamp_of, StateOf, StepCase, Entry, Has, Member, InHistory, WritesTo, IsSnapshot, IsSoundTable, reads_recorded}
 use Rattle.pb_history.proofs.Agreement.{read_of, Agrees}
 use Rattle.pb_history.proofs.StepsAgree.{legal_agrees}
 use Rattle.pb_history.proofs.JournalsAreSound.{legal_sound}

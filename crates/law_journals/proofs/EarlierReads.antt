@@ -1,16 +1,7 @@
 -- Which reads are taken, and what they are answered past later locks.
 use Rattle.std.proofs.Common.{◌≡◌, ℕ, ◌<◌, ◌≤◌, true, Option, Some, None, refl, arith}
 use Rattle.std.proofs.lemmas.Bool.Decides.{nat_tests}
-use Rattle.pb_base.specs.declared.cell.Cell.{Cell}
-use Rattle.pb_base.specs.declared.names.Ts.{Ts}
-use Rattle.pb_base.specs.declared.refusal.Reason.{Reason}
-use Rattle.pb_store.specs.Contents.{Entries}
-use Rattle.pb_steps.specs.declared.step.Step.{Step}
-use Rattle.pb_steps.specs.Phases.{is_reading}
-use Rattle.pb_steps.specs.Readings.{lock_at, NoLockUpTo}
-use Rattle.pb_steps.specs.Reasons.{IsOwn, own_transaction}
-use Rattle.pb_steps.specs.State.{StateOf}
-use Rattle.pb_steps.specs.Steps.{step_reason}
+use Rattle.law_journals.specs.Words.{Cell, Ts, Reason, Entries, Step, is_reading, lock_at, NoLockUpTo, IsOwn, own_transaction, StateOf, step_reason}
 use Rattle.law_journals.specs.EarlierReads.{MayRead, ReadsUpToTheStartAreTaken, LocksAreLater, IsAnsweredUpTo, LaterLocksHideNothing}
 
 -- the transaction that a step names is the seat's own

@@ -1,28 +1,7 @@
 -- The reads of a committed run at a timestamp, by what it declared.
 use Rattle.std.proofs.Common.{◌≡◌, ℕ, Bool, true, false, not, ◌==◌, if◌then◌else◌, inl, inr, List, [], ◌∷◌, Option, Some, None, refl, sym, ap, subst, ◌∙◌}
 use Rattle.std.proofs.lemmas.Bool.{eqb-true, eq-eqb}
-use Rattle.pb_base.specs.declared.cell.Cell.{Cell}
-use Rattle.pb_base.specs.declared.content.Content.{Content}
-use Rattle.pb_base.specs.declared.names.Row.{Row}
-use Rattle.pb_base.specs.declared.names.Ts.{Ts}
-use Rattle.pb_isa.specs.Machine.{Reply}
-use Rattle.pb_isa.specs.Meaning.{Talk}
-use Rattle.pb_helpers.specs.OldRecord.{tells_old}
-use Rattle.pb_verify.specs.Observers.{ObserverOf, observed_cell, observed_column, acknowledgment}
-use Rattle.pb_finished.specs.Finished.{Meant}
-use Rattle.pb_steps.specs.declared.seen.RecordedRead.{RecordedRead}
-use Rattle.pb_steps.specs.declared.step.Answer.{Answer}
-use Rattle.pb_steps.specs.declared.step.Declared.{Declared}
-use Rattle.pb_steps.specs.declared.step.Step.{Step}
-use Rattle.pb_steps.specs.declared.step.Work.{Work}
-use Rattle.pb_steps.specs.Declarations.{IsReadOf, old_at, WasOld, AreReplies, IsItsRun, MayDeclare}
-use Rattle.pb_steps.specs.Phases.{is_reading}
-use Rattle.pb_steps.specs.Reads.{acknowledged_in, stamp_of, read_up_to}
-use Rattle.pb_steps.specs.State.{StateOf, TransactionOf}
-use Rattle.pb_history.specs.declared.entry.Entry.{Entry}
-use Rattle.pb_history.specs.History.{Has, IsEntry, Member, InHistory, IsSnapshot}
-use Rattle.pb_history.specs.Sound.{IsSoundTable}
-use Rattle.pb_history.specs.TableView.{reads_recorded}
+use Rattle.law_journals.specs.Words.{Cell, Content, Row, Ts, Reply, Talk, tells_old, ObserverOf, observed_cell, observed_column, acknowledgment, Meant, RecordedRead, Answer, Declared, Step, Work, IsReadOf, old_at, WasOld, AreReplies, IsItsRun, MayDeclare, is_reading, acknowledged_in, stamp_of, read_up_to, StateOf, TransactionOf, Entry, Has, IsEntry, Member, InHistory, IsSnapshot, IsSoundTable, reads_recorded}
 use Rattle.pb_history.proofs.Agreement.{got, read_of, ts, Agrees}
 use Rattle.pb_history.proofs.StepsAgree.{legal_agrees}
 use Rattle.pb_history.proofs.HistoryTold.{is_committed}

@@ -1,8 +1,6 @@
 -- The value of a content is what it shows.
 use Rattle.std.proofs.Common.{◌≡◌, inl, inr}
-use Rattle.pb_base.specs.declared.content.Content.{Content}
-use Rattle.pb_isa.specs.Machine.{Reply}
-use Rattle.pb_steps.specs.Reads.{value_of}
+use Rattle.law_journals.specs.Words.{Content, Reply, value_of}
 use Rattle.law_journals.specs.ShownValues.{Shows, ValuesAreShown}
 
 shows : (content : Content) (reply : Reply) → reply ≡ value_of content → Shows content reply

@@ -1,16 +1,6 @@
 -- The version of a cell that an observer has acknowledged, read once more when the cell has a newer one.
 use Rattle.std.specs.Prelude.{ℕ, ◌<◌, List}
-use Rattle.pb_base.specs.declared.content.Content.{Content}
-use Rattle.pb_base.specs.declared.names.Row.{Row}
-use Rattle.pb_base.specs.declared.names.Ts.{Ts}
-use Rattle.pb_verify.specs.Observers.{ObserverOf, observed_cell, acknowledgment}
-use Rattle.pb_steps.specs.declared.step.Answer.{Answer}
-use Rattle.pb_steps.specs.declared.step.Step.{Step}
-use Rattle.pb_steps.specs.State.{StateOf}
-use Rattle.pb_steps.specs.Steps.{TableStep}
-use Rattle.pb_history.specs.declared.entry.Entry.{Entry}
-use Rattle.pb_history.specs.History.{IsEntry}
-use Rattle.pb_history.specs.Journals.{IsLegal}
+use Rattle.law_journals.specs.Words.{Content, Row, Ts, ObserverOf, observed_cell, acknowledgment, Answer, Step, StateOf, TableStep, Entry, IsEntry, IsLegal}
 
 -- the answer is a version
 abbrev pub IsVersionAnswer : Answer → Type 0

@@ -2,17 +2,7 @@
 -- and which locks they pass by.
 use Rattle.std.specs.Prelude.{◌≡◌, ℕ, ◌<◌, ◌≤◌, Some, None}
 use Rattle.std.specs.FinMap as map
-use Rattle.pb_base.specs.declared.cell.Cell.{Cell}
-use Rattle.pb_base.specs.declared.content.Revision.{Revision}
-use Rattle.pb_base.specs.declared.names.Ts.{Ts}
-use Rattle.pb_base.specs.declared.refusal.Reason.{Reason}
-use Rattle.pb_store.specs.Contents.{Entries}
-use Rattle.pb_steps.specs.declared.phase.Phase.{Phase}
-use Rattle.pb_steps.specs.declared.step.Answer.{Answer}
-use Rattle.pb_steps.specs.declared.step.Step.{Step}
-use Rattle.pb_steps.specs.Readings.{lock_at, IsVersion, NoVersion}
-use Rattle.pb_steps.specs.State.{StateOf, TransactionOf}
-use Rattle.pb_steps.specs.Steps.{step_reason, TableStep}
+use Rattle.law_journals.specs.Words.{Cell, Revision, Ts, Reason, Entries, Phase, Answer, Step, lock_at, IsVersion, NoVersion, StateOf, TransactionOf, step_reason, TableStep}
 
 -- the transaction of this start is one of the seat, and has declared nothing yet
 pub record MayRead (state : StateOf) (seat start : ℕ) : Type 0 where

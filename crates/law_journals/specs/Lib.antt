@@ -1,3 +1,4 @@
+pub mod Words
 pub mod EarlierReads
 pub mod AcknowledgedVersions
 pub mod LooksBack

@@ -1,17 +1,6 @@
 -- At which timestamp a committed run read a cell besides its start.
 use Rattle.std.specs.Prelude.{◌≡◌, ℕ, List, Some, slice_get}
-use Rattle.pb_base.specs.declared.cell.Cell.{Cell}
-use Rattle.pb_base.specs.declared.content.Content.{Content}
-use Rattle.pb_base.specs.declared.names.Row.{Row}
-use Rattle.pb_base.specs.declared.names.Ts.{Ts}
-use Rattle.pb_verify.specs.Observers.{ObserverOf, observed_cell, acknowledgment}
-use Rattle.pb_steps.specs.declared.step.Answer.{Answer}
-use Rattle.pb_steps.specs.declared.step.Step.{Step}
-use Rattle.pb_steps.specs.declared.step.Work.{Work}
-use Rattle.pb_steps.specs.State.{StateOf}
-use Rattle.pb_history.specs.declared.entry.Entry.{Entry}
-use Rattle.pb_history.specs.History.{IsEntry, Member, InHistory, IsSnapshot}
-use Rattle.pb_history.specs.Journals.{IsLegal}
+use Rattle.law_journals.specs.Words.{Cell, Content, Row, Ts, ObserverOf, observed_cell, acknowledgment, Answer, Step, Work, StateOf, Entry, IsEntry, Member, InHistory, IsSnapshot, IsLegal}
 
 -- a read is answered with what its cell holds, or that it is absent
 abbrev pub IsAnswered : Answer → Type 0

@@ -1,12 +1,6 @@
 -- What a cell shows to a program in a snapshot, by what was written there.
 use Rattle.std.specs.Prelude.{◌≡◌, ◌↔◌, ◌⊎◌, ℕ, List, Some, None}
-use Rattle.pb_base.specs.declared.cell.Cell.{Cell}
-use Rattle.pb_base.specs.declared.content.Content.{Content}
-use Rattle.pb_isa.specs.Machine.{Reply}
-use Rattle.pb_verify.specs.Observers.{ObserverOf}
-use Rattle.pb_history.specs.declared.entry.Entry.{Entry}
-use Rattle.pb_history.specs.History.{IsSnapshot, NoSnapshot}
-use Rattle.pb_history.specs.RunsTold.{IsValueAt}
+use Rattle.law_journals.specs.Words.{Cell, Content, Reply, ObserverOf, Entry, IsSnapshot, NoSnapshot, IsValueAt}
 
 -- a value is shown, and of a deletion or a stamp that there is none
 abbrev pub Shows : Content → Reply → Type 0

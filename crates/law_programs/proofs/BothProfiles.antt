@@ -1,10 +1,6 @@
 -- What profile 1 relates bytes to, profile 2 relates them to as well.
 use Rattle.std.proofs.Common.{◌≡◌, ℕ, List, refl, sym, subst}
-use Rattle.pb_isa.specs.declared.insn.Insn.{Insn}
-use Rattle.pb_isa.specs.declared.profile.Profile.{Profile}
-use Rattle.pb_isa.specs.Programs.{ProgramOf}
-use Rattle.pb_sound.specs.ProfilesAgree.{program_in, SameAreAccepted, SameAreRefused, SameIsMeant}
-use Rattle.pb_decode.specs.Encoding.{Encodes, in_profile}
+use Rattle.law_programs.specs.Words.{Insn, Profile, ProgramOf, program_in, SameAreAccepted, SameAreRefused, SameIsMeant, Encodes, in_profile}
 use Rattle.law_programs.specs.BothProfiles.{AreAlike, BytesMeanTheSame}
 
 -- a profile's bytes are one program

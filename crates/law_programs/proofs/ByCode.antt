@@ -1,16 +1,7 @@
 -- The rules by code.
 use Rattle.std.proofs.Common.{arith, ◌≡◌, ℕ, ◌+◌, inl, inr, pos, ◌+ℤ◌, Option, ap, subst, Contains, IsSomeAnd}
 use Rattle.std.proofs.lemmas.List.Elements.{All-contains, Contains-append_left, Contains-append_right}
-use Rattle.pb_isa.specs.declared.insn.Insn.{Insn}
-use Rattle.pb_isa.specs.declared.insn.Operand.{Operand}
-use Rattle.pb_isa.specs.Registers.{number}
-use Rattle.pb_isa.specs.Helpers.{Helper, declared_helper}
-use Rattle.pb_isa.specs.Programs.{JudgedOf}
-use Rattle.pb_kinds.specs.declared.frame.Kind.{Kind}
-use Rattle.pb_kinds.specs.declared.frame.Frame.{Frame}
-use Rattle.pb_kinds.specs.Frames.{kind_of}
-use Rattle.pb_helpers.specs.declared.code.RuleCode.{RuleCode}
-use Rattle.pb_verify.specs.Rules.{at, loads, stores, insn_rules}
+use Rattle.law_programs.specs.Words.{Insn, Operand, number, Helper, declared_helper, JudgedOf, Kind, Frame, kind_of, RuleCode, at, loads, stores, insn_rules}
 use Rattle.law_programs.specs.Touches.{Touch, size_bytes, HelperTouches, Storing, IsReading, IsOfInstruction, LieInStack, LieInRecord, SomeUnwritten}
 use Rattle.law_programs.specs.Breaks.{Breaks, RulesAreByCode}
 use Rattle.law_programs.proofs.Told.{stands}

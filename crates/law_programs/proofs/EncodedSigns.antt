@@ -1,13 +1,7 @@
 -- The bytes of moves and loads that extend the sign.
 use Rattle.std.proofs.Common.{◌≡◌, ℕ, true, false, List, [], ◌∷◌, refl, sym, ap, subst, ◌∙◌, arith, rules}
 use Rattle.std.specs.List.{AllByRecursion}
-use Rattle.pb_isa.specs.declared.insn.Insn.{Insn}
-use Rattle.pb_isa.specs.declared.profile.Profile.{Profile}
-use Rattle.pb_isa.specs.Bounds.{Fits}
-use Rattle.pb_isa.specs.Profiles.{IsOf, is_of}
-use Rattle.pb_isa.specs.Slots.{slots}
-use Rattle.pb_isa.specs.Programs.{ProgramOf}
-use Rattle.pb_decode.specs.Encoding.{Encodes, encoding, in_profile}
+use Rattle.law_programs.specs.Words.{Insn, Profile, Fits, IsOf, is_of, slots, ProgramOf, Encodes, encoding, in_profile}
 use Rattle.law_programs.specs.EncodedSigns.{alone, AreBytesOf, SignsAreEncoded}
 use Rattle.law_programs.proofs.BothProfiles.{OneProgram, ReadAlike}
 

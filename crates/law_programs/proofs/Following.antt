@@ -4,22 +4,7 @@ use Rattle.std.proofs.Math.Seq.{drop-nil}
 use Rattle.std.proofs.lemmas.List.{get_or-set_other, get_or_past}
 use Rattle.std.proofs.lemmas.Grind.{get_or-set_at}
 use Rattle.std.proofs.lemmas.Bool.Decides.{not_from_Decides}
-use Rattle.pb_isa.specs.declared.insn.Insn.{Insn}
-use Rattle.pb_isa.specs.declared.insn.AluOp.{AluOp}
-use Rattle.pb_isa.specs.declared.insn.Width.{Width}
-use Rattle.pb_isa.specs.declared.insn.Operand.{Operand}
-use Rattle.pb_isa.specs.declared.insn.Size.{Size}
-use Rattle.pb_isa.specs.declared.insn.Reg.{Reg}
-use Rattle.pb_isa.specs.Registers.{number}
-use Rattle.pb_isa.specs.Helpers.{HelperSet, Helper, Read, Write, Delete, Start, helper_of, has_helper, if_declared, declared_helper}
-use Rattle.pb_isa.specs.Programs.{JudgedOf}
-use Rattle.pb_kinds.specs.declared.frame.Kind.{Kind}
-use Rattle.pb_kinds.specs.declared.frame.Frame.{Frame}
-use Rattle.pb_kinds.specs.Frames.{kind_of, has_byte}
-use Rattle.pb_kinds.specs.Ranges.{in_stack, from_low, set_flags, with_written}
-use Rattle.pb_helpers.specs.declared.code.RuleCode.{RuleCode}
-use Rattle.pb_verify.specs.Rules.{at, bytes_of, insn_rules}
-use Rattle.pb_verify.specs.Following.{with_kind, move_pointer, kind_after, with_store, kinds_after_call, after_call, after}
+use Rattle.law_programs.specs.Words.{Insn, AluOp, Width, Operand, Size, Reg, number, HelperSet, Helper, Read, Write, Delete, Start, helper_of, has_helper, if_declared, declared_helper, JudgedOf, Kind, Frame, kind_of, has_byte, in_stack, from_low, set_flags, with_written, RuleCode, at, bytes_of, insn_rules, with_kind, move_pointer, kind_after, with_store, kinds_after_call, after_call, after}
 use Rattle.law_programs.specs.Operands.{SetsRegister}
 use Rattle.law_programs.specs.Touches.{Touch, touch, size_bytes, Loading, Storing, Taking, Filling, HelperTouches, Touches}
 use Rattle.law_programs.specs.Breaks.{Breaks, RulesAreByCode}

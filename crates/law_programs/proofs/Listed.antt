@@ -3,21 +3,7 @@ use Rattle.std.proofs.Common.{◌≡◌, ◌≢◌, ℕ, ◌+◌, ◌<◌, ◌�
 use Rattle.std.proofs.Math.IntN.{+ℤ_idr}
 use Rattle.std.proofs.lemmas.List.Elements.{Contains-append_left, Contains-append_right}
 use Rattle.std.proofs.lemmas.Bool.Decides.{Decides-eqb, Decides-not, Decides-and}
-use Rattle.pb_isa.specs.declared.insn.Insn.{Insn}
-use Rattle.pb_isa.specs.declared.insn.AluOp.{AluOp}
-use Rattle.pb_isa.specs.declared.insn.Width.{Width}
-use Rattle.pb_isa.specs.declared.insn.Operand.{Operand}
-use Rattle.pb_isa.specs.declared.insn.Reg.{Reg}
-use Rattle.pb_isa.specs.Registers.{number}
-use Rattle.pb_isa.specs.Helpers.{Helper, Read, Write, Delete, Start}
-use Rattle.pb_isa.specs.Slots.{slots, insn_at}
-use Rattle.pb_kinds.specs.declared.frame.Kind.{Kind}
-use Rattle.pb_kinds.specs.declared.frame.Frame.{Frame}
-use Rattle.pb_kinds.specs.Frames.{kind_of, is_unset, is_pointer}
-use Rattle.pb_kinds.specs.Ranges.{in_stack, in_record}
-use Rattle.pb_helpers.specs.declared.code.RuleCode.{RuleCode}
-use Rattle.pb_helpers.specs.Arguments.{stack_reads, stack_writes, filled_bytes, taken_bytes, is_cell, is_place, call_rules}
-use Rattle.pb_verify.specs.Rules.{at, reads_operand, on_pointer, falls, numeric_rules, alu_rules, loads, stores, jump_rules}
+use Rattle.law_programs.specs.Words.{Insn, AluOp, Width, Operand, Reg, number, Helper, Read, Write, Delete, Start, slots, insn_at, Kind, Frame, kind_of, is_unset, is_pointer, in_stack, in_record, RuleCode, stack_reads, stack_writes, filled_bytes, taken_bytes, is_cell, is_place, call_rules, at, reads_operand, on_pointer, falls, numeric_rules, alu_rules, loads, stores, jump_rules}
 use Rattle.law_programs.specs.Operands.{IsPointer, IsStackPointer, IsCellArgument, IsPlaceArgument, IsOperand, KeepsPointers}
 use Rattle.law_programs.specs.Touches.{Touch, HelperTouches, IsReading, LieInStack, LieInRecord, SomeUnwritten}
 use Rattle.law_programs.specs.Breaks.{IsWrong}

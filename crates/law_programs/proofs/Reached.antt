@@ -3,17 +3,7 @@ use Rattle.std.proofs.Common.{◌≡◌, ◌≢◌, ℕ, zero, suc, ◌+◌, ◌
 use Rattle.std.proofs.lemmas.List.Elements.{All-contains}
 use Rattle.std.proofs.lemmas.Bool.{cases_lt}
 use Rattle.std.proofs.lemmas.Bool.Decides.{Decides-eqb, Decides-or}
-use Rattle.pb_isa.specs.declared.insn.Insn.{Insn}
-use Rattle.pb_isa.specs.Programs.{JudgedOf}
-use Rattle.pb_isa.specs.Slots.{insn_at}
-use Rattle.pb_kinds.specs.declared.frame.Kind.{Kind}
-use Rattle.pb_kinds.specs.declared.frame.Frame.{Frame}
-use Rattle.pb_helpers.specs.declared.code.RuleCode.{RuleCode}
-use Rattle.pb_verify.specs.Rules.{insn_rules}
-use Rattle.pb_verify.specs.Following.{after, ahead, leads}
-use Rattle.pb_verify.specs.Arriving.{has_slot, if_leads, frame_after, in_at, codes_at, faults}
-use Rattle.pb_verify.specs.Forward.{LeadsAreLater}
-use Rattle.pb_verify.specs.Ways.{IsWay, Fact, HasKind, Says, IsMeetOfWays, FramesAreMeets}
+use Rattle.law_programs.specs.Words.{Insn, JudgedOf, insn_at, Kind, Frame, RuleCode, insn_rules, after, ahead, leads, has_slot, if_leads, frame_after, in_at, codes_at, faults, LeadsAreLater, IsWay, Fact, HasKind, Says, IsMeetOfWays, FramesAreMeets}
 use Rattle.law_programs.specs.Targets.{JumpsTo, next_slot}
 use Rattle.law_programs.specs.Breaks.{Breaks, RulesAreByCode}
 use Rattle.law_programs.specs.Reached.{LeadsTo, IsUnreached, IsReachable, ByEntry, ByStep, TellsReached, IsCodeTold}

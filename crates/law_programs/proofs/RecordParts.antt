@@ -5,13 +5,7 @@ use mir.Syntax.{w64}
 use Rattle.std.proofs.Math.Seq.{take-append_seam, drop-append-add}
 use Rattle.std.proofs.lemmas.List.{append-nil}
 use Rattle.std.proofs.lemmas.Nat.{from_le_bytes-to_le_bytes_8}
-use Rattle.pb_base.specs.declared.cell.Cell.{Cell}
-use Rattle.pb_base.specs.declared.content.Content.{Content}
-use Rattle.pb_base.specs.declared.content.Revision.{Revision}
-use Rattle.pb_base.specs.Cell.{row_of, column_of}
-use Rattle.pb_isa.specs.Machine.{Reply, reply_bytes}
-use Rattle.pb_helpers.specs.Record.{word_bytes, present, value_bytes, record_of}
-use Rattle.pb_helpers.specs.OldRecord.{is_value, record_with_old}
+use Rattle.law_programs.specs.Words.{Cell, Content, Revision, row_of, column_of, Reply, reply_bytes, word_bytes, present, value_bytes, record_of, is_value, record_with_old}
 use Rattle.law_programs.specs.RecordParts.{HasContent, HasOld, HasParts, HasValueSize, FitsRecord, AreRecords}
 
 -- the first 32 bytes of a list that begins with so many

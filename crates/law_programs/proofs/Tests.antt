@@ -3,13 +3,7 @@ use Rattle.std.proofs.Common.{◌≡◌, ℕ, zero, suc, ◌+◌, ◌<◌, Bool,
 use Rattle.std.proofs.lemmas.Float.{T_from_true}
 use Rattle.std.proofs.lemmas.Bool.{true_from_ne_false}
 use Rattle.std.proofs.lemmas.Bool.Decides.{Decides-and}
-use Rattle.pb_isa.specs.declared.insn.Size.{Size}
-use Rattle.pb_kinds.specs.declared.frame.Kind.{Kind}
-use Rattle.pb_kinds.specs.declared.frame.Frame.{Frame}
-use Rattle.pb_kinds.specs.Frames.{has_byte, is_unset, is_number_kind, is_pointer}
-use Rattle.pb_kinds.specs.Ranges.{in_stack, in_record, from_low, has_bytes, are_written}
-use Rattle.pb_helpers.specs.Arguments.{is_place}
-use Rattle.pb_verify.specs.Rules.{bytes_of}
+use Rattle.law_programs.specs.Words.{Size, Kind, Frame, has_byte, is_unset, is_number_kind, is_pointer, in_stack, in_record, from_low, has_bytes, are_written, is_place, bytes_of}
 use Rattle.law_programs.specs.Operands.{IsStackPointer, IsPointer}
 use Rattle.law_programs.specs.Touches.{size_bytes, LieInStack, LieInRecord, SomeUnwritten}
 

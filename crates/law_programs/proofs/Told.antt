@@ -1,8 +1,7 @@
 -- Lists of codes: what holds of each code of a list, and which codes stand in it.
 use Rattle.std.proofs.Common.{◌≡◌, Bool, true, [], ◌∷◌, refl, arith, All, Contains}
 use Rattle.std.proofs.lemmas.List.Elements.{All-nil, All-cons}
-use Rattle.pb_helpers.specs.declared.code.RuleCode.{RuleCode}
-use Rattle.pb_helpers.specs.Codes.{when}
+use Rattle.law_programs.specs.Words.{RuleCode, when}
 
 pub each_one : (P : RuleCode → Type 0) (d : RuleCode) → P d → All P (d ∷ [])
 each_one P d h = All-cons P d [] h (All-nil P)

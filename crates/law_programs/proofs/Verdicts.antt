@@ -1,14 +1,7 @@
 -- What is told of a program, in the words of the codes.
 use Rattle.std.proofs.Common.{◌≡◌, ℕ, ◌-◌, ◌≤◌, List, [], ◌∷◌, Option, Some, None, get_or, refl, sym, ap, subst, ◌∙◌, arith, All, Contains}
 use Rattle.std.proofs.lemmas.List.Elements.{All-nil, All-cons, All-contains, All-weaker}
-use Rattle.pb_isa.specs.declared.insn.Insn.{Insn}
-use Rattle.pb_isa.specs.Programs.{JudgedOf}
-use Rattle.pb_isa.specs.Slots.{insn_at}
-use Rattle.pb_kinds.specs.declared.frame.Frame.{Frame}
-use Rattle.pb_helpers.specs.declared.code.RuleCode.{RuleCode}
-use Rattle.pb_helpers.specs.Codes.{code_number, lowest_code, CodesRiseWithin}
-use Rattle.pb_verify.specs.Rules.{CodesRise}
-use Rattle.pb_verify.specs.Arriving.{in_at, codes_at, faults}
+use Rattle.law_programs.specs.Words.{Insn, JudgedOf, insn_at, Frame, RuleCode, code_number, lowest_code, CodesRiseWithin, CodesRise, in_at, codes_at, faults}
 use Rattle.law_programs.specs.Reached.{FaultsAreTold}
 use Rattle.law_programs.specs.Verdicts.{VerdictsAreTold}
 

@@ -1,14 +1,7 @@
 -- Bytes of a program of profile 1, read in profile 2. `pb_decode` tells which program they are there, and `pb_sound` how
 -- programs of the same instructions are judged and what they mean; here it is one sentence of bytes.
 use Rattle.std.specs.Prelude.{◌≡◌, ◌↔◌, ℕ, List}
-use Rattle.pb_base.specs.Batch.{Writes}
-use Rattle.pb_isa.specs.declared.profile.Profile.{Profile}
-use Rattle.pb_isa.specs.Helpers.{HelperSet}
-use Rattle.pb_isa.specs.Meaning.{Talk, Means}
-use Rattle.pb_isa.specs.Programs.{ProgramOf, JudgedOf}
-use Rattle.pb_helpers.specs.declared.code.RuleCode.{RuleCode}
-use Rattle.pb_verify.specs.Arriving.{Accepts, Refuses}
-use Rattle.pb_decode.specs.Encoding.{Encodes}
+use Rattle.law_programs.specs.Words.{Writes, Profile, HelperSet, Talk, Means, ProgramOf, JudgedOf, RuleCode, Accepts, Refuses, Encodes}
 
 -- a program, judged for these helpers and a record of this size
 abbrev pub judged_for : ProgramOf → HelperSet → ℕ → JudgedOf

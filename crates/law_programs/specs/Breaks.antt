@@ -1,15 +1,7 @@
 -- The verifier's rules by code: when the instruction at a slot breaks each, with a frame before it. The verifier lists
 -- them by instruction, so that a code that is left out of one list shows here.
 use Rattle.std.specs.Prelude.{◌≡◌, ◌≢◌, ◌⊎◌, ◌↔◌, ℕ, ◌<◌, ◌≤◌, ℤ, ◌+ℤ◌, Some, None, Contains, IsSomeAnd}
-use Rattle.pb_isa.specs.declared.insn.Insn.{Insn}
-use Rattle.pb_isa.specs.Helpers.{Helper, declared_helper}
-use Rattle.pb_isa.specs.Programs.{JudgedOf}
-use Rattle.pb_isa.specs.Slots.{slots, insn_at}
-use Rattle.pb_kinds.specs.declared.frame.Kind.{Kind}
-use Rattle.pb_kinds.specs.declared.frame.Frame.{Frame}
-use Rattle.pb_kinds.specs.Frames.{kind_of}
-use Rattle.pb_helpers.specs.declared.code.RuleCode.{RuleCode}
-use Rattle.pb_verify.specs.Rules.{insn_rules}
+use Rattle.law_programs.specs.Words.{Insn, Helper, declared_helper, JudgedOf, slots, insn_at, Kind, Frame, kind_of, RuleCode, insn_rules}
 use Rattle.law_programs.specs.Operands.{IsPointer, IsStackPointer, IsCellArgument, IsPlaceArgument, ReadsRegister, SetsRegister, StoresRegister, IsArithmetic, IsComparison, IsExit}
 use Rattle.law_programs.specs.Touches.{Touch, Touches, Loading, Storing, IsReading, IsOfInstruction, LieInStack, LieInRecord, SomeUnwritten}
 use Rattle.law_programs.specs.Targets.{JumpsBack, JumpsTo, next_slot}

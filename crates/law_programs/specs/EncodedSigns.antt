@@ -2,14 +2,7 @@
 -- encoding is defined by opcodes and numbers of bits that writing and reading share, and would take any others that are
 -- distinct.
 use Rattle.std.specs.Prelude.{◌≡◌, ℕ, pos, negsuc, List, [], ◌∷◌}
-use Rattle.pb_isa.specs.declared.insn.Extension.{Extension}
-use Rattle.pb_isa.specs.declared.insn.Insn.{Insn}
-use Rattle.pb_isa.specs.declared.insn.Reg.{Reg}
-use Rattle.pb_isa.specs.declared.insn.Size.{Size}
-use Rattle.pb_isa.specs.declared.insn.Width.{Width}
-use Rattle.pb_isa.specs.declared.profile.Profile.{Profile}
-use Rattle.pb_isa.specs.Programs.{ProgramOf}
-use Rattle.pb_decode.specs.Encoding.{Encodes}
+use Rattle.law_programs.specs.Words.{Extension, Insn, Reg, Size, Width, Profile, ProgramOf, Encodes}
 
 -- the program of profile 2 that has this instruction alone
 abbrev pub alone : Insn → ProgramOf

@@ -1,10 +1,7 @@
 -- Moves and loads that extend the sign, in figures (RFC 9669, sections 4.1 and 5.2). The machine defines them by a
 -- width's cast to a number with sign, as the code does, and would take the cast of another width.
 use Rattle.std.specs.Prelude.{◌≡◌, ℕ}
-use Rattle.pb_isa.specs.declared.insn.Extension.{Extension}
-use Rattle.pb_isa.specs.declared.insn.Size.{Size}
-use Rattle.pb_isa.specs.declared.insn.Width.{Width}
-use Rattle.pb_isa.specs.Machine.{extended, mov_sx}
+use Rattle.law_programs.specs.Words.{Extension, Size, Width, extended, mov_sx}
 
 -- what a word becomes by a move that extends the sign of so many bits, to 64 bits and to 32
 pub record MovesTo (z : Size) (v to_64 to_32 : ℕ) : Type 0 where

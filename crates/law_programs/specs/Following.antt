@@ -1,18 +1,7 @@
 -- What is known after an instruction whose rules hold: of each register and of each stack byte, one by one, and not as
 -- a frame that is made of another.
 use Rattle.std.specs.Prelude.{◌≡◌, ◌⊎◌, ◌↔◌, ℕ, ◌+◌, ◌<◌, ◌≤◌, ℤ, ◌+ℤ◌, neg_ℤ, [], length, IsTrue}
-use Rattle.pb_isa.specs.declared.insn.Insn.{Insn}
-use Rattle.pb_isa.specs.declared.insn.AluOp.{AluOp}
-use Rattle.pb_isa.specs.declared.insn.Width.{Width}
-use Rattle.pb_isa.specs.declared.insn.Operand.{Operand}
-use Rattle.pb_isa.specs.Registers.{number}
-use Rattle.pb_isa.specs.Programs.{JudgedOf}
-use Rattle.pb_kinds.specs.declared.frame.Kind.{Kind}
-use Rattle.pb_kinds.specs.declared.frame.Frame.{Frame}
-use Rattle.pb_kinds.specs.Frames.{kind_of, has_byte}
-use Rattle.pb_kinds.specs.Ranges.{from_low}
-use Rattle.pb_verify.specs.Rules.{insn_rules}
-use Rattle.pb_verify.specs.Following.{after}
+use Rattle.law_programs.specs.Words.{Insn, AluOp, Width, Operand, number, JudgedOf, Kind, Frame, kind_of, has_byte, from_low, insn_rules, after}
 use Rattle.law_programs.specs.Operands.{SetsRegister}
 use Rattle.law_programs.specs.Touches.{Touch, Touching, Storing, Filling, Touches}
 

@@ -1,3 +1,4 @@
+pub mod Words
 pub mod RecordParts
 pub mod Operands
 pub mod Touches

@@ -1,14 +1,7 @@
 -- Which registers an instruction reads, sets and stores, and of which sort it is: the words in which docs/CODES.md says
 -- what breaks a rule.
 use Rattle.std.specs.Prelude.{◌≡◌, ◌≢◌, ◌⊎◌, ℕ, ℤ, IsSomeAnd}
-use Rattle.pb_isa.specs.declared.insn.Insn.{Insn}
-use Rattle.pb_isa.specs.declared.insn.AluOp.{AluOp}
-use Rattle.pb_isa.specs.declared.insn.Width.{Width}
-use Rattle.pb_isa.specs.declared.insn.Operand.{Operand}
-use Rattle.pb_isa.specs.Registers.{number}
-use Rattle.pb_isa.specs.Programs.{JudgedOf}
-use Rattle.pb_isa.specs.Helpers.{Helper, Read, Write, Start, declared_helper}
-use Rattle.pb_kinds.specs.declared.frame.Kind.{Kind}
+use Rattle.law_programs.specs.Words.{Insn, AluOp, Width, Operand, number, JudgedOf, Helper, Read, Write, Start, declared_helper, Kind}
 
 -- ---- pointers
 

@@ -1,12 +1,6 @@
 -- Which profile has which instructions and how many slots: the table of docs/MACHINE.md, in figures.
 use Rattle.std.specs.Prelude.{◌≡◌, Bool, true, false}
-use Rattle.pb_isa.specs.declared.insn.Insn.{Insn}
-use Rattle.pb_isa.specs.declared.insn.Extension.{Extension}
-use Rattle.pb_isa.specs.declared.insn.Reg.{Reg}
-use Rattle.pb_isa.specs.declared.insn.Size.{Size}
-use Rattle.pb_isa.specs.declared.insn.Width.{Width}
-use Rattle.pb_isa.specs.declared.profile.Profile.{Profile}
-use Rattle.pb_isa.specs.Profiles.{max_slots, is_of}
+use Rattle.law_programs.specs.Words.{Insn, Extension, Reg, Size, Width, Profile, max_slots, is_of}
 use Rattle.std.specs.Prelude.{ℤ}
 
 -- the most slots of a program of each

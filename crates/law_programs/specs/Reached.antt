@@ -1,12 +1,7 @@
 -- Which slots are reached: by steps from the first slot, where the verifier goes over all earlier slots in order; and
 -- which codes are told at a slot by that.
 use Rattle.std.specs.Prelude.{◌≡◌, ◌≢◌, ◌⊎◌, ◌↔◌, ℕ, ◌<◌, List, Some, None, Contains}
-use Rattle.pb_isa.specs.declared.insn.Insn.{Insn}
-use Rattle.pb_isa.specs.Slots.{insn_at}
-use Rattle.pb_isa.specs.Programs.{JudgedOf}
-use Rattle.pb_kinds.specs.declared.frame.Frame.{Frame}
-use Rattle.pb_helpers.specs.declared.code.RuleCode.{RuleCode}
-use Rattle.pb_verify.specs.Arriving.{in_at, faults}
+use Rattle.law_programs.specs.Words.{Insn, insn_at, JudgedOf, Frame, RuleCode, in_at, faults}
 use Rattle.law_programs.specs.Breaks.{Breaks}
 use Rattle.law_programs.specs.Targets.{JumpsTo, next_slot}
 

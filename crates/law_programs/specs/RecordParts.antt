@@ -1,13 +1,7 @@
 -- What stands where in a change record: the table of docs/MACHINE.md, by which observers are written. The record itself
 -- is defined as its parts one behind the other, so that a part of another length would move all that follow.
 use Rattle.std.specs.Prelude.{◌≡◌, ℕ, ◌<◌, ◌^◌, List, replicate, take, drop, length, Some, None, IfSome}
-use Rattle.pb_base.specs.declared.cell.Cell.{Cell}
-use Rattle.pb_base.specs.declared.content.Content.{Content}
-use Rattle.pb_base.specs.declared.content.Revision.{Revision}
-use Rattle.pb_base.specs.Cell.{row_of, column_of}
-use Rattle.pb_isa.specs.Machine.{Reply}
-use Rattle.pb_helpers.specs.Record.{record_of, word_at}
-use Rattle.pb_helpers.specs.OldRecord.{record_with_old}
+use Rattle.law_programs.specs.Words.{Cell, Content, Revision, row_of, column_of, Reply, record_of, word_at, record_with_old}
 
 -- 32 bytes from a place on
 abbrev pub value_at : List ℕ → ℕ → List ℕ

@@ -1,6 +1,6 @@
 -- The slots to which an instruction leads.
 use Rattle.std.specs.Prelude.{◌≡◌, ℕ, ◌+◌, ℤ, pos, negsuc, Option, Some, None, IsSomeAnd}
-use Rattle.pb_isa.specs.declared.insn.Insn.{Insn}
+use Rattle.law_programs.specs.Words.{Insn}
 
 -- a jump's offset
 abbrev pub jump_offset : Insn → Option ℤ

@@ -1,14 +1,7 @@
 -- Which bytes of memory an instruction touches: from which register on, how far, how many, and whether they are read or
 -- written. The rules of 25 to 29 are told by them.
 use Rattle.std.specs.Prelude.{◌≡◌, ◌⊎◌, ℕ, ◌+◌, ◌<◌, ℤ, pos, neg_ℤ, ◌+ℤ◌, ◌≤ℤ◌, false, IsSomeAnd}
-use Rattle.pb_isa.specs.declared.insn.Insn.{Insn}
-use Rattle.pb_isa.specs.declared.insn.Size.{Size}
-use Rattle.pb_isa.specs.Registers.{number}
-use Rattle.pb_isa.specs.Programs.{JudgedOf}
-use Rattle.pb_isa.specs.Helpers.{Helper, Read, Write, declared_helper}
-use Rattle.pb_kinds.specs.declared.frame.Frame.{Frame}
-use Rattle.pb_kinds.specs.Frames.{has_byte}
-use Rattle.pb_kinds.specs.Ranges.{from_low}
+use Rattle.law_programs.specs.Words.{Insn, Size, number, JudgedOf, Helper, Read, Write, declared_helper, Frame, has_byte, from_low}
 
 -- how many bytes a load or a store moves
 abbrev pub size_bytes : Size → ℕ

@@ -1,10 +1,6 @@
 -- What is told of a program, in the words of the codes.
 use Rattle.std.specs.Prelude.{◌↔◌, ℕ, ◌<◌, ◌≤◌}
-use Rattle.pb_isa.specs.Programs.{JudgedOf}
-use Rattle.pb_isa.specs.Slots.{slots}
-use Rattle.pb_helpers.specs.declared.code.RuleCode.{RuleCode}
-use Rattle.pb_helpers.specs.Codes.{code_number}
-use Rattle.pb_verify.specs.Arriving.{Accepts, Refuses}
+use Rattle.law_programs.specs.Words.{JudgedOf, slots, RuleCode, code_number, Accepts, Refuses}
 use Rattle.law_programs.specs.Reached.{IsCodeTold}
 
 -- n is the first slot at which a code is told, and c the lowest of those there

@@ -6,10 +6,7 @@ use Rattle.std.proofs.lemmas.Bool.{and_parts, false_from_ne_true}
 use Rattle.std.proofs.lemmas.List.Elements.{All-from_recursion, recursion_from_All}
 use Rattle.std.proofs.lemmas.List.Kept.{AllPairs-cons}
 use Rattle.std.proofs.lemmas.Map.Views.{tells_apart}
-use Rattle.pb_base.specs.declared.cell.Cell.{Cell}
-use Rattle.pb_base.specs.declared.content.Content.{Content}
-use Rattle.pb_base.specs.Cell.{cell_cmp}
-use Rattle.pb_base.specs.Batch.{Writes, content_in, are_distinct}
+use Rattle.law_texts.specs.Words.{Cell, Content, cell_cmp, Writes, content_in, are_distinct}
 use Rattle.pb_sound.proofs.RunWrites.{lacks_first as none_in}
 use Rattle.pb_base.proofs.SameCells.{same_cells as ties}
 

@@ -2,7 +2,7 @@
 use Rattle.std.proofs.Common.{◌≡◌, ℕ, Bool, cond, List, [], ◌∷◌, ◌++◌, refl, ap, ◌∙◌, arith, ◌==◌, ◌&&◌, codes}
 use Rattle.std.specs.List.{join_by, onto_first}
 use Rattle.std.proofs.lemmas.List.{append-nil}
-use Rattle.pb_parse.specs.ScriptLines.{cut}
+use Rattle.law_texts.specs.Words.{cut}
 use Rattle.pb_reading.proofs.Parts.{Lacks, AreParts}
 
 -- texts with `; ` between them

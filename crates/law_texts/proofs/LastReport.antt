@@ -1,9 +1,6 @@
 -- A table's report is that at the greatest timestamp that its journal gave out.
 use Rattle.std.proofs.Common.{◌≡◌, ℕ, List, [], ◌∷◌, sym, ◌∙◌, arith}
-use Rattle.pb_history.specs.Laws.{ClockIsLastGiven}
-use Rattle.pb_history.specs.LastGiven.{IsLastGiven}
-use Rattle.pb_core.specs.Calls.{SharedOf}
-use Rattle.pb_script.specs.TableReports.{IsReportIn}
+use Rattle.law_texts.specs.Words.{ClockIsLastGiven, IsLastGiven, SharedOf, IsReportIn}
 use Rattle.law_texts.specs.LastReport.{IsReportAt, ReportsAreOfTheLastGiven}
 
 -- there is one last timestamp

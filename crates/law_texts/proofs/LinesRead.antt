@@ -2,13 +2,7 @@
 use Rattle.std.proofs.Common.{◌≡◌, ◌↔◌, ℕ, ◌<◌, ◌≤◌, true, List, [], ◌∷◌, length, Ok, refl, sym, arith, nat_le, nat_lt}
 use Rattle.std.specs.List.{AllZip, list_all}
 use Rattle.std.proofs.lemmas.Bool.{and_parts, le-leb, leb-true, lt-ltb, ltb-true}
-use Rattle.pb_base.specs.declared.limits.TheConstants.{MAX_CELLS}
-use Rattle.pb_base.specs.declared.cell.Cell.{Cell}
-use Rattle.pb_base.specs.declared.content.Content.{Content}
-use Rattle.pb_base.specs.Batch.{Writes, is_data_write, are_distinct, is_batch}
-use Rattle.pb_parse.specs.ScriptWords.{operation}
-use Rattle.pb_parse.specs.ScriptLines.{cut, batch_of}
-use Rattle.pb_parse.specs.Operations.{Say}
+use Rattle.law_texts.specs.Words.{MAX_CELLS, Cell, Content, Writes, is_data_write, are_distinct, is_batch, operation, cut, batch_of, Say}
 use Rattle.law_texts.specs.OperationTexts.{IsOperationOf}
 use Rattle.law_texts.specs.LineTexts.{IsBatchLine}
 use Rattle.pb_reading.proofs.Parts.{AreParts}

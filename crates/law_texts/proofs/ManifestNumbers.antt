@@ -3,11 +3,7 @@ use Rattle.std.proofs.Common.{◌≡◌, ℕ, ◌<◌, ◌==◌, Bool, true, fal
 use Rattle.std.proofs.lemmas.Bool.{eqb-true}
 use Rattle.std.proofs.lemmas.Bool.Decides.{nat_tests}
 use Rattle.serde_json.specs.Data.{Data, Items}
-use Rattle.pb_reading.specs.Reading.{◌>>=◌}
-use Rattle.pb_helpers.specs.Bytes.{size_of}
-use Rattle.pb_helpers.specs.declared.change.Version.{Version}
-use Rattle.pb_registry.specs.declared.code.ManifestCode.{ManifestCode}
-use Rattle.pb_registry.specs.Manifests.{WrittenOf, name_in, text_at, column_in, number_at, helpers_in, elements_at, record_version, bytes_in, manifest_in, members_of}
+use Rattle.law_texts.specs.Words.{◌>>=◌, size_of, Version, ManifestCode, WrittenOf, name_in, text_at, column_in, number_at, helpers_in, elements_at, record_version, bytes_in, manifest_in, members_of}
 use Rattle.law_texts.specs.ManifestNumbers.{manifest, ManifestsNameProfiles, with_record, OnlyTwoHasRecords, HasRecordSize, ManifestsNameRecords}
 
 -- no other number names a profile

@@ -6,12 +6,7 @@ use Rattle.std.proofs.lemmas.Bool.{le-ltb}
 use Rattle.std.proofs.lemmas.List.{drop-replicate}
 use Rattle.hex.specs.Hex.{decode_of, encode_lower, lower_digits}
 use Rattle.hex.proofs.HexLemmas.{decode_of-encode_lower, length-encode_with}
-use Rattle.pb_base.specs.declared.names.Row.{Row}
-use Rattle.pb_base.specs.declared.cell.Cell.{Cell}
-use Rattle.pb_base.specs.declared.content.Content.{Content}
-use Rattle.pb_reading.specs.Reading.{words_of}
-use Rattle.pb_parse.specs.declared.script.code.ScriptCode.{ScriptCode}
-use Rattle.pb_parse.specs.ScriptWords.{padded_value, content_of, cell_at, put_of, del_of, write_of, operation}
+use Rattle.law_texts.specs.Words.{Row, Cell, Content, words_of, ScriptCode, padded_value, content_of, cell_at, put_of, del_of, write_of, operation}
 use Rattle.law_texts.specs.OperationTexts.{AreDigitsOf, AreInRange, IsOperationOf}
 use Rattle.law_texts.proofs.LowerHex.{digit_of, digits_hold, none_upper}
 use Rattle.pb_reading.proofs.Parts.{Lacks, AreParts, IsNoDigit, blank_no_digit, decimal_lacks, joined_parts, lacks_joined}

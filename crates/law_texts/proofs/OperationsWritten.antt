@@ -8,14 +8,9 @@ use Rattle.std.proofs.lemmas.List.Splits.{join_with_byte-slice_split}
 use Rattle.hex.specs.Hex.{decode_of}
 use Rattle.hex.specs.declared.error.FromHexError.{FromHexError}
 use Rattle.hex.proofs.HexLemmas.{decode_of-ok}
-use Rattle.pb_base.specs.declared.names.Row.{Row}
-use Rattle.pb_base.specs.declared.cell.Cell.{Cell}
-use Rattle.pb_base.specs.declared.content.Content.{Content}
-use Rattle.pb_reading.specs.Reading.{next_word, no_word, words_of}
+use Rattle.law_texts.specs.Words.{Row, Cell, Content, next_word, no_word, words_of, ScriptCode, padded_value, content_of, cell_at, put_of, del_of, write_of, operation}
 use Rattle.pb_reading.proofs.NumeralValues.{numeral_is}
 use Rattle.pb_reading.proofs.Readings.{then_ok, ok_is, else_ok, next_is, none_left}
-use Rattle.pb_parse.specs.declared.script.code.ScriptCode.{ScriptCode}
-use Rattle.pb_parse.specs.ScriptWords.{padded_value, content_of, cell_at, put_of, del_of, write_of, operation}
 use Rattle.pb_parse.proofs.NextWords.{same_text}
 use Rattle.law_texts.specs.OperationTexts.{AreDigitsOf, AreInRange, IsOperationOf}
 use Rattle.law_texts.proofs.LowerHex.{lower_written}

@@ -2,7 +2,7 @@
 use Rattle.std.proofs.Common.{◌≡◌, ◌<◌, Some, None, refl, arith}
 use Rattle.std.proofs.lemmas.Bool.Decides.{nat_tests}
 use Rattle.clap.specs.Words.{Text}
-use Rattle.pb_texts.specs.CommandLines.{count_number, profile_named, version_of}
+use Rattle.law_texts.specs.Words.{count_number, profile_named, version_of}
 use Rattle.law_texts.specs.OptionNumbers.{OptionsNameProfiles, OptionsNameVersions}
 
 no_profile : (text : Text) → 2 < count_number text → profile_named (Some text) ≡ None

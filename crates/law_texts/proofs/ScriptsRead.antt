@@ -4,13 +4,10 @@ use Rattle.std.specs.List.{All, AllZip, filter, join_with_byte}
 use Rattle.std.proofs.lemmas.Bool.{eqb-false, ne_eqb}
 use Rattle.std.proofs.lemmas.List.Elements.{All-from_recursion, recursion_from_All}
 use Rattle.std.proofs.lemmas.List.Splits.{join_with_byte-slice_split}
-use Rattle.pb_base.specs.Batch.{Writes}
-use Rattle.pb_reading.specs.Reading.{lines_of}
+use Rattle.law_texts.specs.Words.{Writes, lines_of, ScriptCode, Batches, batch_of, script_of}
 use Rattle.pb_reading.proofs.LinesInTurn.{heads}
 use Rattle.pb_reading.proofs.Parts.{Lacks, AreParts, parts_are, joined_parts}
 use Rattle.pb_reading.proofs.SkippedLines.{kept}
-use Rattle.pb_parse.specs.declared.script.code.ScriptCode.{ScriptCode}
-use Rattle.pb_parse.specs.ScriptLines.{Batches, batch_of, script_of}
 use Rattle.pb_parse.proofs.WholeScripts.{lines_are, lines_back}
 use Rattle.law_texts.specs.LineTexts.{IsBatchLine}
 use Rattle.law_texts.specs.ScriptTexts.{is_transaction, IsScriptOf}

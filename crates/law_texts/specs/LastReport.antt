@@ -2,16 +2,7 @@
 -- journal sees; here it is said by the journal alone, given how the table was opened.
 use Rattle.std.specs.Prelude.{◌↔◌, ℕ, List}
 use Rattle.std.specs.FinMap as finite
-use Rattle.pb_steps.specs.Readings.{lock_count}
-use Rattle.pb_history.specs.Timestamps.{timestamps}
-use Rattle.pb_history.specs.LastGiven.{IsLastGiven}
-use Rattle.pb_core.specs.Calls.{SharedOf}
-use Rattle.pb_core.specs.Histories.{IsLegalTable}
-use Rattle.pb_script.specs.ReportLines.{Tallies}
-use Rattle.pb_script.specs.Reports.{IsReportOf}
-use Rattle.pb_script.specs.Committed.{IsSeenAt}
-use Rattle.pb_script.specs.Tallies.{AreTallies}
-use Rattle.pb_script.specs.TableReports.{IsReportIn}
+use Rattle.law_texts.specs.Words.{lock_count, timestamps, IsLastGiven, SharedOf, IsLegalTable, Tallies, IsReportOf, IsSeenAt, AreTallies, IsReportIn}
 
 -- What the snapshot at a timestamp has of each data cell, how many runs of each observer are committed, and the marks and
 -- locks that stand.

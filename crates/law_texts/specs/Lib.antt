@@ -1,3 +1,4 @@
+pub mod Words
 pub mod OperationTexts
 pub mod LineTexts
 pub mod ScriptTexts

@@ -1,8 +1,7 @@
 -- The lines of a script, as they are written: by the writes of a transaction, and not by how a line is cut.
 use Rattle.std.specs.Prelude.{◌≡◌, ◌≢◌, ◌≤◌, ℕ, List, length, codes}
 use Rattle.std.specs.List.{AllPairs, AllZip, join_by}
-use Rattle.pb_base.specs.declared.limits.TheConstants.{MAX_CELLS}
-use Rattle.pb_base.specs.Batch.{Writes}
+use Rattle.law_texts.specs.Words.{MAX_CELLS, Writes}
 use Rattle.law_texts.specs.OperationTexts.{IsOperationOf}
 
 -- the operations of 1 to 16 writes to distinct cells, in their order, with `; ` between them

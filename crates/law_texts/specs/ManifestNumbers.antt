@@ -2,12 +2,7 @@
 -- record. `pb_registry` turns each into a name by the same cases as its code, which could name any other.
 use Rattle.std.specs.Prelude.{◌≡◌, ℕ, ◌<◌, List, [], ◌∷◌, codes, Option, Some, None, Result, Ok, Err}
 use Rattle.serde_json.specs.Data.{Data, number, string, array, object, unsigned, Items, no_items, item, member, no_members}
-use Rattle.pb_isa.specs.declared.profile.Profile.{Profile}
-use Rattle.pb_verify.specs.Observers.{ObserverOf}
-use Rattle.pb_registry.specs.declared.code.ManifestCode.{ManifestCode}
-use Rattle.pb_registry.specs.Codes.{number_of}
-use Rattle.pb_registry.specs.Judging.{IsObserver}
-use Rattle.pb_registry.specs.Manifests.{ManifestOf, elements, number_at, manifest_in, manifest_read, members_of}
+use Rattle.law_texts.specs.Words.{Profile, ObserverOf, ManifestCode, number_of, IsObserver, ManifestOf, elements, number_at, manifest_in, manifest_read, members_of}
 
 -- a manifest with this number as its profile, and these observers
 abbrev pub manifest : ℕ → Items → Data

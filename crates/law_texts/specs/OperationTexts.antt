@@ -3,10 +3,7 @@
 use Rattle.std.specs.Prelude.{◌≡◌, ◌-◌, ◌^◌, ◌<◌, ◌≤◌, ℕ, List, [], ◌∷◌, ◌++◌, length, codes, replicate, decimal}
 use Rattle.std.specs.List.{join_with_byte}
 use Rattle.hex.specs.Hex.{IsBytes, encode_lower}
-use Rattle.pb_base.specs.declared.limits.TheConstants.{COLUMNS}
-use Rattle.pb_base.specs.declared.names.Row.{Row}
-use Rattle.pb_base.specs.declared.cell.Cell.{Cell}
-use Rattle.pb_base.specs.declared.content.Content.{Content}
+use Rattle.law_texts.specs.Words.{COLUMNS, Row, Cell, Content}
 
 -- Some of the first bytes of a value of 32, in lower-case hexadecimal, two digits for a byte; those behind are zero.
 pub record AreDigitsOf (value digits : List ℕ) : Type 0 where

@@ -2,9 +2,7 @@
 -- number, by name, which could be any.
 use Rattle.std.specs.Prelude.{◌≡◌, ◌<◌, codes, Some, None}
 use Rattle.clap.specs.Words.{Text}
-use Rattle.pb_isa.specs.declared.profile.Profile.{Profile}
-use Rattle.pb_helpers.specs.declared.change.Version.{Version}
-use Rattle.pb_texts.specs.CommandLines.{count_number, profile_named, version_of}
+use Rattle.law_texts.specs.Words.{Profile, Version, count_number, profile_named, version_of}
 
 -- 1 where none is named, else 1 or 2
 pub record OptionsNameProfiles : Type 0 where

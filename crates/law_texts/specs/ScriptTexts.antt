@@ -1,8 +1,7 @@
 -- The text of a script, as it is written: its lines, of which some are empty or remarks.
 use Rattle.std.specs.Prelude.{◌≡◌, ◌≢◌, ◌≤◌, ◌==◌, ℕ, Bool, false, not, List, [], ◌∷◌, length}
 use Rattle.std.specs.List.{All, AllZip, filter, join_with_byte}
-use Rattle.pb_base.specs.declared.limits.TheConstants.{MAX_CHANGES}
-use Rattle.pb_parse.specs.ScriptLines.{Batches}
+use Rattle.law_texts.specs.Words.{MAX_CHANGES, Batches}
 use Rattle.law_texts.specs.LineTexts.{IsBatchLine}
 
 -- neither empty nor a remark, which begins with `#`

@@ -1,21 +1,6 @@
 -- An event of a sound world has one outcome.
 use Rattle.std.proofs.Common.{arith, ◌≡◌, ℕ, List, slice_set, sym, ◌∙◌, ap, subst, Option, Some, slice_get, MatchOption}
-use Rattle.pb_base.specs.declared.refusal.Reason.{Reason}
-use Rattle.pb_base.specs.Reasons.{reason_code}
-use Rattle.pb_sound.specs.OneMeaning.{EachHasOneMeaning}
-use Rattle.pb_steps.specs.declared.step.Step.{Step}
-use Rattle.pb_history.specs.declared.entry.Received.{Received}
-use Rattle.pb_history.specs.Laws.{StepsHaveOneOutcome, JournalsAreSound}
-use Rattle.pb_history.specs.Sound.{IsSoundTable}
-use Rattle.pb_core.specs.Calls.{SeatOf}
-use Rattle.pb_notify.specs.Led.{MachinesAreLed}
-use Rattle.pb_parse.specs.declared.event.Event.{Event}
-use Rattle.pb_parse.specs.declared.event.Job.{Job}
-use Rattle.pb_world.specs.declared.job.ActorJob.{ActorJob}
-use Rattle.pb_world.specs.declared.note.Note.{Note}
-use Rattle.pb_world.specs.Actors.{Stepped, ActorSteps}
-use Rattle.pb_world.specs.Events.{WorldOf, Launches, StepsActor, CrashesActor, OwnAnswers, OwnCalls, Does}
-use Rattle.pb_world.specs.Sound.{Came, IsSoundWorld}
+use Rattle.law_worlds.specs.Words.{Reason, reason_code, EachHasOneMeaning, Step, Received, StepsHaveOneOutcome, JournalsAreSound, IsSoundTable, SeatOf, MachinesAreLed, Event, Job, ActorJob, Note, Stepped, ActorSteps, WorldOf, Launches, StepsActor, CrashesActor, OwnAnswers, OwnCalls, Does, Came, IsSoundWorld}
 use Rattle.law_worlds.specs.Outcomes.{AreOneEvent, EventsHaveOneOutcome}
 use Rattle.law_worlds.proofs.Jobs.{actor_steps_once}
 use Rattle.pb_base.proofs.Logic.{one_value}

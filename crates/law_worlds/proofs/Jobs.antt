@@ -1,26 +1,7 @@
 -- A call has one outcome, and so has a job's next instruction, a job's answer and an actor's step.
 use Rattle.std.proofs.Common.{◌≡◌, ℕ, Bool, List, length, refl, sym, ◌∙◌, ap, subst, arith, inr, Option, Some, None, MatchBool, MatchOption}
-use Rattle.pb_base.specs.declared.refusal.Reason.{Reason}
-use Rattle.pb_base.specs.declared.cell.Cell.{Cell}
-use Rattle.pb_isa.specs.declared.limits.TheConstants.{MAX_RECORD_BYTES}
-use Rattle.pb_isa.specs.Programs.{JudgedOf}
-use Rattle.pb_isa.specs.Machine.{Placement, IsPlacement}
-use Rattle.pb_sound.specs.OneMeaning.{EachHasOneMeaning}
-use Rattle.pb_steps.specs.declared.step.Step.{Step}
-use Rattle.pb_history.specs.declared.entry.Received.{Received}
-use Rattle.pb_history.specs.Laws.{StepsHaveOneOutcome}
-use Rattle.pb_history.specs.Sound.{IsSoundTable}
-use Rattle.pb_core.specs.Calls.{SeatOf, call_reason}
-use Rattle.pb_notify.specs.declared.place.RunPlace.{RunPlace}
-use Rattle.pb_notify.specs.Places.{ComesFrom}
-use Rattle.pb_notify.specs.Led.{MachineStandsAt, MachinesAreLed}
-use Rattle.pb_notify.specs.Runs.{RunOf}
+use Rattle.law_worlds.specs.Words.{Reason, Cell, MAX_RECORD_BYTES, JudgedOf, Placement, IsPlacement, EachHasOneMeaning, Step, Received, StepsHaveOneOutcome, IsSoundTable, SeatOf, call_reason, RunPlace, ComesFrom, MachineStandsAt, MachinesAreLed, RunOf, ActorJob, next_of, is_local, Computes, RulesAccept, Stepped, AnswersJob, RefusesJob, CallSteps, Instructs, IsIdle, StepsTo, WorldOf, RunCame, Came}
 use Rattle.pb_notify.specs.Runs as runs
-use Rattle.pb_world.specs.declared.job.ActorJob.{ActorJob}
-use Rattle.pb_world.specs.Jobs.{next_of, is_local, Computes, RulesAccept}
-use Rattle.pb_world.specs.Actors.{Stepped, AnswersJob, RefusesJob, CallSteps, Instructs, IsIdle, StepsTo}
-use Rattle.pb_world.specs.Events.{WorldOf}
-use Rattle.pb_world.specs.Sound.{RunCame, Came}
 use Rattle.law_worlds.proofs.Machines.{comes_once}
 
 -- ---- instructions

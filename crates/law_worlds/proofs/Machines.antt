@@ -1,20 +1,7 @@
 -- One instruction of a machine has one outcome, at any one placement.
 use Rattle.std.proofs.Common.{arith, ◌≡◌, ℕ, length, sym, ◌∙◌, ap, subst}
-use Rattle.pb_base.specs.declared.names.Ts.{Ts}
-use Rattle.pb_isa.specs.Machine.{Placement, IsPlacement}
-use Rattle.pb_isa.specs.Meaning.{Means}
-use Rattle.pb_helpers.specs.declared.ask.Ask.{Ask}
-use Rattle.pb_sound.specs.OneMeaning.{EachHasOneMeaning}
-use Rattle.pb_vm.specs.Position.{Position}
-use Rattle.pb_vm.specs.Moves.{SameGiven, Went, AskedFor}
-use Rattle.pb_finished.specs.Finished.{Meant}
-use Rattle.pb_steps.specs.declared.step.Declared.{Declared}
-use Rattle.pb_txn.specs.Plans.{fresh}
-use Rattle.pb_notify.specs.declared.look.Look.{Look}
-use Rattle.pb_notify.specs.declared.place.RunPlace.{RunPlace}
-use Rattle.pb_notify.specs.Machines.{Leaves}
+use Rattle.law_worlds.specs.Words.{Ts, Placement, IsPlacement, Means, Ask, EachHasOneMeaning, Position, SameGiven, Went, AskedFor, Meant, Declared, fresh, Look, RunPlace, Leaves, Comes, goes, waits, declares}
 use Rattle.pb_notify.specs.Steps as steps
-use Rattle.pb_notify.specs.Places.{Comes, goes, waits, declares}
 
 -- ---- instructions that do not do the same
 

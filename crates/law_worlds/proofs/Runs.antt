@@ -1,7 +1,6 @@
 -- A list of events of a sound world has one outcome.
 use Rattle.std.proofs.Common.{[], ◌∷◌, refl, sym, ◌∙◌, subst}
-use Rattle.pb_world.specs.Events.{RunsTo}
-use Rattle.pb_world.specs.Sound.{IsSoundWorld, EventsKeepSound}
+use Rattle.law_worlds.specs.Words.{RunsTo, IsSoundWorld, EventsKeepSound}
 use Rattle.law_worlds.specs.Outcomes.{EventsHaveOneOutcome, RunsHaveOneOutcome}
 
 -- event by event, each from the world that the one before it left

@@ -2,12 +2,7 @@
 use Rattle.std.proofs.Common.{◌≡◌, ◌≢◌, ◌⊎◌, ℕ, zero, suc, ◌≤◌, List, [], ◌∷◌, length, take, inl, inr, refl, sym, subst, arith, Some, slice_get}
 use Rattle.std.proofs.Math.Seq.{take-length}
 use Rattle.std.proofs.lemmas.Option.{none-some, slice_get_within}
-use Rattle.pb_parse.specs.declared.event.Event.{Event}
-use Rattle.pb_world.specs.declared.fault.EventFault.{EventFault}
-use Rattle.pb_world.specs.declared.note.Note.{Note}
-use Rattle.pb_world.specs.Faults.{fault_code, memory_fault}
-use Rattle.pb_world.specs.Events.{WorldOf, fault_of, RunsTo, StopsAtEvent}
-use Rattle.pb_world.specs.Sound.{IsSoundWorld, EventsKeepSound}
+use Rattle.law_worlds.specs.Words.{Event, EventFault, Note, fault_code, memory_fault, WorldOf, fault_of, RunsTo, StopsAtEvent, IsSoundWorld, EventsKeepSound}
 use Rattle.law_worlds.specs.Outcomes.{EventsHaveOneOutcome, RunsHaveOneOutcome, FaultsHaveOnePlace, WholeRunsHaveNoFault}
 use Rattle.pb_base.proofs.Logic.{one_value}
 

@@ -1,13 +1,7 @@
 -- What comes of an event, and of a list of events: two outcomes of one world are the same. Sound worlds alone have one,
 -- since of an unsound table a step may have two.
 use Rattle.std.specs.Prelude.{◌≡◌, ◌≢◌, ℕ, List}
-use Rattle.pb_parse.specs.declared.event.Event.{Event}
-use Rattle.pb_world.specs.declared.fault.EventFault.{EventFault}
-use Rattle.pb_world.specs.declared.note.Note.{Note}
-use Rattle.pb_world.specs.Faults.{fault_code, memory_fault}
-use Rattle.pb_world.specs.Events.{WorldOf, Happens, RunsTo, StopsAtEvent}
-use Rattle.pb_world.specs.Sound.{IsSoundWorld}
-use Rattle.pb_world.specs.Headline.{IsOpened}
+use Rattle.law_worlds.specs.Words.{Event, EventFault, Note, fault_code, memory_fault, WorldOf, Happens, RunsTo, StopsAtEvent, IsSoundWorld, IsOpened}
 
 -- two notes, each with the world that is left, are the same
 pub record AreOneEvent (n : Note) (v : WorldOf) (m : Note) (u : WorldOf) : Type 0 where

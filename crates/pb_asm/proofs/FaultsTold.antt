@@ -2,30 +2,19 @@
 use Rattle.std.proofs.Common.{◌≡◌, ◌≢◌, ℕ, suc, ◌+◌, ◌-◌, ◌^◌, ◌<◌, ◌⊎◌, ◌↔◌, ℤ, pos, neg_ℤ, Bool, true, false, cond, List, [], ◌∷◌, ◌++◌, take, Option, None, Result, Ok, Err, refl, sym, ap, ◌∙◌, arith, inl, inr, ◌==◌, nat_lt, slice_index, ok_or}
 use Rattle.std.specs.List.{slice_split, before_first, position_or_len}
 use Rattle.std.proofs.lemmas.Bool.{ltb-true, lt-ltb}
-use Rattle.pb_isa.specs.declared.insn.Insn.{Insn}
-use Rattle.pb_isa.specs.declared.insn.Operand.{Operand}
-use Rattle.pb_isa.specs.declared.insn.Reg.{Reg}
-use Rattle.pb_isa.specs.Bounds.{Fits}
-use Rattle.pb_isa.specs.Slots.{slots}
-use Rattle.pb_isa.specs.declared.profile.Profile.{Profile}
-use Rattle.pb_isa.specs.declared.insn.Width.{Width}
-use Rattle.pb_isa.specs.Profiles.{max_slots, IsOf}
+use Rattle.pb_asm.specs.Words.{Insn, Operand, Reg, Fits, slots, Profile, Width, max_slots, IsOf, ◌>>=◌, shown_lines, numeral_upto, next_word, no_word, is_skipped, ◌>>=◌, StopsAt}
 use Rattle.pb_asm.specs.declared.fault.AsmCode.{AsmCode}
 use Rattle.pb_asm.specs.declared.names.Word.{Word}
 use Rattle.pb_asm.specs.Names.{name, IsWordOf, sizes, word_named, reg_named}
-use Rattle.pb_reading.specs.Reading.{◌>>=◌, shown_lines}
 use Rattle.pb_asm.specs.Cuts.{strip_prefix, strip_suffix, split_once}
-use Rattle.pb_reading.specs.Reading.{numeral_upto, next_word, no_word}
 use Rattle.pb_asm.specs.Operands.{minus, plus, signed_or, imm_of_text, plus_or_fault, offset_of_text, reg_of_text, operand_of_text, size_in, bits_of_text, base_and_offset, at_minus, at_plus, place_of_text, comma, last, alu_operands, mov_sx_operands, load_imm_operands, load_operands, store_imm_operands, store_operands, jump_if_operands, operands, insn_of_words, line_of}
 use Rattle.pb_asm.specs.Listing.{insn_text}
-use Rattle.pb_reading.specs.Reading.{is_skipped, ◌>>=◌}
 use Rattle.pb_asm.specs.Texts.{with_insn_line, some_of, program_of_text, HasNone}
 use Rattle.pb_asm.proofs.NamesAndDigits.{word_back}
 use Rattle.pb_asm.proofs.ListingsReadBack.{line_back, insn_shown}
 use Rattle.pb_asm.proofs.FirstFault.{first}
 use Rattle.pb_asm.proofs.OnlyListings.{lines_are, lines_back}
 use Rattle.pb_reading.proofs.Readings.{err_is, FailsBy, then_fails, if_fails, there_fails, next_fails, end_fails, numeral_fails}
-use Rattle.pb_reading.specs.Faults.{StopsAt}
 use Rattle.pb_asm.specs.Codes.{asm_code}
 use Rattle.pb_asm.proofs.OneSpelling.{named_is, word_among, line_spelled}
 

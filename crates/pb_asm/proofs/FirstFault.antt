@@ -1,11 +1,8 @@
 -- The fault of a text is that of its first line at fault, or that it has no instruction.
 use Rattle.std.proofs.Common.{arith, ◌≡◌, ℕ, ◌⊎◌, List, [], Result, Err, refl}
-use Rattle.pb_isa.specs.declared.insn.Insn.{Insn}
-use Rattle.pb_isa.specs.declared.profile.Profile.{Profile}
+use Rattle.pb_asm.specs.Words.{Insn, Profile, ◌>>=◌, lines_of, StopsAt}
 use Rattle.pb_asm.specs.Codes.{asm_code}
 use Rattle.pb_asm.specs.Texts.{with_insn_line, insns_of_lines, some_of, program_of_text, HasNone}
-use Rattle.pb_reading.specs.Reading.{◌>>=◌, lines_of}
-use Rattle.pb_reading.specs.Faults.{StopsAt}
 use Rattle.pb_reading.proofs.FirstFault.{stops_at}
 use Rattle.pb_reading.proofs.Readings.{err_is}
 

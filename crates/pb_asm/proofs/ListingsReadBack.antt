@@ -4,25 +4,13 @@ use Rattle.std.specs.List.{slice_split, AllByRecursion}
 use Rattle.std.specs.Fmt.{decimal, signed_decimal}
 use Rattle.std.proofs.lemmas.Bool.{leb-true}
 use Rattle.std.proofs.lemmas.List.{length-append}
-use Rattle.pb_isa.specs.declared.insn.Insn.{Insn}
-use Rattle.pb_isa.specs.declared.insn.Operand.{Operand}
-use Rattle.pb_isa.specs.declared.profile.Profile.{Profile}
-use Rattle.pb_isa.specs.declared.insn.Width.{Width}
-use Rattle.pb_isa.specs.declared.insn.Size.{Size}
-use Rattle.pb_isa.specs.declared.insn.Extension.{Extension}
-use Rattle.pb_isa.specs.declared.insn.Reg.{Reg}
-use Rattle.pb_isa.specs.Bounds.{OperandFits, Fits}
-use Rattle.pb_isa.specs.Slots.{slots}
-use Rattle.pb_isa.specs.Profiles.{is_narrower, IsOf}
+use Rattle.pb_asm.specs.Words.{Insn, Operand, Profile, Width, Size, Extension, Reg, OperandFits, Fits, slots, is_narrower, IsOf, ◌>>=◌, numeral_upto, is_skipped, ◌>>=◌}
 use Rattle.pb_asm.specs.declared.fault.AsmCode.{AsmCode}
 use Rattle.pb_asm.specs.declared.names.Word.{Word}
 use Rattle.pb_asm.specs.Names.{name, words, IsWordOf, sizes, size_bits, reg_name, word_in}
-use Rattle.pb_reading.specs.Reading.{◌>>=◌}
 use Rattle.pb_asm.specs.Cuts.{strip_prefix, strip_suffix, split_once}
-use Rattle.pb_reading.specs.Reading.{numeral_upto}
 use Rattle.pb_asm.specs.Operands.{minus, plus, imm_of_text, offset_of_text, reg_of_text, operand_of_text, size_in, bits_of_text, base_and_offset, at_minus, at_plus, place_of_text, comma, last, alu_operands, mov_sx_operands, load_imm_operands, load_operands, store_imm_operands, store_operands, jump_if_operands, operands, insn_of_words, line_of}
 use Rattle.pb_asm.specs.Listing.{operand_text, offset_text, place_text, insn_text, listing}
-use Rattle.pb_reading.specs.Reading.{is_skipped, ◌>>=◌}
 use Rattle.pb_asm.specs.Texts.{some_of}
 use Rattle.pb_asm.proofs.TextCuts.{before_there}
 use Rattle.pb_asm.proofs.NamesAndDigits.{above, above_append, above_less, cut_there, cut_none, around_there, around_none, reg_above, name_above, word_back, reg_back, decimal_above, first_is_digit, word_there}

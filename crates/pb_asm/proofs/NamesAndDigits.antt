@@ -1,11 +1,10 @@
 -- Which bytes stand in names, numbers and words, and where texts of them are cut.
 use Rattle.std.proofs.Common.{◌≡◌, ℕ, suc, ◌+◌, ◌%◌, ◌^◌, ◌<◌, ◌≤◌, Bool, true, false, cond, List, [], ◌∷◌, ◌++◌, length, take, drop, Some, None, refl, ap, arith, ◌==◌, nat_le, slice_index, decimal}
-use Rattle.pb_isa.specs.declared.profile.Profile.{Profile}
+use Rattle.pb_asm.specs.Words.{Profile, Reg}
 use Rattle.std.specs.List.{slice_split, position_or_len}
 use Rattle.std.proofs.lemmas.Bool.{leb-true, le-ltb}
 use Rattle.std.proofs.lemmas.Fmt.{decimal_by_steps}
 use Rattle.std.proofs.lemmas.List.{length-append}
-use Rattle.pb_isa.specs.declared.insn.Reg.{Reg}
 use Rattle.pb_asm.specs.declared.names.Word.{Word}
 use Rattle.pb_asm.specs.Names.{name, words, IsWordOf, word_in, word_named, reg_name, registers, reg_named}
 use Rattle.pb_asm.specs.Cuts.{split_once}

@@ -4,13 +4,7 @@ use Rattle.std.specs.Char.{is_ascii_digit}
 use Rattle.std.specs.List.{list_all}
 use Rattle.std.specs.Str.Parse.{digits_value}
 use Rattle.std.proofs.lemmas.Bool.{eqb-true, and_parts}
-use Rattle.pb_isa.specs.declared.insn.Reg.{Reg}
-use Rattle.pb_isa.specs.declared.insn.Width.{Width}
-use Rattle.pb_isa.specs.declared.insn.Size.{Size}
-use Rattle.pb_isa.specs.declared.profile.Profile.{Profile}
-use Rattle.pb_isa.specs.Profiles.{is_narrower}
-use Rattle.pb_reading.specs.Reading.{◌>>=◌, is_numeral, numeral_upto, is_skipped, numbered}
-use Rattle.pb_isa.specs.declared.insn.Insn.{Insn}
+use Rattle.pb_asm.specs.Words.{Reg, Width, Size, Profile, is_narrower, ◌>>=◌, is_numeral, numeral_upto, is_skipped, numbered, Insn}
 use Rattle.pb_asm.specs.Codes.{asm_code}
 use Rattle.pb_asm.specs.Texts.{with_insn_line}
 use Rattle.pb_asm.specs.declared.fault.AsmCode.{AsmCode}

@@ -2,17 +2,10 @@
 use Rattle.std.proofs.Common.{◌≡◌, ℕ, ◌<◌, ◌≤◌, ◌↔◌, true, false, List, [], ◌∷◌, ◌++◌, map, Result, Ok, Err, refl, sym, ap, subst, ◌∙◌, arith}
 use Rattle.std.specs.List.{flat_map, AllByRecursion}
 use Rattle.std.proofs.lemmas.Bool.{le-ltb}
-use Rattle.pb_isa.specs.declared.insn.Insn.{Insn}
-use Rattle.pb_isa.specs.Bounds.{Fits}
-use Rattle.pb_isa.specs.Slots.{slots}
-use Rattle.pb_isa.specs.Programs.{ProgramOf, IsProgram}
-use Rattle.pb_isa.specs.declared.profile.Profile.{Profile}
-use Rattle.pb_isa.specs.Profiles.{max_slots, IsOf}
+use Rattle.pb_asm.specs.Words.{Insn, Fits, slots, ProgramOf, IsProgram, Profile, max_slots, IsOf, ◌>>=◌, shown_lines, is_skipped, lines_of}
 use Rattle.pb_asm.specs.declared.fault.AsmCode.{AsmCode}
-use Rattle.pb_reading.specs.Reading.{◌>>=◌, shown_lines}
 use Rattle.pb_asm.specs.Operands.{line_of}
 use Rattle.pb_asm.specs.Listing.{insn_text, listing}
-use Rattle.pb_reading.specs.Reading.{is_skipped, lines_of}
 use Rattle.pb_asm.specs.Codes.{asm_code}
 use Rattle.pb_asm.specs.Texts.{with_insn_line, insns_of_lines, some_of, program_of_text}
 use Rattle.pb_reading.proofs.LinesInTurn.{Adds, TakesLines, heads, read, back}

@@ -2,11 +2,7 @@
 use Rattle.std.proofs.Common.{◌≡◌, ◌+◌, ◌<◌, ◌≤◌, ◌⊎◌, inl, inr, List, [], ◌∷◌, ◌++◌, length, arith}
 use Rattle.std.specs.List.{AllByRecursion}
 use Rattle.std.proofs.lemmas.List.{length-append}
-use Rattle.pb_isa.specs.declared.insn.Insn.{Insn}
-use Rattle.pb_isa.specs.Bounds.{Fits}
-use Rattle.pb_isa.specs.Slots.{places_of, layout, slots}
-use Rattle.pb_isa.specs.declared.profile.Profile.{Profile}
-use Rattle.pb_isa.specs.Profiles.{max_slots, IsOf}
+use Rattle.pb_asm.specs.Words.{Insn, Fits, places_of, layout, slots, Profile, max_slots, IsOf}
 use Rattle.pb_isa.proofs.Instructions.{some_place}
 
 -- one more instruction takes its own slots besides

@@ -1,3 +1,4 @@
+pub mod Words
 pub mod Names
 pub mod Codes
 pub mod Cuts

@@ -2,8 +2,7 @@
 -- where it is this text, so that whatever reading lets through shows here.
 use Rattle.std.specs.Prelude.{ℕ, suc, ℤ, pos, negsuc, List, [], ◌∷◌, ◌++◌, codes, flat_map}
 use Rattle.std.specs.Fmt.{decimal, signed_decimal}
-use Rattle.pb_isa.specs.declared.insn.Insn.{Insn}
-use Rattle.pb_isa.specs.declared.insn.Operand.{Operand}
+use Rattle.pb_asm.specs.Words.{Insn, Operand}
 use Rattle.pb_isa.specs.declared.insn.Reg as register
 use Rattle.pb_asm.specs.declared.names.Word.{Word}
 use Rattle.pb_asm.specs.Names.{name, reg_name, size_bits}

@@ -2,15 +2,7 @@
 -- same, so that looking through the list finds a word by its name.
 use Rattle.std.specs.Prelude.{ℕ, Bool, true, false, IsTrue, if◌then◌else◌, List, [], ◌∷◌, ◌++◌, map, codes, Option, Some, None, flat_map, bytes_eq}
 use mir.Val.{bits}
-use Rattle.pb_isa.specs.declared.profile.Profile.{Profile}
-use Rattle.pb_isa.specs.declared.insn.Reg.{Reg}
-use Rattle.pb_isa.specs.declared.insn.AluOp.{AluOp}
-use Rattle.pb_isa.specs.declared.insn.Cmp.{Cmp}
-use Rattle.pb_isa.specs.declared.insn.Width.{Width}
-use Rattle.pb_isa.specs.declared.insn.Size.{Size}
-use Rattle.pb_isa.specs.declared.insn.Extension.{Extension}
-use Rattle.pb_isa.specs.Profiles.{is_narrower}
-use Rattle.pb_isa.specs.Machine.{width}
+use Rattle.pb_asm.specs.Words.{Profile, Reg, AluOp, Cmp, Width, Size, Extension, is_narrower, width}
 use Rattle.pb_asm.specs.declared.names.Word.{Word}
 
 -- the name of an operation, as RFC 9669 has it in small letters

@@ -1,17 +1,10 @@
 -- The operands of a line, read from left to right. It is a function and no relation, since which fault is told depends
 -- on the order; what is read is said without it, by the listing alone (`one_spelling`).
 use Rattle.std.specs.Prelude.{ℕ, ◌-◌, ◌^◌, ℤ, pos, neg_ℤ, ◌==◌, ◌&&◌, if◌then◌else◌, List, [], ◌∷◌, slice_index, Option, Some, None, ok_or, Result, Ok, Err}
-use Rattle.pb_isa.specs.declared.insn.Insn.{Insn}
-use Rattle.pb_isa.specs.declared.insn.Operand.{Operand}
-use Rattle.pb_isa.specs.declared.insn.Reg.{Reg}
-use Rattle.pb_isa.specs.declared.insn.Width.{Width}
-use Rattle.pb_isa.specs.declared.insn.Size.{Size}
-use Rattle.pb_isa.specs.declared.profile.Profile.{Profile}
-use Rattle.pb_isa.specs.Profiles.{is_narrower}
+use Rattle.pb_asm.specs.Words.{Insn, Operand, Reg, Width, Size, Profile, is_narrower, ◌>>=◌, words_of, next_word, no_word, numeral_upto}
 use Rattle.pb_asm.specs.declared.names.Word.{Word}
 use Rattle.pb_asm.specs.declared.fault.AsmCode.{AsmCode}
 use Rattle.pb_asm.specs.Names.{sizes, size_bits, word_named, reg_named}
-use Rattle.pb_reading.specs.Reading.{◌>>=◌, words_of, next_word, no_word, numeral_upto}
 use Rattle.pb_asm.specs.Cuts.{strip_prefix, strip_suffix, split_once}
 
 -- the digits behind a minus: at most this, and not zero, so that 0 has one spelling

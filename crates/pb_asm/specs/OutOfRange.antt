@@ -4,17 +4,7 @@
 use Rattle.std.specs.Prelude.{◌≡◌, ◌≢◌, ◌⊎◌, ◌<◌, ℕ, ◌-◌, ◌^◌, ℤ, List, [], ◌∷◌, ◌++◌, codes, true, IsTrue, FitsSigned}
 use Rattle.std.specs.Int.{w16}
 use Rattle.std.specs.Str.Parse.{digits_value}
-use Rattle.pb_reading.specs.Reading.{is_numeral}
-use Rattle.pb_isa.specs.declared.insn.AluOp.{AluOp}
-use Rattle.pb_isa.specs.declared.insn.Cmp.{Cmp}
-use Rattle.pb_isa.specs.declared.insn.Width.{Width}
-use Rattle.pb_isa.specs.declared.insn.Size.{Size}
-use Rattle.pb_isa.specs.declared.insn.Extension.{Extension}
-use Rattle.pb_isa.specs.declared.insn.Operand.{Operand}
-use Rattle.pb_isa.specs.declared.insn.Reg.{Reg}
-use Rattle.pb_isa.specs.declared.profile.Profile.{Profile}
-use Rattle.pb_isa.specs.Profiles.{is_narrower}
-use Rattle.pb_isa.specs.Bounds.{OperandFits}
+use Rattle.pb_asm.specs.Words.{is_numeral, AluOp, Cmp, Width, Size, Extension, Operand, Reg, Profile, is_narrower, OperandFits}
 use Rattle.pb_asm.specs.declared.names.Word.{Word}
 use Rattle.pb_asm.specs.Names.{name, IsWordOf, reg_name, size_bits}
 use Rattle.pb_asm.specs.Listing.{operand_text, place_text}

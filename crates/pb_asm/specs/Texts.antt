@@ -1,14 +1,8 @@
 -- A text of lines, each an instruction. It is the whole reading, with line numbers, as contracts of `assemble_in` and
 -- the laws cite it.
 use Rattle.std.specs.Prelude.{◌≡◌, ℕ, nat_lt, if◌then◌else◌, List, [], ◌∷◌, ◌++◌, Result, Ok, Err}
-use Rattle.pb_isa.specs.declared.insn.Insn.{Insn}
-use Rattle.pb_isa.specs.declared.profile.Profile.{Profile}
-use Rattle.pb_isa.specs.Profiles.{max_slots}
-use Rattle.pb_isa.specs.Slots.{slots}
-use Rattle.pb_isa.specs.Programs.{ProgramOf}
+use Rattle.pb_asm.specs.Words.{Insn, Profile, max_slots, slots, ProgramOf, ◌>>=◌, lines_of, is_skipped, in_lines}
 use Rattle.pb_asm.specs.declared.fault.AsmCode.{AsmCode}
-use Rattle.pb_reading.specs.Reading.{◌>>=◌, lines_of, is_skipped}
-use Rattle.pb_reading.specs.Faults.{in_lines}
 use Rattle.pb_asm.specs.Codes.{asm_code}
 use Rattle.pb_asm.specs.Operands.{line_of}
 

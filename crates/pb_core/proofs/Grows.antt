@@ -1,19 +1,7 @@
 -- A run of so many steps leaves at most twice as many entries, and as many marks.
 use Rattle.std.proofs.Common.{◌≡◌, ℕ, ◌+◌, ◌-◌, ◌*◌, ◌<◌, ◌≤◌, ◌^◌, Bool, cond, List, [], ◌∷◌, length, sym, subst, arith}
 use Rattle.std.specs.FinMap as map
-use Rattle.pb_store.specs.declared.slot.Slot.{Slot}
-use Rattle.pb_store.specs.declared.slot.Item.{Item}
-use Rattle.pb_store.specs.Slot.{slot_cmp, slot_cmp_total}
-use Rattle.pb_base.specs.declared.cell.Cell.{Cell}
-use Rattle.pb_base.specs.Cell.{cell_cmp}
-use Rattle.pb_store.specs.Contents.{Entries}
-use Rattle.pb_steps.specs.declared.step.Step.{Step}
-use Rattle.pb_steps.specs.declared.step.Answer.{Answer}
-use Rattle.pb_steps.specs.State.{StateOf, opening}
-use Rattle.pb_steps.specs.CommitSecondary.{if_locked}
-use Rattle.pb_steps.specs.Steps.{StepCase}
-use Rattle.pb_history.specs.declared.entry.Entry.{Entry}
-use Rattle.pb_history.specs.Journals.{JournalLeads}
+use Rattle.pb_core.specs.Words.{Slot, Item, slot_cmp, slot_cmp_total, Cell, cell_cmp, Entries, Step, Answer, StateOf, opening, if_locked, StepCase, Entry, JournalLeads}
 use Rattle.pb_core.specs.Keeping.{SharedKeeps}
 use Rattle.pb_core.proofs.StepsKeep.{case_kept}
 

@@ -1,12 +1,7 @@
 -- A table keeps its invariant over one more entry.
 use Rattle.std.proofs.Common.{◌≡◌, ◌≢◌, ℕ, ◌+◌, ◌<◌, Bool, eqb, cond, List, [], ◌∷◌, ◌++◌, length, length-append, length-set, get_or-set_same, get_or-set_other, slice_set, slice_index_or, refl, arith, eq-eqb, ne_eqb, add-zero}
 use Rattle.std.proofs.lemmas.Bool.{eqb-false, eqb-true}
-use Rattle.pb_steps.specs.declared.step.Step.{Step}
-use Rattle.pb_steps.specs.declared.step.Answer.{Answer}
-use Rattle.pb_steps.specs.State.{StateOf}
-use Rattle.pb_steps.specs.Steps.{TableStep}
-use Rattle.pb_history.specs.declared.entry.Entry.{Entry}
-use Rattle.pb_history.specs.Places.{places_from}
+use Rattle.pb_core.specs.Words.{Step, Answer, StateOf, TableStep, Entry, places_from}
 use Rattle.pb_core.specs.Keeping.{SharedKeeps}
 use Rattle.pb_core.proofs.StepsKeep.{case_kept}
 use Rattle.pb_history.proofs.JournalParts.{one_more as run_more}

@@ -1,16 +1,7 @@
 -- Each step leaves observers and seats, and marks one cell more at most.
 use Rattle.std.proofs.Common.{◌≡◌, ℕ, ◌+◌, ◌-◌, ◌≤◌, Bool, true, false, cond, List, arith}
 use Rattle.std.specs.FinMap as map
-use Rattle.pb_base.specs.declared.cell.Cell.{Cell}
-use Rattle.pb_base.specs.Cell.{cell_cmp_total}
-use Rattle.pb_store.specs.Contents.{Marks}
-use Rattle.pb_steps.specs.declared.step.Step.{Step}
-use Rattle.pb_steps.specs.declared.step.Answer.{Answer}
-use Rattle.pb_verify.specs.Observers.{ObserverOf}
-use Rattle.pb_steps.specs.State.{StateOf}
-use Rattle.pb_steps.specs.Marks.{is_observed, with_mark}
-use Rattle.pb_steps.specs.CommitSecondary.{if_locked}
-use Rattle.pb_steps.specs.Steps.{StepCase}
+use Rattle.pb_core.specs.Words.{Cell, cell_cmp_total, Marks, Step, Answer, ObserverOf, StateOf, is_observed, with_mark, if_locked, StepCase}
 
 -- what stays whatever the step is, and how far the marks may grow
 pub record KeepsRest (s t : StateOf) : Type 0 where

@@ -1,15 +1,7 @@
 -- What a call does, and what table and seats are to those who call. `Shared::open` and `Shared::call` promise it, and
 -- whoever shares a table promises what its calls were.
 use Rattle.std.specs.Prelude.{◌≡◌, ℕ, ◌+◌, ◌<◌, Bool, ◌==◌, nat_lt, if◌then◌else◌, List, [], ◌∷◌, ◌++◌, length, Option, Some, None, slice_index_or}
-use Rattle.pb_base.specs.declared.refusal.Reason.{Reason}
-use Rattle.pb_base.specs.Reasons.{reason_code}
-use Rattle.pb_steps.specs.declared.step.Step.{Step}
-use Rattle.pb_steps.specs.declared.step.Answer.{Answer}
-use Rattle.pb_steps.specs.State.{StateOf}
-use Rattle.pb_steps.specs.Steps.{step_reason, TableStep}
-use Rattle.pb_history.specs.declared.entry.Entry.{Entry}
-use Rattle.pb_history.specs.declared.entry.Received.{Received}
-use Rattle.pb_history.specs.Places.{entries_of}
+use Rattle.pb_core.specs.Words.{Reason, reason_code, Step, Answer, StateOf, step_reason, TableStep, Entry, Received, entries_of}
 
 -- the table, as its callers see it: `opened` is the clock as opened
 pub record SharedOf : Type 0 where

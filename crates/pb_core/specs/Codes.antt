@@ -1,8 +1,7 @@
 -- The shared table as a tree of numbers, as what is kept in a model has to have one.
 use Rattle.std.specs.Prelude.{ℕ, List, refl}
 use Rattle.std.specs.Coded.{Coded, code_by, coded×, coded_ℕ, coded_list}
-use Rattle.pb_steps.specs.State.{StateOf, state_code}
-use Rattle.pb_history.specs.declared.entry.Entry.{Entry}
+use Rattle.pb_core.specs.Words.{StateOf, state_code, Entry}
 use Rattle.pb_history.specs.contracts.entry.Entry as entry
 use Rattle.pb_core.specs.Calls.{SharedOf}
 

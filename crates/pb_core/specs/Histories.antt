@@ -1,14 +1,6 @@
 -- What holds of a table's journal and state (OSDI 2010, sections 2.2 to 2.4): the laws of legal journals in three
 -- groups, as `Shared::journal` promises them.
-use Rattle.pb_history.specs.Journals.{IsLegal}
-use Rattle.pb_history.specs.Timestamps.{TellsTimestamps}
-use Rattle.pb_history.specs.CommitOrder.{TellsCommitOrder}
-use Rattle.pb_history.specs.SnapshotsTold.{TellsSnapshots}
-use Rattle.pb_history.specs.WritersTold.{TellsWriters}
-use Rattle.pb_history.specs.RunsTold.{TellsRuns}
-use Rattle.pb_history.specs.ScriptsTold.{TellsScripts}
-use Rattle.pb_history.specs.MarksTold.{TellsMarks}
-use Rattle.pb_history.specs.Handled.{TellsOneHandler, TellsHandlers}
+use Rattle.pb_core.specs.Words.{IsLegal, TellsTimestamps, TellsCommitOrder, TellsSnapshots, TellsWriters, TellsRuns, TellsScripts, TellsMarks, TellsOneHandler, TellsHandlers}
 use Rattle.pb_core.specs.Calls.{SharedOf}
 
 -- the journal is legal, and leads to the state

@@ -1,10 +1,6 @@
 -- What the shared table keeps between calls: the invariant of `Shared`. By its limit, entries and marks can be counted.
 use Rattle.std.specs.Prelude.{◌≡◌, ℕ, ◌<◌, ◌≤◌, List, [], length, slice_index_or}
-use Rattle.pb_base.specs.declared.limits.TheConstants.{MAX_ENTRIES}
-use Rattle.pb_steps.specs.State.{StateOf}
-use Rattle.pb_history.specs.declared.entry.Entry.{Entry}
-use Rattle.pb_history.specs.Places.{places_from}
-use Rattle.pb_history.specs.Journals.{IsLegal}
+use Rattle.pb_core.specs.Words.{MAX_ENTRIES, StateOf, Entry, places_from, IsLegal}
 
 -- the journal is legal and leads to the state, and each book has the places of its seat
 pub record SharedKeeps (journal : List Entry) (books : List (List ℕ)) (state : StateOf) (clock limit : ℕ) : Type 0 where

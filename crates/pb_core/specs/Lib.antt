@@ -1,3 +1,4 @@
+pub mod Words
 pub mod Calls
 pub mod Codes
 pub mod Keeping

@@ -1,13 +1,6 @@
 -- What the profiles differ in: moves and loads that extend the sign.
 use Rattle.std.proofs.Common.{arith, ◌≡◌, ℕ, ℤ, ◌⊎◌, true, false, ◌==◌, IsTrue}
-use Rattle.pb_isa.specs.declared.insn.AluOp.{AluOp}
-use Rattle.pb_isa.specs.declared.insn.Insn.{Insn}
-use Rattle.pb_isa.specs.declared.insn.Extension.{Extension}
-use Rattle.pb_isa.specs.declared.insn.Reg.{Reg}
-use Rattle.pb_isa.specs.declared.insn.Size.{Size}
-use Rattle.pb_isa.specs.declared.insn.Width.{Width}
-use Rattle.pb_isa.specs.declared.profile.Profile.{Profile}
-use Rattle.pb_isa.specs.Profiles.{IsOf, is_narrower}
+use Rattle.pb_decode.specs.Words.{AluOp, Insn, Extension, Reg, Size, Width, Profile, IsOf, is_narrower}
 use Rattle.pb_decode.specs.declared.forms.Form.{Form}
 use Rattle.pb_decode.specs.Opcodes.{IsFormOf}
 use Rattle.pb_decode.specs.Encoding.{bits_of}

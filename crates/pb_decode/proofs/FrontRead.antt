@@ -3,15 +3,7 @@ use Rattle.std.proofs.Common.{◌≡◌, ℕ, ◌⊎◌, ◌+◌, ◌*◌, ◌/�
 use Rattle.std.specs.Int.{w16, w32, cast_signed, cast_unsigned}
 use Rattle.std.proofs.lemmas.Bool.{eqb-true, and_parts}
 use Rattle.std.proofs.lemmas.Int.{to_z-of_z}
-use Rattle.pb_isa.specs.declared.insn.Insn.{Insn}
-use Rattle.pb_isa.specs.declared.insn.Operand.{Operand}
-use Rattle.pb_isa.specs.declared.insn.AluOp.{AluOp}
-use Rattle.pb_isa.specs.declared.insn.Width.{Width}
-use Rattle.pb_isa.specs.declared.insn.Reg.{Reg}
-use Rattle.pb_isa.specs.declared.profile.Profile.{Profile}
-use Rattle.pb_isa.specs.Profiles.{IsOf}
-use Rattle.pb_isa.specs.Registers.{number, reg_of}
-use Rattle.pb_isa.specs.Bounds.{Fits}
+use Rattle.pb_decode.specs.Words.{Insn, Operand, AluOp, Width, Reg, Profile, IsOf, number, reg_of, Fits, ◌>>=◌}
 use Rattle.pb_decode.specs.declared.forms.Form.{Form}
 use Rattle.pb_decode.specs.declared.forms.Source.{Source}
 use Rattle.pb_decode.specs.declared.fields.SlotFields.{SlotFields}
@@ -19,7 +11,6 @@ use Rattle.pb_decode.specs.declared.fault.DecodeCode.{DecodeCode}
 use Rattle.pb_decode.specs.Opcodes.{opcode, IsFormOf, form_of}
 use Rattle.pb_decode.specs.Fields.{slot_bytes, slot_of_bytes}
 use Rattle.pb_decode.specs.Encoding.{first_slot, second_slot, second_bytes, insn_bytes}
-use Rattle.pb_reading.specs.Reading.{◌>>=◌}
 use Rattle.pb_decode.specs.Reading.{is_alu_offset, is_clean, is_second_slot, pair_of, size_of_bits, insn_of_form, clean_or_code, first_with, first_of}
 use Rattle.pb_decode.specs.Faults.{AreBytes}
 use Rattle.pb_decode.proofs.SlotBytes.{IsSlot, front_slot, is_slot, rest_bytes, same_slot, slot_back}

@@ -1,20 +1,14 @@
 -- What is read at the front is at fault exactly by the lowest code that applies there.
 use Rattle.std.proofs.Common.{◌≡◌, ℕ, ◌≤◌, inl, Bool, true, false, cond, List, ◌++◌, length, drop, Option, Some, None, Result, Ok, Err, refl, sym, ap, subst, ◌∙◌, arith, ok_or, nat_eq, nat_lt}
 use Rattle.std.proofs.lemmas.Bool.{ltb-true, ltb-false}
-use Rattle.pb_isa.specs.declared.insn.Insn.{Insn}
-use Rattle.pb_isa.specs.declared.insn.Reg.{Reg}
-use Rattle.pb_isa.specs.declared.profile.Profile.{Profile}
-use Rattle.pb_isa.specs.Profiles.{IsOf}
-use Rattle.pb_isa.specs.Registers.{reg_of}
+use Rattle.pb_decode.specs.Words.{Insn, Reg, Profile, IsOf, reg_of, ◌>>=◌, Fits}
 use Rattle.pb_decode.specs.declared.forms.Form.{Form}
 use Rattle.pb_decode.specs.declared.fault.DecodeCode.{DecodeCode}
 use Rattle.pb_decode.specs.Opcodes.{opcode, IsFormOf, form_of}
 use Rattle.pb_decode.specs.Fields.{slot_of_bytes}
-use Rattle.pb_reading.specs.Reading.{◌>>=◌}
 use Rattle.pb_decode.specs.Reading.{is_clean, is_second_slot, insn_of_form, clean_or_code, first_with, first_of}
 use Rattle.pb_decode.specs.Faults.{decode_code, Applies, IsLowest}
 use Rattle.pb_decode.specs.Encoding.{insn_bytes}
-use Rattle.pb_isa.specs.Bounds.{Fits}
 use Rattle.pb_decode.proofs.FrontRead.{first_again}
 use Rattle.pb_decode.proofs.OpcodeTable.{form_front, form_back, reg_front, reg_none}
 use Rattle.pb_base.proofs.Logic.{one_value as some_same, not_both as not_false, not_none as no_none}

@@ -4,14 +4,7 @@
 use Rattle.std.specs.Prelude.{◌≡◌, ℕ, ◌/◌, ◌%◌, ◌^◌, ◌++◌, List, []}
 use Rattle.std.specs.Int.{w16, w32, cast_unsigned}
 use Rattle.std.specs.List.{flat_map, AllByRecursion}
-use Rattle.pb_isa.specs.declared.insn.Insn.{Insn}
-use Rattle.pb_isa.specs.declared.insn.AluOp.{AluOp}
-use Rattle.pb_isa.specs.declared.insn.Size.{Size}
-use Rattle.pb_isa.specs.declared.insn.Operand.{Operand}
-use Rattle.pb_isa.specs.Registers.{number}
-use Rattle.pb_isa.specs.Bounds.{Fits}
-use Rattle.pb_isa.specs.declared.profile.Profile.{Profile}
-use Rattle.pb_isa.specs.Programs.{ProgramOf, IsProgram}
+use Rattle.pb_decode.specs.Words.{Insn, AluOp, Size, Operand, number, Fits, Profile, ProgramOf, IsProgram}
 use Rattle.pb_decode.specs.declared.forms.Form.{Form}
 use Rattle.pb_decode.specs.declared.forms.Source.{Source}
 use Rattle.pb_decode.specs.declared.fields.SlotFields.{SlotFields}

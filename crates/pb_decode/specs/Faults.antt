@@ -3,12 +3,7 @@
 -- alike.
 use Rattle.std.specs.Prelude.{◌≡◌, ◌≢◌, ◌<◌, ◌≤◌, ◌⊎◌, ℕ, ◌*◌, ◌%◌, ◌==◌, false, nat_lt, not, ◌||◌, if◌then◌else◌, List, ◌++◌, length, drop, get_or, Option, Some, None}
 use Rattle.std.specs.List.{AllByRecursion}
-use Rattle.pb_isa.specs.declared.insn.Insn.{Insn}
-use Rattle.pb_isa.specs.Bounds.{Fits}
-use Rattle.pb_isa.specs.declared.profile.Profile.{Profile}
-use Rattle.pb_isa.specs.Profiles.{IsOf, max_slots}
-use Rattle.pb_isa.specs.Slots.{slots}
-use Rattle.pb_isa.specs.Programs.{ProgramOf}
+use Rattle.pb_decode.specs.Words.{Insn, Fits, Profile, IsOf, max_slots, slots, ProgramOf}
 use Rattle.pb_decode.specs.declared.fault.DecodeCode.{DecodeCode}
 use Rattle.pb_decode.specs.declared.fault.DecodeFault.{DecodeFault}
 use Rattle.pb_decode.specs.declared.forms.Form.{Form}

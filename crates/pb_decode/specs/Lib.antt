@@ -1,3 +1,4 @@
+pub mod Words
 pub mod Opcodes
 pub mod Fields
 pub mod Encoding

@@ -1,13 +1,7 @@
 -- The opcodes of the profiles (RFC 9669, sections 3.1, 3.3, 4.1, 4.3 and 5). `opcode` says each by its parts, for
 -- encoding and decoding alike, so that no table stands twice; decoding searches the forms for the one that has it.
 use Rattle.std.specs.Prelude.{ℕ, ◌+◌, ◌*◌, Bool, true, false, IsTrue, ◌==◌, if◌then◌else◌, List, [], ◌∷◌, ◌++◌, map, Option, Some, None, flat_map}
-use Rattle.pb_isa.specs.declared.insn.AluOp.{AluOp}
-use Rattle.pb_isa.specs.declared.insn.Cmp.{Cmp}
-use Rattle.pb_isa.specs.declared.insn.Width.{Width}
-use Rattle.pb_isa.specs.declared.insn.Size.{Size}
-use Rattle.pb_isa.specs.declared.insn.Extension.{Extension}
-use Rattle.pb_isa.specs.declared.profile.Profile.{Profile}
-use Rattle.pb_isa.specs.Profiles.{is_narrower}
+use Rattle.pb_decode.specs.Words.{AluOp, Cmp, Width, Size, Extension, Profile, is_narrower}
 use Rattle.pb_decode.specs.declared.forms.Form.{Form}
 use Rattle.pb_decode.specs.declared.forms.Source.{Source}
 

@@ -2,15 +2,7 @@
 -- said by it; that it finds what Encoding and Faults say is proved.
 use Rattle.std.specs.Prelude.{ℕ, ℤ, ◌+◌, ◌*◌, ◌^◌, Bool, ◌&&◌, ◌||◌, ◌==◌, nat_lt, if◌then◌else◌, List, length, drop, ok_or, Result, Ok, Err}
 use Rattle.std.specs.Int.{w16, w32, cast_signed}
-use Rattle.pb_reading.specs.Reading.{◌>>=◌}
-use Rattle.pb_isa.specs.declared.insn.Insn.{Insn}
-use Rattle.pb_isa.specs.declared.insn.AluOp.{AluOp}
-use Rattle.pb_isa.specs.declared.insn.Operand.{Operand}
-use Rattle.pb_isa.specs.declared.insn.Reg.{Reg}
-use Rattle.pb_isa.specs.declared.insn.Size.{Size}
-use Rattle.pb_isa.specs.declared.insn.Width.{Width}
-use Rattle.pb_isa.specs.declared.profile.Profile.{Profile}
-use Rattle.pb_isa.specs.Registers.{reg_of}
+use Rattle.pb_decode.specs.Words.{◌>>=◌, Insn, AluOp, Operand, Reg, Size, Width, Profile, reg_of}
 use Rattle.pb_decode.specs.declared.forms.Form.{Form}
 use Rattle.pb_decode.specs.declared.forms.Source.{Source}
 use Rattle.pb_decode.specs.declared.fields.SlotFields.{SlotFields}

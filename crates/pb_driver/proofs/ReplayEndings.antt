@@ -1,13 +1,6 @@
 -- How a run of events ends, by what its calls answered.
 use Rattle.std.proofs.Common.{◌≡◌, ℕ, List, Result, Ok, Err}
-use Rattle.pb_parse.specs.declared.event.Event.{Event}
-use Rattle.pb_world.specs.declared.fault.EventFault.{EventFault}
-use Rattle.pb_world.specs.declared.note.Note.{Note}
-use Rattle.pb_world.specs.Faults.{fault_code}
-use Rattle.pb_world.specs.Events.{WorldOf, RunsTo, StopsAtEvent}
-use Rattle.pb_script.specs.declared.fault.ReportFault.{ReportFault}
-use Rattle.pb_base.specs.Taking.{Taking, TookNothing}
-use Rattle.pb_script.specs.TableReports.{Reports}
+use Rattle.pb_driver.specs.Words.{Event, EventFault, Note, fault_code, WorldOf, RunsTo, StopsAtEvent, ReportFault, Taking, TookNothing, Reports}
 use Rattle.pb_driver.specs.declared.fault.RunFault.{RunFault}
 use Rattle.pb_driver.specs.Texts.{of_report}
 use Rattle.pb_driver.specs.Replays.{of_event, EventsEnd, OpensReplay, ReplaysTexts}

@@ -1,15 +1,6 @@
 -- How a run of workers ends, by what its calls answered.
 use Rattle.std.proofs.Common.{arith, ap, ◌≡◌, ◌<◌, List, [], length, Result, Ok, Err}
-use Rattle.pb_base.specs.Batch.{Writes}
-use Rattle.pb_history.specs.Journals.{IsLegal}
-use Rattle.pb_core.specs.Calls.{SharedOf, SeatOf, AreSeats}
-use Rattle.pb_core.specs.Histories.{IsLegalTable}
-use Rattle.pb_worker.specs.Agrees.{Agree}
-use Rattle.pb_worker.specs.Gains.{OpeningOf, opening_of}
-use Rattle.pb_worker.specs.Laws.{ChangesAreMade}
-use Rattle.pb_worker.specs.Swaps.{Spare}
-use Rattle.pb_worker.specs.Work.{KeepsOpening}
-use Rattle.pb_base.specs.Taking.{Taking}
+use Rattle.pb_driver.specs.Words.{Writes, IsLegal, SharedOf, SeatOf, AreSeats, IsLegalTable, Agree, OpeningOf, opening_of, ChangesAreMade, Spare, KeepsOpening, Taking}
 use Rattle.pb_driver.specs.declared.fault.RunFault.{RunFault}
 use Rattle.pb_driver.specs.declared.run.Ran.{Ran}
 use Rattle.pb_driver.specs.Runs.{Remains, WorkersLeave, FinishAccepts, Concludes, RunsOnTable}

@@ -1,9 +1,7 @@
 -- A table that has nothing in it is refused for memory alone.
 use Rattle.std.proofs.Common.{arith, ◌≡◌, ap, ◌∙◌, true}
 use Rattle.std.specs.FinMap as map
-use Rattle.pb_base.specs.declared.refusal.Refusal.{Refusal}
-use Rattle.pb_base.specs.Reasons.{memory_refusal}
-use Rattle.pb_store.specs.Contents.{Contents, nothing, is_nothing}
+use Rattle.pb_driver.specs.Words.{Refusal, memory_refusal, Contents, nothing, is_nothing}
 
 nothing_is_nothing : is_nothing nothing ≡ true
 nothing_is_nothing = grind (arith, map.len-empty)

@@ -1,8 +1,6 @@
 -- How a run or a replay that ended early is told. `Display` of `RunFault` cites it.
 use Rattle.std.specs.Prelude.{ℕ, List, ◌++◌, codes}
-use Rattle.pb_reading.specs.Faults.{line_told, code_told, line_and_code}
-use Rattle.pb_registry.specs.FaultTexts.{fault_text}
-use Rattle.pb_world.specs.Faults.{fault_code, event_and_code}
+use Rattle.pb_driver.specs.Words.{line_told, code_told, line_and_code, fault_text, fault_code, event_and_code}
 use Rattle.pb_driver.specs.declared.fault.RunFault.{RunFault}
 
 -- a fault's words, without a newline: those of a text's fault begin with which text it is

@@ -1,3 +1,4 @@
+pub mod Words
 pub mod FaultTexts
 pub mod Texts
 pub mod Replays

@@ -1,18 +1,7 @@
 -- Replays: a schedule's events in a world of a manifest's observers and a script's changes, and the report of what
 -- they left. `replay_texts` promises it; where an event is at fault, nothing is reported.
 use Rattle.std.specs.Prelude.{◌≡◌, ◌≢◌, ℕ, List, length, Result, Ok, Err}
-use Rattle.pb_base.specs.declared.limits.TheConstants.{MAX_SEATS}
-use Rattle.pb_base.specs.Batch.{Writes}
-use Rattle.pb_verify.specs.Observers.{ObserverOf}
-use Rattle.pb_core.specs.Calls.{SharedOf, SeatOf, AreSeats}
-use Rattle.pb_parse.specs.declared.event.Event.{Event}
-use Rattle.pb_world.specs.declared.fault.EventFault.{EventFault}
-use Rattle.pb_world.specs.declared.fault.WorldFault.{WorldFault}
-use Rattle.pb_world.specs.declared.note.Note.{Note}
-use Rattle.pb_world.specs.Faults.{fault_code, memory_fault}
-use Rattle.pb_world.specs.Events.{WorldOf, idle_actors, RunsTo, StopsAtEvent}
-use Rattle.pb_base.specs.Taking.{Taking, TookNothing}
-use Rattle.pb_script.specs.TableReports.{Wrote, Began}
+use Rattle.pb_driver.specs.Words.{MAX_SEATS, Writes, ObserverOf, SharedOf, SeatOf, AreSeats, Event, EventFault, WorldFault, Note, fault_code, memory_fault, WorldOf, idle_actors, RunsTo, StopsAtEvent, Taking, TookNothing, Wrote, Began}
 use Rattle.pb_driver.specs.declared.fault.RunFault.{RunFault}
 use Rattle.pb_driver.specs.Texts.{IsReplayRead, IsReplayUnread, table_opened}
 

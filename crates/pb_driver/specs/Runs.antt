@@ -2,19 +2,7 @@
 -- Threads may take their turns in any way, so it is a relation: what they leave is told by their seats and the
 -- journal. `run_texts` cites it.
 use Rattle.std.specs.Prelude.{◌≡◌, ℕ, ◌+◌, ◌-◌, List, length, Option, Result, Ok, Err}
-use Rattle.pb_base.specs.declared.refusal.Refusal.{Refusal}
-use Rattle.pb_base.specs.Batch.{Writes}
-use Rattle.pb_verify.specs.Observers.{ObserverOf}
-use Rattle.pb_history.specs.Journals.{IsLegal}
-use Rattle.pb_core.specs.Calls.{SharedOf, SeatOf, AreSeats}
-use Rattle.pb_core.specs.Histories.{IsLegalTable}
-use Rattle.pb_worker.specs.Agrees.{Agree}
-use Rattle.pb_worker.specs.Gains.{opening_of}
-use Rattle.pb_worker.specs.Laws.{MakesChanges}
-use Rattle.pb_worker.specs.Swaps.{Spare}
-use Rattle.pb_worker.specs.Work.{WorkedOn, KeepsOpening}
-use Rattle.pb_base.specs.Taking.{Taking, TookNothing}
-use Rattle.pb_script.specs.TableReports.{Wrote, Began}
+use Rattle.pb_driver.specs.Words.{Refusal, Writes, ObserverOf, IsLegal, SharedOf, SeatOf, AreSeats, IsLegalTable, Agree, opening_of, MakesChanges, Spare, WorkedOn, KeepsOpening, Taking, TookNothing, Wrote, Began}
 use Rattle.pb_driver.specs.declared.fault.RunFault.{RunFault}
 use Rattle.pb_driver.specs.declared.run.Ran.{Ran}
 use Rattle.pb_driver.specs.Texts.{IsRunRead, IsRunUnread, table_opened}

@@ -2,18 +2,7 @@
 -- where it is read; here stands that they are read in turn, and only so far as they are read. Both drivers cite it,
 -- and the story program.
 use Rattle.std.specs.Prelude.{◌≡◌, ℕ, List, [], Result, Ok, Err}
-use Rattle.pb_base.specs.declared.limits.TheConstants.{MAX_ENTRIES}
-use Rattle.pb_base.specs.Batch.{Writes}
-use Rattle.pb_base.specs.Growths.{refused_growth}
-use Rattle.pb_reading.specs.declared.fault.TextFault.{TextFault}
-use Rattle.pb_verify.specs.Observers.{ObserverOf}
-use Rattle.pb_steps.specs.State.{opening}
-use Rattle.pb_core.specs.Calls.{SharedOf}
-use Rattle.pb_registry.specs.Judging.{ReadsManifest}
-use Rattle.pb_parse.specs.ScriptLines.{script_of}
-use Rattle.pb_parse.specs.declared.event.Event.{Event}
-use Rattle.pb_parse.specs.Schedules.{schedule_of}
-use Rattle.pb_script.specs.declared.fault.ReportFault.{ReportFault}
+use Rattle.pb_driver.specs.Words.{MAX_ENTRIES, Writes, refused_growth, TextFault, ObserverOf, opening, SharedOf, ReadsManifest, script_of, Event, schedule_of, ReportFault}
 use Rattle.pb_driver.specs.declared.fault.RunFault.{RunFault}
 
 -- the fault of a run or a replay whose report ended so

@@ -1,11 +1,6 @@
 -- The acknowledged timestamp that a read tells is the start of a run committed up to the start of the reader.
 use Rattle.std.proofs.Common.{◌≡◌, ℕ, ◌≤◌, inr, List, ap, arith}
-use Rattle.pb_base.specs.declared.cell.Cell.{Cell}
-use Rattle.pb_base.specs.declared.names.Row.{Row}
-use Rattle.pb_steps.specs.declared.step.Answer.{Answer}
-use Rattle.pb_verify.specs.Observers.{ObserverOf}
-use Rattle.pb_steps.specs.Reads.{stamp_of, acknowledged_in}
-use Rattle.pb_steps.specs.State.{StateOf}
+use Rattle.pb_history.specs.Words.{Cell, Row, Answer, ObserverOf, stamp_of, acknowledged_in, StateOf}
 use Rattle.pb_history.specs.declared.entry.Entry.{Entry}
 use Rattle.pb_history.specs.Journals.{IsLegal}
 use Rattle.pb_history.specs.SnapshotsTold.{TellsSnapshot}

@@ -2,20 +2,7 @@
 use Rattle.std.proofs.Common.{arith, ◌≡◌, ℕ, true, false, cond, List, ◌∷◌, Some, refl, sym, ap, subst, ◌∙◌}
 use Rattle.std.specs.Ordering.{eq_by_cmp}
 use Rattle.std.specs.Cmp.{Equal-is}
-use Rattle.pb_base.specs.declared.cell.Cell.{Cell}
-use Rattle.pb_base.specs.declared.names.Row.{Row}
-use Rattle.pb_base.specs.declared.content.Content.{Content}
-use Rattle.pb_base.specs.Cell.{cell_cmp, cell_cmp-IsAntisymmetric}
-use Rattle.pb_base.specs.Batch.{Writes, content_in}
-use Rattle.pb_sound.specs.RunWrites.{AreRunWrites}
-use Rattle.pb_steps.specs.declared.seen.RecordedRead.{RecordedRead}
-use Rattle.pb_steps.specs.declared.step.Work.{Work}
-use Rattle.pb_steps.specs.declared.step.Declared.{Declared}
-use Rattle.pb_verify.specs.Observers.{ObserverOf, observed_column, acknowledgment}
-use Rattle.pb_steps.specs.Phases.{is_reading}
-use Rattle.pb_steps.specs.Declarations.{IsKnown, MayDeclare}
-use Rattle.pb_steps.specs.State.{StateOf, cells_of}
-use Rattle.pb_steps.specs.Readings.{data_at, write_at}
+use Rattle.pb_history.specs.Words.{Cell, Row, Content, cell_cmp, cell_cmp-IsAntisymmetric, Writes, content_in, AreRunWrites, RecordedRead, Work, Declared, ObserverOf, observed_column, acknowledgment, is_reading, IsKnown, MayDeclare, StateOf, cells_of, data_at, write_at}
 use Rattle.pb_history.specs.declared.entry.Entry.{Entry}
 use Rattle.pb_history.specs.History.{Member, InHistory}
 use Rattle.pb_history.specs.Sound.{IsSoundTable}

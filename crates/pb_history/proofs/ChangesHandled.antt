@@ -2,16 +2,7 @@
 -- table is quiet.
 use Rattle.std.proofs.Common.{◌≡◌, ℕ, zero, suc, ◌<◌, ◌≤◌, ◌^◌, cond, ◌⊎◌, inl, inr, List, ◌∷◌, Some, sym, ap, subst, ◌∙◌, arith}
 use Rattle.std.specs.FinMap as map
-use Rattle.pb_base.specs.declared.cell.Cell.{Cell}
-use Rattle.pb_base.specs.declared.names.Row.{Row}
-use Rattle.pb_base.specs.declared.names.Ts.{Ts}
-use Rattle.pb_base.specs.declared.content.Content.{Content}
-use Rattle.pb_base.specs.Batch.{Writes, content_in}
-use Rattle.pb_steps.specs.declared.step.Work.{Work}
-use Rattle.pb_steps.specs.declared.phase.Phase.{Phase}
-use Rattle.pb_steps.specs.State.{StateOf, TransactionOf}
-use Rattle.pb_verify.specs.Observers.{ObserverOf, column_or_zero, observed_column, acknowledgment}
-use Rattle.pb_steps.specs.Readings.{write_at}
+use Rattle.pb_history.specs.Words.{Cell, Row, Ts, Content, Writes, content_in, Work, Phase, StateOf, TransactionOf, ObserverOf, column_or_zero, observed_column, acknowledgment, write_at}
 use Rattle.pb_history.specs.declared.entry.Entry.{Entry}
 use Rattle.pb_history.specs.Journals.{IsLegal}
 use Rattle.pb_history.specs.History.{Member, InHistory, WritesTo}

@@ -2,17 +2,7 @@
 use Rattle.std.proofs.Common.{arith, ◌≡◌, ℕ, true, List, [], ◌∷◌, length, None, refl, nat_lt, nat_le, ◌&&◌}
 use Rattle.std.specs.List.{list_all}
 use Rattle.std.proofs.lemmas.Bool.{and_parts}
-use Rattle.pb_base.specs.declared.cell.Cell.{Cell}
-use Rattle.pb_base.specs.declared.names.Row.{Row}
-use Rattle.pb_base.specs.declared.limits.TheConstants.{MAX_CELLS}
-use Rattle.pb_base.specs.Cell.{is_data}
-use Rattle.pb_base.specs.Batch.{Writes, content_in, is_data_write, are_distinct, is_batch}
-use Rattle.pb_sound.specs.RunWrites.{AreRunWrites}
-use Rattle.pb_steps.specs.declared.step.Work.{Work}
-use Rattle.pb_steps.specs.declared.step.Declared.{Declared}
-use Rattle.pb_verify.specs.Observers.{ObserverOf}
-use Rattle.pb_steps.specs.Declarations.{IsKnown}
-use Rattle.pb_steps.specs.State.{cells_of}
+use Rattle.pb_history.specs.Words.{Cell, Row, MAX_CELLS, is_data, Writes, content_in, is_data_write, are_distinct, is_batch, AreRunWrites, Work, Declared, ObserverOf, IsKnown, cells_of}
 
 -- a data cell is no acknowledgment
 no_data : (y : Cell) (o : ℕ) (row : Row) (column : ℕ) → is_data y ≡ true → Cell.Ack o row column ≡ y → ⊥

@@ -1,12 +1,6 @@
 -- The history of a legal journal is what its state says is committed.
 use Rattle.std.proofs.Common.{arith, ◌≡◌, ℕ, List, Option, Some, ap, ◌∙◌}
-use Rattle.pb_base.specs.Batch.{are_distinct}
-use Rattle.pb_steps.specs.declared.step.Declared.{Declared}
-use Rattle.pb_steps.specs.declared.step.Step.{Step}
-use Rattle.pb_steps.specs.declared.step.Answer.{Answer}
-use Rattle.pb_steps.specs.declared.phase.Phase.{Phase}
-use Rattle.pb_steps.specs.State.{StateOf, TransactionOf}
-use Rattle.pb_verify.specs.Observers.{ObserverOf}
+use Rattle.pb_history.specs.Words.{are_distinct, Declared, Step, Answer, Phase, StateOf, TransactionOf, ObserverOf}
 use Rattle.pb_history.specs.declared.entry.Entry.{Entry}
 use Rattle.pb_history.specs.Journals.{IsLegal}
 use Rattle.pb_history.specs.History.{IsEntry, Member, InHistory, IsCommitted, IsDeclared, TellsHistory}

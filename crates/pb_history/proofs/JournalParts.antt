@@ -1,7 +1,6 @@
 -- Parts of a run of steps.
 use Rattle.std.proofs.Common.{List, [], ◌∷◌, ◌++◌, refl, subst}
-use Rattle.pb_steps.specs.State.{StateOf}
-use Rattle.pb_steps.specs.Steps.{TableStep}
+use Rattle.pb_history.specs.Words.{StateOf, TableStep}
 use Rattle.pb_history.specs.declared.entry.Entry.{Entry}
 use Rattle.pb_history.specs.Journals.{JournalLeads}
 

@@ -1,7 +1,6 @@
 -- The clock of a legal journal's state is the greatest timestamp that the journal gave out.
 use Rattle.std.proofs.Common.{arith, ℕ, ◌≤◌, List, [], ◌∷◌, ap}
-use Rattle.pb_verify.specs.Observers.{ObserverOf}
-use Rattle.pb_steps.specs.State.{StateOf, opening}
+use Rattle.pb_history.specs.Words.{ObserverOf, StateOf, opening}
 use Rattle.pb_history.specs.declared.entry.Entry.{Entry}
 use Rattle.pb_history.specs.Journals.{JournalLeads, IsLegal}
 use Rattle.pb_history.specs.LastGiven.{IsLastGiven}

@@ -4,22 +4,7 @@ use Rattle.std.specs.List.{list_any}
 use Rattle.std.specs.Ordering.{eq_by_cmp}
 use Rattle.std.specs.FinMap as map
 use Rattle.std.proofs.lemmas.Bool.{or_right as or_true}
-use Rattle.pb_base.specs.declared.cell.Cell.{Cell}
-use Rattle.pb_base.specs.declared.names.Row.{Row}
-use Rattle.pb_base.specs.declared.content.Revision.{Revision}
-use Rattle.pb_base.specs.Cell.{cell_cmp, cell_cmp_total}
-use Rattle.pb_store.specs.declared.slot.Sort.{Sort}
-use Rattle.pb_store.specs.Slot.{slot_cmp}
-use Rattle.pb_store.specs.Contents.{Marks, slot_at}
-use Rattle.pb_steps.specs.declared.step.Step.{Step}
-use Rattle.pb_steps.specs.declared.step.Answer.{Answer}
-use Rattle.pb_steps.specs.State.{StateOf, opening}
-use Rattle.pb_verify.specs.Observers.{ObserverOf}
-use Rattle.pb_steps.specs.Readings.{write_at, lock_at, start_of, last_timestamp, IsVersion, IsNewestVersion}
-use Rattle.pb_steps.specs.Marks.{is_observed, with_mark, is_marked, stamp_in, IsBehind, SomeBehind, AllUpToDate}
-use Rattle.pb_steps.specs.Commits.{commits}
-use Rattle.pb_steps.specs.CommitSecondary.{CommitsSecondary, if_locked}
-use Rattle.pb_steps.specs.Steps.{StepCase}
+use Rattle.pb_history.specs.Words.{Cell, Row, Revision, cell_cmp, cell_cmp_total, Sort, slot_cmp, Marks, slot_at, Step, Answer, StateOf, opening, ObserverOf, write_at, lock_at, start_of, last_timestamp, IsVersion, IsNewestVersion, is_observed, with_mark, is_marked, stamp_in, IsBehind, SomeBehind, AllUpToDate, commits, CommitsSecondary, if_locked, StepCase}
 use Rattle.pb_history.specs.declared.entry.Entry.{Entry}
 use Rattle.pb_history.specs.Journals.{JournalLeads, IsLegal}
 use Rattle.pb_history.specs.TableView.{view_of}

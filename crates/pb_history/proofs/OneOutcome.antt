@@ -2,35 +2,7 @@
 use Rattle.std.proofs.Common.{◌≡◌, ℕ, ◌⊎◌, true, false, inl, inr, List, Option, Some, None, refl, sym, ap, ◌∙◌, arith, is_some}
 use Rattle.std.specs.Ordering.{eq_by_cmp}
 use Rattle.std.specs.FinMap as map
-use Rattle.pb_base.specs.declared.cell.Cell.{Cell}
-use Rattle.pb_base.specs.declared.names.Ts.{Ts}
-use Rattle.pb_base.specs.declared.content.Revision.{Revision}
-use Rattle.pb_base.specs.Cell.{cell_cmp}
-use Rattle.pb_store.specs.Contents.{Entries, Marks, IsNextMark}
-use Rattle.pb_steps.specs.declared.step.Step.{Step}
-use Rattle.pb_steps.specs.declared.step.Work.{Work}
-use Rattle.pb_steps.specs.declared.step.Declared.{Declared}
-use Rattle.pb_steps.specs.declared.step.Answer.{Answer}
-use Rattle.pb_steps.specs.declared.phase.Phase.{Phase}
-use Rattle.pb_verify.specs.Observers.{ObserverOf}
-use Rattle.pb_steps.specs.Marks.{stamp_in, SomeBehind, AllUpToDate}
-use Rattle.pb_steps.specs.State.{StateOf, TransactionOf, with_transaction}
-use Rattle.pb_steps.specs.Reads.{read_up_to, found_answer}
-use Rattle.pb_steps.specs.Reasons.{IsOwn}
-use Rattle.pb_steps.specs.Readings.{NoLockUpTo, lock_at, write_at, IsVersion, IsNewestVersion, NoVersion, IsLockOn, NoLock, last_timestamp}
-use Rattle.pb_steps.specs.Begin.{Begins}
-use Rattle.pb_steps.specs.Read.{with_read, ReadsLocked, ReadsFound, ReadsAbsent}
-use Rattle.pb_steps.specs.Declare.{Declares}
-use Rattle.pb_steps.specs.Prewrite.{Prewrites, Conflicts}
-use Rattle.pb_steps.specs.Stamp.{Stamps}
-use Rattle.pb_steps.specs.Commits.{rolls_back}
-use Rattle.pb_steps.specs.CommitPrimary.{CommitsPrimary, Loses}
-use Rattle.pb_steps.specs.CommitSecondary.{CommitsSecondary}
-use Rattle.pb_steps.specs.Settle.{MeetsNoLock, MeetsSecondary, Settles}
-use Rattle.pb_steps.specs.Clear.{ClearWaits, ClearsCommitted, ClearsBack}
-use Rattle.pb_steps.specs.NextMark.{FindsMark, FindsNone}
-use Rattle.pb_steps.specs.Sweep.{SweepsNothing, StaysMarked, Sweeps}
-use Rattle.pb_steps.specs.Steps.{StepCase, TableStep}
+use Rattle.pb_history.specs.Words.{Cell, Ts, Revision, cell_cmp, Entries, Marks, IsNextMark, Step, Work, Declared, Answer, Phase, ObserverOf, stamp_in, SomeBehind, AllUpToDate, StateOf, TransactionOf, with_transaction, read_up_to, found_answer, IsOwn, NoLockUpTo, lock_at, write_at, IsVersion, IsNewestVersion, NoVersion, IsLockOn, NoLock, last_timestamp, Begins, with_read, ReadsLocked, ReadsFound, ReadsAbsent, Declares, Prewrites, Conflicts, Stamps, rolls_back, CommitsPrimary, Loses, CommitsSecondary, MeetsNoLock, MeetsSecondary, Settles, ClearWaits, ClearsCommitted, ClearsBack, FindsMark, FindsNone, SweepsNothing, StaysMarked, Sweeps, StepCase, TableStep}
 use Rattle.pb_history.specs.Outcomes.{AreSame}
 use Rattle.pb_history.specs.Sound.{IsSoundTable}
 use Rattle.pb_history.proofs.Progress.{first_of_two}

@@ -1,9 +1,6 @@
 -- The steps that finish or undo what others left change entries alone.
 use Rattle.std.proofs.Common.{arith, ◌≡◌, ℕ, Bool, is_some}
-use Rattle.pb_base.specs.declared.cell.Cell.{Cell}
-use Rattle.pb_steps.specs.State.{StateOf}
-use Rattle.pb_steps.specs.Readings.{lock_at}
-use Rattle.pb_steps.specs.CommitSecondary.{CommitsSecondary, if_locked}
+use Rattle.pb_history.specs.Words.{Cell, StateOf, lock_at, CommitsSecondary, if_locked}
 
 -- all but the entries is as it was
 pub record OnlyEntries (old new : StateOf) : Type 0 where

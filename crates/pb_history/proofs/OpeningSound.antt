@@ -1,13 +1,7 @@
 -- The table as it is opened is sound.
 use Rattle.std.proofs.Common.{arith, ◌≡◌, ℕ, ◌<◌, ◌^◌, false, List, [], None, sym, subst, nat_cmp, option_map}
 use Rattle.std.specs.FinMap as map
-use Rattle.pb_base.specs.Batch.{content_in, primary_in}
-use Rattle.pb_store.specs.Slot.{slot_cmp}
-use Rattle.pb_store.specs.Contents.{slot_at}
-use Rattle.pb_store.specs.declared.slot.Sort.{Sort}
-use Rattle.pb_verify.specs.Observers.{ObserverOf}
-use Rattle.pb_steps.specs.State.{TransactionOf, opening, is_in}
-use Rattle.pb_steps.specs.Readings.{data_of, primary_of, start_of}
+use Rattle.pb_history.specs.Words.{content_in, primary_in, slot_cmp, slot_at, Sort, ObserverOf, TransactionOf, opening, is_in, data_of, primary_of, start_of}
 use Rattle.pb_history.specs.TableView.{TableView, declared_by, prewritten_by, reads_recorded, view_of}
 use Rattle.pb_history.specs.Sound.{IsSoundView, IsSoundTable}
 

@@ -1,7 +1,6 @@
 -- What the tests of a phase tell of it.
 use Rattle.std.proofs.Common.{arith, ◌≡◌, true}
-use Rattle.pb_steps.specs.declared.phase.Phase.{Phase}
-use Rattle.pb_steps.specs.Phases.{is_reading, is_declared}
+use Rattle.pb_history.specs.Words.{Phase, is_reading, is_declared}
 
 pub reading_is : (h : Phase) → is_reading h ≡ true → h ≡ Phase.Reading
 reading_is h e = grind arith

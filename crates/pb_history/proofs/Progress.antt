@@ -2,14 +2,7 @@
 use Rattle.std.proofs.Common.{arith, ◌≡◌, ℕ, true, cond, ◌⊎◌, inl, inr, Option, Some, None, refl, ap, ◌∙◌, is_some, Less, Equal, Greater}
 use Rattle.std.specs.Ordering.{ordering_reverse}
 use Rattle.std.specs.FinMap as map
-use Rattle.pb_base.specs.declared.cell.Cell.{Cell}
-use Rattle.pb_base.specs.Cell.{cell_cmp, cell_cmp_total, cell_cmp-IsAntisymmetric}
-use Rattle.pb_store.specs.Contents.{Marks, ComesAfter, IsNextMark}
-use Rattle.pb_steps.specs.declared.step.Step.{Step}
-use Rattle.pb_steps.specs.declared.step.Answer.{Answer}
-use Rattle.pb_steps.specs.State.{StateOf}
-use Rattle.pb_steps.specs.Marks.{is_marked}
-use Rattle.pb_steps.specs.Steps.{StepCase, TableStep}
+use Rattle.pb_history.specs.Words.{Cell, cell_cmp, cell_cmp_total, cell_cmp-IsAntisymmetric, Marks, ComesAfter, IsNextMark, Step, Answer, StateOf, is_marked, StepCase, TableStep}
 use Rattle.pb_history.specs.Progress.{TellsFirstMark, TellsUnmarked}
 use Rattle.pb_history.proofs.Updates.{same_cell, same_cell_itself}
 

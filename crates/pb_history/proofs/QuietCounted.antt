@@ -4,22 +4,7 @@ use Rattle.std.specs.Ordering.{is_eq, eq_by_cmp}
 use Rattle.std.specs.Cmp.{Equal-is, tied_itself}
 use Rattle.std.specs.FinMap as map
 use Rattle.std.proofs.lemmas.List.Sums.{sum_by-cons}
-use Rattle.pb_base.specs.declared.cell.Cell.{Cell}
-use Rattle.pb_base.specs.Cell.{cell_cmp, cell_cmp_total}
-use Rattle.pb_store.specs.declared.slot.Slot.{Slot}
-use Rattle.pb_store.specs.declared.slot.Item.{Item}
-use Rattle.pb_store.specs.declared.slot.Sort.{Sort}
-use Rattle.pb_store.specs.Slot.{slot_cmp, slot_cmp_total, slot_cmp-IsAntisymmetric}
-use Rattle.pb_store.specs.Contents.{Entries, Marks, slot_at, IsOfSort}
-use Rattle.pb_steps.specs.declared.step.Step.{Step}
-use Rattle.pb_steps.specs.declared.step.Answer.{Answer}
-use Rattle.pb_verify.specs.Observers.{ObserverOf}
-use Rattle.pb_steps.specs.State.{StateOf}
-use Rattle.pb_steps.specs.Marks.{is_marked}
-use Rattle.pb_steps.specs.Readings.{lock_at, primary_of, is_lock, lock_count}
-use Rattle.pb_steps.specs.Commits.{commit_lock, erase_lock}
-use Rattle.pb_steps.specs.CommitSecondary.{if_locked}
-use Rattle.pb_steps.specs.Steps.{StepCase}
+use Rattle.pb_history.specs.Words.{Cell, cell_cmp, cell_cmp_total, Slot, Item, Sort, slot_cmp, slot_cmp_total, slot_cmp-IsAntisymmetric, Entries, Marks, slot_at, IsOfSort, Step, Answer, ObserverOf, StateOf, is_marked, lock_at, primary_of, is_lock, lock_count, commit_lock, erase_lock, if_locked, StepCase}
 use Rattle.pb_history.specs.declared.entry.Entry.{Entry}
 use Rattle.pb_history.specs.Handled.{IsQuiet, TellsQuiet}
 use Rattle.pb_history.specs.History.{Has}

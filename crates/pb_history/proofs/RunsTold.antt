@@ -1,28 +1,7 @@
 -- What the history of a legal journal tells of runs and of reads.
 use Rattle.std.proofs.Common.{◌≡◌, ℕ, ◌==◌, not, cond, Bool, inl, inr, true, false, List, [], ◌∷◌, Option, Some, None, refl, sym, ap, subst, ◌∙◌, arith}
 use Rattle.std.proofs.lemmas.Bool.{eqb-true}
-use Rattle.pb_base.specs.declared.cell.Cell.{Cell}
-use Rattle.pb_base.specs.declared.content.Content.{Content}
-use Rattle.pb_base.specs.declared.content.Revision.{Revision}
-use Rattle.pb_base.specs.declared.names.Row.{Row}
-use Rattle.pb_base.specs.declared.names.Ts.{Ts}
-use Rattle.pb_isa.specs.Machine.{Reply}
-use Rattle.pb_isa.specs.Meaning.{Talk, Means}
-use Rattle.pb_isa.specs.Programs.{JudgedOf}
-use Rattle.pb_sound.specs.RunWrites.{AreRunWrites}
-use Rattle.pb_finished.specs.Finished.{Meant, IsMeant}
-use Rattle.pb_helpers.specs.OldRecord.{tells_old, record_by}
-use Rattle.pb_steps.specs.declared.seen.RecordedRead.{RecordedRead}
-use Rattle.pb_steps.specs.declared.step.Declared.{Declared}
-use Rattle.pb_steps.specs.declared.step.Work.{Work}
-use Rattle.pb_steps.specs.declared.step.Step.{Step}
-use Rattle.pb_steps.specs.declared.step.Answer.{Answer}
-use Rattle.pb_steps.specs.State.{StateOf, opening, cells_of}
-use Rattle.pb_verify.specs.Observers.{ObserverOf, observed_cell, observed_column, acknowledgment}
-use Rattle.pb_steps.specs.Declarations.{IsKnown, IsReadOf, old_at, WasOld, AreReplies, IsItsRun, MayDeclare}
-use Rattle.pb_steps.specs.Phases.{is_reading}
-use Rattle.pb_steps.specs.Reads.{asked_cell, read_up_to, stamp_of, value_in, found_answer, version_in, acknowledged_in}
-use Rattle.pb_steps.specs.Steps.{StepCase}
+use Rattle.pb_history.specs.Words.{Cell, Content, Revision, Row, Ts, Reply, Talk, Means, JudgedOf, AreRunWrites, Meant, IsMeant, tells_old, record_by, RecordedRead, Declared, Work, Step, Answer, StateOf, opening, cells_of, ObserverOf, observed_cell, observed_column, acknowledgment, IsKnown, IsReadOf, old_at, WasOld, AreReplies, IsItsRun, MayDeclare, is_reading, asked_cell, read_up_to, stamp_of, value_in, found_answer, version_in, acknowledged_in, StepCase}
 use Rattle.pb_history.specs.declared.entry.Entry.{Entry}
 use Rattle.pb_history.specs.Journals.{JournalLeads, IsLegal}
 use Rattle.pb_history.specs.TableView.{reads_recorded}

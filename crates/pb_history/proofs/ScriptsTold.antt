@@ -1,9 +1,6 @@
 -- A script's committed transaction writes a batch.
 use Rattle.std.proofs.Common.{arith, ◌≡◌, ℕ, true, List}
-use Rattle.pb_base.specs.Batch.{is_batch}
-use Rattle.pb_steps.specs.declared.step.Work.{Work}
-use Rattle.pb_verify.specs.Observers.{ObserverOf}
-use Rattle.pb_steps.specs.State.{StateOf}
+use Rattle.pb_history.specs.Words.{is_batch, Work, ObserverOf, StateOf}
 use Rattle.pb_history.specs.declared.entry.Entry.{Entry}
 use Rattle.pb_history.specs.Journals.{IsLegal}
 use Rattle.pb_history.specs.History.{Member, InHistory}

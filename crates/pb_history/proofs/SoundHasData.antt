@@ -1,8 +1,6 @@
 -- In a sound state the data of what stands are there.
 use Rattle.std.proofs.Common.{◌≡◌, ℕ, true, Some, ap, ◌∙◌, is_some, option_map}
-use Rattle.pb_base.specs.declared.cell.Cell.{Cell}
-use Rattle.pb_steps.specs.State.{StateOf, TransactionOf}
-use Rattle.pb_steps.specs.Readings.{data_at, lock_at, write_at}
+use Rattle.pb_history.specs.Words.{Cell, StateOf, TransactionOf, data_at, lock_at, write_at}
 use Rattle.pb_history.specs.Sound.{IsSoundTable, KeepsData}
 
 module _ (state : StateOf) (i : IsSoundTable state) where

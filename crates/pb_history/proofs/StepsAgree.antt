@@ -1,28 +1,7 @@
 -- Each step keeps journal and state in agreement.
 use Rattle.std.proofs.Common.{◌≡◌, ℕ, ◌⊎◌, inl, inr, true, false, List, [], ◌∷◌, ◌++◌, Option, Some, None, refl, sym, ap, subst, ◌∙◌, arith, nat_cmp}
 use Rattle.std.specs.FinMap as map
-use Rattle.pb_base.specs.declared.cell.Cell.{Cell}
-use Rattle.pb_base.specs.declared.names.Ts.{Ts}
-use Rattle.pb_steps.specs.declared.step.Work.{Work}
-use Rattle.pb_steps.specs.declared.step.Declared.{Declared}
-use Rattle.pb_steps.specs.declared.step.Step.{Step}
-use Rattle.pb_steps.specs.declared.seen.RecordedRead.{RecordedRead}
-use Rattle.pb_steps.specs.declared.step.Answer.{Answer}
-use Rattle.pb_steps.specs.declared.phase.Phase.{Phase}
-use Rattle.pb_steps.specs.State.{StateOf, TransactionOf, opening, new_transaction, cells_of}
-use Rattle.pb_verify.specs.Observers.{ObserverOf}
-use Rattle.pb_steps.specs.Declarations.{MayDeclare}
-use Rattle.pb_steps.specs.Reasons.{IsOwn}
-use Rattle.pb_steps.specs.Steps.{StepCase}
-use Rattle.pb_steps.specs.Phases.{is_reading, is_declared}
-use Rattle.pb_steps.specs.Read.{with_read}
-use Rattle.pb_steps.specs.Begin.{Begins}
-use Rattle.pb_steps.specs.Declare.{Declares}
-use Rattle.pb_steps.specs.Prewrite.{Prewrites, Conflicts}
-use Rattle.pb_steps.specs.Stamp.{Stamps}
-use Rattle.pb_steps.specs.CommitPrimary.{CommitsPrimary, Loses}
-use Rattle.pb_steps.specs.Commits.{commits, rolls_back}
-use Rattle.pb_store.specs.Contents.{Entries, Marks}
+use Rattle.pb_history.specs.Words.{Cell, Ts, Work, Declared, Step, RecordedRead, Answer, Phase, StateOf, TransactionOf, opening, new_transaction, cells_of, ObserverOf, MayDeclare, IsOwn, StepCase, is_reading, is_declared, with_read, Begins, Declares, Prewrites, Conflicts, Stamps, CommitsPrimary, Loses, commits, rolls_back, Entries, Marks}
 use Rattle.pb_history.specs.declared.entry.Entry.{Entry}
 use Rattle.pb_history.specs.Journals.{JournalLeads, IsLegal}
 use Rattle.pb_history.specs.History.{IsEntry, IsForWork}

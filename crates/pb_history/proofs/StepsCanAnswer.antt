@@ -1,10 +1,6 @@
 -- What a step is answered is one of the answers of its kind.
 use Rattle.std.proofs.Common.{arith, ℕ}
-use Rattle.pb_steps.specs.declared.step.Step.{Step}
-use Rattle.pb_steps.specs.declared.step.Answer.{Answer}
-use Rattle.pb_steps.specs.State.{StateOf}
-use Rattle.pb_steps.specs.Steps.{StepCase, TableStep}
-use Rattle.pb_steps.specs.Answers.{CanAnswer}
+use Rattle.pb_history.specs.Words.{Step, Answer, StateOf, StepCase, TableStep, CanAnswer}
 
 module _ (old : StateOf) (seat : ℕ) (new : StateOf) where
   case_answers : (step : Step) (answer : Answer) → StepCase old seat step answer new → CanAnswer step answer

@@ -5,29 +5,7 @@ use Rattle.std.specs.List.{list_all}
 use Rattle.std.specs.Ordering.{eq_by_cmp}
 use Rattle.std.specs.FinMap as map
 use Rattle.std.proofs.lemmas.List.Folds.{list_any-append}
-use Rattle.pb_base.specs.declared.cell.Cell.{Cell}
-use Rattle.pb_base.specs.declared.content.Content.{Content}
-use Rattle.pb_base.specs.declared.names.Ts.{Ts}
-use Rattle.pb_base.specs.Cell.{cell_cmp}
-use Rattle.pb_base.specs.Batch.{Writes, content_in, primary_in}
-use Rattle.pb_steps.specs.declared.step.Work.{Work}
-use Rattle.pb_steps.specs.declared.step.Step.{Step}
-use Rattle.pb_steps.specs.declared.step.Answer.{Answer}
-use Rattle.pb_steps.specs.declared.phase.Phase.{Phase}
-use Rattle.pb_steps.specs.State.{StateOf, TransactionOf, new_transaction, with_transaction, cells_of, is_in}
-use Rattle.pb_steps.specs.Reads.{read_up_to}
-use Rattle.pb_steps.specs.Readings.{lock_at, NoLockUpTo}
-use Rattle.pb_steps.specs.Reasons.{is_out}
-use Rattle.pb_steps.specs.Begin.{Begins}
-use Rattle.pb_steps.specs.Read.{ReadsFound, ReadsAbsent, with_read}
-use Rattle.pb_steps.specs.Prewrite.{Prewrites, is_before_primary}
-use Rattle.pb_steps.specs.Stamp.{Stamps}
-use Rattle.pb_steps.specs.Commits.{commits, rolls_back}
-use Rattle.pb_steps.specs.CommitPrimary.{CommitsPrimary}
-use Rattle.pb_steps.specs.CommitSecondary.{CommitsSecondary, if_locked}
-use Rattle.pb_steps.specs.Settle.{Settles}
-use Rattle.pb_steps.specs.Clear.{ClearsCommitted, ClearsBack}
-use Rattle.pb_steps.specs.Steps.{StepCase, TableStep}
+use Rattle.pb_history.specs.Words.{Cell, Content, Ts, cell_cmp, Writes, content_in, primary_in, Work, Step, Answer, Phase, StateOf, TransactionOf, new_transaction, with_transaction, cells_of, is_in, read_up_to, lock_at, NoLockUpTo, is_out, Begins, ReadsFound, ReadsAbsent, with_read, Prewrites, is_before_primary, Stamps, commits, rolls_back, CommitsPrimary, CommitsSecondary, if_locked, Settles, ClearsCommitted, ClearsBack, StepCase, TableStep}
 use Rattle.pb_history.specs.TableView.{TableView, declared_by, prewritten_by, reads_recorded, view_of}
 use Rattle.pb_history.specs.Sound.{HasStamp, ReadTells, IsSoundView, IsSoundTable}
 use Rattle.pb_history.proofs.Updates.{set1, set1_here, set1_same, none_if, same_cell}

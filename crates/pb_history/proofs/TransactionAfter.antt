@@ -3,11 +3,7 @@ use Rattle.std.proofs.Common.{arith, ◌≡◌, ℕ, true, false, cond, List, Op
 use Rattle.std.specs.Cmp.{unsigned_tied, nat_cmp_total}
 use Rattle.std.specs.FinMap as map
 use Rattle.std.proofs.lemmas.Bool.{eqb-true}
-use Rattle.pb_steps.specs.declared.step.Step.{Step}
-use Rattle.pb_steps.specs.declared.step.Answer.{Answer}
-use Rattle.pb_verify.specs.Observers.{ObserverOf}
-use Rattle.pb_steps.specs.State.{StateOf, TransactionOf}
-use Rattle.pb_steps.specs.Steps.{StepCase}
+use Rattle.pb_history.specs.Words.{Step, Answer, ObserverOf, StateOf, TransactionOf, StepCase}
 use Rattle.pb_history.specs.TransactionsTold.{names_start, transaction_after}
 use Rattle.pb_history.proofs.OnlyEntries.{secondary_keeps}
 use Rattle.pb_history.proofs.Agreement.{got}

@@ -1,8 +1,7 @@
 -- What a state has of a transaction follows from the entries that name its start.
 use Rattle.std.proofs.Common.{arith, ◌≡◌, ℕ, Bool, cond, List, [], ◌∷◌, Option, sym, ap, ◌∙◌, nat_cmp}
 use Rattle.std.specs.FinMap as map
-use Rattle.pb_verify.specs.Observers.{ObserverOf}
-use Rattle.pb_steps.specs.State.{StateOf, TransactionOf, opening}
+use Rattle.pb_history.specs.Words.{ObserverOf, StateOf, TransactionOf, opening}
 use Rattle.pb_history.specs.declared.entry.Entry.{Entry}
 use Rattle.pb_history.specs.Journals.{JournalLeads, IsLegal}
 use Rattle.pb_history.specs.TransactionsTold.{entries_naming, transaction_after, transaction_from, TellsTransactions}

@@ -4,17 +4,7 @@ use Rattle.std.specs.Ordering.{is_eq, eq_by_cmp}
 use Rattle.std.specs.Cmp.{Equal-is, tied_itself, nat_cmp_total, unsigned_tied}
 use Rattle.std.specs.FinMap as map
 use Rattle.std.proofs.lemmas.Bool.{eqb-true, false_from_ne_true as not_true}
-use Rattle.pb_base.specs.declared.cell.Cell.{Cell}
-use Rattle.pb_base.specs.declared.content.Content.{Content}
-use Rattle.pb_store.specs.declared.slot.Slot.{Slot}
-use Rattle.pb_store.specs.declared.slot.Item.{Item}
-use Rattle.pb_store.specs.declared.slot.Sort.{Sort}
-use Rattle.pb_store.specs.Slot.{slot_cmp, slot_cmp_total, slot_cmp-IsAntisymmetric}
-use Rattle.pb_store.specs.Contents.{Entries, slot_at}
-use Rattle.pb_steps.specs.State.{TransactionOf, Transactions}
-use Rattle.pb_steps.specs.Readings.{data_of, primary_of, start_of, data_at, lock_at, write_at}
-use Rattle.pb_steps.specs.Prewrite.{put_lock}
-use Rattle.pb_steps.specs.Commits.{commit_lock, erase_lock}
+use Rattle.pb_history.specs.Words.{Cell, Content, Slot, Item, Sort, slot_cmp, slot_cmp_total, slot_cmp-IsAntisymmetric, Entries, slot_at, TransactionOf, Transactions, data_of, primary_of, start_of, data_at, lock_at, write_at, put_lock, commit_lock, erase_lock}
 use Rattle.pb_history.proofs.Updates.{set1, set2, at_place, decide, apart_test, at_place_itself}
 
 through : {A B : Type 0} (f : A → B) (b : Bool) (x y : A) → f (cond b x y) ≡ cond b (f x) (f y)

@@ -1,11 +1,6 @@
 -- What the reads of acknowledgments of a legal journal tell (OSDI 2010, section 2.4).
 use Rattle.std.specs.Prelude.{ℕ, ◌≤◌, List}
-use Rattle.pb_base.specs.declared.cell.Cell.{Cell}
-use Rattle.pb_base.specs.declared.names.Row.{Row}
-use Rattle.pb_base.specs.declared.names.Ts.{Ts}
-use Rattle.pb_steps.specs.declared.step.Step.{Step}
-use Rattle.pb_steps.specs.declared.step.Answer.{Answer}
-use Rattle.pb_steps.specs.Reads.{acknowledged_in}
+use Rattle.pb_history.specs.Words.{Cell, Row, Ts, Step, Answer, acknowledged_in}
 use Rattle.pb_history.specs.declared.entry.Entry.{Entry}
 use Rattle.pb_history.specs.History.{IsEntry}
 

@@ -1,14 +1,7 @@
 -- Which changes a run handles, and that each change is handled once (OSDI 2010, section 2.4).
 use Rattle.std.specs.Prelude.{◌≡◌, ℕ, ◌<◌, ◌≤◌, false, List, Some, slice_get}
 use Rattle.std.specs.FinMap as map
-use Rattle.pb_base.specs.declared.cell.Cell.{Cell}
-use Rattle.pb_base.specs.declared.names.Row.{Row}
-use Rattle.pb_base.specs.declared.content.Content.{Content}
-use Rattle.pb_steps.specs.declared.step.Work.{Work}
-use Rattle.pb_steps.specs.State.{StateOf}
-use Rattle.pb_verify.specs.Observers.{ObserverOf, observed_cell, acknowledgment}
-use Rattle.pb_steps.specs.Marks.{is_marked}
-use Rattle.pb_steps.specs.Readings.{NoLock, lock_count}
+use Rattle.pb_history.specs.Words.{Cell, Row, Content, Work, StateOf, ObserverOf, observed_cell, acknowledgment, is_marked, NoLock, lock_count}
 use Rattle.pb_history.specs.declared.entry.Entry.{Entry}
 use Rattle.pb_history.specs.History.{Member, InHistory, WritesTo}
 use Rattle.pb_history.specs.RunsTold.{IsAcknowledgedAt}

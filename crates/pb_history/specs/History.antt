@@ -1,20 +1,7 @@
 -- The committed transactions of a journal, and the snapshots that they make (OSDI 2010, sections 2.2 and 2.3).
 use Rattle.std.specs.Prelude.{◌≡◌, ℕ, ◌<◌, ◌≤◌, ◌⊎◌, Bool, true, List, [], ◌∷◌, Some}
 use Rattle.std.specs.FinMap as map
-use Rattle.pb_base.specs.declared.cell.Cell.{Cell}
-use Rattle.pb_base.specs.declared.content.Content.{Content}
-use Rattle.pb_base.specs.declared.content.Revision.{Revision}
-use Rattle.pb_base.specs.Batch.{Writes, content_in, are_distinct}
-use Rattle.pb_isa.specs.Machine.{Reply}
-use Rattle.pb_helpers.specs.OldRecord.{record_by}
-use Rattle.pb_steps.specs.declared.step.Work.{Work}
-use Rattle.pb_steps.specs.declared.step.Declared.{Declared}
-use Rattle.pb_steps.specs.declared.step.Step.{Step}
-use Rattle.pb_steps.specs.declared.step.Answer.{Answer}
-use Rattle.pb_steps.specs.declared.phase.Phase.{Phase}
-use Rattle.pb_steps.specs.State.{StateOf, TransactionOf, cells_of}
-use Rattle.pb_verify.specs.Observers.{ObserverOf, observed_cell}
-use Rattle.pb_steps.specs.Declarations.{IsKnown}
+use Rattle.pb_history.specs.Words.{Cell, Content, Revision, Writes, content_in, are_distinct, Reply, record_by, Work, Declared, Step, Answer, Phase, StateOf, TransactionOf, cells_of, ObserverOf, observed_cell, IsKnown}
 use Rattle.pb_history.specs.declared.entry.Entry.{Entry}
 
 -- a list has an item

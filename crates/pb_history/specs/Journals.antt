@@ -1,9 +1,7 @@
 -- Legal journals: those that a table could have written. The invariant of `Shared` says that its journal is one, and
 -- all laws below begin from that.
 use Rattle.std.specs.Prelude.{◌≡◌, ℕ, ◌<◌, ◌^◌, List, [], ◌∷◌}
-use Rattle.pb_verify.specs.Observers.{ObserverOf}
-use Rattle.pb_steps.specs.State.{StateOf, opening}
-use Rattle.pb_steps.specs.Steps.{TableStep}
+use Rattle.pb_history.specs.Words.{ObserverOf, StateOf, opening, TableStep}
 use Rattle.pb_history.specs.declared.entry.Entry.{Entry}
 
 -- the journal is a run of steps from one state to another

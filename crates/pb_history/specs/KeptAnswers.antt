@@ -1,6 +1,5 @@
 -- The answer that a kept one is: what contracts see of `KeptAnswer`, so that no law knows of boxes.
-use Rattle.pb_base.specs.declared.cell.Cell.{Cell}
-use Rattle.pb_steps.specs.declared.step.Answer.{Answer}
+use Rattle.pb_history.specs.Words.{Cell, Answer}
 use Rattle.pb_history.specs.declared.kept_answer.KeptForm.{KeptForm}
 
 -- the answer that each form stands for

@@ -1,12 +1,7 @@
 -- The laws of the table's steps and of legal journals, each in one sentence over the definitions of what is told. The
 -- functions of `laws.rt` promise them, one each.
 use Rattle.std.specs.Prelude.{ℕ, ◌<◌, ◌^◌, List}
-use Rattle.pb_verify.specs.Observers.{ObserverOf}
-use Rattle.pb_steps.specs.declared.step.Step.{Step}
-use Rattle.pb_steps.specs.declared.step.Answer.{Answer}
-use Rattle.pb_steps.specs.State.{StateOf, opening}
-use Rattle.pb_steps.specs.Answers.{CanAnswer}
-use Rattle.pb_steps.specs.Steps.{TableStep, step_reasons}
+use Rattle.pb_history.specs.Words.{ObserverOf, Step, Answer, StateOf, opening, CanAnswer, TableStep, step_reasons}
 use Rattle.pb_history.specs.declared.entry.Entry.{Entry}
 use Rattle.pb_history.specs.Journals.{OfLegal}
 use Rattle.pb_history.specs.History.{TellsHistory}

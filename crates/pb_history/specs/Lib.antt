@@ -1,3 +1,4 @@
+pub mod Words
 pub mod KeptAnswers
 pub mod Places
 pub mod Journals

@@ -1,8 +1,6 @@
 -- What the marks of a legal journal's table tell (OSDI 2010, section 2.4).
 use Rattle.std.specs.Prelude.{◌≡◌, true}
-use Rattle.pb_base.specs.declared.cell.Cell.{Cell}
-use Rattle.pb_steps.specs.State.{StateOf}
-use Rattle.pb_steps.specs.Marks.{is_marked, SomeBehind}
+use Rattle.pb_history.specs.Words.{Cell, StateOf, is_marked, SomeBehind}
 
 -- a cell on which an observer is behind is marked
 abbrev pub TellsMarks : StateOf → Type 0

@@ -1,13 +1,7 @@
 -- What keeps observers at work: marks are found, and go once nobody is behind (OSDI 2010, section 2.4).
 use Rattle.std.specs.Prelude.{◌≡◌, true, false, ◌⊎◌}
 use Rattle.std.specs.declared.cmp.Ordering.TheVariants.{Less}
-use Rattle.pb_base.specs.declared.cell.Cell.{Cell}
-use Rattle.pb_base.specs.Cell.{cell_cmp}
-use Rattle.pb_store.specs.Contents.{ComesAfter}
-use Rattle.pb_steps.specs.declared.step.Step.{Step}
-use Rattle.pb_steps.specs.declared.step.Answer.{Answer}
-use Rattle.pb_steps.specs.State.{StateOf}
-use Rattle.pb_steps.specs.Marks.{is_marked, SomeBehind}
+use Rattle.pb_history.specs.Words.{Cell, cell_cmp, ComesAfter, Step, Answer, StateOf, is_marked, SomeBehind}
 
 -- where a marked cell comes after the given one, a marked cell after it is answered, which is that one or comes before it
 abbrev pub TellsFirstMark : StateOf → Step → Answer → Type 0

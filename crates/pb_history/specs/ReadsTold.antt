@@ -1,10 +1,6 @@
 -- What the reads of a legal journal tell.
 use Rattle.std.specs.Prelude.{◌≡◌, ℕ, List, ◌∷◌, ◌++◌}
-use Rattle.pb_steps.specs.declared.step.Step.{Step}
-use Rattle.pb_steps.specs.declared.step.Answer.{Answer}
-use Rattle.pb_steps.specs.State.{StateOf, opening}
-use Rattle.pb_verify.specs.Observers.{ObserverOf}
-use Rattle.pb_steps.specs.Readings.{IsVersion, NoVersion}
+use Rattle.pb_history.specs.Words.{Step, Answer, StateOf, opening, ObserverOf, IsVersion, NoVersion}
 use Rattle.pb_history.specs.declared.entry.Entry.{Entry}
 use Rattle.pb_history.specs.Journals.{JournalLeads}
 

@@ -1,10 +1,6 @@
 -- What the table that a legal journal leads to tells of its history (OSDI 2010, section 2.2).
 use Rattle.std.specs.Prelude.{◌≡◌, ◌≢◌, ℕ, ◌⊎◌, List, Some}
-use Rattle.pb_base.specs.declared.cell.Cell.{Cell}
-use Rattle.pb_base.specs.declared.content.Content.{Content}
-use Rattle.pb_steps.specs.State.{StateOf}
-use Rattle.pb_verify.specs.Observers.{ObserverOf}
-use Rattle.pb_steps.specs.Readings.{lock_at, write_at}
+use Rattle.pb_history.specs.Words.{Cell, Content, StateOf, ObserverOf, lock_at, write_at}
 use Rattle.pb_history.specs.declared.entry.Entry.{Entry}
 use Rattle.pb_history.specs.History.{Member, InHistory, WritesTo}
 

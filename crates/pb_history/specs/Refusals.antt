@@ -1,7 +1,6 @@
 -- The order in which reasons are listed, so that the first that applies has the lowest number.
 use Rattle.std.specs.Prelude.{ℕ, ◌<◌, [], ◌∷◌}
-use Rattle.pb_base.specs.Reasons.{reason_code}
-use Rattle.pb_steps.specs.Reasons.{Reasons}
+use Rattle.pb_history.specs.Words.{reason_code, Reasons}
 
 -- their numbers rise, from above this one
 abbrev pub RiseAbove : ℕ → Reasons → Type 0

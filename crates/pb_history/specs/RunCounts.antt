@@ -1,13 +1,6 @@
 -- How many runs of an observer are committed.
 use Rattle.std.specs.Prelude.{◌≡◌, ℕ, ◌<◌, ◌==◌, ◌&&◌, Bool, false, count_by, List, [], ◌∷◌, length, Option, Some, None}
-use Rattle.pb_base.specs.declared.names.Row.{Row}
-use Rattle.pb_steps.specs.declared.step.Work.{Work}
-use Rattle.pb_steps.specs.declared.step.Step.{Step}
-use Rattle.pb_steps.specs.declared.step.Answer.{Answer}
-use Rattle.pb_steps.specs.declared.phase.Phase.{Phase}
-use Rattle.pb_steps.specs.Phases.{is_committed}
-use Rattle.pb_steps.specs.State.{StateOf, phase_in}
-use Rattle.pb_verify.specs.Observers.{ObserverOf}
+use Rattle.pb_history.specs.Words.{Row, Work, Step, Answer, Phase, is_committed, StateOf, phase_in, ObserverOf}
 use Rattle.pb_history.specs.declared.entry.Entry.{Entry}
 use Rattle.pb_history.specs.History.{Has, Member, InHistory}
 

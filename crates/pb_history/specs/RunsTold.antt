@@ -1,18 +1,6 @@
 -- What the history of a legal journal tells of the runs of observers (OSDI 2010, section 2.4).
 use Rattle.std.specs.Prelude.{◌≡◌, ℕ, ◌<◌, ◌⊎◌, true, List, [], ◌∷◌, Some, None, slice_get}
-use Rattle.pb_base.specs.declared.cell.Cell.{Cell}
-use Rattle.pb_base.specs.declared.names.Row.{Row}
-use Rattle.pb_base.specs.declared.content.Content.{Content}
-use Rattle.pb_base.specs.declared.content.Revision.{Revision}
-use Rattle.pb_base.specs.Batch.{Writes}
-use Rattle.pb_isa.specs.Machine.{Ask, Reply}
-use Rattle.pb_isa.specs.Meaning.{Talk, Means}
-use Rattle.pb_sound.specs.RunWrites.{AreRunWrites}
-use Rattle.pb_helpers.specs.OldRecord.{tells_old, record_by}
-use Rattle.pb_steps.specs.declared.step.Work.{Work}
-use Rattle.pb_steps.specs.State.{StateOf}
-use Rattle.pb_verify.specs.Observers.{ObserverOf, observed_cell, acknowledgment}
-use Rattle.pb_steps.specs.Reads.{asked_cell, value_of}
+use Rattle.pb_history.specs.Words.{Cell, Row, Content, Revision, Writes, Ask, Reply, Talk, Means, AreRunWrites, tells_old, record_by, Work, StateOf, ObserverOf, observed_cell, acknowledgment, asked_cell, value_of}
 use Rattle.pb_history.specs.declared.entry.Entry.{Entry}
 use Rattle.pb_history.specs.History.{Member, InHistory, IsSnapshot, NoSnapshot}
 

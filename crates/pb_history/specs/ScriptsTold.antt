@@ -1,8 +1,6 @@
 -- What the history of a legal journal tells of the changes of scripts.
 use Rattle.std.specs.Prelude.{◌≡◌, true, List}
-use Rattle.pb_base.specs.Batch.{is_batch}
-use Rattle.pb_steps.specs.declared.step.Work.{Work}
-use Rattle.pb_steps.specs.State.{StateOf}
+use Rattle.pb_history.specs.Words.{is_batch, Work, StateOf}
 use Rattle.pb_history.specs.declared.entry.Entry.{Entry}
 use Rattle.pb_history.specs.History.{Member, InHistory}
 

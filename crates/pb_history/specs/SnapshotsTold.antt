@@ -1,11 +1,6 @@
 -- What the reads of a legal journal tell of its history (OSDI 2010, section 2.2).
 use Rattle.std.specs.Prelude.{ℕ, ◌≤◌, List}
-use Rattle.pb_base.specs.declared.cell.Cell.{Cell}
-use Rattle.pb_base.specs.declared.names.Ts.{Ts}
-use Rattle.pb_steps.specs.declared.step.Step.{Step}
-use Rattle.pb_steps.specs.declared.step.Answer.{Answer}
-use Rattle.pb_verify.specs.Observers.{ObserverOf}
-use Rattle.pb_steps.specs.State.{StateOf}
+use Rattle.pb_history.specs.Words.{Cell, Ts, Step, Answer, ObserverOf, StateOf}
 use Rattle.pb_history.specs.declared.entry.Entry.{Entry}
 use Rattle.pb_history.specs.History.{IsEntry, IsSnapshot, NoSnapshot}
 

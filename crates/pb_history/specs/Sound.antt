@@ -2,15 +2,7 @@
 -- together, and what a recorded read still tells.
 use Rattle.std.specs.Prelude.{◌≡◌, ◌≢◌, ℕ, ◌<◌, ◌≤◌, ◌^◌, ◌⊎◌, true, Some, None, is_some}
 use Rattle.std.specs.FinMap as map
-use Rattle.pb_base.specs.declared.cell.Cell.{Cell}
-use Rattle.pb_base.specs.declared.content.Content.{Content}
-use Rattle.pb_store.specs.Contents.{Entries}
-use Rattle.pb_steps.specs.declared.phase.Phase.{Phase}
-use Rattle.pb_steps.specs.declared.seen.RecordedRead.{RecordedRead}
-use Rattle.pb_steps.specs.declared.step.Answer.{Answer}
-use Rattle.pb_steps.specs.Reads.{read_up_to}
-use Rattle.pb_steps.specs.State.{StateOf, TransactionOf}
-use Rattle.pb_steps.specs.Readings.{data_at, lock_at, write_at}
+use Rattle.pb_history.specs.Words.{Cell, Content, Entries, Phase, RecordedRead, Answer, read_up_to, StateOf, TransactionOf, data_at, lock_at, write_at}
 use Rattle.pb_history.specs.History.{Has}
 use Rattle.pb_history.specs.TableView.{TableView, view_of}
 

@@ -1,7 +1,6 @@
 -- The states that a legal journal leads to, entry by entry.
 use Rattle.std.specs.Prelude.{◌≡◌, ℕ, List, ◌++◌}
-use Rattle.pb_steps.specs.State.{StateOf}
-use Rattle.pb_verify.specs.Observers.{ObserverOf}
+use Rattle.pb_history.specs.Words.{StateOf, ObserverOf}
 use Rattle.pb_history.specs.declared.entry.Entry.{Entry}
 use Rattle.pb_history.specs.Journals.{IsLegal}
 use Rattle.pb_history.specs.Sound.{IsSoundTable}

@@ -2,13 +2,7 @@
 -- there.
 use Rattle.std.specs.Prelude.{ℕ, Bool, List, [], Option, Some, None}
 use Rattle.std.specs.FinMap as map
-use Rattle.pb_base.specs.declared.cell.Cell.{Cell}
-use Rattle.pb_base.specs.declared.content.Content.{Content}
-use Rattle.pb_base.specs.Batch.{Writes, content_in, primary_in}
-use Rattle.pb_steps.specs.declared.phase.Phase.{Phase}
-use Rattle.pb_steps.specs.declared.seen.RecordedRead.{RecordedRead}
-use Rattle.pb_steps.specs.State.{StateOf, TransactionOf, phase_in, is_in}
-use Rattle.pb_steps.specs.Readings.{data_at, lock_at, write_at}
+use Rattle.pb_history.specs.Words.{Cell, Content, Writes, content_in, primary_in, Phase, RecordedRead, StateOf, TransactionOf, phase_in, is_in, data_at, lock_at, write_at}
 
 -- nothing of seats, work or marks, since soundness speaks of none of them
 pub record TableView : Type 0 where

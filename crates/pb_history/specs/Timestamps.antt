@@ -1,8 +1,6 @@
 -- The timestamps of a journal, which rise (OSDI 2010, section 2.3).
 use Rattle.std.specs.Prelude.{ℕ, ◌<◌, ◌≤◌, List, [], ◌∷◌}
-use Rattle.pb_steps.specs.declared.step.Step.{Step}
-use Rattle.pb_steps.specs.declared.step.Answer.{Answer}
-use Rattle.pb_steps.specs.State.{StateOf}
+use Rattle.pb_history.specs.Words.{Step, Answer, StateOf}
 use Rattle.pb_history.specs.declared.entry.Entry.{Entry}
 use Rattle.pb_history.specs.History.{Member, InHistory}
 

@@ -3,12 +3,7 @@
 use Rattle.std.specs.Prelude.{◌≡◌, ℕ, Bool, true, false, ◌==◌, List, [], ◌∷◌, ◌++◌, Option, Some, None, option_map}
 use Rattle.std.specs.List.{filter, list_any}
 use Rattle.std.specs.FinMap as map
-use Rattle.pb_steps.specs.declared.phase.Phase.{Phase}
-use Rattle.pb_steps.specs.declared.step.Step.{Step}
-use Rattle.pb_steps.specs.declared.step.Answer.{Answer}
-use Rattle.pb_verify.specs.Observers.{ObserverOf}
-use Rattle.pb_steps.specs.State.{StateOf, TransactionOf, new_transaction, cells_of}
-use Rattle.pb_steps.specs.Read.{with_read}
+use Rattle.pb_history.specs.Words.{Phase, Step, Answer, ObserverOf, StateOf, TransactionOf, new_transaction, cells_of, with_read}
 use Rattle.pb_history.specs.declared.entry.Entry.{Entry}
 use Rattle.pb_history.specs.History.{Has}
 

@@ -1,8 +1,6 @@
 -- What the history of a legal journal tells of two transactions that write one cell (OSDI 2010, section 2.2).
 use Rattle.std.specs.Prelude.{◌≢◌, ◌<◌, ◌⊎◌, List}
-use Rattle.pb_base.specs.declared.cell.Cell.{Cell}
-use Rattle.pb_base.specs.declared.content.Content.{Content}
-use Rattle.pb_steps.specs.State.{StateOf}
+use Rattle.pb_history.specs.Words.{Cell, Content, StateOf}
 use Rattle.pb_history.specs.declared.entry.Entry.{Entry}
 use Rattle.pb_history.specs.History.{Member, InHistory, WritesTo}
 

@@ -1,10 +1,7 @@
 -- What sorted lists answer is what they contain.
 use Rattle.std.proofs.Common.{◌≡◌, ◌==◌, ◌&&◌, ℕ, cond, true, false, [], ◌∷◌, Option, None, Some, IfSome, refl, sym, ap, ◌∙◌, subst, length, slice_get, zero, suc, Less, Equal, Greater, is_eq, is_lt}
 use Rattle.std.specs.FinMap as map
-use Rattle.pb_base.specs.Cell.{cell_cmp}
-use Rattle.pb_store.specs.declared.slot.Slot.{Slot}
-use Rattle.pb_store.specs.Slot.{slot_cmp, slot_cmp-IsAntisymmetric}
-use Rattle.pb_store.specs.Contents.{IsOfSort, is_nothing, entries_after}
+use Rattle.pb_memtablet.specs.Words.{cell_cmp, Slot, slot_cmp, slot_cmp-IsAntisymmetric, IsOfSort, is_nothing, entries_after}
 use Rattle.pb_memtablet.specs.Listed.{EntryList, MarkList, contents_of, AllOfSort, AreLists}
 use Rattle.pb_memtablet.proofs.Spots.{holds}
 

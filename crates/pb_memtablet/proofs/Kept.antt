@@ -6,11 +6,8 @@ use Rattle.std.specs.FinMap.Entries.{by_order, where_key, below_all, length-put,
 use Rattle.std.specs.Cmp.{tied_itself, alike_right, eq_by_cmp_equiv}
 use Rattle.std.specs.List.{last_or}
 use Rattle.pb_memtablet.specs.Chunks.{entries_up_to}
-use Rattle.pb_store.specs.Slot.{slot_cmp-IsAntisymmetric}
+use Rattle.pb_memtablet.specs.Words.{slot_cmp-IsAntisymmetric, Item, slot_cmp, slot_cmp_total, entries_after}
 use Rattle.pb_store.specs.declared.slot.Slot.{Slot as Name}
-use Rattle.pb_store.specs.declared.slot.Item.{Item}
-use Rattle.pb_store.specs.Slot.{slot_cmp, slot_cmp_total}
-use Rattle.pb_store.specs.Contents.{entries_after}
 use Rattle.pb_memtablet.specs.Stored.{Items, KeyList, found_at, HasItem, item_at, seen, AllKeys, AreKeysApart, AreStored}
 use Rattle.pb_memtablet.specs.Listed.{EntryList}
 use Rattle.pb_base.proofs.Logic.{truth}

@@ -5,14 +5,7 @@ use Rattle.std.proofs.lemmas.List.{get_or_default}
 use Rattle.std.specs.Ordering.{nat_cmp, ordering_then}
 use Rattle.std.specs.Cmp.{tied_itself, nat_cmp_is, nat_cmp_total}
 use Rattle.std.specs.FinMap as map
-use Rattle.pb_base.specs.declared.names.Ts.{Ts}
-use Rattle.pb_base.specs.declared.cell.Cell.{Cell}
-use Rattle.pb_base.specs.Cell.{cell_cmp, cell_cmp_total}
-use Rattle.pb_store.specs.declared.slot.Slot.{Slot}
-use Rattle.pb_store.specs.declared.slot.Sort.{Sort}
-use Rattle.pb_store.specs.declared.slot.Item.{Item}
-use Rattle.pb_store.specs.Slot.{slot_cmp, slot_cmp_total, slot_cmp-IsAntisymmetric, sort_rank}
-use Rattle.pb_store.specs.Contents.{slot_at, IsOfSort, IsNewest, IsNextMark, ComesAfter}
+use Rattle.pb_memtablet.specs.Words.{Ts, Cell, cell_cmp, cell_cmp_total, Slot, Sort, Item, slot_cmp, slot_cmp_total, slot_cmp-IsAntisymmetric, sort_rank, slot_at, IsOfSort, IsNewest, IsNextMark, ComesAfter}
 use Rattle.std.proofs.lemmas.Option.{slice_get_within, get_or_from_slice_get}
 use Rattle.pb_memtablet.specs.Places.{IsGap, IsCut}
 use Rattle.pb_memtablet.specs.Chunks.{entries_above}

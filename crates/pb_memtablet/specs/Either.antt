@@ -1,6 +1,6 @@
 -- A tablet of either sort. Tables see its contents alone; its sort is told when it is made.
 use Rattle.std.specs.Prelude.{Bool, true, false}
-use Rattle.pb_store.specs.Contents.{Contents}
+use Rattle.pb_memtablet.specs.Words.{Contents}
 use Rattle.pb_memtablet.specs.declared.either.EitherTablet.{EitherTablet}
 
 -- what the tablet inside contains

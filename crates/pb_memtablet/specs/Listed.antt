@@ -2,13 +2,7 @@
 -- of edits and look-ups are shown once. Their models, invariants and the functions below `apply` cite them.
 use Rattle.std.specs.Prelude.{Bool, true, false, IsTrue, List, [], ◌∷◌}
 use Rattle.std.specs.FinMap as map
-use Rattle.pb_base.specs.declared.cell.Cell.{Cell}
-use Rattle.pb_base.specs.Cell.{cell_cmp}
-use Rattle.pb_store.specs.declared.slot.Slot.{Slot}
-use Rattle.pb_store.specs.declared.slot.Item.{Item}
-use Rattle.pb_store.specs.declared.slot.Edit.{Edit}
-use Rattle.pb_store.specs.Slot.{slot_cmp}
-use Rattle.pb_store.specs.Contents.{Contents, IsOfSort}
+use Rattle.pb_memtablet.specs.Words.{Cell, cell_cmp, Slot, Item, Edit, slot_cmp, Contents, IsOfSort}
 
 -- entries by rising slot
 abbrev pub EntryList : Type 0

@@ -2,7 +2,7 @@
 -- holds of these. The model and the invariant of `SlabTablet` cite them.
 use Rattle.std.specs.Prelude.{◌≡◌, ◌≢◌, ℕ, List, [], ◌∷◌, Option, None, is_some, IsSome, count_by, slice_index_or, unwrap_or, length}
 use Rattle.pb_store.specs.declared.slot.Slot.{Slot as Name}
-use Rattle.pb_store.specs.declared.slot.Item.{Item}
+use Rattle.pb_memtablet.specs.Words.{Item}
 use Rattle.pb_memtablet.specs.Listed.{EntryList, MarkList, AreLists}
 
 -- slots, each with the key of its item

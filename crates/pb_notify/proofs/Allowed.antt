@@ -1,38 +1,10 @@
 -- No step of a job comes at a wrong time, or declares what isn't its run.
 use Rattle.std.proofs.Common.{◌≡◌, ℕ, ◌<◌, ◌≤◌, ◌^◌, inl, inr, Bool, cond, List, [], ◌∷◌, ◌++◌, Option, Some, None, slice_get, refl, sym, ap, subst, ◌∙◌, true, arith, filter}
 use Rattle.std.specs.FinMap as finite
-use Rattle.pb_base.specs.declared.refusal.Reason.{Reason}
-use Rattle.pb_base.specs.declared.cell.Cell.{Cell}
-use Rattle.pb_base.specs.declared.names.Row.{Row}
-use Rattle.pb_base.specs.declared.names.Ts.{Ts}
-use Rattle.pb_helpers.specs.OldRecord.{tells_old, record_by}
-use Rattle.pb_steps.specs.declared.seen.RecordedRead.{RecordedRead}
-use Rattle.pb_steps.specs.declared.step.Work.{Work}
-use Rattle.pb_steps.specs.declared.step.Declared.{Declared}
-use Rattle.pb_steps.specs.declared.step.Step.{Step}
-use Rattle.pb_steps.specs.declared.step.Answer.{Answer}
-use Rattle.pb_steps.specs.Declarations.{AreReplies, is_its}
-use Rattle.pb_steps.specs.Reads.{read_up_to}
-use Rattle.pb_steps.specs.declared.seen.Seen.{Seen}
-use Rattle.pb_verify.specs.Observers.{ObserverOf, column_or_zero, observed_column}
-use Rattle.pb_steps.specs.State.{StateOf, TransactionOf}
-use Rattle.pb_steps.specs.Reasons.{IsOwn}
-use Rattle.pb_steps.specs.Steps.{step_reason}
-use Rattle.pb_history.specs.declared.entry.Entry.{Entry}
-use Rattle.pb_history.specs.declared.entry.Received.{Received}
-use Rattle.pb_history.specs.Journals.{IsLegal}
-use Rattle.pb_history.specs.History.{Has, IsEntry}
-use Rattle.pb_history.specs.AcknowledgedTold.{TellsAcknowledged}
-use Rattle.pb_history.specs.Laws.{TransactionsAreTold, JournalsAreSound, AcknowledgedIsEarlier}
-use Rattle.pb_history.specs.TransactionsTold.{names_start, entries_naming, transaction_by, TellsTransactions}
-use Rattle.pb_txn.specs.declared.place.PlanPlace.{PlanPlace}
+use Rattle.pb_notify.specs.Words.{Reason, Cell, Row, Ts, tells_old, record_by, RecordedRead, Work, Declared, Step, Answer, AreReplies, is_its, read_up_to, Seen, ObserverOf, column_or_zero, observed_column, StateOf, TransactionOf, IsOwn, step_reason, Entry, Received, IsLegal, Has, IsEntry, TellsAcknowledged, TransactionsAreTold, JournalsAreSound, AcknowledgedIsEarlier, names_start, entries_naming, transaction_by, TellsTransactions, PlanPlace, PlanOf, told, IsWorkInRange, IsTimely, PlansAreAllowed, PlansConverse, PlansEnd}
 use Rattle.pb_txn.specs.declared.place.PlanPlace as order
 use Rattle.pb_txn.specs.Places as steps
-use Rattle.pb_txn.specs.Plans.{PlanOf}
 use Rattle.pb_txn.specs.Plans as plans
-use Rattle.pb_txn.specs.Conversations.{told}
-use Rattle.pb_txn.specs.Allowed.{IsWorkInRange, IsTimely, PlansAreAllowed}
-use Rattle.pb_txn.specs.Forms.{PlansConverse, PlansEnd}
 use Rattle.pb_notify.specs.declared.look.Look.{Look}
 use Rattle.pb_notify.specs.declared.place.RunPlace.{RunPlace}
 use Rattle.pb_notify.specs.Forms.{IsAcknowledged}

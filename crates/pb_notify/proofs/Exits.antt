@@ -1,10 +1,6 @@
 -- Where a machine stood before its exit, by what it left.
 use Rattle.std.proofs.Common.{◌≡◌, ℕ, arith}
-use Rattle.pb_vm.specs.declared.moved.Moved.{Moved}
-use Rattle.pb_vm.specs.MachineSlot.{IsAtSlot}
-use Rattle.pb_vm.specs.Position.{Position}
-use Rattle.pb_vm.specs.Moves.{Finishes}
-use Rattle.pb_finished.specs.Finished.{Meant, IsMeant}
+use Rattle.pb_notify.specs.Words.{Moved, IsAtSlot, Position, Finishes, Meant, IsMeant}
 use Rattle.pb_notify.specs.Machines.{exit_at, Leaves}
 use Rattle.pb_notify.specs.Steps.{MovesOn}
 

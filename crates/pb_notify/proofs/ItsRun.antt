@@ -2,22 +2,8 @@
 use Rattle.std.proofs.Common.{arith, ◌≡◌, ℕ, Bool, true, ◌&&◌, List, [], ◌∷◌, Option, Some, None, refl, sym, ap, ◌∙◌}
 use Rattle.std.specs.Coded.{coded_ℕ, coded_list}
 use Rattle.std.proofs.lemmas.Bool.{eq-eqb, lt-ltb}
-use Rattle.pb_base.specs.declared.cell.Cell.{Cell}
-use Rattle.pb_base.specs.declared.names.Row.{Row}
-use Rattle.pb_base.specs.declared.names.Ts.{Ts}
+use Rattle.pb_notify.specs.Words.{Cell, Row, Ts, tells_old, is_same, judged_code, Talk, Meant, RecordedRead, Seen, Work, Declared, value_in, value_code, asked_cell, ObserverOf, observed_cell, acknowledgment, IsReadOf, old_at, WasOld, WasSeen, AreReplies, IsItsRun, is_at, is_read_of, with_old, seen_in, asked_in, are_replies, is_run, is_run_by, is_its}
 use Rattle.pb_isa.specs.Machine.{Reply}
-use Rattle.pb_helpers.specs.OldRecord.{tells_old}
-use Rattle.pb_base.specs.Same.{is_same}
-use Rattle.pb_isa.specs.Programs.{judged_code}
-use Rattle.pb_isa.specs.Meaning.{Talk}
-use Rattle.pb_finished.specs.Finished.{Meant}
-use Rattle.pb_steps.specs.declared.seen.RecordedRead.{RecordedRead}
-use Rattle.pb_steps.specs.declared.seen.Seen.{Seen}
-use Rattle.pb_steps.specs.declared.step.Work.{Work}
-use Rattle.pb_steps.specs.declared.step.Declared.{Declared}
-use Rattle.pb_steps.specs.Reads.{value_in, value_code, asked_cell}
-use Rattle.pb_verify.specs.Observers.{ObserverOf, observed_cell, acknowledgment}
-use Rattle.pb_steps.specs.Declarations.{IsReadOf, old_at, WasOld, WasSeen, AreReplies, IsItsRun, is_at, is_read_of, with_old, seen_in, asked_in, are_replies, is_run, is_run_by, is_its}
 use Rattle.pb_base.proofs.SameCells.{same_cells}
 
 at_itself : (at : Option Ts) → is_at at at ≡ true

@@ -1,19 +1,7 @@
 -- What a job's place says of its parts, after an answer and after an instruction.
 use Rattle.std.proofs.Common.{◌≡◌, ℕ, ◌<◌, Bool, Option, Some, length, refl, arith}
-use Rattle.pb_base.specs.declared.cell.Cell.{Cell}
-use Rattle.pb_base.specs.declared.names.Row.{Row}
-use Rattle.pb_base.specs.declared.names.Ts.{Ts}
-use Rattle.pb_base.specs.declared.content.Revision.{Revision}
-use Rattle.pb_isa.specs.Programs.{JudgedOf}
-use Rattle.pb_helpers.specs.declared.ask.Ask.{Ask}
-use Rattle.pb_vm.specs.declared.moved.MachinePhase.{MachinePhase}
-use Rattle.pb_vm.specs.Position.{Position}
-use Rattle.pb_steps.specs.declared.seen.Seen.{Seen}
-use Rattle.pb_steps.specs.declared.step.Step.{Step}
-use Rattle.pb_steps.specs.declared.step.Answer.{Answer}
-use Rattle.pb_txn.specs.declared.place.Outcome.{Outcome}
+use Rattle.pb_notify.specs.Words.{Cell, Row, Ts, Revision, JudgedOf, Ask, MachinePhase, Position, Seen, Step, Answer, Outcome, PlanOf, outcome_of}
 use Rattle.pb_txn.specs.Places as orders
-use Rattle.pb_txn.specs.Plans.{PlanOf, outcome_of}
 use Rattle.pb_txn.specs.Plans as plans
 use Rattle.pb_notify.specs.declared.look.TheConstants.{MAX_LOCKED}
 use Rattle.pb_notify.specs.declared.look.Look.{Look}

@@ -1,18 +1,8 @@
 -- The machine of a job was led from entry to where it stands.
 use Rattle.std.proofs.Common.{arith, ◌≡◌, ℕ, Bool, List, [], ◌∷◌, length, None, refl, ap, subst, ◌∙◌}
-use Rattle.pb_base.specs.declared.cell.Cell.{Cell}
-use Rattle.pb_base.specs.declared.names.Ts.{Ts}
-use Rattle.pb_isa.specs.Programs.{JudgedOf}
-use Rattle.pb_isa.specs.Machine.{Placement, IsPlacement}
-use Rattle.pb_helpers.specs.declared.ask.Ask.{Ask}
-use Rattle.pb_vm.specs.Position.{Position}
-use Rattle.pb_vm.specs.Moves.{AsksAt}
+use Rattle.pb_notify.specs.Words.{Cell, Ts, JudgedOf, Placement, IsPlacement, Ask, Position, AsksAt, Answer, Received, PlanOf, outcome_of, PlansConverse, PlansEnd}
 use Rattle.pb_txn.specs.Conversations as plan_converses
-use Rattle.pb_steps.specs.declared.step.Answer.{Answer}
-use Rattle.pb_history.specs.declared.entry.Received.{Received}
-use Rattle.pb_txn.specs.Plans.{PlanOf, outcome_of}
 use Rattle.pb_txn.specs.Plans as plans
-use Rattle.pb_txn.specs.Forms.{PlansConverse, PlansEnd}
 use Rattle.pb_notify.specs.declared.place.RunPlace.{RunPlace}
 use Rattle.pb_notify.specs.Places.{place_after, ComesFrom, IsToldAt}
 use Rattle.pb_notify.specs.Runs.{Watch, RunOf, fresh}

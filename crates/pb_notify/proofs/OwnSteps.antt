@@ -2,25 +2,7 @@
 use Rattle.std.proofs.Common.{◌≡◌, ℕ, ◌<◌, ◌≤◌, Bool, true, false, cond, not, Option, Some, None, slice_get, sym, ap, subst, ◌∙◌, arith, nat_lt}
 use Rattle.std.proofs.lemmas.Bool.{lt-ltb}
 use Rattle.std.proofs.lemmas.Option.{slice_get_within}
-use Rattle.pb_base.specs.declared.cell.Cell.{Cell}
-use Rattle.pb_base.specs.declared.names.Row.{Row}
-use Rattle.pb_base.specs.declared.names.Ts.{Ts}
-use Rattle.pb_base.specs.declared.refusal.Reason.{Reason}
-use Rattle.pb_steps.specs.declared.step.Work.{Work}
-use Rattle.pb_steps.specs.declared.step.Declared.{Declared}
-use Rattle.pb_steps.specs.declared.step.Step.{Step}
-use Rattle.pb_steps.specs.Phases.{is_reading}
-use Rattle.pb_verify.specs.Observers.{ObserverOf}
-use Rattle.pb_steps.specs.State.{StateOf, TransactionOf}
-use Rattle.pb_steps.specs.Declarations.{is_its}
-use Rattle.pb_steps.specs.Reads.{read_up_to}
-use Rattle.pb_steps.specs.Read.{read_step}
-use Rattle.pb_steps.specs.Prewrite.{prewrite_reasons}
-use Rattle.pb_steps.specs.CommitPrimary.{commit_reasons}
-use Rattle.pb_steps.specs.Reasons.{Reasons, IsOwn, no_seat, first_reason, own_reasons}
-use Rattle.pb_steps.specs.Steps.{step_reason}
-use Rattle.pb_txn.specs.declared.place.PlanPlace.{PlanPlace}
-use Rattle.pb_txn.specs.Allowed.{IsTimely}
+use Rattle.pb_notify.specs.Words.{Cell, Row, Ts, Reason, Work, Declared, Step, is_reading, ObserverOf, StateOf, TransactionOf, is_its, read_up_to, read_step, prewrite_reasons, commit_reasons, Reasons, IsOwn, no_seat, first_reason, own_reasons, step_reason, PlanPlace, IsTimely}
 use Rattle.pb_notify.specs.declared.look.Look.{Look}
 use Rattle.pb_notify.specs.Looks.{look_step}
 use Rattle.pb_notify.proofs.PlanSteps.{IsPlanStep}

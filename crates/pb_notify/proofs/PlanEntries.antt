@@ -1,13 +1,7 @@
 -- The entries of a plan's conversation are those of its run's, its looks aside.
 use Rattle.std.proofs.Common.{arith, ◌≡◌, ℕ, Bool, false, cond, List, [], ◌∷◌, ◌++◌, refl, filter}
 use Rattle.std.proofs.lemmas.List.Elements.{filter-append}
-use Rattle.pb_base.specs.declared.names.Ts.{Ts}
-use Rattle.pb_steps.specs.declared.step.Step.{Step}
-use Rattle.pb_steps.specs.declared.step.Answer.{Answer}
-use Rattle.pb_history.specs.declared.entry.Entry.{Entry}
-use Rattle.pb_history.specs.declared.entry.Received.{Received}
-use Rattle.pb_history.specs.TransactionsTold.{names_start, entries_naming}
-use Rattle.pb_txn.specs.Allowed.{names, HasSaid}
+use Rattle.pb_notify.specs.Words.{Ts, Step, Answer, Entry, Received, names_start, entries_naming, names, HasSaid}
 use Rattle.pb_notify.specs.Allowed.{entries_by}
 use Rattle.pb_notify.proofs.RecordedReads.{bare_of}
 

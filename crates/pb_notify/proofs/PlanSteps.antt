@@ -1,17 +1,6 @@
 -- The steps of a plan keep whose transaction it is and what for, and it declares nothing but at first.
 use Rattle.std.proofs.Common.{arith, ◌≡◌, ℕ, Bool, true, false, cond, List, [], ◌∷◌, length, Option, Some, refl, sym, ap, subst, ◌∙◌}
-use Rattle.pb_base.specs.declared.names.Ts.{Ts}
-use Rattle.pb_steps.specs.declared.step.Declared.{Declared}
-use Rattle.pb_steps.specs.declared.step.Step.{Step}
-use Rattle.pb_steps.specs.declared.step.Answer.{Answer}
-use Rattle.pb_verify.specs.Observers.{ObserverOf}
-use Rattle.pb_steps.specs.State.{TransactionOf}
-use Rattle.pb_history.specs.declared.entry.Received.{Received}
-use Rattle.pb_history.specs.TransactionsTold.{names_start, transaction_after, is_begin}
-use Rattle.pb_txn.specs.declared.place.PlanPlace.{PlanPlace}
-use Rattle.pb_txn.specs.Places.{declared_cells, place_after, step_at}
-use Rattle.pb_txn.specs.Plans.{PlanOf, answered}
-use Rattle.pb_txn.specs.Conversations.{Converses}
+use Rattle.pb_notify.specs.Words.{Ts, Declared, Step, Answer, ObserverOf, TransactionOf, Received, names_start, transaction_after, is_begin, PlanPlace, declared_cells, place_after, step_at, PlanOf, answered, Converses}
 use Rattle.pb_notify.proofs.RecordedReads.{after}
 
 -- ---- after an answer it declares no more

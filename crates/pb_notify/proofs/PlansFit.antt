@@ -1,11 +1,6 @@
 -- A plan's place lies within its cells wherever its answers lead, and there is a step at each of them but the end.
 use Rattle.std.proofs.Common.{◌≡◌, ℕ, zero, suc, ◌<◌, ◌≤◌, List, [], ◌∷◌, length, Some, None, refl, sym, subst, arith, slice_get, option_map}
-use Rattle.pb_base.specs.declared.cell.Cell.{Cell}
-use Rattle.pb_steps.specs.declared.step.Step.{Step}
-use Rattle.pb_steps.specs.declared.step.Answer.{Answer}
-use Rattle.pb_txn.specs.declared.place.PlanPlace.{PlanPlace}
-use Rattle.pb_txn.specs.Places.{declared_cells, place_after, LiesWithin}
-use Rattle.pb_txn.specs.Plans.{PlanOf, next_of, outcome_of}
+use Rattle.pb_notify.specs.Words.{Cell, Step, Answer, PlanPlace, declared_cells, place_after, LiesWithin, PlanOf, next_of, outcome_of}
 
 -- wherever an answer leads, the place lies within the cells
 pub fits_after : (count : ℕ) (p : PlanPlace) (a : Answer) → LiesWithin count p → LiesWithin count (place_after count p a)

@@ -1,28 +1,8 @@
 -- What the table keeps of a run's transaction as its looks go on: one read more for each that told what its cell holds.
 use Rattle.std.proofs.Common.{arith, ◌≡◌, ℕ, ◌<◌, inl, inr, Bool, cond, List, [], ◌∷◌, ◌++◌, Option, Some, None, refl, sym, subst, filter}
 use Rattle.std.proofs.lemmas.List.Elements.{filter-append}
-use Rattle.pb_base.specs.declared.cell.Cell.{Cell}
-use Rattle.pb_base.specs.declared.names.Ts.{Ts}
-use Rattle.pb_base.specs.declared.content.Revision.{Revision}
+use Rattle.pb_notify.specs.Words.{Cell, Ts, Revision, Talk, tells_old, RecordedRead, Seen, Work, Step, Answer, IsReadOf, old_at, WasOld, WasSeen, AreReplies, ObserverOf, read_step, with_read, asked_cell, value_in, TransactionOf, new_transaction, Entry, Received, Has, names_start, entries_naming, transaction_after, transaction_from, names, told}
 use Rattle.pb_isa.specs.Machine as machine
-use Rattle.pb_isa.specs.Meaning.{Talk}
-use Rattle.pb_helpers.specs.OldRecord.{tells_old}
-use Rattle.pb_steps.specs.declared.seen.RecordedRead.{RecordedRead}
-use Rattle.pb_steps.specs.declared.seen.Seen.{Seen}
-use Rattle.pb_steps.specs.declared.step.Work.{Work}
-use Rattle.pb_steps.specs.declared.step.Step.{Step}
-use Rattle.pb_steps.specs.declared.step.Answer.{Answer}
-use Rattle.pb_steps.specs.Declarations.{IsReadOf, old_at, WasOld, WasSeen, AreReplies}
-use Rattle.pb_verify.specs.Observers.{ObserverOf}
-use Rattle.pb_steps.specs.Read.{read_step, with_read}
-use Rattle.pb_steps.specs.Reads.{asked_cell, value_in}
-use Rattle.pb_steps.specs.State.{TransactionOf, new_transaction}
-use Rattle.pb_history.specs.declared.entry.Entry.{Entry}
-use Rattle.pb_history.specs.declared.entry.Received.{Received}
-use Rattle.pb_history.specs.History.{Has}
-use Rattle.pb_history.specs.TransactionsTold.{names_start, entries_naming, transaction_after, transaction_from}
-use Rattle.pb_txn.specs.Allowed.{names}
-use Rattle.pb_txn.specs.Conversations.{told}
 use Rattle.pb_notify.specs.declared.look.Look.{Look}
 use Rattle.pb_notify.specs.Runs.{Watch}
 use Rattle.pb_notify.specs.Forms.{IsRound, AreRounds, at_first, one_more, IsHeld, IsLooked, its_begin, IsObserved, IsAcknowledged, IsRecalled, AreAsked, dirty, asked as asked_more}

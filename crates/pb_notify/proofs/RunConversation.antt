@@ -1,30 +1,8 @@
 -- What a job has asked at each place, and that it is a beginning of a whole conversation.
 use Rattle.std.proofs.Common.{◌≡◌, ℕ, ◌<◌, ◌≤◌, Bool, true, false, cond, List, [], ◌∷◌, ◌++◌, Option, Some, None, refl, sym, ap, subst, ◌∙◌, arith, append_assoc, append-nil, nat_lt, not, ◌&&◌, ◌==◌}
-use Rattle.pb_base.specs.declared.cell.Cell.{Cell}
-use Rattle.pb_base.specs.declared.names.Ts.{Ts}
-use Rattle.pb_base.specs.declared.content.Revision.{Revision}
-use Rattle.pb_isa.specs.Meaning.{Talk}
-use Rattle.pb_helpers.specs.OldRecord.{tells_old, record_by}
-use Rattle.pb_helpers.specs.declared.ask.Ask.{Ask}
-use Rattle.pb_helpers.specs.Replies.{ask_of}
-use Rattle.pb_vm.specs.Position.{Position}
-use Rattle.pb_finished.specs.Finished.{Meant, IsMeant}
-use Rattle.pb_steps.specs.declared.seen.Seen.{Seen}
-use Rattle.pb_steps.specs.declared.step.Work.{Work}
-use Rattle.pb_steps.specs.declared.step.Declared.{Declared}
-use Rattle.pb_steps.specs.declared.step.Step.{Step}
-use Rattle.pb_steps.specs.declared.step.Answer.{Answer}
-use Rattle.pb_steps.specs.Answers.{CanAnswer}
-use Rattle.pb_steps.specs.Declarations.{old_at}
-use Rattle.pb_steps.specs.Reads.{version_in, acknowledged_in, value_in}
-use Rattle.pb_history.specs.declared.entry.Received.{Received}
-use Rattle.pb_txn.specs.declared.place.Outcome.{Outcome}
-use Rattle.pb_txn.specs.Places.{declared_cells}
-use Rattle.pb_txn.specs.Plans.{PlanOf, outcome_of}
+use Rattle.pb_notify.specs.Words.{Cell, Ts, Revision, Talk, tells_old, record_by, Ask, ask_of, Position, Meant, IsMeant, Seen, Work, Declared, Step, Answer, CanAnswer, old_at, version_in, acknowledged_in, value_in, Received, Outcome, declared_cells, PlanOf, outcome_of, told, IsWhole, PlansConverse, PlansEnd}
 use Rattle.pb_txn.specs.Plans as plans
-use Rattle.pb_txn.specs.Conversations.{told}
 use Rattle.pb_txn.specs.Conversations as conversations
-use Rattle.pb_txn.specs.Forms.{IsWhole, PlansConverse, PlansEnd}
 use Rattle.pb_notify.specs.declared.look.TheConstants.{MAX_LOCKED}
 use Rattle.pb_notify.specs.declared.look.Look.{Look}
 use Rattle.pb_notify.specs.declared.look.Looked.{Looked}

@@ -3,16 +3,7 @@ use Rattle.std.proofs.Common.{arith, ◌≡◌, ℕ, inl, inr, Bool, true, false
 use Rattle.std.proofs.lemmas.Bool.{eq-eqb, eqb-true, or_left as one_of, or_right as or_other}
 use Rattle.std.proofs.lemmas.List.Elements.{filter-append}
 use Rattle.std.specs.List.{list_any}
-use Rattle.pb_steps.specs.declared.step.Work.{Work}
-use Rattle.pb_steps.specs.declared.step.Step.{Step}
-use Rattle.pb_steps.specs.declared.step.Answer.{Answer}
-use Rattle.pb_history.specs.declared.entry.Entry.{Entry}
-use Rattle.pb_history.specs.declared.entry.Received.{Received}
-use Rattle.pb_history.specs.Places.{entries_of}
-use Rattle.pb_history.specs.History.{Has}
-use Rattle.pb_history.specs.Laws.{TransactionsAreTold}
-use Rattle.pb_history.specs.TransactionsTold.{names_start, entries_naming, is_begin, BeginsOnce}
-use Rattle.pb_txn.specs.Conversations.{told}
+use Rattle.pb_notify.specs.Words.{Work, Step, Answer, Entry, Received, entries_of, Has, TransactionsAreTold, names_start, entries_naming, is_begin, BeginsOnce, told}
 use Rattle.pb_notify.specs.Allowed.{entries_by, RunsAreKept}
 use Rattle.pb_history.proofs.Updates.{has_right as at_end}
 use Rattle.pb_notify.proofs.RecordedReads.{same_either}

@@ -2,22 +2,7 @@
 -- of a timestamp alone. The law `jobs_are_allowed` cites it. Of a legal journal it asks one thing, that nobody
 -- else names the run's start (`HasRun`).
 use Rattle.std.specs.Prelude.{◌≡◌, ℕ, ◌<◌, ◌^◌, List, ◌++◌, map, Some, slice_get}
-use Rattle.pb_base.specs.declared.refusal.Reason.{Reason}
-use Rattle.pb_base.specs.declared.names.Row.{Row}
-use Rattle.pb_base.specs.declared.names.Ts.{Ts}
-use Rattle.pb_steps.specs.declared.step.Work.{Work}
-use Rattle.pb_steps.specs.declared.step.Step.{Step}
-use Rattle.pb_steps.specs.declared.step.Answer.{Answer}
-use Rattle.pb_verify.specs.Observers.{ObserverOf}
-use Rattle.pb_steps.specs.State.{StateOf}
-use Rattle.pb_steps.specs.Steps.{step_reason}
-use Rattle.pb_history.specs.declared.entry.Entry.{Entry}
-use Rattle.pb_history.specs.declared.entry.Received.{Received}
-use Rattle.pb_history.specs.Places.{entries_of}
-use Rattle.pb_history.specs.Journals.{IsLegal}
-use Rattle.pb_history.specs.History.{Has}
-use Rattle.pb_history.specs.TransactionsTold.{entries_naming}
-use Rattle.pb_txn.specs.Conversations.{told}
+use Rattle.pb_notify.specs.Words.{Reason, Row, Ts, Work, Step, Answer, ObserverOf, StateOf, step_reason, Entry, Received, entries_of, IsLegal, Has, entries_naming, told}
 use Rattle.pb_notify.specs.Runs.{RunOf, watch_of, fresh, next_of}
 use Rattle.pb_notify.specs.Conversations.{Reaches}
 

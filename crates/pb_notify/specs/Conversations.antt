@@ -1,7 +1,6 @@
 -- What a job has asked, step by step, with the answers. Instructions leave no trace in it, since the table sees none.
 use Rattle.std.specs.Prelude.{◌≡◌, List, [], ◌∷◌, ◌++◌, Some}
-use Rattle.pb_steps.specs.Answers.{CanAnswer}
-use Rattle.pb_history.specs.declared.entry.Received.{Received}
+use Rattle.pb_notify.specs.Words.{CanAnswer, Received}
 use Rattle.pb_notify.specs.declared.need.Need.{Need}
 use Rattle.pb_notify.specs.Runs.{RunOf, next_of, need_of, answered, HearsLook, Computes}
 

@@ -1,29 +1,10 @@
 -- The conversations of a run of an observer on a cell (OSDI 2010, section 2.4). Each goes on from an earlier part, and
 -- counts the reads that met a lock.
 use Rattle.std.specs.Prelude.{◌≡◌, ◌≢◌, ℕ, suc, ◌<◌, ◌≤◌, List, [], ◌∷◌, ◌++◌, Option, Some, None}
-use Rattle.pb_base.specs.declared.cell.Cell.{Cell}
-use Rattle.pb_base.specs.declared.names.Ts.{Ts}
-use Rattle.pb_base.specs.declared.content.Revision.{Revision}
+use Rattle.pb_notify.specs.Words.{Cell, Ts, Revision, Talk, tells_old, record_by, Meant, IsMeant, Seen, Work, Declared, Step, Answer, CanAnswer, old_at, version_in, acknowledged_in, asked_cell, value_in, Received, Outcome, declared_cells, told, IsWhole, read_step}
 use Rattle.pb_isa.specs.Machine as machine
-use Rattle.pb_isa.specs.Meaning.{Talk}
-use Rattle.pb_helpers.specs.OldRecord.{tells_old, record_by}
-use Rattle.pb_finished.specs.Finished.{Meant, IsMeant}
-use Rattle.pb_steps.specs.declared.seen.Seen.{Seen}
-use Rattle.pb_steps.specs.declared.step.Work.{Work}
-use Rattle.pb_steps.specs.declared.step.Declared.{Declared}
-use Rattle.pb_steps.specs.declared.step.Step.{Step}
-use Rattle.pb_steps.specs.declared.step.Answer.{Answer}
-use Rattle.pb_steps.specs.Answers.{CanAnswer}
-use Rattle.pb_steps.specs.Declarations.{old_at}
-use Rattle.pb_steps.specs.Reads.{version_in, acknowledged_in, asked_cell, value_in}
-use Rattle.pb_history.specs.declared.entry.Received.{Received}
-use Rattle.pb_txn.specs.declared.place.Outcome.{Outcome}
-use Rattle.pb_txn.specs.Places.{declared_cells}
-use Rattle.pb_txn.specs.Conversations.{told}
-use Rattle.pb_txn.specs.Forms.{IsWhole}
 use Rattle.pb_notify.specs.declared.look.TheConstants.{MAX_LOCKED}
 use Rattle.pb_notify.specs.declared.need.JobEnd.{JobEnd}
-use Rattle.pb_steps.specs.Read.{read_step}
 use Rattle.pb_notify.specs.Runs.{Watch, RunOf, fresh, need_of}
 use Rattle.pb_notify.specs.declared.need.Need.{Need}
 use Rattle.pb_notify.specs.Conversations.{Reaches}

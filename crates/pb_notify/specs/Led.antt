@@ -1,23 +1,8 @@
 -- Where the machine of a job stands: its program led it there from entry, on the record of what the job read and with
 -- the replies that it read.
 use Rattle.std.specs.Prelude.{◌≡◌, ℕ, List, [], ◌∷◌, ◌++◌, length, Option, None}
-use Rattle.pb_base.specs.declared.cell.Cell.{Cell}
-use Rattle.pb_base.specs.declared.names.Ts.{Ts}
-use Rattle.pb_isa.specs.Machine.{Placement, IsPlacement, State}
-use Rattle.pb_helpers.specs.OldRecord.{tells_old, record_by}
-use Rattle.pb_vm.specs.Position.{Position}
-use Rattle.pb_vm.specs.Moves.{IsAtState, AsksAt}
-use Rattle.pb_finished.specs.Finished.{Meant, IsMeant}
-use Rattle.pb_isa.specs.Meaning.{Talk}
-use Rattle.pb_steps.specs.declared.step.Declared.{Declared}
-use Rattle.pb_steps.specs.declared.step.Step.{Step}
-use Rattle.pb_steps.specs.declared.step.Answer.{Answer}
-use Rattle.pb_steps.specs.Answers.{CanAnswer}
-use Rattle.pb_txn.specs.Plans.{PlanOf}
+use Rattle.pb_notify.specs.Words.{Cell, Ts, Placement, IsPlacement, State, tells_old, record_by, Position, IsAtState, AsksAt, Meant, IsMeant, Talk, Declared, Step, Answer, CanAnswer, PlanOf, Converses, told, Seen, Received}
 use Rattle.pb_txn.specs.Plans as plans
-use Rattle.pb_txn.specs.Conversations.{Converses, told}
-use Rattle.pb_steps.specs.declared.seen.Seen.{Seen}
-use Rattle.pb_history.specs.declared.entry.Received.{Received}
 use Rattle.pb_notify.specs.declared.need.JobEnd.{JobEnd}
 use Rattle.pb_notify.specs.declared.place.RunPlace.{RunPlace}
 use Rattle.pb_notify.specs.Runs.{Watch, RunOf, fresh}

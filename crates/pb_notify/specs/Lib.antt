@@ -1,3 +1,4 @@
+pub mod Words
 pub mod Looks
 pub mod Machines
 pub mod Steps

@@ -2,11 +2,7 @@
 -- is cleared, after its primary was settled where it waits for that; and the cell is read again. A job's definitions
 -- stand on these for each cell that it reads.
 use Rattle.std.specs.Prelude.{ℕ, ◌+◌, nat_lt, if◌then◌else◌, Option}
-use Rattle.pb_base.specs.declared.cell.Cell.{Cell}
-use Rattle.pb_base.specs.declared.names.Ts.{Ts}
-use Rattle.pb_steps.specs.declared.step.Step.{Step}
-use Rattle.pb_steps.specs.Read.{read_step}
-use Rattle.pb_steps.specs.declared.step.Answer.{Answer}
+use Rattle.pb_notify.specs.Words.{Cell, Ts, Step, read_step, Answer}
 use Rattle.pb_notify.specs.declared.look.TheConstants.{MAX_LOCKED}
 use Rattle.pb_notify.specs.declared.look.Look.{Look}
 use Rattle.pb_notify.specs.declared.look.Looked.{Looked}

@@ -1,20 +1,9 @@
 -- Machines of runs, seen by their positions, and what their exit leaves. At its exit a machine is seen before it
 -- until that is declared, since memory may be refused then, and the exit is tried again.
 use Rattle.std.specs.Prelude.{◌≡◌, ℕ, ◌+◌, ◌<◌, ◌≤◌, true, false, List, [], ◌∷◌, ◌++◌, length}
-use Rattle.pb_isa.specs.Programs.{JudgedOf}
-use Rattle.pb_isa.specs.Slots.{slots}
-use Rattle.pb_isa.specs.Machine.{Placement, IsPlacement}
+use Rattle.pb_notify.specs.Words.{JudgedOf, slots, Placement, IsPlacement, Ask, ask_of, reply_of, MachinePhase, Position, EndsAt, RepliedWith, IsAtSlot, Meant, IsMeant, Answer, value_in}
 use Rattle.pb_isa.specs.Machine as machine
-use Rattle.pb_helpers.specs.declared.ask.Ask.{Ask}
 use Rattle.pb_helpers.specs.declared.ask.Reply.{Reply}
-use Rattle.pb_helpers.specs.Replies.{ask_of, reply_of}
-use Rattle.pb_vm.specs.declared.moved.MachinePhase.{MachinePhase}
-use Rattle.pb_vm.specs.Position.{Position}
-use Rattle.pb_vm.specs.Moves.{EndsAt, RepliedWith}
-use Rattle.pb_vm.specs.MachineSlot.{IsAtSlot}
-use Rattle.pb_finished.specs.Finished.{Meant, IsMeant}
-use Rattle.pb_steps.specs.declared.step.Answer.{Answer}
-use Rattle.pb_steps.specs.Reads.{value_in}
 use Rattle.pb_notify.specs.declared.machine.Standing.{Standing}
 
 -- before its first instruction

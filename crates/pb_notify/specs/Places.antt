@@ -1,26 +1,8 @@
 -- Where a job stands: the step at each place, and where each answer and each instruction leads. A job's value has its
 -- place, so that the order of a run is read off these functions, and its conversation is a law (Forms).
 use Rattle.std.specs.Prelude.{◌≡◌, ℕ, ◌<◌, Bool, nat_lt, if◌then◌else◌, length, Option, Some, None, MatchOption}
-use Rattle.pb_base.specs.declared.cell.Cell.{Cell}
-use Rattle.pb_base.specs.declared.names.Row.{Row}
-use Rattle.pb_base.specs.declared.names.Ts.{Ts}
-use Rattle.pb_base.specs.declared.content.Revision.{Revision}
-use Rattle.pb_isa.specs.Programs.{JudgedOf}
-use Rattle.pb_helpers.specs.declared.ask.Ask.{Ask}
-use Rattle.pb_helpers.specs.OldRecord.{tells_old, record_by}
-use Rattle.pb_vm.specs.declared.moved.MachinePhase.{MachinePhase}
-use Rattle.pb_vm.specs.MachineSlot.{IsAtSlot}
-use Rattle.pb_vm.specs.Position.{Position}
-use Rattle.pb_steps.specs.declared.seen.Seen.{Seen}
-use Rattle.pb_steps.specs.declared.step.Work.{Work}
-use Rattle.pb_steps.specs.declared.step.Declared.{Declared}
-use Rattle.pb_steps.specs.declared.step.Step.{Step}
-use Rattle.pb_steps.specs.declared.step.Answer.{Answer}
-use Rattle.pb_steps.specs.Declarations.{old_at}
-use Rattle.pb_steps.specs.Reads.{version_in, acknowledged_in, value_in}
-use Rattle.pb_txn.specs.declared.place.Outcome.{Outcome}
+use Rattle.pb_notify.specs.Words.{Cell, Row, Ts, Revision, JudgedOf, Ask, tells_old, record_by, MachinePhase, IsAtSlot, Position, Seen, Work, Declared, Step, Answer, old_at, version_in, acknowledged_in, value_in, Outcome, PlanOf, fresh, outcome_of, CanTake, Moved, AskedFor}
 use Rattle.pb_txn.specs.Places as orders
-use Rattle.pb_txn.specs.Plans.{PlanOf, fresh, outcome_of, CanTake}
 use Rattle.pb_txn.specs.Plans as plans
 use Rattle.pb_notify.specs.declared.look.TheConstants.{MAX_LOCKED}
 use Rattle.pb_notify.specs.declared.look.Look.{Look}
@@ -30,8 +12,6 @@ use Rattle.pb_notify.specs.declared.place.RunPlace.{RunPlace}
 use Rattle.pb_notify.specs.Looks.{look_step, look_after, locked_after}
 use Rattle.pb_notify.specs.Machines.{first_position, after_reply, HearsReply}
 use Rattle.pb_notify.specs.Steps.{WentOn, ExitsAs, MovesOn, IsAtExit}
-use Rattle.pb_vm.specs.declared.moved.Moved.{Moved}
-use Rattle.pb_vm.specs.Moves.{AskedFor}
 
 -- ---- the step at a place
 

@@ -1,13 +1,7 @@
 -- Jobs of observers, as their owners see them. The contracts of `ObserverJob` cite them, and `pb_world` and
 -- `pb_worker` say by them how a run goes on.
 use Rattle.std.specs.Prelude.{◌≡◌, ℕ, Option, Some}
-use Rattle.pb_base.specs.declared.cell.Cell.{Cell}
-use Rattle.pb_base.specs.declared.names.Row.{Row}
-use Rattle.pb_isa.specs.Programs.{JudgedOf}
-use Rattle.pb_helpers.specs.OldRecord.{tells_old}
-use Rattle.pb_verify.specs.Observers.{ObserverOf}
-use Rattle.pb_steps.specs.declared.step.Step.{Step}
-use Rattle.pb_steps.specs.declared.step.Answer.{Answer}
+use Rattle.pb_notify.specs.Words.{Cell, Row, JudgedOf, tells_old, ObserverOf, Step, Answer}
 use Rattle.pb_txn.specs.Plans as plans
 use Rattle.pb_notify.specs.declared.need.Need.{Need}
 use Rattle.pb_notify.specs.declared.place.RunPlace.{RunPlace}

@@ -1,14 +1,7 @@
 -- What the instructions of a run's machine do: one, which a world tells of each, or all up to the next ask or the
 -- exit, as a worker has them done. The second is said by the first, so that both are one meaning.
 use Rattle.std.specs.Prelude.{◌≡◌, ℕ, ◌≤◌, length}
-use Rattle.pb_isa.specs.Slots.{slots}
-use Rattle.pb_isa.specs.Machine.{Placement, IsPlacement}
-use Rattle.pb_vm.specs.Position.{Position}
-use Rattle.pb_vm.specs.declared.moved.Moved.{Moved}
-use Rattle.pb_vm.specs.declared.moved.MachinePhase.{MachinePhase}
-use Rattle.pb_vm.specs.Moves.{Went, EndsAt, Moves, IsStop}
-use Rattle.pb_finished.specs.Finished.{Meant}
-use Rattle.pb_steps.specs.declared.step.Declared.{Declared}
+use Rattle.pb_notify.specs.Words.{slots, Placement, IsPlacement, Position, Moved, MachinePhase, Went, EndsAt, Moves, IsStop, Meant, Declared}
 use Rattle.pb_notify.specs.Machines.{Leaves}
 
 -- no run does more instructions than its program has slots

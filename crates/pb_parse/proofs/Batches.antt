@@ -5,13 +5,8 @@ use Rattle.std.specs.List.{list_all, onto_first}
 use Rattle.std.specs.Ordering.{eq_by_cmp}
 use Rattle.std.proofs.lemmas.Bool.{and_parts, le-leb, lt-ltb}
 use Rattle.std.proofs.lemmas.List.{append-nil, length-map, map-append}
-use Rattle.pb_base.specs.Cell.{cell_cmp, cell_cmp_total, is_data}
-use Rattle.pb_base.specs.declared.cell.Cell.{Cell}
-use Rattle.pb_base.specs.declared.content.Content.{Content}
-use Rattle.pb_base.specs.Batch.{Writes, content_in, is_unstamped, is_data_write, are_distinct, is_batch}
+use Rattle.pb_parse.specs.Words.{cell_cmp, cell_cmp_total, is_data, Cell, Content, Writes, content_in, is_unstamped, is_data_write, are_distinct, is_batch, ◌>>=◌, in_turn, MAX_CELLS}
 use Rattle.pb_parse.specs.declared.script.code.ScriptCode.{ScriptCode}
-use Rattle.pb_reading.specs.Reading.{◌>>=◌, in_turn}
-use Rattle.pb_base.specs.declared.limits.TheConstants.{MAX_CELLS}
 use Rattle.pb_parse.specs.ScriptWords.{put_of, del_of, write_of, operation, cell_at}
 use Rattle.pb_parse.specs.ScriptLines.{cut, with_operation, batch_of}
 use Rattle.pb_parse.specs.Operations.{Say}

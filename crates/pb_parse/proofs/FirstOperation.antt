@@ -1,8 +1,7 @@
 -- The fault of a line is that of its first operation at fault.
 use Rattle.std.proofs.Common.{◌≡◌, ℕ, ◌≤◌, List, [], length, Err, arith}
-use Rattle.pb_base.specs.declared.limits.TheConstants.{MAX_CELLS}
+use Rattle.pb_parse.specs.Words.{MAX_CELLS, Writes}
 use Rattle.std.proofs.lemmas.Bool.{leb-true}
-use Rattle.pb_base.specs.Batch.{Writes}
 use Rattle.pb_parse.specs.declared.script.code.ScriptCode.{ScriptCode}
 use Rattle.pb_parse.specs.ScriptWords.{operation}
 use Rattle.pb_parse.specs.ScriptLines.{cut, with_operation, batch_of}

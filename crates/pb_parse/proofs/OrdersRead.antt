@@ -1,11 +1,7 @@
 -- An order's line is read as the order.
 use Rattle.std.proofs.Common.{◌≡◌, ℕ, ◌-◌, ◌^◌, ◌<◌, ◌≤◌, Bool, true, false, List, [], ◌∷◌, ◌++◌, Result, Ok, refl, sym, ap, subst, ◌∙◌, arith, inl, inr, codes, decimal, bytes_eq}
 use Rattle.std.specs.List.{join_with_byte}
-use Rattle.pb_base.specs.declared.limits.TheConstants.{COLUMNS, MAX_CHANGES, MAX_EVENTS, MAX_SEATS}
-use Rattle.pb_base.specs.declared.cell.Cell.{Cell}
-use Rattle.pb_base.specs.declared.names.Row.{Row}
-use Rattle.pb_reading.specs.Reading.{is_numeral, words_of}
-use Rattle.pb_verify.specs.Observers.{ObserverOf, acknowledgment}
+use Rattle.pb_parse.specs.Words.{COLUMNS, MAX_CHANGES, MAX_EVENTS, MAX_SEATS, Cell, Row, is_numeral, words_of, ObserverOf, acknowledgment}
 use Rattle.pb_parse.specs.declared.event.Job.{Job}
 use Rattle.pb_parse.specs.declared.event.Event.{Event}
 use Rattle.pb_parse.specs.declared.schedule.words.Order.{Order}

@@ -4,7 +4,7 @@ use Rattle.std.specs.Char.{is_ascii_uppercase}
 use Rattle.std.specs.List.{list_any}
 use Rattle.hex.specs.Hex.{decode_of}
 use Rattle.pb_parse.specs.declared.script.code.ScriptCode.{ScriptCode}
-use Rattle.pb_reading.specs.Reading.{next_word, no_word, words_of}
+use Rattle.pb_parse.specs.Words.{next_word, no_word, words_of}
 use Rattle.pb_reading.proofs.Readings.{FailsBy, then_fails, if_fails, next_fails, end_fails, numeral_fails}
 use Rattle.pb_parse.specs.ScriptWords.{number_upto, padded_value, content_of, cell_at, put_of, del_of, write_of, operation}
 

@@ -1,10 +1,7 @@
 -- A line read part by part, each with what its operations wrote so far.
 use Rattle.std.proofs.Common.{arith, ◌≡◌, ℕ, ◌+◌, ◌≤◌, List, [], ◌∷◌, length, Result, Ok, Err, refl, sym, ap, ◌∙◌}
 use Rattle.std.specs.Str.Pattern.{LacksTextAt, FindsText, SplitsAroundMatch}
-use Rattle.pb_base.specs.Batch.{Writes}
-use Rattle.pb_reading.specs.Reading.{◌>>=◌, in_turn}
-use Rattle.pb_reading.specs.Faults.{Ends}
-use Rattle.pb_reading.specs.declared.fault.LineFault.{LineFault}
+use Rattle.pb_parse.specs.Words.{Writes, ◌>>=◌, in_turn, Ends, LineFault}
 use Rattle.pb_parse.specs.declared.script.code.ScriptCode.{ScriptCode}
 use Rattle.pb_parse.specs.ScriptLines.{cut, with_operation}
 use Rattle.pb_parse.proofs.Cuts.{joint, cut_none, cut_some}

@@ -2,8 +2,7 @@
 use Rattle.std.proofs.Common.{◌≡◌, true, ℕ, List, [], ◌∷◌, map, Ok}
 use Rattle.std.specs.List.{AllByRecursion}
 use Rattle.std.proofs.lemmas.List.Elements.{All-from_recursion}
-use Rattle.pb_base.specs.Batch.{Writes, is_batch}
-use Rattle.pb_reading.specs.Reading.{lines_of}
+use Rattle.pb_parse.specs.Words.{Writes, is_batch, lines_of}
 use Rattle.pb_reading.proofs.LinesInTurn.{heads}
 use Rattle.pb_reading.proofs.SkippedLines.{kept}
 use Rattle.pb_parse.specs.ScriptLines.{Batches, batch_of, script_of}

@@ -5,12 +5,7 @@ use Rattle.std.proofs.lemmas.Bool.{and_parts, leb-true, lt-leb}
 use Rattle.std.proofs.lemmas.List.{append-nil}
 use Rattle.std.specs.Ordering.{eq_by_cmp}
 use Rattle.std.specs.Cmp.{eq_by_cmp_equiv}
-use Rattle.pb_base.specs.declared.limits.TheConstants.{MAX_CELLS}
-use Rattle.pb_base.specs.declared.cell.Cell.{Cell}
-use Rattle.pb_base.specs.declared.content.Content.{Content}
-use Rattle.pb_base.specs.Cell.{cell_cmp, cell_cmp_total}
-use Rattle.pb_base.specs.Batch.{Writes, content_in, is_data_write, are_distinct, is_batch}
-use Rattle.pb_reading.specs.Reading.{in_turn}
+use Rattle.pb_parse.specs.Words.{MAX_CELLS, Cell, Content, cell_cmp, cell_cmp_total, Writes, content_in, is_data_write, are_distinct, is_batch, in_turn}
 use Rattle.pb_parse.specs.ScriptWords.{operation}
 use Rattle.pb_parse.specs.ScriptLines.{cut, with_operation, batch_of}
 use Rattle.pb_parse.specs.Operations.{Say}

@@ -1,9 +1,7 @@
 -- Too many events are told exactly of a line that is read and goes past what a schedule may have.
 use Rattle.std.proofs.Common.{arith, ◌≡◌, ◌≢◌, ℕ, ◌+◌, ◌<◌, Bool, false, List, length, Ok, Err, refl, ◌∙◌, inl, inr, ◌⊎◌, ◌↔◌}
 use Rattle.std.proofs.lemmas.Bool.{lt-ltb}
-use Rattle.pb_base.specs.declared.limits.TheConstants.{MAX_EVENTS}
-use Rattle.pb_reading.specs.Reading.{is_skipped}
-use Rattle.pb_verify.specs.Observers.{ObserverOf}
+use Rattle.pb_parse.specs.Words.{MAX_EVENTS, is_skipped, ObserverOf}
 use Rattle.pb_parse.specs.declared.event.Event.{Event}
 use Rattle.pb_parse.specs.declared.schedule.words.Order.{Order}
 use Rattle.pb_parse.specs.declared.schedule.code.ScheduleCode.{ScheduleCode}

@@ -2,11 +2,9 @@
 use Rattle.std.proofs.Common.{◌≡◌, ℕ, ◌+◌, ◌≤◌, ◌↔◌, true, false, List, [], ◌++◌, length, Ok, refl, sym, ap, subst, ◌∙◌, arith, length-append, replicate}
 use Rattle.std.proofs.lemmas.Bool.{ltb-false, le-ltb}
 use Rattle.std.proofs.Math.ListN.{length-replicate}
-use Rattle.pb_base.specs.declared.limits.TheConstants.{MAX_EVENTS}
-use Rattle.pb_reading.specs.Reading.{◌>>=◌, is_skipped, lines_of}
+use Rattle.pb_parse.specs.Words.{MAX_EVENTS, ◌>>=◌, is_skipped, lines_of, ObserverOf}
 use Rattle.pb_reading.proofs.LinesInTurn.{Adds, TakesLines, read, back}
 use Rattle.pb_reading.proofs.Readings.{then_ok, ok_is, else_ok}
-use Rattle.pb_verify.specs.Observers.{ObserverOf}
 use Rattle.pb_parse.specs.declared.event.Event.{Event}
 use Rattle.pb_parse.specs.declared.schedule.words.Order.{Order}
 use Rattle.pb_parse.specs.ScheduleCodes.{schedule_code}

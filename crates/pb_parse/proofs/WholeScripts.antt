@@ -2,9 +2,7 @@
 -- have.
 use Rattle.std.proofs.Common.{◌≡◌, ℕ, ◌<◌, ◌≤◌, true, false, cond, List, [], ◌∷◌, ◌++◌, length, map, Result, Ok, Err, refl, sym, ap, subst, ◌∙◌, arith, length-append, nat_le}
 use Rattle.std.proofs.lemmas.Bool.{leb-false, lt-leb}
-use Rattle.pb_base.specs.declared.limits.TheConstants.{MAX_CHANGES}
-use Rattle.pb_base.specs.Batch.{Writes}
-use Rattle.pb_reading.specs.Reading.{◌>>=◌, is_skipped, lines_of}
+use Rattle.pb_parse.specs.Words.{MAX_CHANGES, Writes, ◌>>=◌, is_skipped, lines_of}
 use Rattle.pb_reading.proofs.LinesInTurn.{Adds, TakesLines, read, back, singles}
 use Rattle.pb_reading.proofs.SkippedLines.{kept}
 use Rattle.pb_reading.proofs.Readings.{then_ok, ok_is, else_ok}

@@ -2,11 +2,7 @@
 -- here, so that a reader and a definition that are loose in one way are refused by `event_lines_are_read_as_written`.
 use Rattle.std.specs.Prelude.{◌≡◌, ◌≢◌, ◌⊎◌, ℕ, ◌^◌, ◌<◌, ◌≤◌, ◌==◌, not, true, List, [], ◌∷◌, ◌++◌, length, map, codes, Option, Some, None, slice_get, Ok, replicate, decimal}
 use Rattle.std.specs.List.{flat_map, join_with_byte, list_all}
-use Rattle.pb_base.specs.declared.limits.TheConstants.{COLUMNS, MAX_CHANGES, MAX_EVENTS, MAX_SEATS}
-use Rattle.pb_base.specs.declared.names.Row.{Row}
-use Rattle.pb_base.specs.declared.cell.Cell.{Cell}
-use Rattle.pb_reading.specs.Reading.{shown_lines}
-use Rattle.pb_verify.specs.Observers.{ObserverOf, observed_column}
+use Rattle.pb_parse.specs.Words.{COLUMNS, MAX_CHANGES, MAX_EVENTS, MAX_SEATS, Row, Cell, shown_lines, ObserverOf, observed_column}
 use Rattle.pb_parse.specs.declared.event.Job.{Job}
 use Rattle.pb_parse.specs.declared.event.Event.{Event}
 use Rattle.pb_parse.specs.declared.schedule.words.Order.{Order}

@@ -1,3 +1,4 @@
+pub mod Words
 pub mod Codes
 pub mod ScriptWords
 pub mod ScriptLines

@@ -1,10 +1,7 @@
 -- What the operations of a line say, and which of them is at fault. Said of all at once, without an order of reading,
 -- since a looseness of the reading in turn would stand in definition and reader alike. The laws of lines cite it.
 use Rattle.std.specs.Prelude.{◌≡◌, ℕ, ◌≤◌, true, false, is_some, List, ◌∷◌, ◌++◌, length, map, Ok, Err}
-use Rattle.pb_base.specs.declared.limits.TheConstants.{MAX_CELLS}
-use Rattle.pb_base.specs.declared.cell.Cell.{Cell}
-use Rattle.pb_base.specs.declared.content.Content.{Content}
-use Rattle.pb_base.specs.Batch.{Writes, content_in, are_distinct}
+use Rattle.pb_parse.specs.Words.{MAX_CELLS, Cell, Content, Writes, content_in, are_distinct}
 use Rattle.pb_parse.specs.declared.script.code.ScriptCode.{ScriptCode}
 use Rattle.pb_parse.specs.ScriptWords.{operation}
 use Rattle.pb_parse.specs.ScriptLines.{cut}

@@ -2,10 +2,7 @@
 -- meets first. The laws of schedules cite it.
 use Rattle.std.specs.Prelude.{◌≡◌, ◌≢◌, ◌⊎◌, ℕ, ◌-◌, ◌^◌, ◌<◌, ◌+◌, true, false, List, [], ◌∷◌, ◌++◌, length, codes, Ok, decimal}
 use Rattle.std.specs.Str.Parse.{digits_value}
-use Rattle.pb_base.specs.declared.limits.TheConstants.{COLUMNS, MAX_CHANGES, MAX_EVENTS, MAX_SEATS}
-use Rattle.pb_base.specs.declared.names.Row.{Row}
-use Rattle.pb_reading.specs.Reading.{is_numeral, is_skipped}
-use Rattle.pb_verify.specs.Observers.{ObserverOf}
+use Rattle.pb_parse.specs.Words.{COLUMNS, MAX_CHANGES, MAX_EVENTS, MAX_SEATS, Row, is_numeral, is_skipped, ObserverOf}
 use Rattle.pb_parse.specs.declared.event.Event.{Event}
 use Rattle.pb_parse.specs.declared.schedule.words.Order.{Order}
 use Rattle.pb_parse.specs.declared.schedule.code.ScheduleCode.{ScheduleCode}

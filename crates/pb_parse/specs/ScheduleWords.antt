@@ -2,11 +2,7 @@
 -- src/schedule/words.rt cites the one of its name; what they read together is said without an order in EventLines.
 use Rattle.std.specs.Prelude.{ℕ, ◌-◌, ◌^◌, nat_lt, if◌then◌else◌, List, [], ◌∷◌, length, codes, Result, Ok, Err, bytes_eq}
 use Rattle.std.specs.List.{position_or_len}
-use Rattle.pb_base.specs.declared.limits.TheConstants.{COLUMNS, MAX_CHANGES, MAX_EVENTS, MAX_SEATS}
-use Rattle.pb_base.specs.declared.names.Row.{Row}
-use Rattle.pb_base.specs.declared.cell.Cell.{Cell}
-use Rattle.pb_reading.specs.Reading.{◌>>=◌, next_word, no_word, numeral_upto, words_of}
-use Rattle.pb_verify.specs.Observers.{ObserverOf, acknowledgment}
+use Rattle.pb_parse.specs.Words.{COLUMNS, MAX_CHANGES, MAX_EVENTS, MAX_SEATS, Row, Cell, ◌>>=◌, next_word, no_word, numeral_upto, words_of, ObserverOf, acknowledgment}
 use Rattle.pb_parse.specs.declared.event.Job.{Job}
 use Rattle.pb_parse.specs.declared.event.Event.{Event}
 use Rattle.pb_parse.specs.declared.schedule.words.Order.{Order}

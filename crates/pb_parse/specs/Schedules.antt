@@ -1,10 +1,7 @@
 -- A text of lines, each an event or several, and the first line at fault. `parse_schedule` promises it; the same is
 -- said of all lines at once in EventLines, by a law.
 use Rattle.std.specs.Prelude.{ℕ, ◌+◌, nat_lt, replicate, if◌then◌else◌, List, [], ◌++◌, length, Result, Ok, Err}
-use Rattle.pb_base.specs.declared.limits.TheConstants.{MAX_EVENTS}
-use Rattle.pb_reading.specs.Reading.{◌>>=◌, is_skipped, lines_of}
-use Rattle.pb_reading.specs.Faults.{in_lines}
-use Rattle.pb_verify.specs.Observers.{ObserverOf}
+use Rattle.pb_parse.specs.Words.{MAX_EVENTS, ◌>>=◌, is_skipped, lines_of, in_lines, ObserverOf}
 use Rattle.pb_parse.specs.declared.event.Event.{Event}
 use Rattle.pb_parse.specs.declared.schedule.words.Order.{Order}
 use Rattle.pb_parse.specs.declared.schedule.code.ScheduleCode.{ScheduleCode}

@@ -2,12 +2,9 @@
 -- up to the first at fault. `parse_script` cites it, and so do all laws of scripts.
 use Rattle.std.specs.Prelude.{ℕ, ◌&&◌, ◌==◌, nat_le, if◌then◌else◌, is_some, List, [], ◌∷◌, ◌++◌, length, Result, Ok, Err}
 use Rattle.std.specs.List.{onto_first}
-use Rattle.pb_base.specs.declared.limits.TheConstants.{MAX_CELLS, MAX_CHANGES}
-use Rattle.pb_base.specs.Batch.{Writes, content_in}
+use Rattle.pb_parse.specs.Words.{MAX_CELLS, MAX_CHANGES, Writes, content_in, ◌>>=◌, in_turn, is_skipped, lines_of, in_lines}
 use Rattle.pb_parse.specs.declared.script.code.ScriptCode.{ScriptCode}
 use Rattle.pb_parse.specs.Codes.{script_code}
-use Rattle.pb_reading.specs.Reading.{◌>>=◌, in_turn, is_skipped, lines_of}
-use Rattle.pb_reading.specs.Faults.{in_lines}
 use Rattle.pb_parse.specs.ScriptWords.{operation}
 
 -- what stands between joints, each of them `; `

@@ -4,11 +4,8 @@ use Rattle.std.specs.Prelude.{ℕ, ◌-◌, ◌^◌, replicate, ◌||◌, ◌==�
 use Rattle.std.specs.Char.{is_ascii_uppercase}
 use Rattle.std.specs.List.{list_any}
 use Rattle.hex.specs.Hex.{decode_of}
-use Rattle.pb_base.specs.declared.limits.TheConstants.{COLUMNS}
-use Rattle.pb_base.specs.declared.cell.Cell.{Cell}
-use Rattle.pb_base.specs.declared.content.Content.{Content}
+use Rattle.pb_parse.specs.Words.{COLUMNS, Cell, Content, ◌>>=◌, next_word, no_word, numeral_upto, words_of}
 use Rattle.pb_parse.specs.declared.script.code.ScriptCode.{ScriptCode}
-use Rattle.pb_reading.specs.Reading.{◌>>=◌, next_word, no_word, numeral_upto, words_of}
 
 -- a number of any length, at most this
 abbrev pub number_upto : ℕ → List ℕ → Result ℕ ScriptCode

@@ -1,7 +1,6 @@
 -- What a whole script is read as.
 use Rattle.std.specs.Prelude.{◌≡◌, ◌≤◌, true, length, All}
-use Rattle.pb_base.specs.declared.limits.TheConstants.{MAX_CHANGES}
-use Rattle.pb_base.specs.Batch.{is_batch}
+use Rattle.pb_parse.specs.Words.{MAX_CHANGES, is_batch}
 use Rattle.pb_parse.specs.ScriptLines.{Batches}
 
 -- no more transactions than a script may have, each of them a batch

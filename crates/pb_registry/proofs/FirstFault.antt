@@ -7,8 +7,7 @@ use Rattle.std.proofs.lemmas.List as lists
 use Rattle.std.proofs.lemmas.Option.{slice_get-get_or}
 use Rattle.serde_json.specs.View.{view}
 use Rattle.serde_json.specs.declared.value.Value.{Value}
-use Rattle.pb_isa.specs.declared.profile.Profile.{Profile}
-use Rattle.pb_verify.specs.Observers.{ObserverOf}
+use Rattle.pb_registry.specs.Words.{Profile, ObserverOf}
 use Rattle.pb_registry.specs.declared.code.ManifestCode.{ManifestCode}
 use Rattle.pb_registry.specs.declared.fault.RegistryFault.{RegistryFault}
 use Rattle.pb_registry.specs.Codes.{is_memory, memory}

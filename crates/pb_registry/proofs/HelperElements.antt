@@ -4,8 +4,7 @@ use Rattle.std.proofs.lemmas.Bool.{lt-leb}
 use Rattle.std.proofs.lemmas.List.{take_more}
 use Rattle.serde_json.specs.View.{view}
 use Rattle.serde_json.specs.declared.value.Value.{Value}
-use Rattle.pb_isa.specs.Helpers.{HelperSet, helper_of, declared_helper}
-use Rattle.pb_helpers.specs.Table.{with_helper}
+use Rattle.pb_registry.specs.Words.{HelperSet, helper_of, declared_helper, with_helper}
 use Rattle.pb_registry.specs.Helpers.{is_helper, is_named, are_helpers, helper_set, helpers_of}
 use Rattle.pb_registry.specs.Manifests.{number_in, numbers_of}
 use Rattle.pb_registry.proofs.HelperNumbers.{one_more, one_fault, declared_is, added, not_added, not_second}

@@ -2,8 +2,7 @@
 use Rattle.std.proofs.Common.{◌≡◌, ◌≤◌, ℕ, zero, suc, pos, Bool, true, false, cond, Some, None, List, [], ◌∷◌, ◌++◌, refl, sym, ap, ◌∙◌, arith, is_some, true≢false, not, ◌&&◌, ◌||◌, ◌==◌, option_map, unwrap_or}
 use Rattle.std.proofs.lemmas.Bool.{and_parts, or_parts as neither}
 use Rattle.std.proofs.lemmas.List.Folds.{list_any-append}
-use Rattle.pb_isa.specs.Helpers.{HelperSet, helper_of, declared_helper, Read, Write, Delete, Start}
-use Rattle.pb_helpers.specs.Table.{with_helper}
+use Rattle.pb_registry.specs.Words.{HelperSet, helper_of, declared_helper, Read, Write, Delete, Start, with_helper}
 use Rattle.pb_registry.specs.Helpers.{is_helper, is_named, are_helpers, helper_set}
 use Rattle.pb_base.proofs.Logic.{or_false, false_if_not as was_false}
 

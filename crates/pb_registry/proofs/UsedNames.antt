@@ -1,13 +1,9 @@
 -- The names of the observers in a map are its keys.
 use Rattle.std.proofs.Common.{arith, ◌≡◌, ℕ, false, Option, Some, None, Result, Ok, List, [], ◌∷◌, is_some, String, Global, refl, sym, ap, ◌∙◌, string_bytes, codes, bytes_eq}
-use Rattle.pb_reading.specs.Reading.{◌>>=◌}
+use Rattle.pb_registry.specs.Words.{◌>>=◌, HelperSet, Profile, Version, ObserverOf}
 use Rattle.std.specs.List.{IsDistinct, AllByRecursion, list_any}
 use Rattle.std.specs.Map.{lookup, keys_of}
 use Rattle.serde_json.specs.Data.{Data}
-use Rattle.pb_isa.specs.Helpers.{HelperSet}
-use Rattle.pb_isa.specs.declared.profile.Profile.{Profile}
-use Rattle.pb_helpers.specs.declared.change.Version.{Version}
-use Rattle.pb_verify.specs.Observers.{ObserverOf}
 use Rattle.pb_registry.specs.declared.code.ManifestCode.{ManifestCode}
 use Rattle.pb_registry.specs.declared.observer.RegisteredObserver.{RegisteredObserver}
 use Rattle.pb_registry.specs.Manifests.{WrittenOf, name_in, text_at, column_in, number_at, helpers_in, elements_at, record_version, bytes_in, members_of}

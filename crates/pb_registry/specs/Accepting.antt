@@ -2,17 +2,7 @@
 -- is a relation, since decoder and verifier speak of programs by relations; that there is one program follows from
 -- their laws. `accept_in` cites it, and through it each manifest and `check`.
 use Rattle.std.specs.Prelude.{◌≡◌, ◌⊎◌, ℕ, List}
-use Rattle.pb_isa.specs.declared.profile.Profile.{Profile}
-use Rattle.pb_isa.specs.Programs.{ProgramOf, JudgedOf}
-use Rattle.pb_isa.specs.Helpers.{HelperSet}
-use Rattle.pb_helpers.specs.declared.code.RuleCode.{RuleCode}
-use Rattle.pb_helpers.specs.declared.change.Version.{Version}
-use Rattle.pb_helpers.specs.Codes.{code_number}
-use Rattle.pb_decode.specs.Encoding.{Encodes}
-use Rattle.pb_decode.specs.Faults.{AreRefusedAs}
-use Rattle.pb_verify.specs.Arriving.{Accepts, Refuses}
-use Rattle.pb_verify.specs.Versions.{judged_by}
-use Rattle.pb_verify.specs.declared.verifier.VerifyFault.{VerifyFault}
+use Rattle.pb_registry.specs.Words.{Profile, ProgramOf, JudgedOf, HelperSet, RuleCode, Version, code_number, Encodes, AreRefusedAs, Accepts, Refuses, judged_by, VerifyFault}
 
 -- the bytes encode this program of the profile, and the rules accept it with these helpers, for records of this version
 pub record IsAcceptedCode (profile : Profile) (version : Version) (bytes : List ℕ) (helpers : HelperSet) (judged : JudgedOf) : Type 0 where

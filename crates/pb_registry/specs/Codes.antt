@@ -1,7 +1,6 @@
 -- How the codes of a manifest's faults are told. Readers speak of codes by name; three have one number.
 use Rattle.std.specs.Prelude.{ℕ, Bool, true, false, Option, Some, None}
-use Rattle.pb_base.specs.declared.refusal.Refused.{Refused}
-use Rattle.pb_base.specs.Growths.{refused_growth}
+use Rattle.pb_registry.specs.Words.{Refused, refused_growth}
 use Rattle.pb_registry.specs.declared.code.ManifestCode.{ManifestCode}
 
 -- 1 where memory ran out, else the number that docs/CODES.md explains

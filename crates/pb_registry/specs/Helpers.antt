@@ -2,7 +2,7 @@
 -- fault and not one name too many.
 use Rattle.std.specs.Prelude.{ℕ, Bool, true, not, ◌&&◌, ◌==◌, nat_lt, nat_le, if◌then◌else◌, List, [], ◌∷◌, Option, Some, None}
 use Rattle.std.specs.List.{list_any}
-use Rattle.pb_isa.specs.Helpers.{HelperSet}
+use Rattle.pb_registry.specs.Words.{HelperSet}
 
 -- a helper's number
 abbrev pub is_helper : ℕ → Bool

@@ -3,15 +3,10 @@
 use Rattle.std.specs.Prelude.{◌≡◌, ◌⊎◌, ℕ, Bool, true, false, if◌then◌else◌, List, [], ◌∷◌, ◌++◌, map, take, slice_get, codes, Option, Some, None, Result, Ok, Err, bytes_eq}
 use Rattle.std.specs.List.{AllZip, IsDistinct, list_any}
 use Rattle.serde_json.specs.Data.{Data}
-use Rattle.pb_isa.specs.declared.profile.Profile.{Profile}
-use Rattle.pb_isa.specs.Helpers.{HelperSet}
-use Rattle.pb_helpers.specs.declared.change.Version.{Version}
-use Rattle.pb_verify.specs.Observers.{ObserverOf}
+use Rattle.pb_registry.specs.Words.{Profile, HelperSet, Version, ObserverOf, refused_growth, NoMemory}
 use Rattle.pb_registry.specs.declared.code.ManifestCode.{ManifestCode}
 use Rattle.pb_registry.specs.declared.fault.RegistryFault.{RegistryFault}
 use Rattle.pb_registry.specs.Accepting.{IsAcceptedCode, IsRefusedCode}
-use Rattle.pb_base.specs.Growths.{refused_growth}
-use Rattle.pb_base.specs.declared.refusal.NoMemory.{NoMemory}
 use Rattle.pb_registry.specs.Codes.{is_memory, memory}
 use Rattle.pb_registry.specs.Manifests.{WrittenOf, ManifestOf, text_at, members_of, manifest_of_text}
 

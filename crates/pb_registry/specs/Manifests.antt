@@ -7,11 +7,7 @@ use Rattle.hex.specs.Hex.{decode_of}
 use Rattle.serde_json.specs.Data.{Data, Items, no_items, item, Members, no_members, member}
 use Rattle.serde_json.specs.Find.{get, as_number, as_str, as_array, as_object, as_u64}
 use Rattle.serde_json.specs.Read.{read}
-use Rattle.pb_base.specs.declared.limits.TheConstants.{COLUMNS, MAX_OBSERVERS}
-use Rattle.pb_reading.specs.Reading.{◌>>=◌}
-use Rattle.pb_isa.specs.declared.profile.Profile.{Profile}
-use Rattle.pb_isa.specs.Helpers.{HelperSet}
-use Rattle.pb_helpers.specs.declared.change.Version.{Version}
+use Rattle.pb_registry.specs.Words.{COLUMNS, MAX_OBSERVERS, ◌>>=◌, Profile, HelperSet, Version}
 use Rattle.pb_registry.specs.declared.code.ManifestCode.{ManifestCode}
 use Rattle.pb_registry.specs.Helpers.{helpers_of}
 

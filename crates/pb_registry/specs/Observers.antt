@@ -3,7 +3,7 @@
 use Rattle.std.specs.Prelude.{List, map, String, string_bytes}
 use Rattle.std.specs.declared.alloc.Global.{Global}
 use Rattle.std.specs.Coded.{Coded, coded_list}
-use Rattle.pb_verify.specs.Observers.{ObserverOf, observer_code}
+use Rattle.pb_registry.specs.Words.{ObserverOf, observer_code}
 use Rattle.pb_registry.specs.declared.observer.RegisteredObserver.{RegisteredObserver}
 use Rattle.pb_registry.specs.declared.observer.Written.{Written}
 use Rattle.pb_registry.specs.Manifests.{WrittenOf}

@@ -3,21 +3,7 @@ use Rattle.std.proofs.Common.{◌≡◌, ℕ, ◌+◌, ◌<◌, ◌⊎◌, inl, 
 use Rattle.std.specs.Ordering.{eq_by_cmp}
 use Rattle.std.specs.FinMap as finmap
 use Rattle.std.proofs.lemmas.List.{append-nil, map-append, take_more}
-use Rattle.pb_base.specs.declared.names.Ts.{Ts}
-use Rattle.pb_base.specs.declared.cell.Cell.{Cell}
-use Rattle.pb_base.specs.declared.content.Content.{Content}
-use Rattle.pb_base.specs.Cell.{cell_cmp}
-use Rattle.pb_base.specs.Batch.{Writes, content_in, are_distinct}
-use Rattle.pb_steps.specs.declared.step.Declared.{Declared}
-use Rattle.pb_steps.specs.declared.step.Step.{Step}
-use Rattle.pb_steps.specs.declared.step.Answer.{Answer}
-use Rattle.pb_steps.specs.declared.phase.Phase.{Phase}
-use Rattle.pb_steps.specs.State.{StateOf, TransactionOf, phase_in, cells_of}
-use Rattle.pb_verify.specs.Observers.{ObserverOf}
-use Rattle.pb_base.specs.declared.names.Row.{Row}
-use Rattle.pb_steps.specs.declared.step.Work.{Work}
-use Rattle.pb_history.specs.declared.entry.Entry.{Entry}
-use Rattle.pb_history.specs.History.{Has, Member, TellsHistory}
+use Rattle.pb_script.specs.Words.{Ts, Cell, Content, cell_cmp, Writes, content_in, are_distinct, Declared, Step, Answer, Phase, StateOf, TransactionOf, phase_in, cells_of, ObserverOf, Row, Work, Entry, Has, Member, TellsHistory}
 use Rattle.pb_script.specs.declared.reports.newest.Put.{Put}
 use Rattle.pb_script.specs.Committed.{IsWrite, Gathers}
 use Rattle.pb_script.specs.Puts.{put_by, if_committed, written_in, puts_of_entry, puts_by}

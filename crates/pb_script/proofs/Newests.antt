@@ -4,8 +4,7 @@ use Rattle.std.proofs.Common.{◌≡◌, ◌≢◌, ℕ, ◌≤◌, ◌<◌, inl
 use Rattle.std.specs.Cmp.{eq_by_cmp_equiv}
 use Rattle.std.proofs.lemmas.Bool.{cases_Bool, ltb-true, ltb-false, and_cases as one_false}
 use Rattle.std.proofs.lemmas.List.Elements.{Contains-append_left, Contains-push, Contains-push_cases}
-use Rattle.pb_base.specs.declared.cell.Cell.{Cell}
-use Rattle.pb_base.specs.Cell.{cell_cmp, cell_cmp_total, cell_cmp-IsAntisymmetric, is_data}
+use Rattle.pb_script.specs.Words.{Cell, cell_cmp, cell_cmp_total, cell_cmp-IsAntisymmetric, is_data}
 use Rattle.pb_script.specs.declared.reports.lines.Newest.{Newest}
 use Rattle.pb_script.specs.declared.reports.newest.Put.{Put}
 use Rattle.pb_script.specs.Reports.{IsNewestPut, IsTold, is_later, newest_in}

@@ -1,11 +1,8 @@
 -- The report of the gathered writes is the report of the table.
 use Rattle.std.proofs.Common.{ℕ, ◌+◌, ◌≤◌, List, [], ◌∷◌, ◌++◌, length, Option, None, Some, refl, subst, arith}
-use Rattle.pb_base.specs.declared.cell.Cell.{Cell}
-use Rattle.pb_history.specs.declared.entry.Entry.{Entry}
+use Rattle.pb_script.specs.Words.{Cell, Entry, Row, ObserverOf}
 use Rattle.pb_script.specs.declared.reports.lines.Newest.{Newest}
 use Rattle.pb_script.specs.declared.reports.newest.Put.{Put}
-use Rattle.pb_base.specs.declared.names.Row.{Row}
-use Rattle.pb_verify.specs.Observers.{ObserverOf}
 use Rattle.pb_script.specs.ReportLines.{Tallies}
 use Rattle.pb_script.specs.Reports.{IsNewestPut, IsTold, IsReport, IsReportOf}
 use Rattle.pb_script.specs.Committed.{AreSeen, Gathers, IsSeenAt}

@@ -2,12 +2,7 @@
 -- wrongly would make a definition by such a walk wrong alike. `report` rests on it.
 use Rattle.std.specs.Prelude.{◌≡◌, ℕ, ◌≤◌, List, Contains, Option, Some, None}
 use Rattle.std.specs.BTreeMap.{BTreeMap}
-use Rattle.pb_base.specs.declared.names.Row.{Row}
-use Rattle.pb_base.specs.declared.cell.Cell.{Cell}
-use Rattle.pb_base.specs.declared.content.Content.{Content}
-use Rattle.pb_verify.specs.Observers.{ObserverOf}
-use Rattle.pb_history.specs.declared.entry.Entry.{Entry}
-use Rattle.pb_history.specs.History.{Member, InHistory, WritesTo, IsSnapshot, NoSnapshot}
+use Rattle.pb_script.specs.Words.{Row, Cell, Content, ObserverOf, Entry, Member, InHistory, WritesTo, IsSnapshot, NoSnapshot}
 use Rattle.pb_script.specs.declared.reports.lines.Newest.{Newest}
 use Rattle.pb_script.specs.declared.reports.newest.Put.{Put}
 use Rattle.pb_script.specs.Reports.{AreNewest}

@@ -1,3 +1,4 @@
+pub mod Words
 pub mod ReportLines
 pub mod Reports
 pub mod Committed

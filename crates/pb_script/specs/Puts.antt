@@ -1,16 +1,7 @@
 -- The committed writes of a table, as they are gathered: entry by entry. The functions of src/output.rt cite these,
 -- and a lemma says that they are the writes of the history.
 use Rattle.std.specs.Prelude.{List, [], map, Option, Some}
-use Rattle.pb_base.specs.Batch.{Writes}
-use Rattle.pb_base.specs.declared.names.Ts.{Ts}
-use Rattle.pb_base.specs.declared.cell.Cell.{Cell}
-use Rattle.pb_base.specs.declared.content.Content.{Content}
-use Rattle.pb_steps.specs.declared.step.Declared.{Declared}
-use Rattle.pb_steps.specs.declared.step.Step.{Step}
-use Rattle.pb_steps.specs.declared.step.Answer.{Answer}
-use Rattle.pb_steps.specs.declared.phase.Phase.{Phase}
-use Rattle.pb_steps.specs.State.{StateOf, phase_in}
-use Rattle.pb_history.specs.declared.entry.Entry.{Entry}
+use Rattle.pb_script.specs.Words.{Writes, Ts, Cell, Content, Declared, Step, Answer, Phase, StateOf, phase_in, Entry}
 use Rattle.pb_script.specs.declared.reports.newest.Put.{Put}
 
 -- a write of a transaction with this commit

@@ -2,9 +2,7 @@
 use Rattle.std.specs.Prelude.{ℕ, ◌&&◌, ◌==◌, if◌then◌else◌, List, [], ◌∷◌, ◌++◌, codes, decimal}
 use Rattle.std.specs.List.{list_all, flat_map}
 use Rattle.hex.specs.Hex.{encode_lower}
-use Rattle.pb_base.specs.declared.cell.Cell.{Cell}
-use Rattle.pb_base.specs.declared.content.Content.{Content}
-use Rattle.pb_base.specs.Cell.{row_of, column_of}
+use Rattle.pb_script.specs.Words.{Cell, Content, row_of, column_of}
 use Rattle.pb_script.specs.declared.reports.lines.Newest.{Newest}
 
 -- without the zeros at the end, but at least one byte

@@ -1,9 +1,7 @@
 -- The report of a table, written to a sink: what `report` promises, also where a write fails.
 use Rattle.std.specs.Prelude.{ℕ, List, Result, Ok, Err}
 use Rattle.std.specs.FinMap as finite
-use Rattle.pb_steps.specs.Readings.{lock_count}
-use Rattle.pb_core.specs.Calls.{SharedOf}
-use Rattle.pb_base.specs.Taking.{Taking, TookAll, TookPart, TookNothing}
+use Rattle.pb_script.specs.Words.{lock_count, SharedOf, Taking, TookAll, TookPart, TookNothing}
 use Rattle.pb_script.specs.declared.fault.ReportFault.{ReportFault}
 use Rattle.pb_script.specs.ReportLines.{Tallies}
 use Rattle.pb_script.specs.Reports.{IsReportOf}

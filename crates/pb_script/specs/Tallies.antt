@@ -1,8 +1,6 @@
 -- How often each observer ran, counted as members of the history and not as entries. The report's lines tell it.
 use Rattle.std.specs.Prelude.{◌≡◌, ℕ, ◌+◌, List, [], ◌∷◌}
-use Rattle.pb_verify.specs.Observers.{ObserverOf}
-use Rattle.pb_history.specs.declared.entry.Entry.{Entry}
-use Rattle.pb_history.specs.RunCounts.{IsRunCount}
+use Rattle.pb_script.specs.Words.{ObserverOf, Entry, IsRunCount}
 use Rattle.pb_script.specs.ReportLines.{Tallies}
 
 -- an observer's name, with the number of its committed runs

@@ -2,29 +2,10 @@
 use Rattle.std.proofs.Common.{◌≡◌, ℕ, zero, suc, ◌+◌, ◌-◌, ◌<◌, inl, inr, ℤ, ◌+ℤ◌, Bool, true, false, cond, List, [], ◌++◌, length, get_or, Some, IsTrue, is_some, nat_abs, refl, sym, ◌∙◌, arith}
 use Rattle.std.proofs.lemmas.Bool.{cases_lt, or_parts as or_not}
 use Rattle.std.specs.Int.{from_le_bytes, to_le_bytes}
-use Rattle.pb_isa.specs.declared.limits.TheConstants.{STACK_BYTES}
-use Rattle.pb_isa.specs.declared.insn.Insn.{Insn}
-use Rattle.pb_isa.specs.declared.insn.Width.{Width}
-use Rattle.pb_isa.specs.declared.insn.Cmp.{Cmp}
-use Rattle.pb_isa.specs.declared.insn.Size.{Size}
-use Rattle.pb_isa.specs.declared.insn.Extension.{Extension}
-use Rattle.pb_isa.specs.declared.insn.Operand.{Operand}
+use Rattle.pb_sound.specs.Words.{STACK_BYTES, Insn, Width, Cmp, Size, Extension, Operand, number, holds, word, insn_at, Map, Placement, State, address, width, extended, fetch, entries, with_list, Kind, Frame, kind_of, is_unset, is_pointer, in_stack, in_record, from_low, are_written, set_flags, with_written, when, RuleCode, unset, stack_reads, at, reads, reads_operand, sets, on_pointer, points, loads, bytes_of, falls, jump_rules, after, with_store}
 use Rattle.pb_isa.specs.declared.insn.Reg as registers
-use Rattle.pb_isa.specs.Registers.{number}
-use Rattle.pb_isa.specs.Alu.{holds, word}
-use Rattle.pb_isa.specs.Slots.{insn_at}
 use Rattle.pb_isa.specs.Machine as m
-use Rattle.pb_isa.specs.Machine.{Map, Placement, State, address, width, extended, fetch, entries, with_list}
-use Rattle.pb_kinds.specs.declared.frame.Kind.{Kind}
-use Rattle.pb_kinds.specs.declared.frame.Frame.{Frame}
-use Rattle.pb_kinds.specs.Frames.{kind_of, is_unset, is_pointer}
-use Rattle.pb_kinds.specs.Ranges.{in_stack, in_record, from_low, are_written, set_flags, with_written}
-use Rattle.pb_helpers.specs.Codes.{when}
-use Rattle.pb_helpers.specs.declared.code.RuleCode.{RuleCode}
-use Rattle.pb_helpers.specs.Arguments.{unset, stack_reads}
 use Rattle.pb_verify.specs.Rules as rules
-use Rattle.pb_verify.specs.Rules.{at, reads, reads_operand, sets, on_pointer, points, loads, bytes_of, falls, jump_rules}
-use Rattle.pb_verify.specs.Following.{after, with_store}
 use Rattle.pb_sound.specs.Fits.{Holds}
 use Rattle.pb_sound.proofs.Alike.{Alike, Agree}
 use Rattle.pb_sound.proofs.Lists.{when_not, cond_when, true_at, flag_from, with_list_below, with_list_above, with_list_in}

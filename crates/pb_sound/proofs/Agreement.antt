@@ -1,23 +1,7 @@
 -- An instruction whose rules hold does the same at two placements.
 use Rattle.std.proofs.Common.{◌≡◌, ℕ, ◌+◌, ℤ, pos, ◌+ℤ◌, Bool, true, false, not, ◌&&◌, cond, nat_lt, List, [], ◌++◌, length, replicate, Option, Some, None, is_some, refl, sym, ap, ◌∙◌, arith}
-use Rattle.pb_base.specs.declared.limits.TheConstants.{COLUMNS}
-use Rattle.pb_base.specs.Batch.{Writes}
-use Rattle.pb_base.specs.declared.content.Content.{Content}
-use Rattle.pb_isa.specs.declared.limits.TheConstants.{STACK_BYTES}
-use Rattle.pb_isa.specs.declared.insn.Insn.{Insn}
-use Rattle.pb_isa.specs.Helpers.{Helper, Read, Write, Delete, Start, helper_of, declared_helper}
-use Rattle.pb_isa.specs.Slots.{insn_at}
+use Rattle.pb_sound.specs.Words.{COLUMNS, Writes, Content, STACK_BYTES, Insn, Helper, Read, Write, Delete, Start, helper_of, declared_helper, insn_at, Map, Placement, State, Outcome, Goes, Asks, act, address, entries, with_list, called_regs, Kind, Frame, kind_of, from_low, with_written, when, RuleCode, unset, filled_bytes, taken_bytes, is_cell, is_place, read_rules, call_rules, stack_writes, falls, insn_rules, after, after_call, clobber}
 use Rattle.pb_isa.specs.Machine as m
-use Rattle.pb_isa.specs.Machine.{Map, Placement, State, Outcome, Goes, Asks, act, address, entries, with_list, called_regs}
-use Rattle.pb_kinds.specs.declared.frame.Kind.{Kind}
-use Rattle.pb_kinds.specs.declared.frame.Frame.{Frame}
-use Rattle.pb_kinds.specs.Frames.{kind_of}
-use Rattle.pb_kinds.specs.Ranges.{from_low, with_written}
-use Rattle.pb_helpers.specs.Codes.{when}
-use Rattle.pb_helpers.specs.declared.code.RuleCode.{RuleCode}
-use Rattle.pb_helpers.specs.Arguments.{unset, filled_bytes, taken_bytes, is_cell, is_place, read_rules, call_rules, stack_writes}
-use Rattle.pb_verify.specs.Rules.{falls, insn_rules}
-use Rattle.pb_verify.specs.Following.{after, after_call, clobber}
 use Rattle.pb_sound.specs.Fits.{Holds}
 use Rattle.pb_sound.proofs.Alike.{SameNumber, Alike, Agree}
 use Rattle.pb_sound.proofs.Lists.{when_not}

@@ -1,11 +1,6 @@
 -- States of one program at two placements that are alike, and what an instruction does from them.
 use Rattle.std.specs.Prelude.{◌≡◌, ℕ, ◌+◌, Option, IsTrue}
-use Rattle.pb_isa.specs.declared.insn.Insn.{Insn}
-use Rattle.pb_isa.specs.Machine.{Placement, State, Reply, IsReply, Outcome, Goes, Asks, Ends}
-use Rattle.pb_kinds.specs.declared.frame.Kind.{Kind}
-use Rattle.pb_kinds.specs.declared.frame.Frame.{Frame}
-use Rattle.pb_kinds.specs.Frames.{kind_of, has_byte}
-use Rattle.pb_verify.specs.Following.{after}
+use Rattle.pb_sound.specs.Words.{Insn, Placement, State, Reply, IsReply, Outcome, Goes, Asks, Ends, Kind, Frame, kind_of, has_byte, after}
 
 -- a number is the same; where pointers point follows from the frame
 abbrev pub SameNumber : Kind → Option ℕ → Option ℕ → Type 0

@@ -1,22 +1,9 @@
 -- Operations with two operands, the sign-extending move, the negative, and the 64-bit immediate.
 use Rattle.std.proofs.Common.{arith, ◌≡◌, ℕ, ◌+◌, ℤ, pos, neg_ℤ, [], ◌++◌, Some, refl}
-use Rattle.pb_isa.specs.declared.insn.Insn.{Insn}
-use Rattle.pb_isa.specs.declared.insn.AluOp.{AluOp}
-use Rattle.pb_isa.specs.declared.insn.Width.{Width}
-use Rattle.pb_isa.specs.declared.insn.Size.{Size}
-use Rattle.pb_isa.specs.declared.insn.Operand.{Operand}
+use Rattle.pb_sound.specs.Words.{Insn, AluOp, Width, Size, Operand, alu, word, Environment, State, does, address, mov_sx, Kind, Frame, is_pointer, when, RuleCode, at, reads, reads_operand, sets, numeric_rules, on_pointer, insn_rules, kind_after, move_pointer}
 use Rattle.pb_isa.specs.declared.insn.Reg as registers
-use Rattle.pb_isa.specs.Alu.{alu, word}
 use Rattle.pb_isa.specs.Machine as m
-use Rattle.pb_isa.specs.Machine.{Environment, State, does, address, mov_sx}
-use Rattle.pb_kinds.specs.declared.frame.Kind.{Kind}
-use Rattle.pb_kinds.specs.declared.frame.Frame.{Frame}
-use Rattle.pb_kinds.specs.Frames.{is_pointer}
-use Rattle.pb_helpers.specs.Codes.{when}
-use Rattle.pb_helpers.specs.declared.code.RuleCode.{RuleCode}
 use Rattle.pb_verify.specs.Rules as rules
-use Rattle.pb_verify.specs.Rules.{at, reads, reads_operand, sets, numeric_rules, on_pointer, insn_rules}
-use Rattle.pb_verify.specs.Following.{kind_after, move_pointer}
 use Rattle.pb_sound.specs.Fits.{HasValue, Holds, FitsFrame}
 use Rattle.pb_sound.specs.Outcomes.{GoesOn}
 use Rattle.pb_sound.proofs.Offsets.{sub_is}

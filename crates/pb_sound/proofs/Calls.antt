@@ -1,23 +1,7 @@
 -- Calls of the four helpers.
 use Rattle.std.proofs.Common.{◌≡◌, ℕ, ◌+◌, ℤ, pos, ◌+ℤ◌, Bool, true, false, cond, not, ◌&&◌, nat_lt, List, [], ◌++◌, length, replicate, Option, Some, None, refl, sym, ap, ◌∙◌, arith, is_some}
-use Rattle.pb_base.specs.declared.limits.TheConstants.{COLUMNS}
-use Rattle.pb_base.specs.Batch.{Writes}
-use Rattle.pb_base.specs.declared.content.Content.{Content}
-use Rattle.pb_isa.specs.declared.limits.TheConstants.{STACK_BYTES}
-use Rattle.pb_isa.specs.declared.insn.Insn.{Insn}
-use Rattle.pb_isa.specs.Helpers.{Helper, HelperSet, Read, Write, Delete, Start, helper_of, declared_helper}
-use Rattle.pb_isa.specs.Slots.{insn_at}
+use Rattle.pb_sound.specs.Words.{COLUMNS, Writes, Content, STACK_BYTES, Insn, Helper, HelperSet, Read, Write, Delete, Start, helper_of, declared_helper, insn_at, IsReply, IsPlaced, Map, Environment, State, Reply, address, does, helps, writes_cell, with_list, called_regs, Kind, Frame, kind_of, from_low, with_written, RuleCode, when, unset, filled_bytes, taken_bytes, is_cell, is_place, read_rules, call_rules, stack_writes, insn_rules, after_call, clobber}
 use Rattle.pb_isa.specs.Machine as m
-use Rattle.pb_isa.specs.Machine.{IsReply, IsPlaced, Map, Environment, State, Reply, address, does, helps, writes_cell, with_list, called_regs}
-use Rattle.pb_kinds.specs.declared.frame.Kind.{Kind}
-use Rattle.pb_kinds.specs.declared.frame.Frame.{Frame}
-use Rattle.pb_kinds.specs.Frames.{kind_of}
-use Rattle.pb_kinds.specs.Ranges.{from_low, with_written}
-use Rattle.pb_helpers.specs.declared.code.RuleCode.{RuleCode}
-use Rattle.pb_helpers.specs.Codes.{when}
-use Rattle.pb_helpers.specs.Arguments.{unset, filled_bytes, taken_bytes, is_cell, is_place, read_rules, call_rules, stack_writes}
-use Rattle.pb_verify.specs.Rules.{insn_rules}
-use Rattle.pb_verify.specs.Following.{after_call, clobber}
 use Rattle.pb_sound.specs.Fits.{Holds, FitsFrame}
 use Rattle.pb_sound.specs.Outcomes.{Arrives, GoesOn}
 use Rattle.pb_sound.proofs.Lists.{when_not}

@@ -1,7 +1,6 @@
 -- What an instruction does in the cells copies what it does by the definitions.
 use Rattle.std.specs.Prelude.{◌≡◌}
-use Rattle.pb_isa.specs.declared.insn.Insn.{Insn}
-use Rattle.pb_isa.specs.Machine.{Environment, State, Reply, IsReply, Outcome, Goes, Asks, Ends, Stuck, does}
+use Rattle.pb_sound.specs.Words.{Insn, Environment, State, Reply, IsReply, Outcome, Goes, Asks, Ends, Stuck, does}
 use Rattle.pb_sound.specs.Cells.{Cells, CellsOutcome, CellsGo, CellsAsk, CellsEnd, IsSafe, cells_act}
 use Rattle.pb_sound.specs.Mirrors.{Mirrors, IsHere}
 

@@ -4,24 +4,8 @@ use Rattle.std.proofs.lemmas.List.{length-set, get_or_append_left, get_or-append
 use Rattle.std.proofs.lemmas.Bool.{cases_eq, cases_lt}
 use Rattle.std.proofs.lemmas.Bool.Decides.{nat_tests}
 use Rattle.std.specs.Int.{from_le_bytes, to_le_bytes, byte_len}
-use Rattle.pb_base.specs.declared.limits.TheConstants.{COLUMNS}
-use Rattle.pb_base.specs.Batch.{Writes}
-use Rattle.pb_base.specs.declared.content.Content.{Content}
-use Rattle.pb_isa.specs.declared.limits.TheConstants.{MAX_RECORD_BYTES, STACK_BYTES}
-use Rattle.pb_isa.specs.declared.insn.Insn.{Insn}
-use Rattle.pb_isa.specs.declared.insn.AluOp.{AluOp}
-use Rattle.pb_isa.specs.declared.insn.Width.{Width}
-use Rattle.pb_isa.specs.declared.insn.Operand.{Operand}
-use Rattle.pb_isa.specs.declared.insn.Size.{Size}
-use Rattle.pb_isa.specs.declared.insn.Extension.{Extension}
-use Rattle.pb_isa.specs.declared.insn.Reg.{Reg}
-use Rattle.pb_isa.specs.declared.insn.Cmp.{Cmp}
-use Rattle.pb_isa.specs.Registers.{number}
-use Rattle.pb_isa.specs.Alu.{alu, holds, word}
-use Rattle.pb_isa.specs.Helpers.{Helper, Read, Write, Delete, Start, helper_of, declared_helper}
-use Rattle.pb_isa.specs.Slots.{insn_at}
+use Rattle.pb_sound.specs.Words.{COLUMNS, Writes, Content, MAX_RECORD_BYTES, STACK_BYTES, Insn, AluOp, Width, Operand, Size, Extension, Reg, Cmp, number, alu, holds, word, Helper, Read, Write, Delete, Start, helper_of, declared_helper, insn_at, Placement, Map, Environment, State, Outcome, Goes, Asks, Stuck, address, width, extended, mov_sx, fetch, does, entries, push_front, with_entry, with_list, lies_in}
 use Rattle.pb_isa.specs.Machine as m
-use Rattle.pb_isa.specs.Machine.{Placement, Map, Environment, State, Outcome, Goes, Asks, Stuck, address, width, extended, mov_sx, fetch, does, entries, push_front, with_entry, with_list, lies_in}
 use Rattle.pb_sound.specs.Cells as cell
 use Rattle.pb_sound.specs.Cells.{Cells, CellsOutcome, CellsGo, IsSafe, cells_act}
 use Rattle.pb_sound.specs.Mirrors.{Mirrors, IsHere}

@@ -1,9 +1,6 @@
 -- Where the rules of an instruction hold, the machine goes on.
 use Rattle.std.proofs.Common.{arith, ◌≡◌, []}
-use Rattle.pb_isa.specs.declared.insn.Insn.{Insn}
-use Rattle.pb_isa.specs.Machine.{IsPlaced, Environment, State, does, act}
-use Rattle.pb_kinds.specs.declared.frame.Frame.{Frame}
-use Rattle.pb_verify.specs.Rules.{insn_rules}
+use Rattle.pb_sound.specs.Words.{Insn, IsPlaced, Environment, State, does, act, Frame, insn_rules}
 use Rattle.pb_sound.specs.Fits.{FitsFrame}
 use Rattle.pb_sound.specs.Outcomes.{GoesOn}
 use Rattle.pb_sound.proofs.Registers.{IsFollowed}

@@ -1,21 +1,8 @@
 -- Jumps, and the exit.
 use Rattle.std.proofs.Common.{◌≡◌, ℕ, ◌+◌, ℤ, Bool, true, cond, List, [], ◌∷◌, ◌++◌, Some, refl, is_some, arith, nat_eq}
 use Rattle.std.proofs.lemmas.Bool.Decides.{nat_tests}
-use Rattle.pb_isa.specs.declared.insn.Insn.{Insn}
-use Rattle.pb_isa.specs.declared.insn.Cmp.{Cmp}
-use Rattle.pb_isa.specs.declared.insn.Width.{Width}
-use Rattle.pb_isa.specs.declared.insn.Operand.{Operand}
-use Rattle.pb_isa.specs.declared.insn.Reg.{Reg}
-use Rattle.pb_isa.specs.Alu.{holds}
-use Rattle.pb_isa.specs.Slots.{insn_at}
+use Rattle.pb_sound.specs.Words.{Insn, Cmp, Width, Operand, Reg, holds, insn_at, Environment, State, does, target, Frame, RuleCode, when, reads, reads_operand, on_pointer, falls, jump_rules, insn_rules, after, leads, ahead, has_slot}
 use Rattle.pb_isa.specs.Machine as m
-use Rattle.pb_isa.specs.Machine.{Environment, State, does, target}
-use Rattle.pb_kinds.specs.declared.frame.Frame.{Frame}
-use Rattle.pb_helpers.specs.declared.code.RuleCode.{RuleCode}
-use Rattle.pb_helpers.specs.Codes.{when}
-use Rattle.pb_verify.specs.Rules.{reads, reads_operand, on_pointer, falls, jump_rules, insn_rules}
-use Rattle.pb_verify.specs.Following.{after, leads, ahead}
-use Rattle.pb_verify.specs.Arriving.{has_slot}
 use Rattle.pb_sound.specs.Fits.{FitsFrame}
 use Rattle.pb_sound.specs.Outcomes.{GoesOn}
 use Rattle.pb_sound.proofs.Registers.{read_value, IsFollowed}

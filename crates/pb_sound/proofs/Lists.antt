@@ -1,12 +1,7 @@
 -- Maps with entries, and codes that are not listed.
 use Rattle.std.proofs.Common.{◌≡◌, ◌≢◌, ℕ, zero, suc, ◌+◌, ◌<◌, ◌≤◌, Bool, true, false, not, if◌then◌else◌, List, [], ◌∷◌, length, get_or, Option, Some, refl, ◌∙◌, arith, add-zero, get_or-drop, ◌⊎◌, inl, inr}
 use Rattle.std.proofs.lemmas.List.{length-replicate, get_or-append_right}
-use Rattle.pb_kinds.specs.declared.frame.Frame.{Frame}
-use Rattle.pb_kinds.specs.Frames.{has_byte}
-use Rattle.pb_kinds.specs.Ranges.{has_bytes, set_flags}
-use Rattle.pb_helpers.specs.declared.code.RuleCode.{RuleCode}
-use Rattle.pb_helpers.specs.Codes.{when}
-use Rattle.pb_isa.specs.Machine.{Map, with_entry, with_list, entries, push_front}
+use Rattle.pb_sound.specs.Words.{Frame, has_byte, has_bytes, set_flags, RuleCode, when, Map, with_entry, with_list, entries, push_front}
 use Rattle.pb_sound.specs.Fits.{HasValue}
 use Rattle.pb_base.proofs.Logic.{and_true}
 

@@ -2,19 +2,8 @@
 use Rattle.std.proofs.Common.{◌∙◌, ◌≡◌, ℕ, ◌+◌, ◌-◌, ◌<◌, ◌≤◌, ℤ, pos, negsuc, ◌+ℤ◌, true, false, List, [], ◌++◌, length, Some, refl, arith, nat_abs, slice_get, get_or}
 use Rattle.std.proofs.lemmas.Option.{slice_get-get_or}
 use Rattle.std.specs.Int.{from_le_bytes}
-use Rattle.pb_isa.specs.declared.limits.TheConstants.{STACK_BYTES}
-use Rattle.pb_isa.specs.declared.insn.Insn.{Insn}
-use Rattle.pb_isa.specs.declared.insn.Reg.{Reg}
-use Rattle.pb_isa.specs.declared.insn.Size.{Size}
-use Rattle.pb_isa.specs.declared.insn.Extension.{Extension}
+use Rattle.pb_sound.specs.Words.{STACK_BYTES, Insn, Reg, Size, Extension, IsPlaced, Environment, State, address, width, extended, fetch, entries, does, Kind, Frame, is_unset, in_stack, in_record, from_low, are_written, stack_reads, at, reads, sets, loads, bytes_of, insn_rules}
 use Rattle.pb_isa.specs.Machine as m
-use Rattle.pb_isa.specs.Machine.{IsPlaced, Environment, State, address, width, extended, fetch, entries, does}
-use Rattle.pb_kinds.specs.declared.frame.Kind.{Kind}
-use Rattle.pb_kinds.specs.declared.frame.Frame.{Frame}
-use Rattle.pb_kinds.specs.Frames.{is_unset}
-use Rattle.pb_kinds.specs.Ranges.{in_stack, in_record, from_low, are_written}
-use Rattle.pb_helpers.specs.Arguments.{stack_reads}
-use Rattle.pb_verify.specs.Rules.{at, reads, sets, loads, bytes_of, insn_rules}
 use Rattle.pb_sound.specs.Fits.{HasValue, Holds, FitsFrame}
 use Rattle.pb_sound.specs.Outcomes.{GoesOn}
 use Rattle.pb_sound.proofs.Lists.{Bytes, when_not, cond_when, entries_are, true_at}

@@ -1,10 +1,6 @@
 -- What fits a frame fits one that says less.
 use Rattle.std.proofs.Common.{arith, ◌≡◌, ◌≢◌, ℕ, Option, refl}
-use Rattle.pb_kinds.specs.declared.frame.Kind.{Kind}
-use Rattle.pb_kinds.specs.declared.frame.Frame.{Frame}
-use Rattle.pb_kinds.specs.Frames.{kind_of}
-use Rattle.pb_isa.specs.Machine.{Environment, State}
-use Rattle.pb_verify.specs.Ways.{Fact, HasKind, HasByte, Says}
+use Rattle.pb_sound.specs.Words.{Kind, Frame, kind_of, Environment, State, Fact, HasKind, HasByte, Says}
 use Rattle.pb_sound.specs.Fits.{Holds, FitsFrame}
 
 -- g says no more than f

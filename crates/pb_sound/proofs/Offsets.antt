@@ -2,12 +2,7 @@
 use Rattle.std.proofs.Common.{◌≡◌, ℕ, ◌<◌, ◌≤◌, Bool, true, ℤ, pos, negsuc, ◌+ℤ◌, neg_ℤ, ◌≤ℤ◌, ◌+◌, int_le, ◌&&◌, arith}
 use Rattle.std.proofs.lemmas.Float.{T_from_true}
 use Rattle.std.proofs.lemmas.Int.{ints}
-use Rattle.pb_isa.specs.declared.limits.TheConstants.{STACK_BYTES}
-use Rattle.pb_isa.specs.Alu.{alu, word}
-use Rattle.pb_isa.specs.declared.insn.AluOp.{AluOp}
-use Rattle.pb_isa.specs.declared.insn.Width.{Width}
-use Rattle.pb_isa.specs.Machine.{address, lies_in}
-use Rattle.pb_kinds.specs.Ranges.{in_record, from_low}
+use Rattle.pb_sound.specs.Words.{STACK_BYTES, alu, word, AluOp, Width, address, lies_in, in_record, from_low}
 use Rattle.pb_base.proofs.Logic.{truth as t_true}
 
 -- two distances one after the other are their sum

@@ -1,9 +1,7 @@
 -- From entry with one talk there is one end.
 use Rattle.std.proofs.Common.{◌≡◌, ℕ, zero, suc, ◌+◌, ◌-◌, ◌<◌, [], inl, inr, length, Option, Some, None, refl, ap, arith}
 use Rattle.std.proofs.lemmas.Bool.{cases_eq, cases_lt}
-use Rattle.pb_base.specs.Batch.{Writes}
-use Rattle.pb_isa.specs.Machine.{Environment, State, Outcome, Ends, act}
-use Rattle.pb_isa.specs.Meaning.{Talk, Point, point, onward, point_after, EndsWith}
+use Rattle.pb_sound.specs.Words.{Writes, Environment, State, Outcome, Ends, act, Talk, Point, point, onward, point_after, EndsWith}
 use Rattle.pb_sound.specs.OneMeaning.{EachHasOneMeaning}
 
 -- after an end nothing follows

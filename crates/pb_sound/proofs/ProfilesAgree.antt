@@ -1,16 +1,6 @@
 -- The profile decides which programs there are, and nothing else.
 use Rattle.std.proofs.Common.{◌≡◌, ℕ, zero, suc, List, Option, refl, sym, ap, ◌∙◌, arith}
-use Rattle.pb_base.specs.Batch.{Writes}
-use Rattle.pb_isa.specs.declared.insn.Insn.{Insn}
-use Rattle.pb_isa.specs.declared.profile.Profile.{Profile}
-use Rattle.pb_isa.specs.Slots.{insn_at}
-use Rattle.pb_isa.specs.Helpers.{Helper, HelperSet}
-use Rattle.pb_isa.specs.Machine.{Placement, Environment, State, fetch, helps, calls, does, does_at, act, state_at_entry}
-use Rattle.pb_isa.specs.Meaning.{Talk, Point, onward, point_after, environment_of, EndsWith, Means}
-use Rattle.pb_kinds.specs.declared.frame.Frame.{Frame}
-use Rattle.pb_helpers.specs.declared.code.RuleCode.{RuleCode}
-use Rattle.pb_helpers.specs.Codes.{lowest_code}
-use Rattle.pb_verify.specs.Arriving.{in_at, codes_at, faults, Accepts, Refuses}
+use Rattle.pb_sound.specs.Words.{Writes, Insn, Profile, insn_at, Helper, HelperSet, Placement, Environment, State, fetch, helps, calls, does, does_at, act, state_at_entry, Talk, Point, onward, point_after, environment_of, EndsWith, Means, Frame, RuleCode, lowest_code, in_at, codes_at, faults, Accepts, Refuses}
 use Rattle.pb_sound.specs.ProfilesAgree.{judged_in, ProgramsOfOneAreOfTwo, SameAreAccepted, SameAreRefused, SameIsMeant}
 use Rattle.pb_isa.proofs.Instructions.{all_next as all_of_two}
 

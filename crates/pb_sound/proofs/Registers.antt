@@ -2,19 +2,8 @@
 use Rattle.std.proofs.Common.{◌≡◌, ◌≢◌, ℕ, ◌+◌, true, false, nat_eq, List, [], ◌∷◌, length, get_or, set, Option, Some, arith, is_some, get_or-set_same, get_or-set_other}
 use Rattle.std.proofs.lemmas.List.{length-set, get_or_past}
 use Rattle.std.proofs.lemmas.Bool.{cases_eq, cases_lt}
-use Rattle.pb_isa.specs.declared.insn.Insn.{Insn}
-use Rattle.pb_isa.specs.declared.insn.Reg.{Reg}
-use Rattle.pb_isa.specs.Registers.{number}
-use Rattle.pb_isa.specs.Slots.{places_of, slots, insn_at}
-use Rattle.pb_isa.specs.NextSlots.{LeadOn}
+use Rattle.pb_sound.specs.Words.{Insn, Reg, number, places_of, slots, insn_at, LeadOn, Map, Environment, State, Outcome, Goes, with_entry, Kind, Frame, is_unset, at, reads, sets, falls, after, leads, with_kind, has_slot}
 use Rattle.pb_isa.specs.Machine as m
-use Rattle.pb_isa.specs.Machine.{Map, Environment, State, Outcome, Goes, with_entry}
-use Rattle.pb_kinds.specs.declared.frame.Kind.{Kind}
-use Rattle.pb_kinds.specs.declared.frame.Frame.{Frame}
-use Rattle.pb_kinds.specs.Frames.{is_unset}
-use Rattle.pb_verify.specs.Rules.{at, reads, sets, falls}
-use Rattle.pb_verify.specs.Following.{after, leads, with_kind}
-use Rattle.pb_verify.specs.Arriving.{has_slot}
 use Rattle.pb_sound.specs.Fits.{Holds, FitsFrame}
 use Rattle.pb_sound.specs.Outcomes.{GoesOn}
 use Rattle.pb_sound.proofs.Lists.{when_not, with_at, with_other}

@@ -4,16 +4,7 @@ use Rattle.std.specs.Cmp.{eq_by_cmp_equiv}
 use Rattle.std.specs.List.{list_all}
 use Rattle.std.specs.Ordering.{eq_by_cmp}
 use Rattle.std.proofs.lemmas.Bool.{and_parts, ltb-true, le-leb, lt-ltb}
-use Rattle.pb_base.specs.Cell.{cell_cmp, cell_cmp_total}
-use Rattle.pb_base.specs.declared.cell.Cell.{Cell}
-use Rattle.pb_base.specs.declared.content.Content.{Content}
-use Rattle.pb_base.specs.declared.limits.TheConstants.{MAX_CELLS}
-use Rattle.pb_base.specs.Batch.{Writes, content_in, is_unstamped, is_data_write, are_distinct}
-use Rattle.pb_isa.specs.declared.insn.Insn.{Insn}
-use Rattle.pb_isa.specs.Slots.{insn_at}
-use Rattle.pb_isa.specs.Helpers.{Helper}
-use Rattle.pb_isa.specs.Machine.{Environment, State, Reply, Outcome, Goes, Asks, Ends, Stuck, with_value, with_values, replace_write, add_write, reads_cell, writes_cell, helps, calls, does, does_at, act, state_at_entry}
-use Rattle.pb_isa.specs.Meaning.{Talk, Point, point, on, onward, point_after}
+use Rattle.pb_sound.specs.Words.{cell_cmp, cell_cmp_total, Cell, Content, MAX_CELLS, Writes, content_in, is_unstamped, is_data_write, are_distinct, Insn, insn_at, Helper, Environment, State, Reply, Outcome, Goes, Asks, Ends, Stuck, with_value, with_values, replace_write, add_write, reads_cell, writes_cell, helps, calls, does, does_at, act, state_at_entry, Talk, Point, point, on, onward, point_after}
 use Rattle.pb_sound.specs.RunWrites.{AreRunWrites, RunsWriteBatches}
 use Rattle.pb_sound.proofs.Silent.{IsSilentStep, plain_is_silent}
 use Rattle.pb_base.proofs.SameCells.{cell_is}

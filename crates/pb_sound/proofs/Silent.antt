@@ -1,13 +1,6 @@
 -- Without helpers no step asks, and the writes stay as they are: none.
 use Rattle.std.proofs.Common.{arith, ◌≡◌, ℕ, ◌+◌, zero, suc, Bool, cond, nat_eq, List, [], ◌∷◌, length, Option, Some, None, refl, subst, is_some}
-use Rattle.pb_base.specs.Batch.{Writes}
-use Rattle.pb_isa.specs.declared.insn.Insn.{Insn}
-use Rattle.pb_isa.specs.declared.insn.Reg.{Reg}
-use Rattle.pb_isa.specs.Registers.{number}
-use Rattle.pb_isa.specs.Slots.{insn_at}
-use Rattle.pb_isa.specs.Helpers.{Helper, HelperSet, no_helpers, if_declared}
-use Rattle.pb_isa.specs.Machine.{Map, Environment, State, Outcome, Goes, Asks, Ends, Stuck, with_value, with_values, goes, sets_register, stores_bytes, stack_has, with_entry, with_list, does, does_at, act, state_at_entry}
-use Rattle.pb_isa.specs.Meaning.{Talk, Point, point, on, onward, point_after, kept_writes}
+use Rattle.pb_sound.specs.Words.{Writes, Insn, Reg, number, insn_at, Helper, HelperSet, no_helpers, if_declared, Map, Environment, State, Outcome, Goes, Asks, Ends, Stuck, with_value, with_values, goes, sets_register, stores_bytes, stack_has, with_entry, with_list, does, does_at, act, state_at_entry, Talk, Point, point, on, onward, point_after, kept_writes}
 use Rattle.pb_sound.specs.Silent.{WithoutHelpersSilent}
 
 -- no ask, and these writes

@@ -2,23 +2,8 @@
 use Rattle.std.proofs.Common.{◌≡◌, ℕ, ◌+◌, ◌-◌, ◌<◌, ◌≤◌, inl, inr, ℤ, pos, negsuc, ◌+ℤ◌, Bool, true, false, List, [], ◌∷◌, ◌++◌, length, get_or, Some, refl, arith, is_some, IsTrue}
 use Rattle.std.proofs.lemmas.Bool.{cases_lt}
 use Rattle.std.specs.Int.{to_le_bytes}
-use Rattle.pb_isa.specs.declared.limits.TheConstants.{STACK_BYTES}
-use Rattle.pb_isa.specs.declared.insn.Insn.{Insn}
-use Rattle.pb_isa.specs.declared.insn.Reg.{Reg}
-use Rattle.pb_isa.specs.declared.insn.Size.{Size}
-use Rattle.pb_isa.specs.Alu.{word}
-use Rattle.pb_isa.specs.Slots.{insn_at}
+use Rattle.pb_sound.specs.Words.{STACK_BYTES, Insn, Reg, Size, word, insn_at, IsPlaced, Map, Environment, State, address, width, does, with_list, Kind, Frame, is_unset, is_pointer, in_stack, from_low, set_flags, with_written, when, stack_writes, RuleCode, at, reads, stores, bytes_of, insn_rules, after, leads, with_store}
 use Rattle.pb_isa.specs.Machine as m
-use Rattle.pb_isa.specs.Machine.{IsPlaced, Map, Environment, State, address, width, does, with_list}
-use Rattle.pb_kinds.specs.declared.frame.Kind.{Kind}
-use Rattle.pb_kinds.specs.declared.frame.Frame.{Frame}
-use Rattle.pb_kinds.specs.Frames.{is_unset, is_pointer}
-use Rattle.pb_kinds.specs.Ranges.{in_stack, from_low, set_flags, with_written}
-use Rattle.pb_helpers.specs.Codes.{when}
-use Rattle.pb_helpers.specs.Arguments.{stack_writes}
-use Rattle.pb_helpers.specs.declared.code.RuleCode.{RuleCode}
-use Rattle.pb_verify.specs.Rules.{at, reads, stores, bytes_of, insn_rules}
-use Rattle.pb_verify.specs.Following.{after, leads, with_store}
 use Rattle.pb_sound.specs.Fits.{HasValue, Holds, FitsFrame}
 use Rattle.pb_sound.specs.Outcomes.{GoesOn}
 use Rattle.pb_sound.proofs.Lists.{when_not, flag_from, with_list_below, with_list_above, with_list_in}

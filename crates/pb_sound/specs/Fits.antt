@@ -1,11 +1,7 @@
 -- What a frame says of the machine at a placement. The proof that nothing is stuck goes by it: the frame before a slot
 -- fits the state of every run that comes there.
 use Rattle.std.specs.Prelude.{◌≡◌, ℕ, ◌+◌, Option, Some, IsTrue}
-use Rattle.pb_isa.specs.declared.limits.TheConstants.{STACK_BYTES}
-use Rattle.pb_isa.specs.Machine.{Environment, State, address}
-use Rattle.pb_kinds.specs.declared.frame.Kind.{Kind}
-use Rattle.pb_kinds.specs.declared.frame.Frame.{Frame}
-use Rattle.pb_kinds.specs.Frames.{kind_of, has_byte}
+use Rattle.pb_sound.specs.Words.{STACK_BYTES, Environment, State, address, Kind, Frame, kind_of, has_byte}
 
 -- there is a value
 abbrev pub HasValue : Option ℕ → Type 0

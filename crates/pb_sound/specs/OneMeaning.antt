@@ -1,8 +1,6 @@
 -- A program has one meaning, accepted or not. By it the exit of a machine has one outcome, in `law_worlds`.
 use Rattle.std.specs.Prelude.{◌≡◌, ℕ, List}
-use Rattle.pb_base.specs.Batch.{Writes}
-use Rattle.pb_isa.specs.Programs.{JudgedOf}
-use Rattle.pb_isa.specs.Meaning.{Talk, Means}
+use Rattle.pb_sound.specs.Words.{Writes, JudgedOf, Talk, Means}
 
 -- the same program, record, start timestamp, asks and replies mean one result and one list of writes
 abbrev pub EachHasOneMeaning : Type 0

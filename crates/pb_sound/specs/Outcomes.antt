@@ -1,13 +1,7 @@
 -- What an instruction does whose rules hold: the step of the proof that nothing is stuck, said of one instruction and
 -- any state that fits the frame before it.
 use Rattle.std.specs.Prelude.{◌≡◌, ℕ, ◌<◌, IsTrue, is_some}
-use Rattle.pb_base.specs.declared.limits.TheConstants.{COLUMNS}
-use Rattle.pb_isa.specs.declared.insn.Insn.{Insn}
-use Rattle.pb_isa.specs.Slots.{insn_at}
-use Rattle.pb_isa.specs.Machine.{Environment, State, Reply, IsReply, Outcome, Goes, Asks, Ends, Stuck}
-use Rattle.pb_kinds.specs.declared.frame.Frame.{Frame}
-use Rattle.pb_verify.specs.Following.{after, leads}
-use Rattle.pb_verify.specs.Arriving.{has_slot}
+use Rattle.pb_sound.specs.Words.{COLUMNS, Insn, insn_at, Environment, State, Reply, IsReply, Outcome, Goes, Asks, Ends, Stuck, Frame, after, leads, has_slot}
 use Rattle.pb_sound.specs.Fits.{FitsFrame}
 
 -- the state is at a slot that the instruction i at slot n leads to, the first of an instruction, and what is known after i is so

@@ -1,14 +1,7 @@
 -- Programs of both profiles that have the same instructions. Rules and machine take the list of instructions, so that
 -- these laws break where one of them looks at the profile.
 use Rattle.std.specs.Prelude.{ℕ, ◌↔◌, List}
-use Rattle.pb_base.specs.Batch.{Writes}
-use Rattle.pb_isa.specs.declared.insn.Insn.{Insn}
-use Rattle.pb_isa.specs.declared.profile.Profile.{Profile}
-use Rattle.pb_isa.specs.Helpers.{HelperSet}
-use Rattle.pb_isa.specs.Programs.{ProgramOf, IsProgram, JudgedOf}
-use Rattle.pb_isa.specs.Meaning.{Talk, Means}
-use Rattle.pb_helpers.specs.declared.code.RuleCode.{RuleCode}
-use Rattle.pb_verify.specs.Arriving.{Accepts, Refuses}
+use Rattle.pb_sound.specs.Words.{Writes, Insn, Profile, HelperSet, ProgramOf, IsProgram, JudgedOf, Talk, Means, RuleCode, Accepts, Refuses}
 
 -- a program of this profile
 abbrev pub program_in : Profile → List Insn → ProgramOf

@@ -1,8 +1,6 @@
 -- What a program writes: nothing, or what a script's transaction could.
 use Rattle.std.specs.Prelude.{◌≡◌, ◌⊎◌, ℕ, true, List, []}
-use Rattle.pb_base.specs.Batch.{Writes, is_batch}
-use Rattle.pb_isa.specs.Programs.{JudgedOf}
-use Rattle.pb_isa.specs.Meaning.{Talk, Means}
+use Rattle.pb_sound.specs.Words.{Writes, is_batch, JudgedOf, Talk, Means}
 
 -- none, or 1 to 16 distinct data cells without stamps
 abbrev pub AreRunWrites : Writes → Type 0

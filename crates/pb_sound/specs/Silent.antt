@@ -1,9 +1,6 @@
 -- A program that may call no helper asks nothing and writes nothing.
 use Rattle.std.specs.Prelude.{◌≡◌, ℕ, List, []}
-use Rattle.pb_base.specs.Batch.{Writes}
-use Rattle.pb_isa.specs.Helpers.{no_helpers}
-use Rattle.pb_isa.specs.Programs.{JudgedOf}
-use Rattle.pb_isa.specs.Meaning.{Talk, Means}
+use Rattle.pb_sound.specs.Words.{Writes, no_helpers, JudgedOf, Talk, Means}
 
 -- of every program that means something: a call of a helper that isn't declared is stuck
 abbrev pub WithoutHelpersSilent : Type 0

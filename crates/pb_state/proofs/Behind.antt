@@ -1,13 +1,7 @@
 -- Where observers are behind on a cell, and where they aren't.
 use Rattle.std.proofs.Common.{ℕ, ◌<◌, ◌≤◌, ◌⊎◌, Bool, List, length, arith, MatchBool}
 use Rattle.std.proofs.lemmas.Option.{slice_get_within}
-use Rattle.pb_base.specs.declared.cell.Cell.{Cell}
-use Rattle.pb_base.specs.declared.names.Row.{Row}
-use Rattle.pb_base.specs.declared.content.Revision.{Revision}
-use Rattle.pb_store.specs.Contents.{Entries}
-use Rattle.pb_verify.specs.Observers.{ObserverOf}
-use Rattle.pb_steps.specs.Readings.{last_timestamp, IsVersion}
-use Rattle.pb_steps.specs.Marks.{SomeBehind, AllUpToDate}
+use Rattle.pb_state.specs.Words.{Cell, Row, Revision, Entries, ObserverOf, last_timestamp, IsVersion, SomeBehind, AllUpToDate}
 use Rattle.pb_state.specs.Behind.{SomeLate, AreOnTime}
 
 module _ (observers : List ObserverOf) (e : Entries) (row : Row) (column : ℕ) where

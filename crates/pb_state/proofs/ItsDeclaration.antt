@@ -2,27 +2,9 @@
 use Rattle.std.proofs.Common.{arith, ◌≡◌, ℕ, Bool, true, false, cond, ◌&&◌, List, [], ◌∷◌, Option, Some, None, slice_get, refl, sym, subst, ◌==◌, nat_lt}
 use Rattle.std.specs.Ordering.{eq_by_cmp}
 use Rattle.std.proofs.lemmas.Bool.{eqb-true, ltb-true}
-use Rattle.pb_base.specs.declared.cell.Cell.{Cell}
-use Rattle.pb_base.specs.declared.names.Row.{Row}
-use Rattle.pb_base.specs.declared.names.Ts.{Ts}
-use Rattle.pb_base.specs.declared.content.Revision.{Revision}
-use Rattle.pb_base.specs.declared.content.Content.{Content}
-use Rattle.pb_base.specs.Cell.{cell_cmp}
-use Rattle.pb_base.specs.Same.{same, same_is}
+use Rattle.pb_state.specs.Words.{Cell, Row, Ts, Revision, Content, cell_cmp, same, same_is, judged_code, Talk, tells_old, record_by, Meant, RecordedRead, Seen, Work, Declared, asked_cell, version_in, acknowledged_in, value_in, value_code, cells_of, batch_in, ObserverOf, observed_cell, acknowledgment, IsReadOf, old_at, WasOld, WasSeen, AreReplies, IsItsRun, MayDeclare, is_at, is_read_of, with_old, seen_by, seen_in, asked_in, is_replied, are_replies, is_made_of, is_run, is_run_by, is_its}
 use Rattle.std.specs.Coded.{coded_ℕ, coded_list}
-use Rattle.pb_isa.specs.Programs.{judged_code}
-use Rattle.pb_isa.specs.Meaning.{Talk}
-use Rattle.pb_helpers.specs.OldRecord.{tells_old, record_by}
-use Rattle.pb_finished.specs.Finished.{Meant}
-use Rattle.pb_steps.specs.declared.seen.RecordedRead.{RecordedRead}
-use Rattle.pb_steps.specs.declared.seen.Seen.{Seen}
-use Rattle.pb_steps.specs.declared.step.Work.{Work}
-use Rattle.pb_steps.specs.declared.step.Declared.{Declared}
-use Rattle.pb_steps.specs.Reads.{asked_cell, version_in, acknowledged_in, value_in, value_code}
-use Rattle.pb_steps.specs.State.{cells_of, batch_in}
-use Rattle.pb_verify.specs.Observers.{ObserverOf, observed_cell, acknowledgment}
 use Rattle.pb_state.specs.Cells.{acknowledgment_by, run_writes}
-use Rattle.pb_steps.specs.Declarations.{IsReadOf, old_at, WasOld, WasSeen, AreReplies, IsItsRun, MayDeclare, is_at, is_read_of, with_old, seen_by, seen_in, asked_in, is_replied, are_replies, is_made_of, is_run, is_run_by, is_its}
 use Rattle.pb_base.proofs.Logic.{and_true as both}
 use Rattle.pb_base.proofs.SameCells.{cell_is as same_cell}
 

@@ -1,10 +1,7 @@
 -- What a state's changed fields are as one.
 use Rattle.std.proofs.Common.{◌≡◌, ℕ, List, subst}
 use Rattle.std.specs.FinMap as map
-use Rattle.pb_store.specs.Contents.{Entries, Marks}
-use Rattle.pb_store.specs.TableOf.{TableOf}
-use Rattle.pb_verify.specs.Observers.{ObserverOf}
-use Rattle.pb_steps.specs.State.{StateOf, TransactionOf, Transactions}
+use Rattle.pb_state.specs.Words.{Entries, Marks, TableOf, ObserverOf, StateOf, TransactionOf, Transactions}
 use Rattle.pb_state.specs.Keeping.{parts_as_state}
 
 -- the same marks

@@ -1,11 +1,6 @@
 -- What the newest entry tells of locks and write records.
 use Rattle.std.proofs.Common.{◌≡◌, ℕ, ◌≤◌, true, Option, Some, ap, ◌∙◌, arith, is_some}
-use Rattle.pb_base.specs.declared.cell.Cell.{Cell}
-use Rattle.pb_base.specs.declared.names.Ts.{Ts}
-use Rattle.pb_store.specs.declared.slot.Item.{Item}
-use Rattle.pb_store.specs.declared.slot.Sort.{Sort}
-use Rattle.pb_store.specs.Contents.{Entries, IsNewest, IsOfSort}
-use Rattle.pb_steps.specs.Readings.{SomeLock, SomeWriteFrom, primary_of, start_of}
+use Rattle.pb_state.specs.Words.{Cell, Ts, Item, Sort, Entries, IsNewest, IsOfSort, SomeLock, SomeWriteFrom, primary_of, start_of}
 
 -- the timestamp up to which every entry is
 abbrev pub last : Ts

@@ -1,16 +1,6 @@
 -- A read was answered and recorded.
 use Rattle.std.proofs.Common.{◌≡◌, ℕ, ◌≤◌, true, Option, None, arith}
-use Rattle.pb_base.specs.declared.cell.Cell.{Cell}
-use Rattle.pb_base.specs.declared.content.Revision.{Revision}
-use Rattle.pb_base.specs.declared.names.Ts.{Ts}
-use Rattle.pb_steps.specs.declared.step.Answer.{Answer}
-use Rattle.pb_steps.specs.Phases.{is_reading}
-use Rattle.pb_steps.specs.Reads.{read_up_to, found_answer}
-use Rattle.pb_steps.specs.State.{StateOf, TransactionOf, with_transaction}
-use Rattle.pb_steps.specs.Readings.{NoLockUpTo, IsVersion, NoVersion}
-use Rattle.pb_steps.specs.Reasons.{IsOwn}
-use Rattle.pb_steps.specs.Read.{read_step, with_read, ReadsAbsent}
-use Rattle.pb_steps.specs.Steps.{step_reason, StepCase, TableStep}
+use Rattle.pb_state.specs.Words.{Cell, Revision, Ts, Answer, is_reading, read_up_to, found_answer, StateOf, TransactionOf, with_transaction, NoLockUpTo, IsVersion, NoVersion, IsOwn, read_step, with_read, ReadsAbsent, step_reason, StepCase, TableStep}
 
 case_absent : (old : StateOf) (seat : ℕ) (s : Ts) (x : Cell) (at : Option Ts) (new : StateOf) → ReadsAbsent old seat s.0 x at new → StepCase old seat (read_step s x at) Answer.Absent new
 case_absent old seat s x at new m = grind arith

@@ -1,8 +1,7 @@
 -- Cells that compare alike are one.
 use Rattle.std.proofs.Common.{◌≡◌, Bool, false, not, sym, ◌∙◌}
 use Rattle.std.specs.Ordering.{eq_by_cmp}
-use Rattle.pb_base.specs.declared.cell.Cell.{Cell}
-use Rattle.pb_base.specs.Cell.{cell_cmp}
+use Rattle.pb_state.specs.Words.{Cell, cell_cmp}
 use Rattle.pb_base.proofs.SameCells.{cell_is as same_cell}
 use Rattle.pb_base.proofs.Logic.{true_if_not as true_if}
 

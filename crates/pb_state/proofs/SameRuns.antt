@@ -2,10 +2,7 @@
 use Rattle.std.proofs.Common.{arith, ◌≡◌, ◌↔◌, ℕ, not, ◌==◌, Bool, true, false, ◌&&◌, List, refl, sym, ap, ◌∙◌, IsTrue}
 use Rattle.std.specs.Coded.{Coded, coded_ℕ, coded_list}
 use Rattle.std.proofs.lemmas.Bool.{false_from_ne_true as not_true}
-use Rattle.pb_base.specs.Same.{same, same_is, is_same}
-use Rattle.pb_isa.specs.Programs.{JudgedOf, judged_code}
-use Rattle.pb_finished.specs.Finished.{Meant}
-use Rattle.pb_steps.specs.Declarations.{is_made_of}
+use Rattle.pb_state.specs.Words.{same, same_is, is_same, JudgedOf, judged_code, Meant, is_made_of}
 
 pub differ : {A : Type 0} (k : Coded A) (x y : A) → (x ≡ y → ⊥) → same k x y ≡ false
 differ k x y h = not_true (same k x y) (λ e. h (same_is k x y e))

@@ -4,9 +4,7 @@ use Rattle.std.specs.Ordering.{eq_by_cmp, is_eq, is_lt, ordering_reverse}
 use Rattle.std.specs.Cmp.{tied_itself}
 use Rattle.std.specs.FinMap as map
 use Rattle.std.specs.FinMap.Entries.{find, is_sorted, below_all}
-use Rattle.pb_base.specs.declared.cell.Cell.{Cell}
-use Rattle.pb_base.specs.Cell.{cell_cmp, cell_cmp_total, cell_cmp-IsAntisymmetric}
-use Rattle.pb_store.specs.Contents.{ComesAfter, IsNextMark, Marks}
+use Rattle.pb_state.specs.Words.{Cell, cell_cmp, cell_cmp_total, cell_cmp-IsAntisymmetric, ComesAfter, IsNextMark, Marks}
 use Rattle.pb_state.proofs.Walks.{IsWalked}
 use Rattle.pb_base.proofs.Logic.{less_if as is_less, first_holds as fst, second_holds as snd}
 use Rattle.pb_store.proofs.Marked.{not_both_ways as not_both}

@@ -1,7 +1,6 @@
 -- A walk along marked cells.
 use Rattle.std.proofs.Common.{zero, suc, ℕ, List, [], ◌∷◌, Option}
-use Rattle.pb_base.specs.declared.cell.Cell.{Cell}
-use Rattle.pb_store.specs.Contents.{ComesAfter}
+use Rattle.pb_state.specs.Words.{Cell, ComesAfter}
 
 -- the first so many are not after the cell, and the others are
 abbrev pub IsWalked : Option Cell → List (Cell × Unit {0}) → ℕ → Type 0

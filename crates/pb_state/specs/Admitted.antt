@@ -1,14 +1,7 @@
 -- What was found for a step that isn't refused: the step that it is, and that all is as the state has it.
 use Rattle.std.specs.Prelude.{◌≡◌, ℕ, Some, None, Result, Ok, Err, slice_get}
 use Rattle.std.specs.FinMap as map
-use Rattle.pb_base.specs.declared.refusal.Reason.{Reason}
-use Rattle.pb_base.specs.Batch.{content_in, primary_in}
-use Rattle.pb_steps.specs.declared.step.Step.{Step}
-use Rattle.pb_steps.specs.declared.phase.Phase.{Phase}
-use Rattle.pb_steps.specs.State.{StateOf, TransactionOf, Transactions}
-use Rattle.pb_steps.specs.Reasons.{IsOwn}
-use Rattle.pb_steps.specs.Read.{read_step}
-use Rattle.pb_steps.specs.Steps.{step_reason}
+use Rattle.pb_state.specs.Words.{Reason, content_in, primary_in, Step, Phase, StateOf, TransactionOf, Transactions, IsOwn, read_step, step_reason}
 use Rattle.pb_state.specs.Cells.{acknowledgment_by}
 use Rattle.pb_state.specs.declared.admitted.TransactionAt.{TransactionAt}
 use Rattle.pb_state.specs.declared.admitted.Admitted.{Admitted}

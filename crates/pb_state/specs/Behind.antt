@@ -1,13 +1,7 @@
 -- Observers of a column against the newest commit of a cell, one by one: what the loop of a sweep tells. That none is
 -- late on the newest commit is that all are up to date with each.
 use Rattle.std.specs.Prelude.{◌≡◌, ℕ, ◌<◌, ◌≤◌, List, Option, Some, slice_get}
-use Rattle.pb_base.specs.declared.cell.Cell.{Cell}
-use Rattle.pb_base.specs.declared.names.Row.{Row}
-use Rattle.pb_base.specs.declared.content.Revision.{Revision}
-use Rattle.pb_store.specs.Contents.{Entries}
-use Rattle.pb_verify.specs.Observers.{ObserverOf}
-use Rattle.pb_steps.specs.Readings.{IsNewestVersion}
-use Rattle.pb_steps.specs.Marks.{stamp_in}
+use Rattle.pb_state.specs.Words.{Cell, Row, Revision, Entries, ObserverOf, IsNewestVersion, stamp_in}
 
 -- the stamp of the newest version, 0 where there is none
 abbrev pub IsNewestStamp : Entries → Cell → ℕ → Type 0

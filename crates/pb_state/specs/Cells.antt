@@ -1,12 +1,6 @@
 -- What a transaction keeps of what it has declared: the writes that its form stands for.
 use Rattle.std.specs.Prelude.{List, [], ◌∷◌, Option, None, slice_get}
-use Rattle.pb_base.specs.declared.cell.Cell.{Cell}
-use Rattle.pb_base.specs.declared.content.Content.{Content}
-use Rattle.pb_base.specs.Batch.{Writes}
-use Rattle.pb_steps.specs.declared.step.Declared.{Declared}
-use Rattle.pb_steps.specs.State.{batch_in}
-use Rattle.pb_steps.specs.declared.step.Work.{Work}
-use Rattle.pb_verify.specs.Observers.{ObserverOf, acknowledgment_at}
+use Rattle.pb_state.specs.Words.{Cell, Content, Writes, Declared, batch_in, Work, ObserverOf, acknowledgment_at}
 use Rattle.pb_state.specs.declared.cells.Cells.{Cells}
 
 -- what a run's program writes

@@ -1,9 +1,6 @@
 -- What a state's fields are as one, and what they keep: model and invariant of `Parts`.
 use Rattle.std.specs.Prelude.{ℕ, ◌≤◌, List, length}
-use Rattle.pb_base.specs.declared.limits.TheConstants.{MAX_SEATS, MAX_OBSERVERS}
-use Rattle.pb_store.specs.TableOf.{TableOf}
-use Rattle.pb_verify.specs.Observers.{ObserverOf}
-use Rattle.pb_steps.specs.State.{StateOf, Transactions}
+use Rattle.pb_state.specs.Words.{MAX_SEATS, MAX_OBSERVERS, TableOf, ObserverOf, StateOf, Transactions}
 
 -- the table's first rows are left out, since no step depends on where tablets begin
 abbrev pub parts_as_state : TableOf → List ObserverOf → ℕ → ℕ → Transactions → StateOf

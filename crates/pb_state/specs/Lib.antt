@@ -1,3 +1,4 @@
+pub mod Words
 pub mod Cells
 pub mod Starts
 pub mod Keeping

@@ -1,9 +1,8 @@
 -- A transaction begins: it takes a fresh timestamp as its start (OSDI 2010, section 2.3).
 use Rattle.std.specs.Prelude.{◌≡◌, ℕ, ◌+◌, Bool, false, not, nat_lt, List, [], ◌∷◌, length}
 use Rattle.std.specs.FinMap as map
-use Rattle.pb_base.specs.declared.refusal.Reason.{Reason}
+use Rattle.pb_steps.specs.Words.{Reason, ObserverOf}
 use Rattle.pb_steps.specs.declared.step.Work.{Work}
-use Rattle.pb_verify.specs.Observers.{ObserverOf}
 use Rattle.pb_steps.specs.State.{StateOf, new_transaction}
 use Rattle.pb_steps.specs.Reasons.{Reasons, is_out, no_seat}
 

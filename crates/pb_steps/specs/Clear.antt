@@ -2,9 +2,7 @@
 -- primary tells that the transaction is committed, and its commit; where there is none, the transaction never will be.
 use Rattle.std.specs.Prelude.{◌≡◌, ◌≢◌, ℕ, ◌<◌, ◌^◌, ◌⊎◌, true, false, Some, is_some}
 use Rattle.std.specs.Ordering.{eq_by_cmp}
-use Rattle.pb_base.specs.declared.cell.Cell.{Cell}
-use Rattle.pb_base.specs.Cell.{cell_cmp}
-use Rattle.pb_store.specs.Contents.{Entries}
+use Rattle.pb_steps.specs.Words.{Cell, cell_cmp, Entries}
 use Rattle.pb_steps.specs.State.{StateOf}
 use Rattle.pb_steps.specs.Readings.{lock_at, write_at, IsLockOn}
 use Rattle.pb_steps.specs.Commits.{commits, rolls_back}

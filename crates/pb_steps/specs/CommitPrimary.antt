@@ -1,9 +1,7 @@
 -- The primary's lock is replaced by a write record, and the transaction is committed (OSDI 2010, section 2.2). Where that
 -- lock is gone, it is lost.
 use Rattle.std.specs.Prelude.{◌≡◌, ℕ, true, false, not, [], ◌∷◌, Some, is_some}
-use Rattle.pb_base.specs.declared.cell.Cell.{Cell}
-use Rattle.pb_base.specs.declared.refusal.Reason.{Reason}
-use Rattle.pb_base.specs.Batch.{primary_in}
+use Rattle.pb_steps.specs.Words.{Cell, Reason, primary_in}
 use Rattle.pb_steps.specs.declared.phase.Phase.{Phase}
 use Rattle.pb_steps.specs.Phases.{is_stamped}
 use Rattle.pb_steps.specs.State.{StateOf, TransactionOf, with_transaction}

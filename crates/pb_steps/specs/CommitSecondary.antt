@@ -1,9 +1,7 @@
 -- The other locks of a committed transaction are replaced by write records, each by a step of its own (OSDI 2010, section
 -- 2.2). Where one is gone, it was replaced by whoever cleared it.
 use Rattle.std.specs.Prelude.{◌≡◌, ℕ, Bool, true, not, if◌then◌else◌, [], ◌∷◌, is_none, is_some}
-use Rattle.pb_base.specs.declared.cell.Cell.{Cell}
-use Rattle.pb_base.specs.declared.refusal.Reason.{Reason}
-use Rattle.pb_base.specs.Batch.{content_in}
+use Rattle.pb_steps.specs.Words.{Cell, Reason, content_in}
 use Rattle.pb_steps.specs.declared.phase.Phase.{Phase}
 use Rattle.pb_steps.specs.Phases.{is_committed}
 use Rattle.pb_steps.specs.State.{StateOf, TransactionOf}

@@ -2,10 +2,7 @@
 -- section 2.2).
 use Rattle.std.specs.Prelude.{ℕ}
 use Rattle.std.specs.FinMap as map
-use Rattle.pb_base.specs.declared.cell.Cell.{Cell}
-use Rattle.pb_store.specs.declared.slot.Item.{Item}
-use Rattle.pb_store.specs.declared.slot.Sort.{Sort}
-use Rattle.pb_store.specs.Contents.{Entries, slot_at}
+use Rattle.pb_steps.specs.Words.{Cell, Item, Sort, Entries, slot_at}
 use Rattle.pb_steps.specs.State.{StateOf}
 use Rattle.pb_steps.specs.Marks.{with_mark}
 

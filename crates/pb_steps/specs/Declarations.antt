@@ -3,26 +3,13 @@
 -- and as a test, since refusals are computed. Refusal 43 and the case of `Declare` cite them.
 use Rattle.std.specs.Prelude.{◌≡◌, ℕ, ◌<◌, Bool, true, false, not, ◌&&◌, ◌==◌, nat_lt, if◌then◌else◌, List, [], ◌∷◌, Option, Some, None, slice_get}
 use Rattle.std.specs.Ordering.{eq_by_cmp}
-use Rattle.pb_base.specs.declared.cell.Cell.{Cell}
-use Rattle.pb_base.specs.declared.names.Row.{Row}
-use Rattle.pb_base.specs.declared.names.Ts.{Ts}
-use Rattle.pb_base.specs.declared.content.Revision.{Revision}
-use Rattle.pb_base.specs.Cell.{cell_cmp}
-use Rattle.pb_base.specs.Same.{same}
-use Rattle.pb_base.specs.Batch.{is_batch}
+use Rattle.pb_steps.specs.Words.{Cell, Row, Ts, Revision, cell_cmp, same, is_batch, JudgedOf, judged_code, Ask, Reply, Talk, AreRunWrites, Meant, IsMeant, tells_old, record_by, ObserverOf, observed_cell, acknowledgment}
 use Rattle.std.specs.Coded.{coded_ℕ, coded_list}
-use Rattle.pb_isa.specs.Programs.{JudgedOf, judged_code}
-use Rattle.pb_isa.specs.Machine.{Ask, Reply}
-use Rattle.pb_isa.specs.Meaning.{Talk}
-use Rattle.pb_sound.specs.RunWrites.{AreRunWrites}
-use Rattle.pb_finished.specs.Finished.{Meant, IsMeant}
-use Rattle.pb_helpers.specs.OldRecord.{tells_old, record_by}
 use Rattle.pb_steps.specs.declared.seen.RecordedRead.{RecordedRead}
 use Rattle.pb_steps.specs.declared.seen.Seen.{Seen}
 use Rattle.pb_steps.specs.declared.step.Work.{Work}
 use Rattle.pb_steps.specs.declared.step.Declared.{Declared}
 use Rattle.pb_steps.specs.Reads.{asked_cell, version_in, acknowledged_in, value_in, value_code}
-use Rattle.pb_verify.specs.Observers.{ObserverOf, observed_cell, acknowledgment}
 
 -- what every declaration is: a script's writes are a batch; a run is its program's meaning, and writes nothing or what a
 -- batch could

@@ -1,10 +1,9 @@
 -- A transaction declares what it writes, its first cell the primary (OSDI 2010, section 2.2).
 use Rattle.std.specs.Prelude.{◌≡◌, ℕ, true, not, List, [], ◌∷◌}
-use Rattle.pb_base.specs.declared.refusal.Reason.{Reason}
+use Rattle.pb_steps.specs.Words.{Reason, ObserverOf}
 use Rattle.pb_steps.specs.declared.step.Declared.{Declared}
 use Rattle.pb_steps.specs.declared.phase.Phase.{Phase}
 use Rattle.pb_steps.specs.Phases.{is_reading}
-use Rattle.pb_verify.specs.Observers.{ObserverOf}
 use Rattle.pb_steps.specs.State.{StateOf, TransactionOf, with_transaction, cells_of}
 use Rattle.pb_steps.specs.Declarations.{IsKnown, MayDeclare, is_its}
 use Rattle.pb_steps.specs.Reasons.{Reasons, IsOwn}

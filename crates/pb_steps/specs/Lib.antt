@@ -1,3 +1,4 @@
+pub mod Words
 pub mod Phases
 pub mod Reads
 pub mod State

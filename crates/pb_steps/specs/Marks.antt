@@ -3,11 +3,7 @@
 use Rattle.std.specs.Prelude.{◌≡◌, ℕ, ◌<◌, ◌≤◌, Bool, true, false, ◌==◌, if◌then◌else◌, List, Option, Some, None, is_some, slice_get}
 use Rattle.std.specs.List.{list_any}
 use Rattle.std.specs.FinMap as map
-use Rattle.pb_base.specs.declared.cell.Cell.{Cell}
-use Rattle.pb_base.specs.declared.names.Row.{Row}
-use Rattle.pb_base.specs.declared.content.Revision.{Revision}
-use Rattle.pb_store.specs.Contents.{Entries, Marks}
-use Rattle.pb_verify.specs.Observers.{ObserverOf}
+use Rattle.pb_steps.specs.Words.{Cell, Row, Revision, Entries, Marks, ObserverOf}
 use Rattle.pb_steps.specs.Reads.{stamp_of}
 use Rattle.pb_steps.specs.Readings.{write_at, last_timestamp, IsVersion, IsNewestVersion}
 

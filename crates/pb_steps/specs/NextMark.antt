@@ -1,7 +1,6 @@
 -- The first marked cell after a given one, where an observer may have work (OSDI 2010, section 2.4).
 use Rattle.std.specs.Prelude.{◌≡◌, Option, Some, None}
-use Rattle.pb_base.specs.declared.cell.Cell.{Cell}
-use Rattle.pb_store.specs.Contents.{IsNextMark}
+use Rattle.pb_steps.specs.Words.{Cell, IsNextMark}
 use Rattle.pb_steps.specs.State.{StateOf}
 
 -- x is marked, and no cell between is; nothing changes, so that many may find it at once

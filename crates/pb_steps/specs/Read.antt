@@ -1,10 +1,7 @@
 -- A read in the snapshot of a transaction's start, or in one of an earlier timestamp that it names (OSDI 2010, section 2.2): a
 -- lock at or below that timestamp hides what the cell holds.
 use Rattle.std.specs.Prelude.{◌≡◌, ℕ, ◌<◌, ◌≤◌, true, not, nat_lt, [], ◌∷◌, ◌++◌, Option, Some, None}
-use Rattle.pb_base.specs.declared.cell.Cell.{Cell}
-use Rattle.pb_base.specs.declared.content.Revision.{Revision}
-use Rattle.pb_base.specs.declared.names.Ts.{Ts}
-use Rattle.pb_base.specs.declared.refusal.Reason.{Reason}
+use Rattle.pb_steps.specs.Words.{Cell, Revision, Ts, Reason}
 use Rattle.pb_steps.specs.declared.step.Step.{Step}
 use Rattle.pb_steps.specs.declared.step.Answer.{Answer}
 use Rattle.pb_steps.specs.Phases.{is_reading}

@@ -2,13 +2,7 @@
 -- is one below 2^64, since code looks for the newest entry up to the greatest of 64 bits.
 use Rattle.std.specs.Prelude.{◌≡◌, ℕ, ◌<◌, ◌≤◌, ◌^◌, Bool, true, false, count_by, Option, Some, None, is_some}
 use Rattle.std.specs.FinMap as map
-use Rattle.pb_base.specs.declared.cell.Cell.{Cell}
-use Rattle.pb_base.specs.declared.content.Content.{Content}
-use Rattle.pb_base.specs.declared.content.Revision.{Revision}
-use Rattle.pb_base.specs.declared.names.Ts.{Ts}
-use Rattle.pb_store.specs.declared.slot.Item.{Item}
-use Rattle.pb_store.specs.declared.slot.Sort.{Sort}
-use Rattle.pb_store.specs.Contents.{Entries, slot_at}
+use Rattle.pb_steps.specs.Words.{Cell, Content, Revision, Ts, Item, Sort, Entries, slot_at}
 
 -- the content of an item that is data
 abbrev pub data_of : Option Item → Option Content

@@ -1,11 +1,7 @@
 -- What a transaction has read, and what a run takes from it: version, acknowledgment and replies.
 use Rattle.std.specs.Prelude.{ℕ, Option, Some, None}
 use Rattle.std.specs.Coded.{Coded, coded_ℕ, coded_list, coded_option}
-use Rattle.pb_base.specs.declared.cell.Cell.{Cell}
-use Rattle.pb_base.specs.declared.names.Ts.{Ts}
-use Rattle.pb_base.specs.declared.content.Content.{Content}
-use Rattle.pb_base.specs.declared.content.Revision.{Revision}
-use Rattle.pb_isa.specs.Machine.{Ask, Reply}
+use Rattle.pb_steps.specs.Words.{Cell, Ts, Content, Revision, Ask, Reply}
 use Rattle.pb_steps.specs.declared.step.Answer.{Answer}
 
 -- the timestamp of a stamp

@@ -1,7 +1,7 @@
 -- Why a step is refused: the first reason that applies, of a list in which their numbers rise.
 use Rattle.std.specs.Prelude.{◌≡◌, ℕ, Bool, true, not, ◌==◌, nat_lt, if◌then◌else◌, List, [], ◌∷◌, Option, Some, None}
 use Rattle.std.specs.FinMap as map
-use Rattle.pb_base.specs.declared.refusal.Reason.{Reason}
+use Rattle.pb_steps.specs.Words.{Reason}
 use Rattle.pb_steps.specs.State.{StateOf, TransactionOf}
 use Rattle.pb_steps.specs.Readings.{last_timestamp}
 

@@ -2,8 +2,7 @@
 -- section 2.2).
 use Rattle.std.specs.Prelude.{◌≡◌, ℕ, false}
 use Rattle.std.specs.Ordering.{eq_by_cmp}
-use Rattle.pb_base.specs.declared.cell.Cell.{Cell}
-use Rattle.pb_base.specs.Cell.{cell_cmp}
+use Rattle.pb_steps.specs.Words.{Cell, cell_cmp}
 use Rattle.pb_steps.specs.State.{StateOf}
 use Rattle.pb_steps.specs.Readings.{NoLock, IsLockOn}
 use Rattle.pb_steps.specs.Commits.{rolls_back}

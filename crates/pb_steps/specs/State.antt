@@ -6,11 +6,7 @@ use base.Stored.{coded_unit}
 use Rattle.std.specs.List.{list_any}
 use Rattle.std.specs.Ordering.{nat_cmp, eq_by_cmp}
 use Rattle.std.specs.FinMap as map
-use Rattle.pb_base.specs.declared.cell.Cell.{Cell}
-use Rattle.pb_base.specs.declared.content.Content.{Content}
-use Rattle.pb_base.specs.Cell.{cell_cmp}
-use Rattle.pb_base.specs.Batch.{Writes}
-use Rattle.pb_store.specs.Contents.{Entries, Marks}
+use Rattle.pb_steps.specs.Words.{Cell, Content, cell_cmp, Writes, Entries, Marks, ObserverOf, observer_code, acknowledgment}
 use Rattle.pb_steps.specs.declared.step.Work.{Work}
 use Rattle.pb_steps.specs.declared.step.Declared.{Declared}
 use Rattle.pb_steps.specs.declared.seen.RecordedRead.{RecordedRead}
@@ -22,7 +18,6 @@ use Rattle.pb_store.specs.contracts.slot.Item as item
 use Rattle.pb_steps.specs.contracts.step.Work as work
 use Rattle.pb_steps.specs.contracts.seen.RecordedRead as read
 use Rattle.pb_steps.specs.contracts.phase.Phase as phase
-use Rattle.pb_verify.specs.Observers.{ObserverOf, observer_code, acknowledgment}
 
 -- a transaction: whose it is, what for, how far it has come, what it read, and what it writes
 pub record TransactionOf : Type 0 where

@@ -1,7 +1,7 @@
 -- The steps of the shared table (OSDI 2010, sections 2.2 to 2.4): when each is refused, what it may answer, and the state
 -- that it leaves.
 use Rattle.std.specs.Prelude.{◌≡◌, ℕ, Option, Some, None}
-use Rattle.pb_base.specs.declared.refusal.Reason.{Reason}
+use Rattle.pb_steps.specs.Words.{Reason}
 use Rattle.pb_steps.specs.declared.step.Step.{Step}
 use Rattle.pb_steps.specs.declared.step.Answer.{Answer}
 use Rattle.pb_steps.specs.State.{StateOf}

@@ -1,7 +1,7 @@
 -- A mark is taken off a cell by anyone, once no observer of its column is behind on it (OSDI 2010, section 2.4).
 use Rattle.std.specs.Prelude.{◌≡◌, true, false}
 use Rattle.std.specs.FinMap as map
-use Rattle.pb_base.specs.declared.cell.Cell.{Cell}
+use Rattle.pb_steps.specs.Words.{Cell}
 use Rattle.pb_steps.specs.State.{StateOf}
 use Rattle.pb_steps.specs.Marks.{is_marked, SomeBehind, AllUpToDate}
 

@@ -1,6 +1,6 @@
 -- What an application of edits to one tablet, done or refused, does to all.
 use Rattle.std.proofs.Common.{◌≡◌, ℕ, ◌<◌, List, sym, ap, ◌∙◌, subst, arith, length, get_or, set, Result, OnOk, OnErr}
-use Rattle.pb_base.specs.declared.names.Row.{Row}
+use Rattle.pb_store.specs.Words.{Row}
 use Rattle.pb_store.specs.declared.slot.Edit.{Edit}
 use Rattle.pb_store.specs.Contents.{Contents, after_edits, AreOfRow}
 use Rattle.pb_store.specs.Tiles.{IsTiling, IsPlace, joined, tiles_of}

@@ -7,8 +7,7 @@ use Rattle.std.specs.Cmp.{IsTotalOrder}
 use Rattle.std.specs.FinMap as map
 use Rattle.std.specs.FinMap.{find, is_sorted}
 use Rattle.std.specs.FinMap.Entries.{below_all, where_key, is_sorted-where_key, find-where_key}
-use Rattle.pb_base.specs.declared.cell.Cell.{Cell}
-use Rattle.pb_base.specs.Cell.{cell_cmp, cell_cmp_total, cell_cmp-IsAntisymmetric}
+use Rattle.pb_store.specs.Words.{Cell, cell_cmp, cell_cmp_total, cell_cmp-IsAntisymmetric}
 use Rattle.pb_store.specs.declared.slot.Slot.{Slot}
 use Rattle.pb_store.specs.declared.slot.Item.{Item}
 use Rattle.pb_store.specs.Slot.{slot_cmp_total, slot_cmp-IsAntisymmetric}

@@ -2,7 +2,7 @@
 use Rattle.std.proofs.Common.{◌≡◌, ℕ, ◌+◌, ◌-◌, ◌<◌, ◌≤◌, List, [], ◌∷◌, ◌++◌, refl, sym, ap, ◌∙◌, arith, zero, suc, length, drop, get_or, slice_get}
 use Rattle.std.proofs.lemmas.List.{at_drop_more}
 use Rattle.std.specs.FinMap as map
-use Rattle.pb_base.specs.declared.names.Row.{Row}
+use Rattle.pb_store.specs.Words.{Row}
 use Rattle.pb_store.specs.Contents.{Contents}
 use Rattle.pb_store.specs.Tiles.{tiles_of, all_entries}
 

@@ -6,8 +6,7 @@ use Rattle.std.specs.Ordering.{is_lt, is_eq, eq_by_cmp, ordering_reverse}
 use Rattle.std.specs.Cmp.{IsTotalOrder, tied_itself}
 use Rattle.std.specs.FinMap as map
 use Rattle.std.specs.FinMap.Entries.{find, is_sorted, below_all}
-use Rattle.pb_base.specs.declared.names.Row.{Row}
-use Rattle.pb_base.specs.Cell.{row_of}
+use Rattle.pb_store.specs.Words.{Row, row_of}
 use Rattle.pb_store.specs.declared.slot.Slot.{Slot}
 use Rattle.pb_store.specs.declared.slot.Item.{Item}
 use Rattle.pb_store.specs.Slot.{slot_cmp, slot_cmp_total}

@@ -1,10 +1,9 @@
 -- Tablets that hold nothing, side by side.
 use Rattle.std.proofs.Common.{◌≡◌, ℕ, ◌<◌, Bool, true, false, cond, ◌&&◌, ◌==◌, List, [], ◌∷◌, ◌++◌, Some, refl, sym, ap, ◌∙◌, subst, arith, is_some, length, Ordering}
 use Rattle.std.specs.FinMap as map
-use Rattle.pb_base.specs.Cell.{cell_cmp}
+use Rattle.pb_store.specs.Words.{cell_cmp, Reason}
 use Rattle.pb_store.specs.Slot.{slot_cmp}
 use Rattle.pb_store.specs.Contents.{Contents, nothing, is_nothing}
-use Rattle.pb_base.specs.declared.refusal.Reason.{Reason}
 use Rattle.pb_store.specs.Tiles.{Tile, IsTile, AreTiled, IsTiling, IsBelow, all_entries, all_marks, joined, rise, rise_from_zero, all_nothing, table_reason}
 use Rattle.pb_store.proofs.Joined.{joined-entries, joined-marks}
 use Rattle.pb_base.proofs.Logic.{empty_by_length as no_length, right_true}

@@ -3,8 +3,7 @@ use Rattle.std.proofs.Common.{◌≡◌, ℕ, ◌+◌, ◌<◌, ◌==◌, ◌&&�
 use Rattle.std.specs.Ordering.{nat_cmp, ordering_then}
 use Rattle.std.specs.Cmp.{nat_cmp_is}
 use Rattle.std.specs.FinMap as map
-use Rattle.pb_base.specs.declared.cell.Cell.{Cell}
-use Rattle.pb_base.specs.Cell.{row_of, column_of, rank_of, cell_cmp, cell_cmp_total, cell_cmp-IsAntisymmetric}
+use Rattle.pb_store.specs.Words.{Cell, row_of, column_of, rank_of, cell_cmp, cell_cmp_total, cell_cmp-IsAntisymmetric}
 use Rattle.pb_store.specs.declared.slot.Slot.{Slot}
 use Rattle.pb_store.specs.declared.slot.Item.{Item}
 use Rattle.pb_store.specs.declared.slot.Edit.{Edit}

@@ -2,8 +2,7 @@
 use Rattle.std.proofs.Common.{◌≡◌, ℕ, ◌+◌, ◌<◌, Bool, true, false, List, Option, None, Some, ap, ◌∙◌, arith, is_some, length, below_more, inl, inr, Less}
 use Rattle.std.proofs.lemmas.Bool.{cases_order, false_from_ne_true as not_marked}
 use Rattle.std.specs.FinMap as map
-use Rattle.pb_base.specs.declared.cell.Cell.{Cell}
-use Rattle.pb_base.specs.Cell.{row_of, cell_cmp, cell_cmp_total}
+use Rattle.pb_store.specs.Words.{Cell, row_of, cell_cmp, cell_cmp_total}
 use Rattle.pb_store.specs.Contents.{ComesAfter, IsNextMark}
 use Rattle.pb_store.specs.Tiles.{Tile, AreTiled, IsPlace, IsStart, joined}
 use Rattle.pb_store.proofs.Routing.{tile_at}

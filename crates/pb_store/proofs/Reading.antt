@@ -1,10 +1,7 @@
 -- What the tablet of a row answers is what all answer.
 use Rattle.std.proofs.Common.{arith, ◌≡◌, ℕ, ◌<◌, List, Option, None, Some, sym, ap, ◌∙◌, subst, length, get_or}
 use Rattle.std.specs.FinMap as map
-use Rattle.pb_base.specs.declared.names.Row.{Row}
-use Rattle.pb_base.specs.declared.names.Ts.{Ts}
-use Rattle.pb_base.specs.declared.cell.Cell.{Cell}
-use Rattle.pb_base.specs.Cell.{row_of}
+use Rattle.pb_store.specs.Words.{Row, Ts, Cell, row_of}
 use Rattle.pb_store.specs.declared.slot.Slot.{Slot}
 use Rattle.pb_store.specs.declared.slot.Sort.{Sort}
 use Rattle.pb_store.specs.declared.slot.Item.{Item}

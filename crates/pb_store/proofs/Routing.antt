@@ -1,6 +1,6 @@
 -- Which tablet has a row, and what stands at a place.
 use Rattle.std.proofs.Common.{◌≡◌, ℕ, ◌+◌, ◌<◌, ◌≤◌, List, [], ◌∷◌, refl, sym, ap, ◌∙◌, arith, zero, suc, length, get_or, set, below_more}
-use Rattle.pb_base.specs.declared.names.Row.{Row}
+use Rattle.pb_store.specs.Words.{Row}
 use Rattle.pb_store.specs.Contents.{Contents, nothing}
 use Rattle.pb_store.specs.TableOf.{firsts_of}
 use Rattle.pb_store.specs.Tiles.{Tile, IsBelow, IsPlace, IsTiling, tiles_of}

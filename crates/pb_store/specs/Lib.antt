@@ -1,3 +1,4 @@
+pub mod Words
 pub mod Slot
 pub mod Contents
 pub mod Tiles

@@ -5,7 +5,7 @@ use Rattle.std.specs.FinMap.{IsAntisymmetric, nat_cmp-IsAntisymmetric}
 use Rattle.std.specs.Ordering.{nat_cmp, on, then_cmp}
 use Rattle.std.specs.Cmp.{IsTotalOrder, nat_cmp_total}
 use Rattle.std.proofs.lemmas.Cmp.{on_total, then_total}
-use Rattle.pb_base.specs.Cell.{cell_cmp, cell_cmp_total, cell_cmp-IsAntisymmetric, both_equal}
+use Rattle.pb_store.specs.Words.{cell_cmp, cell_cmp_total, cell_cmp-IsAntisymmetric, both_equal}
 use Rattle.pb_store.specs.declared.slot.Slot.{Slot}
 use Rattle.pb_store.specs.declared.slot.Sort as sort
 use Rattle.pb_store.specs.declared.slot.Sort.{Sort}

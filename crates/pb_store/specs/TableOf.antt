@@ -2,7 +2,7 @@
 -- tablets there are and where they begin. It is the model of `Table`, and so what its contracts speak of.
 use Rattle.std.specs.Prelude.{ℕ, List, map, refl}
 use Rattle.std.specs.Coded.{Coded, code_by, coded×, coded_ℕ, coded_list}
-use Rattle.pb_base.specs.declared.names.Row.{Row}
+use Rattle.pb_store.specs.Words.{Row}
 use Rattle.pb_store.specs.Contents.{Contents, coded_contents}
 
 -- what its tablets contain together, and the first row of each

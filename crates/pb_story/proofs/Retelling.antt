@@ -4,11 +4,7 @@ use Rattle.std.specs.Io.KnownBytes.{Appends}
 use Rattle.std.proofs.KnownBytes.{Appends-trans}
 use Rattle.std.proofs.lemmas.List.{take_more, take_all, length-take-le}
 use Rattle.std.proofs.lemmas.Option.{slice_get_within, get_or_from_slice_get}
-use Rattle.pb_parse.specs.declared.event.Event.{Event}
-use Rattle.pb_world.specs.Events.{WorldOf}
-use Rattle.pb_script.specs.declared.fault.ReportFault.{ReportFault}
-use Rattle.pb_base.specs.Taking.{Taking, TookAll, TookPart, TookNothing}
-use Rattle.pb_script.specs.TableReports.{Reports}
+use Rattle.pb_story.specs.Words.{Event, WorldOf, ReportFault, Taking, TookAll, TookPart, TookNothing, Reports}
 use Rattle.pb_story.specs.declared.fault.StoryFault.{StoryFault}
 use Rattle.pb_story.specs.Stories.{Recounts, IsEventTold, EventEnds, AreTold, LeftOff, LinesEnd, StoryEnds}
 

@@ -1,9 +1,7 @@
 -- The writes that are still to be told.
 use Rattle.std.proofs.Common.{arith, ◌≡◌, ℕ, suc, ◌+◌, List, ◌∷◌, ◌++◌, drop, Some, ap, ◌∙◌, append_assoc, add-one, drop-cons, slice_get, flat_map}
 use Rattle.std.proofs.lemmas.Option.{slice_get_within, get_or_from_slice_get}
-use Rattle.pb_base.specs.declared.cell.Cell.{Cell}
-use Rattle.pb_base.specs.declared.content.Content.{Content}
-use Rattle.pb_base.specs.Batch.{Writes}
+use Rattle.pb_story.specs.Words.{Cell, Content, Writes}
 
 -- what is left to tell is the next write and what is left behind it
 drop_next : (ws : Writes) (i : ℕ) (w : Cell × Content) → slice_get ws i ≡ Some w → drop i ws ≡ w ∷ drop (i + 1) ws

@@ -1,9 +1,6 @@
 -- Answers of the shared table in words. `add_answer` cites it; docs/FORMATS.md lists them by their steps.
 use Rattle.std.specs.Prelude.{ℕ, List, ◌++◌, codes, decimal}
-use Rattle.pb_base.specs.declared.names.Ts.{Ts}
-use Rattle.pb_base.specs.declared.content.Content.{Content}
-use Rattle.pb_verify.specs.Observers.{ObserverOf}
-use Rattle.pb_steps.specs.declared.step.Answer.{Answer}
+use Rattle.pb_story.specs.Words.{Ts, Content, ObserverOf, Answer}
 use Rattle.pb_story.specs.Cells.{content_text}
 use Rattle.pb_story.specs.Steps.{start_text, on_cell_text, at_cell_text}
 

@@ -2,12 +2,7 @@
 -- each text takes the list of them.
 use Rattle.std.specs.Prelude.{ℕ, List, [], ◌++◌, codes, Option, Some, None, slice_get, flat_map, decimal}
 use Rattle.hex.specs.Hex.{encode_lower}
-use Rattle.pb_base.specs.Batch.{Writes}
-use Rattle.pb_base.specs.declared.names.Row.{Row}
-use Rattle.pb_base.specs.declared.cell.Cell.{Cell}
-use Rattle.pb_base.specs.declared.content.Content.{Content}
-use Rattle.pb_verify.specs.Observers.{ObserverOf}
-use Rattle.pb_script.specs.ReportLines.{trimmed}
+use Rattle.pb_story.specs.Words.{Writes, Row, Cell, Content, ObserverOf, trimmed}
 
 -- an observer's name, and no letters where there is no observer
 abbrev pub name_told : Option ObserverOf → List ℕ

@@ -2,12 +2,7 @@
 -- verifier knows them (`known_at`), whether the program is accepted or not. `frames_text` promises it.
 use Rattle.std.specs.Prelude.{ℕ, zero, suc, ◌+◌, ◌-◌, ℤ, pos, negsuc, Bool, true, false, not, ◌&&◌, if◌then◌else◌, List, [], ◌∷◌, ◌++◌, drop, codes, Option, Some, None, slice_index_or, decimal}
 use Rattle.std.specs.List.{enumerate_from, flat_map}
-use Rattle.pb_isa.specs.declared.limits.TheConstants.{STACK_BYTES}
-use Rattle.pb_isa.specs.declared.insn.Insn.{Insn}
-use Rattle.pb_isa.specs.Slots.{slots, insn_at}
-use Rattle.pb_kinds.specs.declared.frame.Kind.{Kind}
-use Rattle.pb_kinds.specs.declared.frame.Frame.{Frame}
-use Rattle.pb_verify.specs.Known.{known_at}
+use Rattle.pb_story.specs.Words.{STACK_BYTES, Insn, slots, insn_at, Kind, Frame, known_at}
 
 -- ---- registers
 

@@ -1,14 +1,7 @@
 -- The line of an event: its number, its seat, what it does and its note. What it does is said by the world before it,
 -- which knows the job's next step, and the note by what came of it. `open_line` and `end_line` cite these.
 use Rattle.std.specs.Prelude.{◌≡◌, ℕ, List, [], ◌++◌, codes, Option, Some, None, decimal}
-use Rattle.pb_verify.specs.Observers.{ObserverOf}
-use Rattle.pb_steps.specs.declared.step.Step.{Step}
-use Rattle.pb_parse.specs.declared.event.Event.{Event}
-use Rattle.pb_parse.specs.declared.event.Job.{Job}
-use Rattle.pb_world.specs.declared.job.ActorJob.{ActorJob}
-use Rattle.pb_world.specs.declared.note.Note.{Note}
-use Rattle.pb_world.specs.Jobs.{next_of, IsSlotOf}
-use Rattle.pb_world.specs.Events.{WorldOf, held_job}
+use Rattle.pb_story.specs.Words.{ObserverOf, Step, Event, Job, ActorJob, Note, next_of, IsSlotOf, WorldOf, held_job}
 use Rattle.pb_story.specs.Cells.{observer_name}
 use Rattle.pb_story.specs.Steps.{step_text}
 use Rattle.pb_story.specs.Answers.{answer_text}

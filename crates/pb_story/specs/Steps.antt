@@ -1,11 +1,6 @@
 -- Steps of the shared table in words: one word each, with a transaction's start or a cell. `add_step` cites it.
 use Rattle.std.specs.Prelude.{ℕ, List, ◌++◌, codes, Option, Some, None, decimal}
-use Rattle.pb_base.specs.declared.names.Ts.{Ts}
-use Rattle.pb_base.specs.declared.cell.Cell.{Cell}
-use Rattle.pb_verify.specs.Observers.{ObserverOf}
-use Rattle.pb_steps.specs.declared.step.Work.{Work}
-use Rattle.pb_steps.specs.declared.step.Declared.{Declared}
-use Rattle.pb_steps.specs.declared.step.Step.{Step}
+use Rattle.pb_story.specs.Words.{Ts, Cell, ObserverOf, Work, Declared, Step}
 use Rattle.pb_story.specs.Cells.{observer_name, cell_text, writes_text}
 
 -- what a transaction is for, in a schedule's words

@@ -1,13 +1,7 @@
 -- Stories: the lines of a list of events, and how they are written. A line is written at once, so a story that ends
 -- early has lines of the first events; each ending says which. `tell_story` promises it.
 use Rattle.std.specs.Prelude.{◌≡◌, ℕ, ◌+◌, ◌≤◌, ◌⊎◌, List, [], ◌∷◌, ◌++◌, length, take, Some, slice_get, Result, Ok, Err}
-use Rattle.pb_parse.specs.declared.event.Event.{Event}
-use Rattle.pb_world.specs.declared.fault.EventFault.{EventFault}
-use Rattle.pb_world.specs.declared.fault.WorldFault.{WorldFault}
-use Rattle.pb_world.specs.declared.note.Note.{Note}
-use Rattle.pb_world.specs.Events.{WorldOf, fault_of, Happens}
-use Rattle.pb_base.specs.Taking.{Taking, TookAll, TookPart, TookNothing}
-use Rattle.pb_script.specs.TableReports.{IsReportIn}
+use Rattle.pb_story.specs.Words.{Event, EventFault, WorldFault, Note, WorldOf, fault_of, Happens, Taking, TookAll, TookPart, TookNothing, IsReportIn}
 use Rattle.pb_story.specs.declared.fault.StoryFault.{StoryFault}
 use Rattle.pb_story.specs.Lines.{IsLine}
 

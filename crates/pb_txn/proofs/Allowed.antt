@@ -2,19 +2,7 @@
 use Rattle.std.proofs.Common.{arith, ◌≡◌, ℕ, Bool, true, false, cond, not, ◌||◌, [], ◌∷◌, take, Option, Some, sym, ap, subst, ◌∙◌, slice_get, is_none}
 use Rattle.std.specs.List.{list_all}
 use Rattle.std.specs.FinMap as finite
-use Rattle.pb_base.specs.declared.refusal.Reason.{Reason}
-use Rattle.pb_base.specs.declared.cell.Cell.{Cell}
-use Rattle.pb_base.specs.Batch.{content_in}
-use Rattle.pb_steps.specs.declared.step.Declared.{Declared}
-use Rattle.pb_steps.specs.declared.step.Step.{Step}
-use Rattle.pb_steps.specs.Phases.{is_declared, is_committed}
-use Rattle.pb_steps.specs.Prewrite.{prewrite_reasons, is_early}
-use Rattle.pb_steps.specs.Stamp.{unstamped_reasons, is_whole}
-use Rattle.pb_steps.specs.CommitSecondary.{secondary_reasons}
-use Rattle.pb_steps.specs.State.{StateOf, TransactionOf, is_in}
-use Rattle.pb_steps.specs.Reasons.{Reasons, first_reason, is_out, own_reasons}
-use Rattle.pb_steps.specs.Steps.{step_reason}
-use Rattle.pb_history.specs.Laws.{HistoriesAreTold, TransactionsAreTold, JournalsAreSound}
+use Rattle.pb_txn.specs.Words.{Reason, Cell, content_in, Declared, Step, is_declared, is_committed, prewrite_reasons, is_early, unstamped_reasons, is_whole, secondary_reasons, StateOf, TransactionOf, is_in, Reasons, first_reason, is_out, own_reasons, step_reason, HistoriesAreTold, TransactionsAreTold, JournalsAreSound}
 use Rattle.pb_txn.specs.declared.place.PlanPlace.{PlanPlace}
 use Rattle.pb_txn.specs.Places.{declared_cells, step_at}
 use Rattle.pb_txn.specs.Plans.{fresh}

@@ -1,8 +1,6 @@
 -- The cells of a run's declaration after its acknowledgment, for the body that reads them off the run's writes.
 use Rattle.std.proofs.Common.{◌≡◌, ℕ, zero, suc, ◌-◌, ◌<◌, ◌≢◌, List, [], ◌∷◌, length, map, Some, refl, slice_index_or, arith, slice_get}
-use Rattle.pb_base.specs.declared.cell.Cell.{Cell}
-use Rattle.pb_base.specs.declared.content.Content.{Content}
-use Rattle.pb_base.specs.Batch.{Writes}
+use Rattle.pb_txn.specs.Words.{Cell, Content, Writes}
 
 -- the cells of writes, in order
 abbrev names : Writes → List Cell

@@ -1,16 +1,7 @@
 -- The cells that a plan reads off a declaration are those that the table keeps of it.
 use Rattle.std.proofs.Common.{◌≡◌, ℕ, ◌<◌, ◌^◌, Bool, true, false, Option, List, ◌∷◌, map, refl, sym, ap, ◌∙◌}
 use Rattle.std.proofs.lemmas.Nat.{from_le_bytes-to_le_bytes_8}
-use Rattle.pb_base.specs.declared.cell.Cell.{Cell}
-use Rattle.pb_base.specs.declared.content.Revision.{Revision}
-use Rattle.pb_base.specs.Cell.{row_of, column_of}
-use Rattle.pb_helpers.specs.Record.{recorded_row, recorded_column}
-use Rattle.pb_helpers.specs.OldRecord.{record_by}
-use Rattle.pb_steps.specs.declared.step.Work.{Work}
-use Rattle.pb_steps.specs.declared.step.Declared.{Declared}
-use Rattle.pb_steps.specs.State.{cells_of}
-use Rattle.pb_verify.specs.Observers.{ObserverOf, observed_cell}
-use Rattle.pb_history.specs.History.{IsForWork}
+use Rattle.pb_txn.specs.Words.{Cell, Revision, row_of, column_of, recorded_row, recorded_column, record_by, Work, Declared, cells_of, ObserverOf, observed_cell, IsForWork}
 use Rattle.pb_txn.specs.Places.{declared_cells}
 use Rattle.pb_txn.specs.Allowed.{IsWorkInRange}
 

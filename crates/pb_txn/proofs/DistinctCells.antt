@@ -3,12 +3,7 @@ use Rattle.std.proofs.Common.{◌≡◌, ℕ, zero, suc, ◌≤◌, Bool, true, 
 use Rattle.std.specs.List.{list_all}
 use Rattle.std.specs.Ordering.{eq_by_cmp, is_eq}
 use Rattle.std.specs.Cmp.{tied_itself}
-use Rattle.pb_base.specs.declared.cell.Cell.{Cell}
-use Rattle.pb_base.specs.declared.content.Content.{Content}
-use Rattle.pb_base.specs.Cell.{cell_cmp, cell_cmp_total}
-use Rattle.pb_base.specs.Batch.{Writes, content_in, primary_in, are_distinct}
-use Rattle.pb_steps.specs.State.{is_in}
-use Rattle.pb_steps.specs.Prewrite.{is_before_primary}
+use Rattle.pb_txn.specs.Words.{Cell, Content, cell_cmp, cell_cmp_total, Writes, content_in, primary_in, are_distinct, is_in, is_before_primary}
 use Rattle.std.proofs.lemmas.Bool.{or_from as neither, or_right as or_true}
 use Rattle.pb_base.proofs.Logic.{same_some as some_is, and_true as both}
 use Rattle.pb_base.proofs.SameCells.{cell_is, same_cells}

@@ -1,19 +1,7 @@
 -- What a transaction has come to at each place of its plan.
 use Rattle.std.proofs.Common.{◌≡◌, ℕ, ◌+◌, Bool, true, cond, List, [], ◌∷◌, ◌++◌, length, map, take, Option, Some, refl, sym, ap, subst, ◌∙◌, arith, add-one, slice_get, option_map, ◌==◌, nat_lt, filter}
-use Rattle.pb_base.specs.declared.cell.Cell.{Cell}
-use Rattle.pb_base.specs.declared.names.Ts.{Ts}
-use Rattle.pb_steps.specs.declared.phase.Phase.{Phase}
+use Rattle.pb_txn.specs.Words.{Cell, Ts, Phase, Declared, Step, Answer, CanAnswer, is_stamped, is_committed, ObserverOf, TransactionOf, cells_of, Entry, Received, committed_phase, transaction_from}
 use Rattle.pb_steps.specs.declared.phase.Phase.TheVariants as phases
-use Rattle.pb_steps.specs.declared.step.Declared.{Declared}
-use Rattle.pb_steps.specs.declared.step.Step.{Step}
-use Rattle.pb_steps.specs.declared.step.Answer.{Answer}
-use Rattle.pb_steps.specs.Answers.{CanAnswer}
-use Rattle.pb_steps.specs.Phases.{is_stamped, is_committed}
-use Rattle.pb_verify.specs.Observers.{ObserverOf}
-use Rattle.pb_steps.specs.State.{TransactionOf, cells_of}
-use Rattle.pb_history.specs.declared.entry.Entry.{Entry}
-use Rattle.pb_history.specs.declared.entry.Received.{Received}
-use Rattle.pb_history.specs.TransactionsTold.{committed_phase, transaction_from}
 use Rattle.pb_txn.specs.declared.place.Outcome.{Outcome}
 use Rattle.pb_txn.specs.declared.place.PlanPlace.{PlanPlace}
 use Rattle.pb_txn.specs.Places.{declared_cells, place_after, after_prewrite, after_stamp, after_primary, prewrite_from, commit_from, clear_from, step_at}

@@ -1,16 +1,7 @@
 -- The transaction of a plan, whose entries are the plan's conversation, has come to where the plan stands.
 use Rattle.std.proofs.Common.{arith, ◌≡◌, ℕ, inl, inr, true, false, cond, List, [], ◌∷◌, map, Some, refl, sym, ap, subst, ◌∙◌, ◌==◌, filter}
 use Rattle.std.specs.FinMap as finite
-use Rattle.pb_base.specs.Batch.{are_distinct}
-use Rattle.pb_steps.specs.declared.step.Declared.{Declared}
-use Rattle.pb_steps.specs.declared.step.Step.{Step}
-use Rattle.pb_steps.specs.declared.step.Answer.{Answer}
-use Rattle.pb_steps.specs.Answers.{CanAnswer}
-use Rattle.pb_steps.specs.State.{StateOf, TransactionOf, new_transaction}
-use Rattle.pb_history.specs.declared.entry.Entry.{Entry}
-use Rattle.pb_history.specs.declared.entry.Received.{Received}
-use Rattle.pb_history.specs.History.{Has, IsEntry, TellsHistory}
-use Rattle.pb_history.specs.TransactionsTold.{TellsTransactions, transaction_from}
+use Rattle.pb_txn.specs.Words.{are_distinct, Declared, Step, Answer, CanAnswer, StateOf, TransactionOf, new_transaction, Entry, Received, Has, IsEntry, TellsHistory, TellsTransactions, transaction_from}
 use Rattle.pb_txn.specs.declared.place.PlanPlace.{PlanPlace}
 use Rattle.pb_txn.specs.Places.{declared_cells}
 use Rattle.pb_txn.specs.Plans.{PlanOf, fresh, answered}

@@ -1,13 +1,7 @@
 -- What the table keeps of a transaction, its reads aside, follows from the entries that name its start, reads aside.
 use Rattle.std.proofs.Common.{arith, ◌≡◌, ℕ, Bool, true, false, cond, ◌||◌, List, [], ◌∷◌, Option, Some, None, refl, sym, ap, ◌∙◌, option_map}
 use Rattle.std.specs.List.{filter, list_any}
-use Rattle.pb_steps.specs.declared.step.Work.{Work}
-use Rattle.pb_steps.specs.declared.step.Step.{Step}
-use Rattle.pb_steps.specs.declared.step.Answer.{Answer}
-use Rattle.pb_verify.specs.Observers.{ObserverOf}
-use Rattle.pb_steps.specs.State.{TransactionOf, new_transaction}
-use Rattle.pb_history.specs.declared.entry.Entry.{Entry}
-use Rattle.pb_history.specs.TransactionsTold.{names_start, entries_naming, transaction_after, transaction_from, transaction_by, is_begin, BeginsOnce}
+use Rattle.pb_txn.specs.Words.{Work, Step, Answer, ObserverOf, TransactionOf, new_transaction, Entry, names_start, entries_naming, transaction_after, transaction_from, transaction_by, is_begin, BeginsOnce}
 use Rattle.pb_txn.specs.Allowed.{names}
 
 -- all but the reads

@@ -3,16 +3,7 @@
 -- nothing of the other steps, so that it holds in whatever order they come.
 use Rattle.std.specs.Prelude.{◌≡◌, ◌≢◌, ℕ, ◌<◌, ◌^◌, Bool, false, ◌==◌, List, map, Some, filter}
 use Rattle.std.specs.FinMap as finite
-use Rattle.pb_base.specs.declared.refusal.Reason.{Reason}
-use Rattle.pb_steps.specs.declared.step.Work.{Work}
-use Rattle.pb_steps.specs.declared.step.Declared.{Declared}
-use Rattle.pb_steps.specs.declared.step.Step.{Step}
-use Rattle.pb_verify.specs.Observers.{ObserverOf, observed_column}
-use Rattle.pb_steps.specs.State.{StateOf, TransactionOf}
-use Rattle.pb_steps.specs.Steps.{step_reason}
-use Rattle.pb_history.specs.declared.entry.Entry.{Entry}
-use Rattle.pb_history.specs.declared.entry.Received.{Received}
-use Rattle.pb_history.specs.Journals.{IsLegal}
+use Rattle.pb_txn.specs.Words.{Reason, Work, Declared, Step, ObserverOf, observed_column, StateOf, TransactionOf, step_reason, Entry, Received, IsLegal}
 use Rattle.pb_txn.specs.Plans.{PlanOf, fresh, next_of}
 use Rattle.pb_txn.specs.Conversations.{Converses}
 

@@ -1,9 +1,6 @@
 -- What a plan has asked, step by step, with the answers that such steps can have, whatever table gave them.
 use Rattle.std.specs.Prelude.{◌≡◌, List, [], ◌∷◌, Some}
-use Rattle.pb_steps.specs.declared.step.Step.{Step}
-use Rattle.pb_steps.specs.declared.step.Answer.{Answer}
-use Rattle.pb_steps.specs.Answers.{CanAnswer}
-use Rattle.pb_history.specs.declared.entry.Received.{Received}
+use Rattle.pb_txn.specs.Words.{Step, Answer, CanAnswer, Received}
 use Rattle.pb_txn.specs.Plans.{PlanOf, next_of, answered}
 
 -- a step with its answer, as a seat's list keeps it

@@ -1,3 +1,4 @@
+pub mod Words
 pub mod Places
 pub mod Plans
 pub mod Conversations

@@ -2,12 +2,7 @@
 -- Both are functions of the place, so that a plan's value is its place. The step is an option, so that no cell stands
 -- in where the list has none at a place.
 use Rattle.std.specs.Prelude.{ℕ, ◌+◌, ◌<◌, ◌≤◌, ◌==◌, nat_lt, if◌then◌else◌, List, ◌∷◌, map, slice_get, Option, Some, None, option_map}
-use Rattle.pb_base.specs.declared.cell.Cell.{Cell}
-use Rattle.pb_base.specs.declared.names.Ts.{Ts}
-use Rattle.pb_helpers.specs.Record.{recorded_row, recorded_column}
-use Rattle.pb_steps.specs.declared.step.Declared.{Declared}
-use Rattle.pb_steps.specs.declared.step.Step.{Step}
-use Rattle.pb_steps.specs.declared.step.Answer.{Answer}
+use Rattle.pb_txn.specs.Words.{Cell, Ts, recorded_row, recorded_column, Declared, Step, Answer}
 use Rattle.pb_txn.specs.declared.place.Outcome.{Outcome}
 use Rattle.pb_txn.specs.declared.place.PlanPlace.{PlanPlace}
 

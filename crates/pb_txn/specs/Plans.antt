@@ -1,10 +1,7 @@
 -- Plans, as their owners see them. The contracts of `Plan` cite them, and so do those of `ChangeJob` and of the jobs
 -- of `pb_notify`, which follow plans.
 use Rattle.std.specs.Prelude.{◌≡◌, ℕ, [], length, Option, Some, None, MatchOption}
-use Rattle.pb_steps.specs.declared.step.Declared.{Declared}
-use Rattle.pb_steps.specs.declared.step.Step.{Step}
-use Rattle.pb_steps.specs.declared.step.Answer.{Answer}
-use Rattle.pb_steps.specs.Answers.{CanAnswer}
+use Rattle.pb_txn.specs.Words.{Declared, Step, Answer, CanAnswer}
 use Rattle.pb_txn.specs.declared.place.Outcome.{Outcome}
 use Rattle.pb_txn.specs.declared.place.PlanPlace.{PlanPlace}
 use Rattle.pb_txn.specs.Places.{declared_cells, place_after, later_step, step_at, LiesWithin}

@@ -2,9 +2,7 @@
 use Rattle.std.proofs.Common.{◌≡◌, inl, inr, ℕ, zero, suc, ◌+◌, ◌≤◌, List, [], ◌∷◌, drop, Option, None, get_or, refl, ap, arith, add-one}
 use Rattle.std.proofs.lemmas.Bool.{cases_lt}
 use Rattle.std.proofs.lemmas.List.{drop_all}
-use Rattle.pb_isa.specs.declared.insn.Insn.{Insn}
-use Rattle.pb_isa.specs.Helpers.{Helper}
-use Rattle.pb_isa.specs.Slots.{layout, slots, insn_at}
+use Rattle.pb_verify.specs.Words.{Insn, Helper, layout, slots, insn_at}
 use Rattle.pb_verify.specs.Needs.{called_by, calls_in, reads_by, writes_by, reads_from, writes_from, NeedsFall}
 
 -- those of a slot, and those behind it

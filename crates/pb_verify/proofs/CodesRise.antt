@@ -1,19 +1,7 @@
 -- The codes that the rules list rise, rule by rule: each part of a rule lies within two numbers, and parts that follow
 -- each other are joined where the first ends at the number that the next begins with.
 use Rattle.std.proofs.Common.{ℕ, ◌≤◌, Bool, List, ◌++◌, arith, ℤ, nat_eq}
-use Rattle.pb_isa.specs.declared.insn.Insn.{Insn}
-use Rattle.pb_isa.specs.declared.insn.AluOp.{AluOp}
-use Rattle.pb_isa.specs.declared.insn.Width.{Width}
-use Rattle.pb_isa.specs.declared.insn.Operand.{Operand}
-use Rattle.pb_isa.specs.declared.insn.Reg.{Reg}
-use Rattle.pb_isa.specs.Registers.{number}
-use Rattle.pb_isa.specs.Slots.{slots}
-use Rattle.pb_isa.specs.Programs.{JudgedOf}
-use Rattle.pb_kinds.specs.declared.frame.Kind.{Kind}
-use Rattle.pb_kinds.specs.declared.frame.Frame.{Frame}
-use Rattle.pb_helpers.specs.declared.code.RuleCode.{RuleCode}
-use Rattle.pb_helpers.specs.Codes.{code_number, when, CodesRiseWithin}
-use Rattle.pb_helpers.specs.Arguments.{ArgumentCodesRise}
+use Rattle.pb_verify.specs.Words.{Insn, AluOp, Width, Operand, Reg, number, slots, JudgedOf, Kind, Frame, RuleCode, code_number, when, CodesRiseWithin, ArgumentCodesRise}
 use Rattle.pb_verify.specs.Rules.{reads, sets, falls, numeric_rules, part_mov_rules, mov_rules, add_rules, alu_rules, loads, stores, jump_rules, jump_if_rules, insn_rules}
 use Rattle.pb_helpers.proofs.ArgumentCodesRise.{from_lower, joined, to_higher, reads as set}
 

@@ -1,7 +1,6 @@
 -- The frames after the slots, one slot more at a time: the steps of the verifier's loop.
 use Rattle.std.proofs.Common.{◌≡◌, ℕ, suc, ◌+◌, List, [], ◌∷◌, ◌++◌, refl, zero, add-one, length, length-append, arith}
-use Rattle.pb_isa.specs.declared.insn.Insn.{Insn}
-use Rattle.pb_isa.specs.Slots.{insn_at}
+use Rattle.pb_verify.specs.Words.{Insn, insn_at}
 use Rattle.pb_verify.specs.Arriving.{outs, in_at, frame_before, frame_after}
 
 -- one slot more adds the frame after its instruction

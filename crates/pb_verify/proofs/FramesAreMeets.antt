@@ -6,10 +6,7 @@ use Rattle.std.proofs.Math.ListN.{get_or-append}
 use Rattle.std.proofs.Math.Seq.{get_or-append_seam}
 use Rattle.std.proofs.lemmas.List.{get_or_past}
 use mathlib.Core.Logic.{inl, inr}
-use Rattle.pb_isa.specs.declared.insn.Insn.{Insn}
-use Rattle.pb_isa.specs.Slots.{insn_at}
-use Rattle.pb_kinds.specs.declared.frame.Frame.{Frame}
-use Rattle.pb_kinds.specs.Frames.{join, entry_frame}
+use Rattle.pb_verify.specs.Words.{Insn, insn_at, Frame, join, entry_frame}
 use Rattle.pb_verify.specs.Arriving.{merge, if_leads, gather, frame_before, frame_after, outs, in_at}
 use Rattle.pb_verify.specs.Ways.{out_at, IsWay, Fact, HasKind, HasByte, Says, FramesAreMeets}
 use Rattle.pb_kinds.proofs.JoinIsMeet.{join_is_meet}

@@ -2,11 +2,7 @@
 use Rattle.std.proofs.Common.{◌≡◌, ℕ, ◌<◌, List, [], ◌∷◌, ◌++◌, Option, Some, refl, arith}
 use Rattle.std.proofs.lemmas.List.{get_or_past}
 use Rattle.std.proofs.lemmas.Bool.{cases_lt}
-use Rattle.pb_isa.specs.declared.insn.Insn.{Insn}
-use Rattle.pb_isa.specs.Programs.{JudgedOf}
-use Rattle.pb_isa.specs.Slots.{slots, insn_at}
-use Rattle.pb_kinds.specs.declared.frame.Frame.{Frame}
-use Rattle.pb_helpers.specs.declared.code.RuleCode.{RuleCode}
+use Rattle.pb_verify.specs.Words.{Insn, JudgedOf, slots, insn_at, Frame, RuleCode}
 use Rattle.pb_verify.specs.Arriving.{in_at, codes_at}
 use Rattle.pb_verify.specs.Forward.{IsForward, LeadsAreLater, AcceptedJumpsGoForward}
 

@@ -2,8 +2,7 @@
 use Rattle.std.proofs.Common.{◌≡◌, ℕ, ◌+◌, ◌<◌, List, [], ◌∷◌, ◌++◌, Option, None, length, get_or, ap, arith, length-append}
 use Rattle.std.proofs.lemmas.List.{get_or_append_left}
 use Rattle.std.proofs.Math.Seq.{get_or-append_seam}
-use Rattle.pb_isa.specs.declared.insn.Insn.{Insn}
-use Rattle.pb_kinds.specs.declared.frame.Frame.{Frame}
+use Rattle.pb_verify.specs.Words.{Insn, Frame}
 use Rattle.pb_verify.specs.Known.{known_at}
 
 -- before each of the first n slots

@@ -1,8 +1,7 @@
 -- The lowest code of a rule is found part by part: by `or`, in the order in which the definition lists the codes.
 use Rattle.std.proofs.Common.{◌≡◌, List, ◌++◌, Option}
 use Rattle.std.specs.Option.{option_or}
-use Rattle.pb_helpers.specs.declared.code.RuleCode.{RuleCode}
-use Rattle.pb_helpers.specs.Codes.{lowest_code}
+use Rattle.pb_verify.specs.Words.{RuleCode, lowest_code}
 use Rattle.pb_helpers.proofs.LowestCode.{lowest_append}
 
 -- the lowest of two lists of codes, and of more

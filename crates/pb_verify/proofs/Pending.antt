@@ -2,11 +2,7 @@
 -- sent so far.
 use Rattle.std.proofs.Common.{◌≡◌, ℕ, suc, ◌+◌, ◌<◌, false, List, [], ◌∷◌, ◌++◌, Option, None, length, refl, arith, nat_eq}
 use Rattle.std.proofs.lemmas.Bool.Decides.{nat_tests}
-use Rattle.pb_isa.specs.declared.insn.Insn.{Insn}
-use Rattle.pb_isa.specs.Slots.{insn_at}
-use Rattle.pb_kinds.specs.declared.frame.Frame.{Frame}
-use Rattle.pb_helpers.specs.declared.code.RuleCode.{RuleCode}
-use Rattle.pb_helpers.specs.Codes.{lowest_code}
+use Rattle.pb_verify.specs.Words.{Insn, insn_at, Frame, RuleCode, lowest_code}
 use Rattle.pb_verify.specs.Arriving.{merge, if_leads, gather, frame_before, frame_after, outs, in_at}
 use Rattle.pb_verify.proofs.FramesAfter.{length-outs, outs_more}
 

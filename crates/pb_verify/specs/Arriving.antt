@@ -2,13 +2,7 @@
 -- frames after all earlier slots, in their order, since `verify` goes forward once; that the order doesn't matter is a
 -- law (`FramesAreMeets`). `Accepts` and `Refuses` are what the contracts of `verify` and of all crates above speak of.
 use Rattle.std.specs.Prelude.{◌≡◌, ℕ, zero, suc, ◌+◌, ◌<◌, Bool, false, ◌||◌, if◌then◌else◌, List, [], ◌∷◌, ◌++◌, Option, Some, None, nat_eq}
-use Rattle.pb_isa.specs.declared.insn.Insn.{Insn}
-use Rattle.pb_isa.specs.Slots.{slots, insn_at}
-use Rattle.pb_isa.specs.Programs.{JudgedOf}
-use Rattle.pb_kinds.specs.declared.frame.Frame.{Frame}
-use Rattle.pb_kinds.specs.Frames.{join, entry_frame}
-use Rattle.pb_helpers.specs.declared.code.RuleCode.{RuleCode}
-use Rattle.pb_helpers.specs.Codes.{lowest_code}
+use Rattle.pb_verify.specs.Words.{Insn, slots, insn_at, JudgedOf, Frame, join, entry_frame, RuleCode, lowest_code}
 use Rattle.pb_verify.specs.Rules.{insn_rules}
 use Rattle.pb_verify.specs.Following.{after, leads}
 

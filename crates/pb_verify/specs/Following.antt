@@ -1,17 +1,7 @@
 -- What is known after an instruction whose rules hold, and where it leads: the contracts of `step` and `spread` cite
 -- them. They are total, also where rules are broken, since `frames` tells what is known of refused programs too.
 use Rattle.std.specs.Prelude.{ℕ, ◌+◌, ℤ, pos, negsuc, ◌+ℤ◌, neg_ℤ, if◌then◌else◌, List, [], ◌∷◌, slice_set, slice_index_or, Option, Some}
-use Rattle.pb_isa.specs.declared.insn.Insn.{Insn}
-use Rattle.pb_isa.specs.declared.insn.AluOp.{AluOp}
-use Rattle.pb_isa.specs.declared.insn.Width.{Width}
-use Rattle.pb_isa.specs.declared.insn.Operand.{Operand}
-use Rattle.pb_isa.specs.declared.insn.Reg.{Reg}
-use Rattle.pb_isa.specs.Registers.{number}
-use Rattle.pb_isa.specs.Helpers.{Helper, Read, helper_of}
-use Rattle.pb_kinds.specs.declared.frame.Kind.{Kind}
-use Rattle.pb_kinds.specs.declared.frame.Frame.{Frame}
-use Rattle.pb_kinds.specs.Frames.{kind_of}
-use Rattle.pb_kinds.specs.Ranges.{in_stack, with_written}
+use Rattle.pb_verify.specs.Words.{Insn, AluOp, Width, Operand, Reg, number, Helper, Read, helper_of, Kind, Frame, kind_of, in_stack, with_written}
 use Rattle.pb_verify.specs.Rules.{at, bytes_of}
 
 -- the frame after a register is set

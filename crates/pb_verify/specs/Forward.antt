@@ -1,9 +1,7 @@
 -- Where the instructions of an accepted program lead: forward. So one pass is enough to verify it, and a run of it
 -- takes fewer instructions than it has slots.
 use Rattle.std.specs.Prelude.{◌≡◌, ℕ, ◌<◌, ℤ, pos, negsuc, Some, IsTrue}
-use Rattle.pb_isa.specs.declared.insn.Insn.{Insn}
-use Rattle.pb_isa.specs.Programs.{JudgedOf}
-use Rattle.pb_isa.specs.Slots.{insn_at}
+use Rattle.pb_verify.specs.Words.{Insn, JudgedOf, insn_at}
 use Rattle.pb_verify.specs.Following.{leads}
 use Rattle.pb_verify.specs.Arriving.{has_slot, Accepts}
 

@@ -1,3 +1,4 @@
+pub mod Words
 pub mod Rules
 pub mod Following
 pub mod Arriving

@@ -1,9 +1,7 @@
 -- The observers of a table (OSDI 2010, section 2.4), with the cells that they observe and acknowledge.
 use Rattle.std.specs.Prelude.{ℕ, List, Option, Some, None, slice_get, refl}
 use Rattle.std.specs.Coded.{Coded, code_by, coded×, coded_ℕ, coded_list}
-use Rattle.pb_base.specs.declared.cell.Cell.{Cell}
-use Rattle.pb_base.specs.declared.names.Row.{Row}
-use Rattle.pb_isa.specs.Programs.{JudgedOf, judged_code}
+use Rattle.pb_verify.specs.Words.{Cell, Row, JudgedOf, judged_code}
 
 -- an observer: its name, the column that it observes, and its accepted program
 pub record ObserverOf : Type 0 where

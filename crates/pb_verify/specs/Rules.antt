@@ -3,24 +3,7 @@
 -- a rule; which one is told is said once, by `lowest_code`. The contracts of src/rules.rt cite them, one each.
 use Rattle.std.specs.Prelude.{ℕ, ◌+◌, ℤ, pos, negsuc, ◌+ℤ◌, Bool, false, not, ◌||◌, if◌then◌else◌, List, [], ◌∷◌, ◌++◌, is_none, nat_eq, nat_le}
 use Rattle.std.specs.Int.{byte_len}
-use Rattle.pb_isa.specs.declared.insn.Insn.{Insn}
-use Rattle.pb_isa.specs.declared.insn.AluOp.{AluOp}
-use Rattle.pb_isa.specs.declared.insn.Width.{Width}
-use Rattle.pb_isa.specs.declared.insn.Operand.{Operand}
-use Rattle.pb_isa.specs.declared.insn.Size.{Size}
-use Rattle.pb_isa.specs.declared.insn.Reg.{Reg}
-use Rattle.pb_isa.specs.Registers.{number}
-use Rattle.pb_isa.specs.Slots.{slots, insn_at}
-use Rattle.pb_isa.specs.Programs.{JudgedOf}
-use Rattle.pb_isa.specs.Helpers.{declared_helper}
-use Rattle.pb_isa.specs.Machine.{width}
-use Rattle.pb_kinds.specs.declared.frame.Kind.{Kind}
-use Rattle.pb_kinds.specs.declared.frame.Frame.{Frame}
-use Rattle.pb_kinds.specs.Frames.{kind_of, is_pointer}
-use Rattle.pb_kinds.specs.Ranges.{in_record}
-use Rattle.pb_helpers.specs.declared.code.RuleCode.{RuleCode}
-use Rattle.pb_helpers.specs.Codes.{when, CodesRiseWithin}
-use Rattle.pb_helpers.specs.Arguments.{unset, stack_reads, stack_writes, call_rules}
+use Rattle.pb_verify.specs.Words.{Insn, AluOp, Width, Operand, Size, Reg, number, slots, insn_at, JudgedOf, declared_helper, width, Kind, Frame, kind_of, is_pointer, in_record, RuleCode, when, CodesRiseWithin, unset, stack_reads, stack_writes, call_rules}
 
 -- ---- parts of rules
 

@@ -1,12 +1,8 @@
 -- What the verifier answers: the contracts of `verify` and `verify_for`, and the law that each program is accepted or
 -- refused, and not both, and refused at one slot with one code.
 use Rattle.std.specs.Prelude.{◌≡◌, ◌⊎◌, ℕ}
-use Rattle.pb_isa.specs.Programs.{ProgramOf, JudgedOf}
-use Rattle.pb_isa.specs.Helpers.{HelperSet}
-use Rattle.pb_helpers.specs.declared.code.RuleCode.{RuleCode}
-use Rattle.pb_helpers.specs.Codes.{code_number}
+use Rattle.pb_verify.specs.Words.{ProgramOf, JudgedOf, HelperSet, RuleCode, code_number, Version}
 use Rattle.pb_verify.specs.declared.verifier.VerifyFault.{VerifyFault}
-use Rattle.pb_helpers.specs.declared.change.Version.{Version}
 use Rattle.pb_verify.specs.Versions.{judged_by}
 use Rattle.pb_verify.specs.Arriving.{Accepts, Refuses}
 

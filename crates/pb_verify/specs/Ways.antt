@@ -1,12 +1,7 @@
 -- The frame before a slot says what is known on every way to it, and no more. It is said by single facts and without an
 -- order of slots, so that the verifier's pass could go another way and keep it; the laws of `pb_sound` stand on it.
 use Rattle.std.specs.Prelude.{◌≡◌, ◌↔◌, ℕ, ◌<◌, List, Option, Some, None, IsTrue, IfSome}
-use Rattle.pb_isa.specs.declared.insn.Insn.{Insn}
-use Rattle.pb_isa.specs.Slots.{insn_at}
-use Rattle.pb_kinds.specs.declared.frame.Kind.{Kind}
-use Rattle.pb_kinds.specs.declared.frame.Frame.{Frame}
-use Rattle.pb_kinds.specs.Frames.{entry_frame, has_byte}
-use Rattle.pb_kinds.specs.Meet.{KnowsKind}
+use Rattle.pb_verify.specs.Words.{Insn, insn_at, Kind, Frame, entry_frame, has_byte, KnowsKind}
 use Rattle.pb_verify.specs.Arriving.{in_at, frame_after, if_leads}
 
 -- the frame after the instruction of slot m

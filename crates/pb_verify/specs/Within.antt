@@ -2,9 +2,7 @@
 -- an immediate moves one. So with at most 4,096 slots no sum of a distance and an offset leaves the 64 bits of the
 -- code.
 use Rattle.std.specs.Prelude.{ℕ, ◌≤◌, nat_abs, Option, Some, None}
-use Rattle.pb_kinds.specs.declared.frame.Kind.{Kind}
-use Rattle.pb_kinds.specs.declared.frame.Frame.{Frame}
-use Rattle.pb_kinds.specs.Frames.{kind_of}
+use Rattle.pb_verify.specs.Words.{Kind, Frame, kind_of}
 
 -- a pointer at most b bytes from where its region begins or ends; of all else nothing is asked
 abbrev pub IsNear : ℕ → Kind → Type 0

@@ -1,9 +1,6 @@
 -- A write that replaces another: the code looks for the place, and the definition for the cell.
 use Rattle.std.proofs.Common.{◌≡◌, ◌<◌, ◌≤◌, true, false, [], ◌∷◌, length, slice_set, refl, arith, is_some}
-use Rattle.pb_base.specs.declared.cell.Cell.{Cell}
-use Rattle.pb_base.specs.declared.content.Content.{Content}
-use Rattle.pb_base.specs.Batch.{Writes, content_in}
-use Rattle.pb_isa.specs.Machine.{replace_write}
+use Rattle.pb_vm.specs.Words.{Cell, Content, Writes, content_in, replace_write}
 use Rattle.pb_vm.specs.Places.{place_in}
 
 -- a cell that has a place was written before

@@ -1,9 +1,7 @@
 -- Where a cell stands among those written, in the order of their first writes.
 use Rattle.std.specs.Prelude.{ℕ, suc, cond, [], ◌∷◌}
 use Rattle.std.specs.Ordering.{eq_by_cmp}
-use Rattle.pb_base.specs.declared.cell.Cell.{Cell}
-use Rattle.pb_base.specs.Cell.{cell_cmp}
-use Rattle.pb_base.specs.Batch.{Writes}
+use Rattle.pb_vm.specs.Words.{Cell, cell_cmp, Writes}
 
 -- the place of the first write to x, or how many writes there are
 abbrev pub place_in : Cell → Writes → ℕ

@@ -1,9 +1,6 @@
 -- Tries of a change, and changes, one after another.
 use Rattle.std.proofs.Common.{◌≡◌, ◌≢◌, ℕ, ◌+◌, ◌*◌, ◌<◌, Bool, true, false, List, [], ◌∷◌, ◌++◌, length, length-append, Some, inl, inr, ◌⊎◌, refl, sym, ap, subst, ◌∙◌, arith, slice_get, Option}
-use Rattle.pb_base.specs.declared.refusal.Refusal.{Refusal}
-use Rattle.pb_base.specs.Batch.{Writes}
-use Rattle.pb_core.specs.Calls.{SeatOf}
-use Rattle.pb_txn.specs.Changes.{new_change, ChangesConverse}
+use Rattle.pb_worker.specs.Words.{Refusal, Writes, SeatOf, new_change, ChangesConverse}
 use Rattle.pb_worker.specs.declared.tries.TheConstants.{MAX_TRIES}
 use Rattle.pb_worker.specs.Gains.{OpeningOf, Gains, IsWant}
 use Rattle.pb_worker.specs.Tries.{IsTry, AreVain, at_first, one_more, AreTries, AreTried, before_all, tried}

@@ -1,14 +1,6 @@
 -- What a committed change has said.
 use Rattle.std.proofs.Common.{List}
-use Rattle.pb_base.specs.declared.names.Ts.{Ts}
-use Rattle.pb_base.specs.Batch.{Writes}
-use Rattle.pb_steps.specs.declared.step.Step.{Step}
-use Rattle.pb_steps.specs.declared.step.Answer.{Answer}
-use Rattle.pb_steps.specs.declared.step.Work.{Work}
-use Rattle.pb_steps.specs.declared.step.Declared.{Declared}
-use Rattle.pb_history.specs.declared.entry.Received.{Received}
-use Rattle.pb_history.specs.History.{Has}
-use Rattle.pb_txn.specs.Conversations.{told}
+use Rattle.pb_worker.specs.Words.{Ts, Writes, Step, Answer, Work, Declared, Received, Has, told}
 
 -- ---- lists
 

@@ -1,21 +1,7 @@
 -- A try that was left after its commit has committed.
 use Rattle.std.proofs.Common.{arith, ◌≡◌, ◌≢◌, ◌⊎◌, Bool, true, false, ◌||◌, List, [], ◌∷◌, ◌++◌, inl, inr, refl, sym, ap, subst, ◌∙◌}
-use Rattle.pb_base.specs.declared.names.Ts.{Ts}
-use Rattle.pb_base.specs.declared.cell.Cell.{Cell}
-use Rattle.pb_base.specs.Batch.{Writes}
-use Rattle.pb_steps.specs.declared.step.Step.{Step}
-use Rattle.pb_steps.specs.declared.step.Answer.{Answer}
-use Rattle.pb_steps.specs.declared.step.Work.{Work}
-use Rattle.pb_steps.specs.declared.step.Declared.{Declared}
-use Rattle.pb_steps.specs.Answers.{CanAnswer}
-use Rattle.pb_history.specs.declared.entry.Received.{Received}
-use Rattle.pb_history.specs.History.{Has}
-use Rattle.pb_txn.specs.declared.place.Outcome.{Outcome}
-use Rattle.pb_txn.specs.declared.place.PlanPlace.{PlanPlace}
+use Rattle.pb_worker.specs.Words.{Ts, Cell, Writes, Step, Answer, Work, Declared, CanAnswer, Received, Has, Outcome, PlanPlace, told, IsWhole, AreCleared, committed, conflicted_first, conflicted_later, lost, prewrites, secondaries, ChangeOf, new_change, Converses}
 use Rattle.pb_txn.specs.Plans.{fresh}
-use Rattle.pb_txn.specs.Conversations.{told}
-use Rattle.pb_txn.specs.Forms.{IsWhole, AreCleared, committed, conflicted_first, conflicted_later, lost, prewrites, secondaries}
-use Rattle.pb_txn.specs.Changes.{ChangeOf, new_change, Converses}
 use Rattle.pb_txn.proofs.ChangeConversation.{HasBegun, begins as has_begun}
 use Rattle.pb_txn.proofs.Conversation.{SoFar, declaring, prewriting, stamping, committing, finishing, settling, clearing, over, said_all, clears, are_cleared}
 use Rattle.pb_worker.specs.Tries.{is_commit_outcome, is_commit, has_commit}

@@ -2,11 +2,7 @@
 use Rattle.std.proofs.Common.{◌≡◌, ℕ, zero, suc, ◌+◌, ◌-◌, ◌<◌, List, [], ◌∷◌, length, map, Option, Some, None, refl, sym, ap, subst, ◌∙◌, arith, slice_index_or}
 use Rattle.std.proofs.lemmas.List.{get_or-map}
 use Rattle.std.proofs.lemmas.Option.{slice_get-get_or}
-use Rattle.pb_base.specs.declared.refusal.Refusal.{Refusal}
-use Rattle.pb_base.specs.Batch.{Writes}
-use Rattle.pb_verify.specs.Observers.{ObserverOf}
-use Rattle.pb_history.specs.declared.entry.Entry.{Entry}
-use Rattle.pb_core.specs.Calls.{SeatOf, AreSeatsFrom}
+use Rattle.pb_worker.specs.Words.{Refusal, Writes, ObserverOf, Entry, SeatOf, AreSeatsFrom}
 use Rattle.pb_worker.specs.declared.worker.Worker.{Worker}
 use Rattle.pb_worker.specs.Gains.{Gains, OpeningOf}
 use Rattle.pb_worker.specs.Swaps.{Spare}

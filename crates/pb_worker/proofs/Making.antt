@@ -4,24 +4,7 @@ use Rattle.std.proofs.lemmas.Bool.{eqb-true, eqb-false, cases_lt, cases_order}
 use Rattle.std.proofs.lemmas.Nat.{div-mul-add, mod-mul-add}
 use Rattle.std.proofs.lemmas.Option.{slice_get_within}
 use Rattle.std.proofs.Math.Nat.{mod-add-div', mod-lt}
-use Rattle.pb_base.specs.declared.names.Row.{Row}
-use Rattle.pb_base.specs.declared.names.Ts.{Ts}
-use Rattle.pb_base.specs.declared.refusal.Refusal.{Refusal}
-use Rattle.pb_base.specs.Batch.{Writes}
-use Rattle.pb_steps.specs.declared.step.Step.{Step}
-use Rattle.pb_steps.specs.declared.step.Answer.{Answer}
-use Rattle.pb_steps.specs.declared.step.Work.{Work}
-use Rattle.pb_verify.specs.Observers.{ObserverOf}
-use Rattle.pb_steps.specs.State.{opening}
-use Rattle.pb_history.specs.declared.entry.Entry.{Entry}
-use Rattle.pb_history.specs.declared.entry.Received.{Received}
-use Rattle.pb_history.specs.Places.{entries_of}
-use Rattle.pb_history.specs.History.{Has, IsEntry, Member, InHistory}
-use Rattle.pb_history.specs.Laws.{TransactionsAreTold}
-use Rattle.pb_history.specs.TransactionsTold.{TellsTransactions}
-use Rattle.pb_core.specs.Calls.{SharedOf, SeatOf, AreSeats, AreSeatsFrom}
-use Rattle.pb_core.specs.Histories.{IsLegalTable}
-use Rattle.pb_txn.specs.Conversations.{told}
+use Rattle.pb_worker.specs.Words.{Row, Ts, Refusal, Writes, Step, Answer, Work, ObserverOf, opening, Entry, Received, entries_of, Has, IsEntry, Member, InHistory, TransactionsAreTold, TellsTransactions, SharedOf, SeatOf, AreSeats, AreSeatsFrom, IsLegalTable, told}
 use Rattle.pb_worker.specs.Gains.{Gains, OpeningOf}
 use Rattle.pb_worker.specs.Swaps.{Spare}
 use Rattle.pb_worker.specs.Work.{share_of, IsWork, IsLastDrain, WorkedOn, is_done, undone_below}

@@ -1,28 +1,8 @@
 -- A conversation of a change or of a run begins its transaction first, and commits no other.
 use Rattle.std.proofs.Common.{arith, ◌≡◌, ℕ, inl, inr, List, [], ◌∷◌, ◌++◌, Option, Some, None, refl, sym, ap, subst}
-use Rattle.pb_base.specs.declared.cell.Cell.{Cell}
-use Rattle.pb_base.specs.declared.content.Revision.{Revision}
-use Rattle.pb_base.specs.declared.names.Ts.{Ts}
-use Rattle.pb_base.specs.Batch.{Writes}
-use Rattle.pb_isa.specs.Meaning.{Talk}
-use Rattle.pb_finished.specs.Finished.{Meant}
-use Rattle.pb_steps.specs.declared.seen.Seen.{Seen}
-use Rattle.pb_steps.specs.declared.step.Work.{Work}
-use Rattle.pb_steps.specs.declared.step.Declared.{Declared}
-use Rattle.pb_steps.specs.declared.step.Step.{Step}
-use Rattle.pb_steps.specs.declared.step.Answer.{Answer}
-use Rattle.pb_steps.specs.Read.{read_step}
-use Rattle.pb_steps.specs.Reads.{asked_cell}
-use Rattle.pb_history.specs.declared.entry.Received.{Received}
-use Rattle.pb_history.specs.History.{Has}
-use Rattle.pb_txn.specs.declared.place.Outcome.{Outcome}
-use Rattle.pb_txn.specs.Conversations.{told}
-use Rattle.pb_txn.specs.Forms.{IsWhole, AreCleared, committed, conflicted_first, conflicted_later, lost, prewrites, secondaries}
-use Rattle.pb_txn.specs.Changes.{IsWholeChange}
-use Rattle.pb_notify.specs.declared.need.JobEnd.{JobEnd}
-use Rattle.pb_notify.specs.Runs.{Watch}
-use Rattle.pb_notify.specs.Forms.{IsRound, AreRounds, at_first, one_more, IsLooked, its_begin, IsObserved, IsAcknowledged, IsRecalled, AreAsked, dirty, asked, LooksFrom, at_cell, at_acknowledgment, at_old, at_ask}
-use Rattle.pb_notify.specs.Forms.{IsRunConversation, absent, clean, ran, conflicted, lost as lost_run, blocked}
+use Rattle.pb_worker.specs.Words.{Cell, Revision, Ts, Writes, Talk, Meant, Seen, Work, Declared, Step, Answer, read_step, asked_cell, Received, Has, Outcome, told, IsWhole, AreCleared, committed, conflicted_first, conflicted_later, lost, prewrites, secondaries, IsWholeChange, JobEnd, Watch, IsRound, AreRounds, IsLooked, its_begin, IsObserved, IsAcknowledged, IsRecalled, AreAsked, dirty, asked, LooksFrom, at_cell, at_acknowledgment, at_old, at_ask, IsRunConversation, absent, clean, ran, conflicted, blocked}
+use Rattle.pb_notify.specs.Forms.{at_first, one_more}
+use Rattle.pb_notify.specs.Forms.{lost as lost_run}
 use Rattle.pb_history.proofs.Updates.{has_which}
 
 -- ---- lists

@@ -1,14 +1,6 @@
 -- Passes over the marked cells on their way.
 use Rattle.std.proofs.Common.{arith, ◌≡◌, ◌≢◌, ℕ, ◌+◌, ◌<◌, Bool, true, false, List, [], ◌∷◌, ◌++◌, Option, Some, None, refl, sym, ap, subst, ◌∙◌, is_some}
-use Rattle.pb_base.specs.declared.cell.Cell.{Cell}
-use Rattle.pb_base.specs.declared.refusal.Refusal.{Refusal}
-use Rattle.pb_steps.specs.declared.step.Step.{Step}
-use Rattle.pb_steps.specs.declared.step.Answer.{Answer}
-use Rattle.pb_steps.specs.Answers.{CanAnswer}
-use Rattle.pb_verify.specs.Observers.{ObserverOf}
-use Rattle.pb_history.specs.declared.entry.Received.{Received}
-use Rattle.pb_core.specs.Calls.{SeatOf}
-use Rattle.pb_txn.specs.Conversations.{told}
+use Rattle.pb_worker.specs.Words.{Cell, Refusal, Step, Answer, CanAnswer, ObserverOf, Received, SeatOf, told}
 use Rattle.pb_worker.specs.declared.passes.TheConstants.{MAX_PASSES}
 use Rattle.pb_worker.specs.Gains.{OpeningOf, Gains, Told, MayRefuse}
 use Rattle.pb_worker.specs.Passes.{IsRun, IsOfOther, AreRuns, before_all, runs as ran_then, passes_by, AreAllRuns, IsWalk, at_beginning, found as found_then, IsPass, IsPassThat, ArePasses, at_first, one_more, IsDrain}

@@ -1,12 +1,6 @@
 -- Why a call was refused.
 use Rattle.std.proofs.Common.{arith, ◌≡◌, ℕ, Option, Some, None, Result, Err, IfErr, refl, sym, subst, inr}
-use Rattle.pb_base.specs.declared.refusal.Reason.{Reason}
-use Rattle.pb_base.specs.declared.refusal.Refusal.{Refusal}
-use Rattle.pb_base.specs.Reasons.{refusal_by, memory_refusal}
-use Rattle.pb_steps.specs.declared.step.Step.{Step}
-use Rattle.pb_steps.specs.declared.step.Answer.{Answer}
-use Rattle.pb_core.specs.Calls.{SharedOf, call_reason}
-use Rattle.pb_core.specs.Histories.{IsLegalTable}
+use Rattle.pb_worker.specs.Words.{Reason, Refusal, refusal_by, memory_refusal, Step, Answer, SharedOf, call_reason, IsLegalTable}
 use Rattle.pb_worker.specs.Gains.{OpeningOf, IsOpenedAs, MayRefuse, IsSeatStop}
 
 -- what is refused for want of memory may be refused

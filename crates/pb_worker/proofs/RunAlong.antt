@@ -1,19 +1,7 @@
 -- An observer's run on its way to its end.
 use Rattle.std.proofs.Common.{arith, ◌≡◌, ◌≢◌, ℕ, List, [], ◌∷◌, ◌++◌, Some, inl, sym, subst, Option, None, refl}
-use Rattle.pb_base.specs.declared.cell.Cell.{Cell}
-use Rattle.pb_base.specs.Cell.{row_of}
-use Rattle.pb_base.specs.declared.refusal.Refusal.{Refusal}
-use Rattle.pb_steps.specs.declared.step.Step.{Step}
-use Rattle.pb_steps.specs.declared.step.Answer.{Answer}
-use Rattle.pb_steps.specs.Answers.{CanAnswer}
-use Rattle.pb_verify.specs.Observers.{ObserverOf}
-use Rattle.pb_core.specs.Calls.{SeatOf}
-use Rattle.pb_txn.specs.Conversations.{told}
-use Rattle.pb_notify.specs.declared.need.JobEnd.{JobEnd}
-use Rattle.pb_notify.specs.declared.need.Need.{Need}
-use Rattle.pb_notify.specs.Runs.{RunOf, watch_of, next_of, need_of, HasNext, answered, HearsLook, ComputesOn, at_first, one_more}
-use Rattle.pb_notify.specs.Conversations.{Reaches, made, took, computed}
-use Rattle.pb_notify.specs.Forms.{JobsConverse, JobsEnd}
+use Rattle.pb_worker.specs.Words.{Cell, row_of, Refusal, Step, Answer, CanAnswer, ObserverOf, SeatOf, told, JobEnd, Need, RunOf, watch_of, need_of, HasNext, HearsLook, ComputesOn, Reaches, made, took, computed, JobsConverse, JobsEnd}
+use Rattle.pb_notify.specs.Runs.{next_of, answered, at_first, one_more}
 use Rattle.pb_worker.specs.Gains.{OpeningOf, Gains, Told, MayRefuse, IsSeatStop, IsWant}
 use Rattle.pb_worker.specs.Passes.{IsObserverOf, HasColumn, IsRun, IsJobOn, job_on, ReachesOn}
 use Rattle.pb_worker.specs.Stops.{RunStops}

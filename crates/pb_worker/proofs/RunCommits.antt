@@ -1,19 +1,7 @@
 -- What is committed in passes are runs of observers that began there.
 use Rattle.std.proofs.Common.{arith, ◌≡◌, ◌≢◌, ℕ, inl, inr, List, [], ◌∷◌, ◌++◌, Option, Some, None, refl, sym, ap, subst, ◌∙◌}
-use Rattle.pb_base.specs.declared.cell.Cell.{Cell}
-use Rattle.pb_base.specs.declared.names.Row.{Row}
-use Rattle.pb_base.specs.declared.names.Ts.{Ts}
-use Rattle.pb_base.specs.declared.refusal.Refusal.{Refusal}
-use Rattle.pb_base.specs.Cell.{row_of}
-use Rattle.pb_steps.specs.declared.step.Work.{Work}
-use Rattle.pb_steps.specs.declared.step.Step.{Step}
-use Rattle.pb_steps.specs.declared.step.Answer.{Answer}
-use Rattle.pb_verify.specs.Observers.{ObserverOf}
-use Rattle.pb_history.specs.declared.entry.Received.{Received}
-use Rattle.pb_history.specs.History.{Has}
-use Rattle.pb_txn.specs.Conversations.{told}
+use Rattle.pb_worker.specs.Words.{Cell, Row, Ts, Refusal, row_of, Work, Step, Answer, ObserverOf, Received, Has, told, watch_of}
 use Rattle.pb_worker.specs.Gains.{OpeningOf}
-use Rattle.pb_notify.specs.Runs.{watch_of}
 use Rattle.pb_worker.specs.Passes.{IsRun, AreRuns, before_all, runs, passes_by, IsWalk, at_beginning, found, IsPass, ArePasses, at_first, one_more, IsDrain}
 use Rattle.pb_worker.specs.Stops.{RunStops, RunsStop, PassStops, at_a_mark, in_runs, DrainStops}
 use Rattle.pb_worker.specs.Swaps.{Spare}

@@ -2,22 +2,8 @@
 use Rattle.std.proofs.Common.{arith, ◌≡◌, ℕ, ◌<◌, Bool, true, false, cond, not, nat_lt, ◌||◌, List, [], ◌∷◌, filter, Option, Some, None, inl, inr, refl, sym, ap, subst, ◌∙◌, eq-eqb, ◌==◌}
 use Rattle.std.specs.List.{list_any}
 use Rattle.std.proofs.lemmas.Bool.{eqb-true, ltb-true}
-use Rattle.pb_base.specs.declared.names.Ts.{Ts}
-use Rattle.pb_base.specs.declared.refusal.Reason.{Reason}
-use Rattle.pb_steps.specs.declared.step.Step.{Step}
-use Rattle.pb_steps.specs.declared.step.Answer.{Answer}
-use Rattle.pb_steps.specs.declared.step.Work.{Work}
-use Rattle.pb_steps.specs.Reasons.{is_out}
-use Rattle.pb_steps.specs.State.{StateOf}
-use Rattle.pb_steps.specs.Steps.{step_reason}
-use Rattle.pb_history.specs.declared.entry.Entry.{Entry}
-use Rattle.pb_history.specs.declared.entry.Received.{Received}
-use Rattle.pb_history.specs.Places.{entries_of}
-use Rattle.pb_history.specs.History.{Has, IsEntry}
-use Rattle.pb_history.specs.Journals.{JournalLeads}
-use Rattle.pb_history.specs.TransactionsTold.{names_start, entries_naming, is_begin, BeginsOnce, TellsTransactions}
+use Rattle.pb_worker.specs.Words.{Ts, Reason, Step, Answer, Work, is_out, StateOf, step_reason, Entry, Received, entries_of, Has, IsEntry, JournalLeads, names_start, entries_naming, is_begin, BeginsOnce, TellsTransactions, told}
 use Rattle.pb_core.proofs.Keeps.{machine_seats}
-use Rattle.pb_txn.specs.Conversations.{told}
 use Rattle.pb_worker.proofs.Starts.{HasTwice}
 
 -- ---- lists of which some items are kept

@@ -3,8 +3,7 @@ use Rattle.std.proofs.Common.{arith, ◌≡◌, ℕ, List, [], ◌∷◌, ◌++�
 use Rattle.std.specs.Option.{option_or}
 use Rattle.std.proofs.lemmas.List.{append_assoc, map-append, reverse-append}
 use Rattle.std.proofs.lemmas.List.Elements.{All-nil, All-cons, All-append}
-use Rattle.pb_base.specs.declared.refusal.Refusal.{Refusal}
-use Rattle.pb_store.specs.Contents.{Contents}
+use Rattle.pb_worker.specs.Words.{Refusal, Contents}
 use Rattle.pb_worker.specs.Swaps.{Spare, spares_of, IsSwapped, AreSwapped}
 
 -- it was taken

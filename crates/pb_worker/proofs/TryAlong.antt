@@ -1,18 +1,8 @@
 -- A try of a change on its way.
 use Rattle.std.proofs.Common.{◌≡◌, ◌≢◌, Bool, false, ◌||◌, List, [], ◌∷◌, ◌++◌, Option, Some, None, inl, refl, sym, ap, subst, ◌∙◌, arith}
-use Rattle.pb_base.specs.declared.refusal.Refusal.{Refusal}
-use Rattle.pb_base.specs.Batch.{Writes}
-use Rattle.pb_steps.specs.declared.step.Step.{Step}
-use Rattle.pb_steps.specs.declared.step.Work.{Work}
-use Rattle.pb_steps.specs.declared.step.Answer.{Answer}
-use Rattle.pb_steps.specs.declared.step.Declared.{Declared}
-use Rattle.pb_steps.specs.Answers.{CanAnswer}
-use Rattle.pb_history.specs.declared.entry.Received.{Received}
-use Rattle.pb_core.specs.Calls.{SeatOf}
+use Rattle.pb_worker.specs.Words.{Refusal, Writes, Step, Work, Answer, Declared, CanAnswer, Received, SeatOf, told, PlansStop, ChangeOf, new_change, outcome_of, Converses, ChangesConverse, ChangesEnd}
 use Rattle.pb_txn.specs.Plans as plans
-use Rattle.pb_txn.specs.Conversations.{told}
-use Rattle.pb_txn.specs.Forms.{PlansStop}
-use Rattle.pb_txn.specs.Changes.{ChangeOf, new_change, next_of, answered, outcome_of, Converses, ChangesConverse, ChangesEnd}
+use Rattle.pb_txn.specs.Changes.{next_of, answered}
 use Rattle.pb_txn.proofs.ChangeConversation.{HasBegun, begins as has_begun}
 use Rattle.pb_worker.specs.Gains.{OpeningOf, Gains, Told, MayRefuse, IsSeatStop, IsWant}
 use Rattle.pb_worker.specs.Tries.{IsTry, committed_in, is_commit, has_commit}

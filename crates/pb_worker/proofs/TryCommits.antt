@@ -1,18 +1,6 @@
 -- Of all tries of a change one is committed at most, with this start.
 use Rattle.std.proofs.Common.{arith, ◌≡◌, ◌≢◌, ℕ, Bool, true, false, ◌||◌, List, [], ◌∷◌, ◌++◌, inl, inr, refl, sym, ap, subst, ◌∙◌, Option}
-use Rattle.pb_base.specs.declared.cell.Cell.{Cell}
-use Rattle.pb_base.specs.declared.names.Ts.{Ts}
-use Rattle.pb_base.specs.declared.refusal.Refusal.{Refusal}
-use Rattle.pb_base.specs.Batch.{Writes}
-use Rattle.pb_steps.specs.declared.step.Step.{Step}
-use Rattle.pb_steps.specs.declared.step.Answer.{Answer}
-use Rattle.pb_steps.specs.declared.step.Declared.{Declared}
-use Rattle.pb_history.specs.declared.entry.Received.{Received}
-use Rattle.pb_history.specs.History.{Has}
-use Rattle.pb_txn.specs.declared.place.Outcome.{Outcome}
-use Rattle.pb_txn.specs.Conversations.{told}
-use Rattle.pb_txn.specs.Forms.{IsWhole, committed, conflicted_first, conflicted_later, lost, prewrites, secondaries}
-use Rattle.pb_txn.specs.Changes.{IsWholeChange}
+use Rattle.pb_worker.specs.Words.{Cell, Ts, Refusal, Writes, Step, Answer, Declared, Received, Has, Outcome, told, IsWhole, committed, conflicted_first, conflicted_later, lost, prewrites, secondaries, IsWholeChange}
 use Rattle.pb_worker.specs.Gains.{OpeningOf}
 use Rattle.pb_worker.specs.Tries.{is_commit_outcome, is_commit, has_commit, IsTry, AreVain, at_first, one_more, IsDone, AreTries}
 use Rattle.pb_worker.specs.Stops.{TriesStop}

@@ -1,9 +1,6 @@
 -- Changes, and then passes.
 use Rattle.std.proofs.Common.{ℕ, Bool, List, refl, Option}
-use Rattle.pb_base.specs.declared.refusal.Refusal.{Refusal}
-use Rattle.pb_base.specs.Batch.{Writes}
-use Rattle.pb_verify.specs.Observers.{ObserverOf}
-use Rattle.pb_core.specs.Calls.{SeatOf}
+use Rattle.pb_worker.specs.Words.{Refusal, Writes, ObserverOf, SeatOf}
 use Rattle.pb_worker.specs.Gains.{OpeningOf, Gains}
 use Rattle.pb_worker.specs.Tries.{AreAllTried}
 use Rattle.pb_worker.specs.Passes.{IsDrain}

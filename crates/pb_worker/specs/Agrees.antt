@@ -2,10 +2,7 @@
 use Rattle.std.specs.Prelude.{◌≡◌, ℕ, ◌<◌, Bool, true, not, ◌&&◌, ◌==◌, IsTrue, List, [], ◌∷◌, length, slice_index_or, refl}
 use Rattle.std.specs.List.{list_any}
 use Rattle.std.specs.Coded.{Coded, code_by, coded×, coded_list}
-use Rattle.pb_history.specs.declared.entry.Entry.{Entry}
-use Rattle.pb_history.specs.Places.{entries_of}
-use Rattle.pb_core.specs.Calls.{SharedOf, SeatOf}
-use Rattle.pb_core.specs.Codes.{shared_code}
+use Rattle.pb_worker.specs.Words.{Entry, entries_of, SharedOf, SeatOf, shared_code}
 use Rattle.pb_core.specs.contracts.seat.Seat as seat
 
 -- the seat is one of the table, and its list is its entries in the journal

@@ -1,8 +1,6 @@
 -- One pass along a journal, with a cursor in each seat's list: what `finish` goes by on its way, and no caller sees.
 use Rattle.std.specs.Prelude.{◌≡◌, ◌≢◌, ℕ, ◌<◌, List, length, Some, slice_get, slice_index_or}
-use Rattle.pb_history.specs.declared.entry.Entry.{Entry}
-use Rattle.pb_history.specs.declared.entry.Received.{Received}
-use Rattle.pb_core.specs.Calls.{SeatOf}
+use Rattle.pb_worker.specs.Words.{Entry, Received, SeatOf}
 
 -- what a seat was told by an entry
 abbrev pub told_by : Entry → Received

@@ -1,16 +1,7 @@
 -- What a seat gained, and why its worker stopped. Of a call under a lock no more is said, since what the table has
 -- come to depends on all seats.
 use Rattle.std.specs.Prelude.{◌≡◌, ℕ, ◌⊎◌, List, [], ◌∷◌, ◌++◌, Option, Some, None}
-use Rattle.pb_base.specs.declared.refusal.Reason.{Reason}
-use Rattle.pb_base.specs.declared.refusal.Refusal.{Refusal}
-use Rattle.pb_base.specs.Reasons.{refusal_by, memory_refusal}
-use Rattle.pb_steps.specs.declared.step.Step.{Step}
-use Rattle.pb_steps.specs.declared.step.Answer.{Answer}
-use Rattle.pb_verify.specs.Observers.{ObserverOf}
-use Rattle.pb_history.specs.declared.entry.Received.{Received}
-use Rattle.pb_core.specs.Calls.{SharedOf, SeatOf, call_reason}
-use Rattle.pb_core.specs.Histories.{IsLegalTable}
-use Rattle.pb_txn.specs.Conversations.{told}
+use Rattle.pb_worker.specs.Words.{Reason, Refusal, refusal_by, memory_refusal, Step, Answer, ObserverOf, Received, SharedOf, SeatOf, call_reason, IsLegalTable, told}
 
 -- a seat was told one more answer
 pub record Told (old : SeatOf) (step : Step) (answer : Answer) (new : SeatOf) : Type 0 where

@@ -1,12 +1,6 @@
 -- What the workers' lists and the journal tell together.
 use Rattle.std.specs.Prelude.{◌≡◌, ℕ, ◌+◌, ◌-◌, ◌%◌, ◌<◌, List, [], length, Option, Some, slice_get}
-use Rattle.pb_base.specs.declared.refusal.Refusal.{Refusal}
-use Rattle.pb_base.specs.Batch.{Writes}
-use Rattle.pb_steps.specs.declared.step.Work.{Work}
-use Rattle.pb_verify.specs.Observers.{ObserverOf}
-use Rattle.pb_history.specs.History.{Has, Member, InHistory}
-use Rattle.pb_core.specs.Calls.{SharedOf, SeatOf, AreSeats}
-use Rattle.pb_core.specs.Histories.{IsLegalTable}
+use Rattle.pb_worker.specs.Words.{Refusal, Writes, Work, ObserverOf, Has, Member, InHistory, SharedOf, SeatOf, AreSeats, IsLegalTable}
 use Rattle.pb_worker.specs.Agrees.{Agree}
 use Rattle.pb_worker.specs.Gains.{OpeningOf}
 use Rattle.pb_worker.specs.Swaps.{Spare}

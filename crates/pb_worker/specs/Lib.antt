@@ -1,3 +1,4 @@
+pub mod Words
 pub mod Gains
 pub mod Passes
 pub mod Tries

@@ -1,19 +1,8 @@
 -- Passes over the marked cells (OSDI 2010, section 2.4): each mark is found, and the observers of its column are run
 -- on it.
 use Rattle.std.specs.Prelude.{◌≡◌, ◌≢◌, ℕ, ◌+◌, ◌<◌, ◌⊎◌, Bool, true, false, List, [], ◌∷◌, ◌++◌, length, Option, Some, None, slice_get}
-use Rattle.pb_base.specs.declared.cell.Cell.{Cell}
-use Rattle.pb_base.specs.Cell.{row_of, column_of}
-use Rattle.pb_finished.specs.Finished.{Meant}
-use Rattle.pb_steps.specs.declared.step.Step.{Step}
-use Rattle.pb_steps.specs.declared.step.Answer.{Answer}
-use Rattle.pb_verify.specs.Observers.{ObserverOf}
-use Rattle.pb_history.specs.declared.entry.Received.{Received}
-use Rattle.pb_txn.specs.Conversations.{told}
-use Rattle.pb_notify.specs.declared.need.JobEnd.{JobEnd}
-use Rattle.pb_notify.specs.declared.need.Need.{Need}
-use Rattle.pb_notify.specs.Runs.{RunOf, watch_of, fresh, need_of}
-use Rattle.pb_notify.specs.Conversations.{Reaches}
-use Rattle.pb_notify.specs.Forms.{IsRunConversation, WasMeant}
+use Rattle.pb_worker.specs.Words.{Cell, row_of, column_of, Meant, Step, Answer, ObserverOf, Received, told, JobEnd, Need, RunOf, watch_of, need_of, Reaches, IsRunConversation, WasMeant}
+use Rattle.pb_notify.specs.Runs.{fresh}
 use Rattle.pb_worker.specs.declared.passes.TheConstants.{MAX_PASSES}
 
 -- the observer of this number is one of the cell's column

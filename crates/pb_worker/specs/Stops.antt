@@ -1,25 +1,9 @@
 -- Where a worker stopped: just a beginning of what it was to say, and the step that it asked next. Each says where in
 -- its part it stopped, and has the whole parts before it, as the loops do.
 use Rattle.std.specs.Prelude.{◌≡◌, ℕ, ◌+◌, ◌*◌, ◌<◌, ◌⊎◌, Bool, false, List, [], ◌∷◌, ◌++◌, length, Option, Some, slice_get}
-use Rattle.pb_base.specs.declared.cell.Cell.{Cell}
-use Rattle.pb_base.specs.declared.names.Ts.{Ts}
-use Rattle.pb_base.specs.declared.refusal.Refusal.{Refusal}
-use Rattle.pb_base.specs.Batch.{Writes}
-use Rattle.pb_base.specs.Cell.{row_of}
-use Rattle.pb_finished.specs.Finished.{Meant}
-use Rattle.pb_steps.specs.declared.step.Step.{Step}
-use Rattle.pb_steps.specs.declared.step.Answer.{Answer}
-use Rattle.pb_verify.specs.Observers.{ObserverOf}
-use Rattle.pb_history.specs.declared.entry.Received.{Received}
-use Rattle.pb_txn.specs.declared.place.Outcome.{Outcome}
-use Rattle.pb_txn.specs.Changes.{ChangeOf, new_change, Converses, IsWholeChange}
+use Rattle.pb_worker.specs.Words.{Cell, Ts, Refusal, Writes, row_of, Meant, Step, Answer, ObserverOf, Received, Outcome, ChangeOf, new_change, Converses, IsWholeChange, told, JobEnd, RunOf, watch_of, Reaches, IsRunConversation}
 use Rattle.pb_txn.specs.Changes as changes
-use Rattle.pb_txn.specs.Conversations.{told}
-use Rattle.pb_notify.specs.declared.need.JobEnd.{JobEnd}
-use Rattle.pb_notify.specs.Runs.{RunOf, watch_of}
 use Rattle.pb_notify.specs.Runs as runs
-use Rattle.pb_notify.specs.Conversations.{Reaches}
-use Rattle.pb_notify.specs.Forms.{IsRunConversation}
 use Rattle.pb_worker.specs.declared.tries.TheConstants.{MAX_TRIES}
 use Rattle.pb_worker.specs.declared.passes.TheConstants.{MAX_PASSES}
 use Rattle.pb_worker.specs.Gains.{OpeningOf, IsSeatStop}

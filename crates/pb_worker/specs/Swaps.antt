@@ -1,8 +1,6 @@
 -- Spare tablets, swapped in one after another.
 use Rattle.std.specs.Prelude.{◌≡◌, ℕ, List, ◌∷◌, ◌++◌, map, Option, Some, None, All}
-use Rattle.pb_base.specs.declared.refusal.Refusal.{Refusal}
-use Rattle.pb_store.specs.Contents.{Contents}
-use Rattle.pb_store.specs.Tiles.{swap_reason, refusal_or_want}
+use Rattle.pb_worker.specs.Words.{Refusal, Contents, swap_reason, refusal_or_want}
 
 -- its place, and what the tablet contains
 abbrev pub Spare : Type 0

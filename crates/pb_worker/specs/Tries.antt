@@ -1,11 +1,6 @@
 -- The changes of one worker: each is tried until a try of it commits, or so often as may be.
 use Rattle.std.specs.Prelude.{◌≡◌, ℕ, ◌+◌, ◌*◌, ◌<◌, ◌≤◌, Bool, true, false, ◌||◌, List, [], ◌∷◌, ◌++◌, length, Option, Some, None, slice_get}
-use Rattle.pb_base.specs.declared.names.Ts.{Ts}
-use Rattle.pb_base.specs.Batch.{Writes}
-use Rattle.pb_steps.specs.declared.step.Answer.{Answer}
-use Rattle.pb_history.specs.declared.entry.Received.{Received}
-use Rattle.pb_txn.specs.declared.place.Outcome.{Outcome}
-use Rattle.pb_txn.specs.Changes.{IsWholeChange}
+use Rattle.pb_worker.specs.Words.{Ts, Writes, Answer, Received, Outcome, IsWholeChange}
 use Rattle.pb_worker.specs.declared.tries.TheConstants.{MAX_TRIES}
 
 -- the outcome of a committed transaction, at whatever timestamp

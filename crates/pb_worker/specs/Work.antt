@@ -2,11 +2,7 @@
 -- `WorkedOn`; what it means for the journal is the law `changes_are_made`.
 use Rattle.std.specs.Prelude.{◌≡◌, ◌≢◌, ℕ, ◌+◌, ◌-◌, ◌/◌, ◌%◌, ◌<◌, ◌≤◌, zero, suc, Bool, false, if◌then◌else◌, List, [], ◌∷◌, ◌++◌, length, map, vec_capacity, slice_get, Option, Some, None, slice_index_or}
 use Rattle.std.specs.Option.{option_or}
-use Rattle.pb_base.specs.declared.refusal.Refusal.{Refusal}
-use Rattle.pb_base.specs.Batch.{Writes}
-use Rattle.pb_verify.specs.Observers.{ObserverOf}
-use Rattle.pb_history.specs.declared.entry.Received.{Received}
-use Rattle.pb_core.specs.Calls.{SharedOf, SeatOf}
+use Rattle.pb_worker.specs.Words.{Refusal, Writes, ObserverOf, Received, SharedOf, SeatOf}
 use Rattle.pb_worker.specs.declared.worker.Worker.{Worker}
 use Rattle.pb_worker.specs.declared.run.Rooms.{Rooms}
 use Rattle.pb_worker.specs.Gains.{Gains, OpeningOf, opening_of}

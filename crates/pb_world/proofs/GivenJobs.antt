@@ -1,17 +1,6 @@
 -- Each actor's job is what its last launch gave, and isn't at its end.
 use Rattle.std.proofs.Common.{arith, ◌≡◌, ℕ, zero, suc, Bool, false, List, [], ◌∷◌, ◌++◌, inl, inr, length, refl, sym, ◌∙◌, ap, subst, Option, Some, None, slice_get, MatchBool, MatchOption, option_map}
-use Rattle.pb_base.specs.declared.refusal.Reason.{Reason}
-use Rattle.pb_base.specs.Reasons.{reason_code}
-use Rattle.pb_base.specs.Batch.{Writes}
-use Rattle.pb_base.specs.declared.names.Row.{Row}
-use Rattle.pb_steps.specs.declared.step.Step.{Step}
-use Rattle.pb_verify.specs.Observers.{ObserverOf}
-use Rattle.pb_history.specs.History.{Has}
-use Rattle.pb_core.specs.Calls.{SharedOf, SeatOf, call_reason}
-use Rattle.pb_txn.specs.Changes.{new_change}
-use Rattle.pb_notify.specs.Runs.{watch_of, fresh}
-use Rattle.pb_parse.specs.declared.event.Event.{Event}
-use Rattle.pb_parse.specs.declared.event.Job.{Job}
+use Rattle.pb_world.specs.Words.{Reason, reason_code, Writes, Row, Step, ObserverOf, Has, SharedOf, SeatOf, call_reason, new_change, watch_of, fresh, Event, Job}
 use Rattle.pb_world.specs.declared.actor.Actor.{Actor}
 use Rattle.pb_world.specs.declared.fault.EventFault.{EventFault}
 use Rattle.pb_world.specs.Faults.{fault_code}

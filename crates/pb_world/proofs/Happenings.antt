@@ -2,12 +2,7 @@
 use Rattle.std.proofs.Common.{arith, ◌≡◌, ℕ, ◌<◌, ◌≤◌, if◌then◌else◌, Bool, List, length, get_or, slice_set, refl, sym, ◌∙◌, ap, subst, Option, Some, None, slice_get, MatchOption}
 use Rattle.std.proofs.lemmas.Option.{slice_get_read, slice_get_within}
 use Rattle.std.proofs.lemmas.List.{set-get_or}
-use Rattle.pb_base.specs.declared.refusal.Reason.{Reason}
-use Rattle.pb_base.specs.Reasons.{reason_code}
-use Rattle.pb_steps.specs.declared.step.Step.{Step}
-use Rattle.pb_steps.specs.declared.step.Answer.{Answer}
-use Rattle.pb_core.specs.Calls.{SharedOf, SeatOf, Calls, call_reason}
-use Rattle.pb_parse.specs.declared.event.Job.{Job}
+use Rattle.pb_world.specs.Words.{Reason, reason_code, Step, Answer, SharedOf, SeatOf, Calls, call_reason, Job}
 use Rattle.pb_world.specs.declared.actor.Actor.{Actor}
 use Rattle.pb_world.specs.declared.job.ActorJob.{ActorJob}
 use Rattle.pb_world.specs.declared.note.Note.{Note}

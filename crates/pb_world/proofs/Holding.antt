@@ -1,17 +1,6 @@
 -- What holds in every sound world.
 use Rattle.std.proofs.Common.{◌≤◌, ◌≡◌, ℕ, List, length, slice_get, Some, sym, ap, subst, ◌∙◌, arith, inr}
-use Rattle.pb_isa.specs.declared.limits.TheConstants.{MAX_RECORD_BYTES}
-use Rattle.pb_isa.specs.Programs.{JudgedOf}
-use Rattle.pb_isa.specs.Machine.{Placement, IsPlacement, State}
-use Rattle.pb_sound.specs.NeverStuck.{AcceptedAreNeverStuck}
-use Rattle.pb_vm.specs.Position.{Position}
-use Rattle.pb_vm.specs.Moves.{IsAtState}
-use Rattle.pb_history.specs.declared.entry.Received.{Received}
-use Rattle.pb_core.specs.Calls.{SeatOf}
-use Rattle.pb_txn.specs.Changes.{ChangeOf, ChangesConverse}
-use Rattle.pb_notify.specs.Runs.{RunOf}
-use Rattle.pb_notify.specs.Forms.{JobsConverse}
-use Rattle.pb_notify.specs.Led.{MachinesAreLed, AsksAreOpen, EndedRunsMean}
+use Rattle.pb_world.specs.Words.{MAX_RECORD_BYTES, JudgedOf, Placement, IsPlacement, State, AcceptedAreNeverStuck, Position, IsAtState, Received, SeatOf, ChangeOf, ChangesConverse, RunOf, JobsConverse, MachinesAreLed, AsksAreOpen, EndedRunsMean}
 use Rattle.pb_world.specs.declared.job.ActorJob.{ActorJob}
 use Rattle.pb_world.specs.Jobs.{RulesAccept}
 use Rattle.pb_world.specs.Events.{WorldOf}

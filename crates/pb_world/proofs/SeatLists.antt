@@ -1,11 +1,6 @@
 -- All seats of a table are still all its seats after a call of one of them.
 use Rattle.std.proofs.Common.{◌≡◌, ◌≢◌, ℕ, zero, suc, ◌+◌, ◌<◌, Bool, cond, List, [], ◌∷◌, ◌++◌, slice_get, slice_set, Some, refl, sym, ap, ◌∙◌, arith, eq-eqb, length-set, ◌==◌}
-use Rattle.pb_steps.specs.declared.step.Step.{Step}
-use Rattle.pb_steps.specs.declared.step.Answer.{Answer}
-use Rattle.pb_history.specs.declared.entry.Entry.{Entry}
-use Rattle.pb_history.specs.declared.entry.Received.{Received}
-use Rattle.pb_history.specs.Places.{entries_of}
-use Rattle.pb_core.specs.Calls.{SharedOf, SeatOf, Calls, AreSeatsFrom, AreSeats}
+use Rattle.pb_world.specs.Words.{Step, Answer, Entry, Received, entries_of, SharedOf, SeatOf, Calls, AreSeatsFrom, AreSeats}
 use Rattle.pb_base.proofs.Logic.{same_some as some_same, none_some as some_none}
 
 abbrev received_of : Entry → Received

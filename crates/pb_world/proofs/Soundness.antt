@@ -3,28 +3,9 @@ use Rattle.std.proofs.Common.{◌≡◌, ◌≢◌, ℕ, ◌<◌, Bool, true, fa
 use Rattle.std.proofs.lemmas.Bool.{eqb-false, eqb-true}
 use Rattle.std.proofs.lemmas.List.{set-get_or}
 use Rattle.std.proofs.lemmas.Option.{slice_get_within, slice_get-get_or, get_or_from_slice_get}
-use Rattle.pb_base.specs.declared.refusal.Reason.{Reason}
-use Rattle.pb_base.specs.Reasons.{reason_code}
-use Rattle.pb_base.specs.Batch.{Writes}
-use Rattle.pb_base.specs.declared.names.Row.{Row}
-use Rattle.pb_steps.specs.declared.step.Step.{Step}
-use Rattle.pb_steps.specs.declared.step.Answer.{Answer}
-use Rattle.pb_steps.specs.Answers.{CanAnswer}
-use Rattle.pb_steps.specs.State.{opening}
-use Rattle.pb_verify.specs.Observers.{ObserverOf}
-use Rattle.pb_history.specs.declared.entry.Entry.{Entry}
-use Rattle.pb_history.specs.declared.entry.Received.{Received}
-use Rattle.pb_history.specs.Journals.{JournalLeads, IsLegal}
-use Rattle.pb_core.specs.Calls.{SharedOf, SeatOf, Calls, call_reason, AreSeats}
-use Rattle.pb_core.specs.Histories.{IsLegalTable}
-use Rattle.pb_txn.specs.Changes.{ChangeOf, new_change, Converses}
+use Rattle.pb_world.specs.Words.{Reason, reason_code, Writes, Row, Step, Answer, CanAnswer, opening, ObserverOf, Entry, Received, JournalLeads, IsLegal, SharedOf, SeatOf, Calls, call_reason, AreSeats, IsLegalTable, ChangeOf, new_change, Converses, Need, Watch, RunOf, watch_of, fresh, need_of, Reaches, took, computed, Event, Job}
 use Rattle.pb_txn.specs.Changes as changes
-use Rattle.pb_notify.specs.declared.need.Need.{Need}
-use Rattle.pb_notify.specs.Runs.{Watch, RunOf, watch_of, fresh, need_of}
-use Rattle.pb_notify.specs.Conversations.{Reaches, took, computed}
 use Rattle.pb_notify.specs.Conversations as conversations
-use Rattle.pb_parse.specs.declared.event.Event.{Event}
-use Rattle.pb_parse.specs.declared.event.Job.{Job}
 use Rattle.pb_world.specs.declared.actor.Actor.{Actor}
 use Rattle.pb_world.specs.declared.job.ActorJob.{ActorJob}
 use Rattle.pb_world.specs.declared.note.Note.{Note}

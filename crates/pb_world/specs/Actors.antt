@@ -1,12 +1,7 @@
 -- What a step does to an actor and to the table. The contracts of `World` cite them. They are relations, since a step
 -- of the table is one.
 use Rattle.std.specs.Prelude.{◌≡◌, ℕ, MatchBool, Option, Some, None, MatchOption, Result, MatchResult}
-use Rattle.pb_base.specs.declared.refusal.Reason.{Reason}
-use Rattle.pb_base.specs.Reasons.{reason_code}
-use Rattle.pb_steps.specs.declared.step.Step.{Step}
-use Rattle.pb_steps.specs.declared.step.Answer.{Answer}
-use Rattle.pb_steps.specs.Answers.{CanAnswer}
-use Rattle.pb_core.specs.Calls.{SharedOf, SeatOf, Calls, call_reason}
+use Rattle.pb_world.specs.Words.{Reason, reason_code, Step, Answer, CanAnswer, SharedOf, SeatOf, Calls, call_reason}
 use Rattle.pb_world.specs.declared.actor.Actor.{Actor}
 use Rattle.pb_world.specs.declared.actor.NotCalled.{NotCalled}
 use Rattle.pb_world.specs.declared.job.ActorJob.{ActorJob}

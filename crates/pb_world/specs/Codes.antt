@@ -1,10 +1,8 @@
 -- How a model keeps the world.
 use Rattle.std.specs.Prelude.{List, refl}
 use Rattle.std.specs.Coded.{Coded, code_by, coded×, coded_list}
-use Rattle.pb_base.specs.Batch.{Writes}
+use Rattle.pb_world.specs.Words.{Writes, SharedOf, SeatOf, shared_code}
 use Rattle.pb_base.specs.contracts.batch.Batch as batch
-use Rattle.pb_core.specs.Calls.{SharedOf, SeatOf}
-use Rattle.pb_core.specs.Codes.{shared_code}
 use Rattle.pb_core.specs.contracts.seat.Seat as seat
 use Rattle.pb_world.specs.declared.actor.Actor.{Actor}
 use Rattle.pb_world.specs.contracts.actor.Actor as actor

@@ -1,17 +1,7 @@
 -- Worlds, and runs of a list of events. The contracts of `World` cite them, and the laws of this crate and of
 -- `law_worlds` speak of `RunsTo`.
 use Rattle.std.specs.Prelude.{◌≡◌, ℕ, ◌-◌, ◌≤◌, ◌==◌, if◌then◌else◌, List, [], ◌∷◌, length, take, replicate, Option, Some, None, MatchOption, slice_get, slice_set, ◌⊎◌, option_map, option_and_then}
-use Rattle.pb_base.specs.Batch.{Writes}
-use Rattle.pb_base.specs.Reasons.{reason_code}
-use Rattle.pb_base.specs.declared.names.Row.{Row}
-use Rattle.pb_steps.specs.declared.step.Step.{Step}
-use Rattle.pb_steps.specs.declared.step.Answer.{Answer}
-use Rattle.pb_verify.specs.Observers.{ObserverOf}
-use Rattle.pb_core.specs.Calls.{SharedOf, SeatOf, Calls, call_reason}
-use Rattle.pb_txn.specs.Changes.{new_change}
-use Rattle.pb_notify.specs.Runs.{watch_of, fresh}
-use Rattle.pb_parse.specs.declared.event.Event.{Event}
-use Rattle.pb_parse.specs.declared.event.Job.{Job}
+use Rattle.pb_world.specs.Words.{Writes, reason_code, Row, Step, Answer, ObserverOf, SharedOf, SeatOf, Calls, call_reason, new_change, watch_of, fresh, Event, Job}
 use Rattle.pb_world.specs.declared.actor.Actor.{Actor}
 use Rattle.pb_world.specs.declared.fault.EventFault.{EventFault}
 use Rattle.pb_world.specs.declared.job.ActorJob.{ActorJob}

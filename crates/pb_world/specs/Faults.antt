@@ -1,6 +1,6 @@
 -- How faults of events are told.
 use Rattle.std.specs.Prelude.{ℕ, List, ◌++◌, codes, decimal}
-use Rattle.pb_base.specs.Growths.{refused_growth}
+use Rattle.pb_world.specs.Words.{refused_growth}
 use Rattle.pb_world.specs.declared.fault.EventFault.{EventFault}
 
 -- the number of each fault

@@ -1,8 +1,6 @@
 -- What actors hold: the job that their last launch gave, until it is refused, at its end or crashed.
 use Rattle.std.specs.Prelude.{◌≡◌, ℕ, false, List, ◌∷◌, ◌++◌, Some, None, slice_get, ◌⊎◌}
-use Rattle.pb_history.specs.History.{Has}
-use Rattle.pb_parse.specs.declared.event.Event.{Event}
-use Rattle.pb_parse.specs.declared.event.Job.{Job}
+use Rattle.pb_world.specs.Words.{Has, Event, Job}
 use Rattle.pb_world.specs.declared.actor.Actor.{Actor}
 use Rattle.pb_world.specs.declared.job.ActorJob.{ActorJob}
 use Rattle.pb_world.specs.declared.note.Note.{Note}

@@ -1,23 +1,6 @@
 -- What holds in every world, whatever the order of its events (OSDI 2010, sections 2.2 to 2.4).
 use Rattle.std.specs.Prelude.{◌≡◌, ◌≢◌, ℕ, ◌<◌, List, ◌++◌, length, Option, Some, slice_get}
-use Rattle.pb_base.specs.declared.names.Ts.{Ts}
-use Rattle.pb_isa.specs.Slots.{slots}
-use Rattle.pb_isa.specs.Machine.{Placement, IsPlacement, State, Stuck, act}
-use Rattle.pb_vm.specs.Position.{Position}
-use Rattle.pb_vm.specs.Moves.{IsAtState, environment_at}
-use Rattle.pb_finished.specs.Finished.{Meant}
-use Rattle.pb_history.specs.declared.entry.Received.{Received}
-use Rattle.pb_history.specs.Places.{entries_of}
-use Rattle.pb_history.specs.RecordsTold.{TellsRecords}
-use Rattle.pb_core.specs.Calls.{SeatOf, AreSeats}
-use Rattle.pb_core.specs.Histories.{IsLegalTable, IsSnapshotHistory, HandlesOnce}
-use Rattle.pb_txn.specs.declared.place.Outcome.{Outcome}
-use Rattle.pb_txn.specs.Changes.{ChangeOf, IsWholeChange}
-use Rattle.pb_notify.specs.declared.need.JobEnd.{JobEnd}
-use Rattle.pb_notify.specs.Runs.{RunOf}
-use Rattle.pb_notify.specs.Forms.{IsRunConversation}
-use Rattle.pb_notify.specs.Led.{MachineStandsAt, IsMachineOf, IsAskingAt, HasEnded}
-use Rattle.pb_parse.specs.declared.event.Event.{Event}
+use Rattle.pb_world.specs.Words.{Ts, slots, Placement, IsPlacement, State, Stuck, act, Position, IsAtState, environment_at, Meant, Received, entries_of, TellsRecords, SeatOf, AreSeats, IsLegalTable, IsSnapshotHistory, HandlesOnce, Outcome, ChangeOf, IsWholeChange, JobEnd, RunOf, IsRunConversation, MachineStandsAt, IsMachineOf, IsAskingAt, HasEnded, Event}
 use Rattle.pb_world.specs.declared.actor.Actor.{Actor}
 use Rattle.pb_world.specs.declared.job.ActorJob.{ActorJob}
 use Rattle.pb_world.specs.declared.note.Note.{Note}

@@ -1,15 +1,8 @@
 -- The job of an actor, as the table meets it: a change or a run, with the words that both have.
 use Rattle.std.specs.Prelude.{◌≡◌, ℕ, Bool, true, false, if◌then◌else◌, Option, Some, None, ◌≤◌, is_some}
-use Rattle.pb_base.specs.Batch.{is_batch}
-use Rattle.pb_isa.specs.declared.limits.TheConstants.{MAX_RECORD_BYTES}
-use Rattle.pb_isa.specs.Programs.{JudgedOf, IsProgram}
-use Rattle.pb_verify.specs.Arriving.{Accepts}
-use Rattle.pb_steps.specs.declared.step.Step.{Step}
-use Rattle.pb_steps.specs.declared.step.Answer.{Answer}
+use Rattle.pb_world.specs.Words.{is_batch, MAX_RECORD_BYTES, JudgedOf, IsProgram, Accepts, Step, Answer, Need, RunOf}
 use Rattle.pb_txn.specs.Plans as plans
 use Rattle.pb_txn.specs.Changes as changes
-use Rattle.pb_notify.specs.declared.need.Need.{Need}
-use Rattle.pb_notify.specs.Runs.{RunOf}
 use Rattle.pb_notify.specs.Runs as runs
 use Rattle.pb_world.specs.declared.job.ActorJob.{ActorJob}
 

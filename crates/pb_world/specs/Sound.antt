@@ -1,19 +1,11 @@
 -- What every world keeps: its journal is legal, each seat has its entries, and each actor's job is tied to what its
 -- seat was told since the launch.
 use Rattle.std.specs.Prelude.{◌≡◌, ℕ, true, List, ◌++◌, length, Some, None, slice_get}
-use Rattle.pb_base.specs.Batch.{is_batch}
-use Rattle.pb_verify.specs.Observers.{ObserverOf}
-use Rattle.pb_history.specs.declared.entry.Received.{Received}
-use Rattle.pb_core.specs.Calls.{SeatOf, AreSeats}
-use Rattle.pb_core.specs.Histories.{IsLegalTable}
-use Rattle.pb_txn.specs.Changes.{ChangeOf, new_change, Converses}
-use Rattle.pb_notify.specs.Runs.{Watch, RunOf, fresh}
-use Rattle.pb_notify.specs.Conversations.{Reaches}
+use Rattle.pb_world.specs.Words.{is_batch, ObserverOf, Received, SeatOf, AreSeats, IsLegalTable, ChangeOf, new_change, Converses, Watch, RunOf, fresh, Reaches, Event}
 use Rattle.pb_world.specs.declared.actor.Actor.{Actor}
 use Rattle.pb_world.specs.declared.job.ActorJob.{ActorJob}
 use Rattle.pb_world.specs.declared.note.Note.{Note}
 use Rattle.pb_world.specs.Jobs.{RulesAccept}
-use Rattle.pb_parse.specs.declared.event.Event.{Event}
 use Rattle.pb_world.specs.Events.{WorldOf, change_of, RunsTo}
 
 -- a change of the script, led by its answers to where it stands

@@ -1,6 +1,5 @@
 use Rattle.std.proofs.Common.{arith, ℕ, ◌≤◌, ◌<◌, length, subst}
-use Rattle.pb_isa.specs.Programs.{IsRefused}
-use Rattle.pb_isa.specs.Profiles.{max_slots}
+use Rattle.pb_asm.specs.Words.{IsRefused, max_slots}
 use Rattle.pb_asm.proofs.SlotCounts.{never_refused}
 use Rattle.pb_asm.proofs.text.assemble_in.Goals as goal
 

@@ -1,8 +1,6 @@
 use Rattle.std.proofs.Common.{◌≡◌, ◌+◌, ◌≤◌, [], length}
 use Rattle.std.specs.List.{AllByRecursion}
-use Rattle.pb_isa.specs.Bounds.{Fits}
-use Rattle.pb_isa.specs.Profiles.{max_slots, IsOf}
-use Rattle.pb_reading.specs.Reading.{lines_left, lines_of}
+use Rattle.pb_asm.specs.Words.{Fits, max_slots, IsOf, lines_left, lines_of}
 use Rattle.pb_asm.specs.Texts.{insns_of_lines}
 use Rattle.pb_asm.proofs.text.lines_in.Given as goal
 

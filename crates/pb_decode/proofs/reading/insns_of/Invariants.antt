@@ -1,7 +1,6 @@
 use Rattle.std.proofs.Common.{◌≡◌, ◌++◌, ◌%◌, length}
 use Rattle.std.specs.List.{AllByRecursion}
-use Rattle.pb_isa.specs.Bounds.{Fits}
-use Rattle.pb_isa.specs.Profiles.{IsOf}
+use Rattle.pb_decode.specs.Words.{Fits, IsOf}
 use Rattle.pb_decode.specs.Encoding.{encoding}
 use Rattle.pb_decode.proofs.reading.insns_of.Given as goal
 

@@ -1,5 +1,5 @@
 use Rattle.std.proofs.Common.{arith, refl}
-use Rattle.pb_base.specs.Taking.{taking}
+use Rattle.pb_driver.specs.Words.{taking}
 use Rattle.pb_driver.proofs.ReplayEndings.{reported, cut, stopped}
 use Rattle.pb_driver.proofs.replay.run.Goals as goal
 

@@ -1,6 +1,5 @@
 use Rattle.std.proofs.Common.{arith}
-use Rattle.pb_worker.specs.Swaps.{spares_of}
-use Rattle.pb_base.specs.Taking.{taking}
+use Rattle.pb_driver.specs.Words.{spares_of, taking}
 use Rattle.pb_driver.proofs.RunEndings.{concluded}
 use Rattle.pb_driver.proofs.run.run_on.Goals as goal
 

@@ -1,5 +1,5 @@
 use Rattle.std.proofs.Common.{sym, subst}
-use Rattle.pb_store.specs.Contents.{PutsOfSort}
+use Rattle.pb_memtablet.specs.Words.{PutsOfSort}
 use Rattle.pb_memtablet.proofs.Edits.{IsDone, put_done, erase_done, mark_done, unmark_done}
 use Rattle.pb_memtablet.proofs.list.change.Goals as goal
 use Rattle.pb_memtablet.proofs.list.change.Goals.{After-put, After-take_out, After-put-in-Mark, After-take_out-in-Unmark}

@@ -1,5 +1,5 @@
 use Rattle.std.proofs.Common.{◌≡◌, ◌≤◌, drop, count_by}
-use Rattle.pb_store.specs.Contents.{after_edits, AllPutOfSort}
+use Rattle.pb_memtablet.specs.Words.{after_edits, AllPutOfSort}
 use Rattle.pb_memtablet.specs.Listed.{contents_of, AreLists, is_put, is_mark}
 use Rattle.pb_memtablet.proofs.list.change_each.Given as goal
 

@@ -1,7 +1,6 @@
 use Rattle.std.proofs.Common.{arith, ◌≡◌, None, sym, ◌∙◌}
 use Rattle.std.specs.List.{last_or}
-use Rattle.pb_store.specs.Slot.{slot_cmp, slot_cmp_total}
-use Rattle.pb_store.specs.Contents.{slot_at}
+use Rattle.pb_memtablet.specs.Words.{slot_cmp, slot_cmp_total, slot_at}
 use Rattle.pb_memtablet.specs.Chunks.{entries_up_to}
 use Rattle.pb_memtablet.proofs.Spots.{holds}
 use Rattle.pb_memtablet.proofs.Cuts.{IsLastUpTo, last_up_to_is, none_up_to}

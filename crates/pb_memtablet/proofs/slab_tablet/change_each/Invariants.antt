@@ -1,6 +1,6 @@
 use Rattle.std.proofs.Common.{◌≡◌, ◌≤◌, drop, count_by}
 use Rattle.slab.specs.Slab.{HasRoomFor}
-use Rattle.pb_store.specs.Contents.{after_edits, AllPutOfSort}
+use Rattle.pb_memtablet.specs.Words.{after_edits, AllPutOfSort}
 use Rattle.pb_memtablet.specs.Listed.{contents_of, is_put, is_mark}
 use Rattle.pb_memtablet.specs.Stored.{seen, AreKept}
 use Rattle.pb_memtablet.proofs.slab_tablet.change_each.Given as goal

@@ -1,8 +1,6 @@
 use Rattle.std.proofs.Common.{arith, ◌≡◌, subst, refl, drop, ◌∷◌}
 use Rattle.std.specs.FinMap.{put}
-use Rattle.pb_store.specs.Contents.{AllPutOfSort}
-use Rattle.pb_store.specs.Slot.{slot_cmp}
-use Rattle.pb_store.specs.declared.slot.Edit.{Edit}
+use Rattle.pb_memtablet.specs.Words.{AllPutOfSort, slot_cmp, Edit}
 use Rattle.pb_memtablet.specs.Listed.{EntryList}
 use Rattle.pb_memtablet.specs.Stored.{seen}
 use Rattle.pb_memtablet.proofs.Homes.{without}

@@ -1,6 +1,6 @@
 use Rattle.std.proofs.Common.{◌≡◌, None, is_some, sym, ap, ◌∙◌}
 use Rattle.std.specs.FinMap.{find}
-use Rattle.pb_store.specs.Slot.{slot_cmp}
+use Rattle.pb_memtablet.specs.Words.{slot_cmp}
 use Rattle.pb_memtablet.specs.Stored.{HasItem}
 use Rattle.pb_memtablet.proofs.Spots.{holds}
 use Rattle.pb_memtablet.proofs.Kept.{of_found, renewed_seen, stored_renewed}

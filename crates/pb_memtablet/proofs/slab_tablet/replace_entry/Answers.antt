@@ -1,6 +1,6 @@
 use Rattle.std.proofs.Common.{ap, ◌∙◌}
 use Rattle.std.specs.FinMap.{put}
-use Rattle.pb_store.specs.Slot.{slot_cmp}
+use Rattle.pb_memtablet.specs.Words.{slot_cmp}
 use Rattle.pb_memtablet.specs.Stored.{seen}
 use Rattle.pb_memtablet.proofs.Spots.{holds}
 use Rattle.pb_memtablet.proofs.Kept.{put_anew, is_sorted-seen}

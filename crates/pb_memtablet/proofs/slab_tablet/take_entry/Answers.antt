@@ -1,6 +1,6 @@
 use Rattle.std.proofs.Common.{◌≡◌, Some, sym, ap, ◌∙◌}
 use Rattle.std.specs.FinMap.{find}
-use Rattle.pb_store.specs.Slot.{slot_cmp}
+use Rattle.pb_memtablet.specs.Words.{slot_cmp}
 use Rattle.pb_memtablet.specs.Stored.{seen, HasItem}
 use Rattle.pb_memtablet.proofs.Spots.{holds}
 use Rattle.pb_memtablet.proofs.Kept.{of_found, taken_seen, stored_taken, nothing_gone, seen-where, sorted_without, freed}

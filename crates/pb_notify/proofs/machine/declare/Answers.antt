@@ -1,5 +1,5 @@
 use Rattle.std.proofs.Common.{arith, ◌≡◌, sym, subst}
-use Rattle.pb_vm.specs.MachineSlot.{IsAtSlot}
+use Rattle.pb_notify.specs.Words.{IsAtSlot}
 use Rattle.pb_notify.specs.Machines.{exit_at, Leaves}
 use Rattle.pb_notify.proofs.machine.declare.Goals as goal
 use Rattle.pb_notify.proofs.machine.declare.Goals.{in-Ok+in-Err-new+in-Run, in-Err}

@@ -1,5 +1,5 @@
 use Rattle.std.proofs.Common.{rules, sym, subst}
-use Rattle.pb_txn.specs.Plans.{PlanOf}
+use Rattle.pb_notify.specs.Words.{PlanOf}
 use Rattle.pb_notify.specs.declared.place.RunPlace.{RunPlace}
 use Rattle.pb_notify.specs.Places.{Comes, goes, waits, declares}
 use Rattle.pb_notify.specs.Steps.{MovesOn}

@@ -1,7 +1,5 @@
 use Rattle.std.proofs.Common.{◌≡◌, ℕ, Bool, Some, ap, sym, ◌∙◌}
-use Rattle.pb_steps.specs.declared.step.Answer.{Answer}
-use Rattle.pb_txn.specs.declared.place.Outcome.{Outcome}
-use Rattle.pb_txn.specs.Plans.{PlanOf, answered, outcome_of}
+use Rattle.pb_notify.specs.Words.{Answer, Outcome, PlanOf, answered, outcome_of}
 use Rattle.pb_notify.specs.declared.place.RunPlace.{RunPlace}
 use Rattle.pb_notify.specs.Places.{by_outcome, place_after}
 use Rattle.pb_notify.proofs.place.take.Goals as goal

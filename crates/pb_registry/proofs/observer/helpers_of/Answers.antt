@@ -1,6 +1,5 @@
 use Rattle.std.proofs.Common.{rules, ◌≡◌, ◌≤◌, pos, true, false, Some, None, sym, ◌∙◌, arith, is_some, option_map}
-use Rattle.pb_isa.specs.Helpers.{helper_of, declared_helper}
-use Rattle.pb_helpers.specs.Table.{with_helper}
+use Rattle.pb_registry.specs.Words.{helper_of, declared_helper, with_helper}
 use Rattle.pb_registry.proofs.HelperElements.{number_of, beyond, twice, no_helper, more}
 use Rattle.pb_registry.proofs.observer.helpers_of.Goals.{then-number-gt4-via-then-number-gt4, then-number-gt4-via-else-number-gt4+then-declares}
 use Rattle.pb_registry.proofs.observer.helpers_of.Goals as goal

@@ -1,6 +1,6 @@
 use Rattle.std.proofs.Common.{arith, ◌≡◌, ◌+◌, [], ◌∷◌, ◌++◌, ◌∙◌, refl, sym, ap, subst, take}
 use Rattle.std.proofs.lemmas.List.{take_more, take_all}
-use Rattle.pb_history.specs.declared.entry.Entry.{Entry}
+use Rattle.pb_script.specs.Words.{Entry}
 use Rattle.pb_script.specs.Puts.{puts_by}
 use Rattle.pb_script.specs.Reports.{AreNewest}
 use Rattle.pb_script.proofs.Gathering.{all_puts, gathers_on, gathers}

@@ -1,8 +1,6 @@
 use Rattle.std.proofs.Common.{arith, ◌≡◌, ℕ, List, IfOk, Result, String, Global, string_bytes, subst, sym}
 use Rattle.std.specs.FinMap as map
-use Rattle.pb_base.specs.declared.refusal.NoMemory.{NoMemory}
-use Rattle.pb_steps.specs.Readings.{lock_count}
-use Rattle.pb_core.specs.Calls.{SharedOf}
+use Rattle.pb_script.specs.Words.{NoMemory, lock_count, SharedOf}
 use Rattle.pb_script.specs.declared.reports.newest.Put.{Put}
 use Rattle.pb_script.specs.Reports.{IsReport}
 use Rattle.pb_script.specs.ReportLines.{Tallies}

@@ -1,6 +1,6 @@
 use Rattle.std.proofs.Common.{◌≡◌, ◌∙◌, sym, ap, subst, take}
 use Rattle.std.proofs.lemmas.List.{take_all}
-use Rattle.pb_history.specs.RunCounts.{IsRunCount, run_count}
+use Rattle.pb_script.specs.Words.{IsRunCount, run_count}
 use Rattle.pb_script.proofs.tallies.run_count.Goals as goal
 
 pub returns : goal.returns

@@ -1,5 +1,5 @@
 use Rattle.std.proofs.Common.{◌≡◌, ◌≤◌, take}
-use Rattle.pb_history.specs.RunCounts.{run_count}
+use Rattle.pb_script.specs.Words.{run_count}
 use Rattle.pb_script.proofs.tallies.run_count.Given as goal
 
 abbrev pub invariant-loop-entry : goal.invariant-loop-entry

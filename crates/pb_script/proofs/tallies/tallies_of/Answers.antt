@@ -1,6 +1,6 @@
 use Rattle.std.proofs.Common.{◌≡◌, ◌+◌, ◌++◌, [], ◌∷◌, ◌∙◌, length, take, sym, ap, subst, arith}
 use Rattle.std.proofs.lemmas.List.{take_more, length-take-le}
-use Rattle.pb_verify.specs.Observers.{ObserverOf}
+use Rattle.pb_script.specs.Words.{ObserverOf}
 use Rattle.pb_script.specs.Tallies.{AreTallies, IsTally}
 use Rattle.pb_script.proofs.Told.{tallies_push}
 use Rattle.pb_script.proofs.tallies.tallies_of.Goals as goal

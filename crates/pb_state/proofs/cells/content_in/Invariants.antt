@@ -1,5 +1,5 @@
 use Rattle.std.proofs.Common.{◌≡◌, drop}
-use Rattle.pb_base.specs.Batch.{content_in}
+use Rattle.pb_state.specs.Words.{content_in}
 use Rattle.pb_state.proofs.cells.content_in.Given as goal
 
 abbrev pub invariant-loop-write : goal.invariant-loop-write

@@ -1,6 +1,6 @@
 use Rattle.std.proofs.Common.{◌≡◌, drop}
 use Rattle.std.specs.List.{list_all}
-use Rattle.pb_steps.specs.State.{is_in}
+use Rattle.pb_state.specs.Words.{is_in}
 use Rattle.pb_state.proofs.cells.has_writes.Given as goal
 
 abbrev pub invariant-loop-write : goal.invariant-loop-write

@@ -1,5 +1,5 @@
 use Rattle.std.proofs.Common.{sym, ◌∙◌}
-use Rattle.pb_steps.specs.Reads.{value_code}
+use Rattle.pb_state.specs.Words.{value_code}
 use Rattle.pb_state.proofs.SameRuns.{decided, true_and}
 use Rattle.pb_state.proofs.observed.is_replied.Goals as goal
 

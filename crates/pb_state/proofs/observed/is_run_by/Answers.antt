@@ -1,7 +1,5 @@
 use Rattle.std.proofs.Common.{◌≡◌, Some, ap, sym, ◌∙◌}
-use Rattle.pb_helpers.specs.OldRecord.{tells_old}
-use Rattle.pb_verify.specs.Observers.{ObserverOf}
-use Rattle.pb_steps.specs.Declarations.{seen_in, is_run}
+use Rattle.pb_state.specs.Words.{tells_old, ObserverOf, seen_in, is_run}
 use Rattle.pb_state.proofs.observed.is_run_by.Goals as goal
 
 pub returns-in-Some : goal.returns-in-Some

@@ -1,5 +1,5 @@
 use Rattle.std.proofs.Common.{ap, sym, ◌∙◌}
-use Rattle.pb_isa.specs.Programs.{JudgedOf}
+use Rattle.pb_state.specs.Words.{JudgedOf}
 use Rattle.pb_state.proofs.observed.tells_old.Goals as goal
 use Rattle.pb_helpers.proofs.Versions.{second_is}
 

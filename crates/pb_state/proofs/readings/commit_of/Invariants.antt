@@ -1,5 +1,5 @@
 use Rattle.std.proofs.Common.{◌≢◌, ℕ, ◌<◌, ◌^◌, Some}
-use Rattle.pb_steps.specs.Readings.{write_at}
+use Rattle.pb_state.specs.Words.{write_at}
 use Rattle.pb_state.proofs.readings.commit_of.Given as goal
 
 -- no later write record names the start

@@ -1,10 +1,7 @@
 use Rattle.std.proofs.Common.{◌≡◌, ℕ, ◌+◌, ◌<◌, Bool, true, false, cond, sym, ap, ◌∙◌, subst, arith, length, drop, List, [], ◌∷◌, Some, None, count_by, slice_get}
 use Rattle.std.specs.FinMap as map
 use Rattle.std.proofs.lemmas.List.Sums.{sum_by-cons, count_by-le-length}
-use Rattle.pb_store.specs.declared.slot.Slot.{Slot}
-use Rattle.pb_store.specs.declared.slot.Item.{Item}
-use Rattle.pb_store.specs.Contents.{entries_after}
-use Rattle.pb_steps.specs.Readings.{is_lock}
+use Rattle.pb_state.specs.Words.{Slot, Item, entries_after, is_lock}
 use Rattle.pb_state.proofs.readings.count_locks.Goals as goal
 use Rattle.pb_state.proofs.readings.count_locks.Goals.{then-is_lock, else-is_lock}
 

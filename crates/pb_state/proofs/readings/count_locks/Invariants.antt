@@ -1,7 +1,6 @@
 use Rattle.std.proofs.Common.{◌≡◌, ◌+◌, length, count_by}
 use Rattle.std.specs.FinMap as map
-use Rattle.pb_store.specs.Contents.{entries_after}
-use Rattle.pb_steps.specs.Readings.{is_lock}
+use Rattle.pb_state.specs.Words.{entries_after, is_lock}
 use Rattle.pb_state.proofs.readings.count_locks.Given as goal
 
 -- the locks counted and those after the last entry are all

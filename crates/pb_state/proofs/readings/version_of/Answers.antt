@@ -1,6 +1,6 @@
 use Rattle.std.proofs.Common.{◌≡◌, true, false, Some, ap, sym, ◌∙◌, is_some}
 use Rattle.std.specs.FinMap as map
-use Rattle.pb_steps.specs.Readings.{data_of, start_of}
+use Rattle.pb_state.specs.Words.{data_of, start_of}
 use Rattle.pb_state.proofs.readings.version_of.Goals as goal
 
 pub unreachable-requires : goal.unreachable-requires

@@ -1,6 +1,5 @@
 use Rattle.std.proofs.Common.{sym, subst}
-use Rattle.pb_steps.specs.Readings.{last_timestamp, IsVersion}
-use Rattle.pb_steps.specs.Marks.{SomeBehind, AllUpToDate}
+use Rattle.pb_state.specs.Words.{last_timestamp, IsVersion, SomeBehind, AllUpToDate}
 use Rattle.pb_state.proofs.Behind.{either_way, some_behind, all_up_to_date}
 use Rattle.pb_state.proofs.sweep.is_behind.Goals as goal
 

@@ -1,6 +1,6 @@
 use Rattle.std.proofs.Common.{sym, ap, ◌∙◌}
 use Rattle.std.proofs.lemmas.Bool.{eqb-true}
-use Rattle.pb_verify.specs.Observers.{ObserverOf}
+use Rattle.pb_state.specs.Words.{ObserverOf}
 use Rattle.pb_state.proofs.SameRuns.{not_ne}
 use Rattle.pb_state.proofs.sweep.is_late.Goals as goal
 

@@ -1,5 +1,5 @@
 use Rattle.std.specs.FinMap as map
-use Rattle.pb_store.specs.Contents.{ComesAfter}
+use Rattle.pb_state.specs.Words.{ComesAfter}
 use Rattle.pb_state.proofs.Walking.{left_after}
 use Rattle.pb_state.proofs.sweep.is_marked.Given as goal
 

@@ -1,5 +1,5 @@
 use Rattle.std.proofs.Common.{arith, rules, ◌≡◌, ◌++◌, codes, string_bytes, subst}
-use Rattle.pb_base.specs.Sink.{AppendsPart}
+use Rattle.pb_story.specs.Words.{AppendsPart}
 use Rattle.pb_story.specs.Lines.{note_text}
 use Rattle.pb_story.specs.Stories.{IsEventTold}
 use Rattle.pb_story.proofs.story.tell_event.Goals as goal

@@ -1,6 +1,6 @@
 use Rattle.std.proofs.Common.{arith, rules, ◌≡◌, ◌<◌, Some, Err, length, subst, refl, sym, slice_get}
 use Rattle.std.proofs.lemmas.Option.{slice_get_read}
-use Rattle.pb_base.specs.Taking.{taking}
+use Rattle.pb_story.specs.Words.{taking}
 use Rattle.pb_story.specs.Stories.{LinesEnd}
 use Rattle.pb_story.proofs.Retelling.{told_more, told_to}
 use Rattle.pb_story.proofs.story.tell_events.Goals as goal

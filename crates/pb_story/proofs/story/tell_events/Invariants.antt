@@ -1,5 +1,5 @@
 use Rattle.std.proofs.Common.{take}
-use Rattle.pb_base.specs.Taking.{taking}
+use Rattle.pb_story.specs.Words.{taking}
 use Rattle.pb_story.specs.Stories.{AreTold}
 use Rattle.pb_story.proofs.story.tell_events.Given as goal
 

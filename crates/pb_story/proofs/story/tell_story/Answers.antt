@@ -1,7 +1,5 @@
 use Rattle.std.proofs.Common.{arith, subst, Err}
-use Rattle.pb_base.specs.Taking.{taking}
-use Rattle.pb_script.specs.declared.fault.ReportFault.{ReportFault}
-use Rattle.pb_script.specs.TableReports.{Reports}
+use Rattle.pb_story.specs.Words.{taking, ReportFault, Reports}
 use Rattle.pb_story.proofs.Retelling.{reported, report_cut, report_unmade}
 use Rattle.pb_story.proofs.story.tell_story.Goals as goal
 

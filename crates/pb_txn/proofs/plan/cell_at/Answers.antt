@@ -1,5 +1,5 @@
 use Rattle.std.proofs.Common.{◌<◌, ◌-◌, length, slice_get, Some, slice_index_or, sym, ap, subst, ◌∙◌}
-use Rattle.pb_steps.specs.declared.step.Declared.{Declared}
+use Rattle.pb_txn.specs.Words.{Declared}
 use Rattle.pb_txn.specs.Places.{declared_cells}
 use Rattle.pb_txn.proofs.CellsAt.{after_first}
 use Rattle.pb_txn.proofs.plan.cell_at.Goals as goal

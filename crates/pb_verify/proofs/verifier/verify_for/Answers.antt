@@ -1,7 +1,7 @@
 use Rattle.std.proofs.Common.{◌≡◌, ℕ, subst, ◌<◌, ◌≤◌, ◌+◌, ◌*◌, ◌++◌, take, drop, [], ◌∷◌, Some, None, refl, length, sym, ap, ◌∙◌, arith, rules, below_more, add-one, slice_index_or, option_map, if◌then◌else◌, box_value}
 use Rattle.std.proofs.lemmas.List.{take_at}
 use Rattle.pb_verify.specs.Versions.{judged_by}
-use Rattle.pb_isa.specs.Slots.{slots, insn_at}
+use Rattle.pb_verify.specs.Words.{slots, insn_at}
 use Rattle.pb_verify.specs.Arriving.{merge, if_leads, outs, in_at, frame_before, frame_after, faults}
 use Rattle.pb_verify.specs.Within.{IsWithinIf}
 use Rattle.pb_verify.proofs.PointersWithin.{within_arriving, within_if_more, within_push, none_within}

@@ -1,5 +1,5 @@
 use Rattle.std.proofs.Common.{◌≡◌, ℕ, ◌<◌, length, slice_index_or}
-use Rattle.pb_core.specs.Calls.{SeatOf}
+use Rattle.pb_worker.specs.Words.{SeatOf}
 use Rattle.pb_worker.proofs.ending.are_at_end.Given as goal
 
 abbrev pub invariant-loop-k : goal.invariant-loop-k

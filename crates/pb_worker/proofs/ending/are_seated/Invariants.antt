@@ -1,5 +1,5 @@
 use Rattle.std.proofs.Common.{◌<◌, ℕ, slice_index_or}
-use Rattle.pb_core.specs.Calls.{SeatOf}
+use Rattle.pb_worker.specs.Words.{SeatOf}
 use Rattle.pb_worker.proofs.ending.are_seated.Given as goal
 
 abbrev pub invariant-loop-seat : goal.invariant-loop-seat

@@ -1,6 +1,6 @@
 use Rattle.std.proofs.Common.{◌≡◌, ◌≢◌, ◌<◌, List, length, length-set, slice_get, slice_index_or, Some, arith, refl, ◌∙◌, subst}
 use Rattle.std.proofs.lemmas.Bool.{false≢true}
-use Rattle.pb_history.specs.declared.entry.Received.{Received}
+use Rattle.pb_worker.specs.Words.{Received}
 use Rattle.pb_worker.specs.Cursors.{told_by}
 use Rattle.pb_worker.proofs.Cursors.{at_first, none_on, off, one_on, all_told}
 use Rattle.pb_worker.proofs.ending.are_told.Goals as goal

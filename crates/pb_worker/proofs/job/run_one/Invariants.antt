@@ -1,6 +1,5 @@
 use Rattle.std.proofs.Common.{◌≢◌}
-use Rattle.pb_notify.specs.declared.need.Need.{Need}
-use Rattle.pb_notify.specs.Runs.{need_of}
+use Rattle.pb_worker.specs.Words.{Need, need_of}
 use Rattle.pb_worker.proofs.RunAlong.{IsAlong}
 use Rattle.pb_worker.proofs.job.run_one.Given as goal
 

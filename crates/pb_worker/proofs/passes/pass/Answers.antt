@@ -1,7 +1,6 @@
 use Rattle.std.proofs.Common.{◌≡◌, subst}
 use Rattle.std.proofs.lemmas.Result.{err_from_is_err_and}
-use Rattle.pb_steps.specs.declared.step.Step.{Step}
-use Rattle.pb_steps.specs.declared.step.Answer.{Answer}
+use Rattle.pb_worker.specs.Words.{Step, Answer}
 use Rattle.pb_worker.specs.Gains.{Told}
 use Rattle.pb_worker.proofs.PassAlong.{no_walk, walk_on, walk_stops, walk_stops_at, walk_ends, no_mark}
 use Rattle.pb_worker.proofs.passes.pass.Goals as goal

@@ -1,5 +1,5 @@
 use Rattle.std.proofs.Common.{◌≡◌, ◌≢◌, ℕ, ◌<◌, [], Some, slice_get}
-use Rattle.pb_base.specs.Batch.{Writes}
+use Rattle.pb_worker.specs.Words.{Writes}
 use Rattle.pb_worker.proofs.run.look_through.Given as goal
 
 abbrev pub invariant-loop-batch : goal.invariant-loop-batch

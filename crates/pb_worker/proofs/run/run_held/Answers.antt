@@ -1,6 +1,5 @@
 use Rattle.std.proofs.Common.{rules, ◌≡◌, ◌<◌, ◌-◌, List, length, sym, subst}
-use Rattle.pb_base.specs.Batch.{Writes}
-use Rattle.pb_core.specs.Calls.{SeatOf, AreSeatsFrom}
+use Rattle.pb_worker.specs.Words.{Writes, SeatOf, AreSeatsFrom}
 use Rattle.pb_worker.specs.Gains.{OpeningOf, opening_of}
 use Rattle.pb_worker.specs.Swaps.{Spare, spares_of}
 use Rattle.pb_worker.specs.Work.{AllWork, AreFilled, seats_in, refusals_in, flags_in, is_done, undone_below}

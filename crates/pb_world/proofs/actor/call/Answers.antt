@@ -1,11 +1,5 @@
 use Rattle.std.proofs.Common.{arith, ◌≡◌, ℕ, false, ◌==◌, if◌then◌else◌, Option, Some, None, Result, Ok, Err, refl, sym, ◌∙◌, ap}
-use Rattle.pb_base.specs.declared.refusal.NoMemory.{NoMemory}
-use Rattle.pb_base.specs.declared.refusal.Reason.{Reason}
-use Rattle.pb_base.specs.declared.refusal.Refusal.{Refusal}
-use Rattle.pb_base.specs.Growths.{refused_growth}
-use Rattle.pb_base.specs.Reasons.{reason_code, refusal_by, memory_refusal}
-use Rattle.pb_steps.specs.declared.step.Answer.{Answer}
-use Rattle.pb_core.specs.Calls.{call_reason}
+use Rattle.pb_world.specs.Words.{NoMemory, Reason, Refusal, refused_growth, reason_code, refusal_by, memory_refusal, Answer, call_reason}
 use Rattle.pb_world.proofs.actor.call.Goals as goal
 
 -- what is answered isn't refused

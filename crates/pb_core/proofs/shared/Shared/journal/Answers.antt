@@ -1,9 +1,7 @@
 use Rattle.std.proofs.Common.{subst}
 use Rattle.pb_core.specs.Calls.{SharedOf}
 use Rattle.pb_core.specs.Histories.{IsLegalTable}
-use Rattle.pb_history.specs.History.{TellsHistory}
-use Rattle.pb_history.specs.ReadsTold.{TellsReads}
-use Rattle.pb_history.specs.RunCounts.{TellsRunCounts}
+use Rattle.pb_core.specs.Words.{TellsHistory, TellsReads, TellsRunCounts}
 use Rattle.pb_core.proofs.shared.Shared.journal.Goals as goal
 
 pub returns-clause-history : goal.returns-clause-history

@@ -1,6 +1,6 @@
 use Rattle.std.proofs.Common.{arith, ◌<◌, ◌≡◌, length, rules, get_or, []}
 use Rattle.std.proofs.lemmas.List.{get_or_read}
-use Rattle.pb_steps.specs.Steps.{TableStep}
+use Rattle.pb_core.specs.Words.{TableStep}
 use Rattle.pb_core.proofs.StepsKeep.{case_kept}
 use Rattle.pb_core.proofs.Keeps.{kept_more}
 use Rattle.pb_core.proofs.shared.Shared.keep.Goals as goal

@@ -1,6 +1,6 @@
 use Rattle.std.proofs.Common.{subst}
 use Rattle.pb_core.specs.Calls.{SharedOf}
-use Rattle.pb_history.specs.Handled.{TellsQuiet}
+use Rattle.pb_core.specs.Words.{TellsQuiet}
 use Rattle.pb_core.proofs.Grows.{few_entries}
 use Rattle.pb_core.proofs.shared.Shared.locks.Goals as goal
 

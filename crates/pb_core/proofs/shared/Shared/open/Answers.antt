@@ -1,5 +1,5 @@
 use Rattle.std.proofs.Common.{sym, ap, ◌∙◌}
-use Rattle.pb_steps.specs.State.{StateOf}
+use Rattle.pb_core.specs.Words.{StateOf}
 use Rattle.pb_core.proofs.Fresh.{fresh_seats}
 use Rattle.pb_core.proofs.shared.Shared.open.Goals as goal
 use Rattle.pb_store.proofs.Fresh.{nothing_from_test as nothing_if}

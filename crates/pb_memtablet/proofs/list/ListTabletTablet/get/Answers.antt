@@ -1,6 +1,5 @@
 use Rattle.std.proofs.Common.{arith, sym, subst, IfSome, Option}
-use Rattle.pb_store.specs.declared.slot.Item.{Item}
-use Rattle.pb_store.specs.Contents.{IsOfSort}
+use Rattle.pb_memtablet.specs.Words.{Item, IsOfSort}
 use Rattle.pb_memtablet.proofs.Answered.{get-listed, of_sort_found}
 use Rattle.pb_memtablet.proofs.list.ListTabletTablet.get.Goals as goal
 

@@ -1,5 +1,5 @@
 use Rattle.std.proofs.Common.{arith, ◌≡◌, ◌==◌, ◌&&◌, length, sym, ap, ◌∙◌}
-use Rattle.pb_store.specs.Contents.{is_nothing}
+use Rattle.pb_memtablet.specs.Words.{is_nothing}
 use Rattle.pb_memtablet.proofs.Answered.{is_nothing-listed}
 use Rattle.pb_memtablet.proofs.list.ListTabletTablet.is_empty.Goals as goal
 use Rattle.pb_memtablet.proofs.list.ListTabletTablet.is_empty.Goals.{After-is_empty}

@@ -1,8 +1,6 @@
 use Rattle.std.proofs.Common.{arith, ◌≡◌, sym, ap, ◌∙◌, subst, IfSome, Option, option_map}
 use Rattle.std.specs.FinMap.{find}
-use Rattle.pb_store.specs.declared.slot.Item.{Item}
-use Rattle.pb_store.specs.Slot.{slot_cmp}
-use Rattle.pb_store.specs.Contents.{IsOfSort}
+use Rattle.pb_memtablet.specs.Words.{Item, slot_cmp, IsOfSort}
 use Rattle.pb_memtablet.specs.Stored.{seen, item_at}
 use Rattle.pb_memtablet.proofs.Answered.{get-listed, of_sort_found}
 use Rattle.pb_memtablet.proofs.Kept.{find-seen, found_stored}

@@ -1,5 +1,5 @@
 use Rattle.std.proofs.Common.{arith, ◌≡◌, ◌==◌, ◌&&◌, length, sym, ap, ◌∙◌}
-use Rattle.pb_store.specs.Contents.{is_nothing}
+use Rattle.pb_memtablet.specs.Words.{is_nothing}
 use Rattle.pb_memtablet.proofs.Kept.{length-seen}
 use Rattle.pb_memtablet.proofs.Answered.{is_nothing-listed}
 use Rattle.pb_memtablet.proofs.slab_tablet.SlabTabletTablet.is_empty.Goals as goal

@@ -1,5 +1,5 @@
 use Rattle.std.proofs.Common.{arith, ◌≡◌, sym, ap, ◌∙◌, subst, IfSome, slice_get, option_map}
-use Rattle.pb_store.specs.Contents.{IsOfSort, entries_after}
+use Rattle.pb_memtablet.specs.Words.{IsOfSort, entries_after}
 use Rattle.pb_memtablet.specs.Stored.{seen, HasItem}
 use Rattle.pb_memtablet.proofs.Answered.{entries-listed, of_sort_after}
 use Rattle.pb_memtablet.proofs.Kept.{as_entry, next-seen, next_stored}

@@ -1,9 +1,5 @@
 use Rattle.std.proofs.Common.{arith, ◌≡◌, ℕ, refl, sym, subst, rules}
-use Rattle.pb_base.specs.declared.cell.Cell.{Cell}
-use Rattle.pb_base.specs.declared.names.Ts.{Ts}
-use Rattle.pb_isa.specs.Programs.{JudgedOf}
-use Rattle.pb_vm.specs.Position.{Position}
-use Rattle.pb_steps.specs.declared.seen.Seen.{Seen}
+use Rattle.pb_notify.specs.Words.{Cell, Ts, JudgedOf, Position, Seen}
 use Rattle.pb_notify.specs.declared.need.Need.{Need}
 use Rattle.pb_notify.specs.declared.place.RunPlace.{RunPlace}
 use Rattle.pb_notify.specs.Places.{Comes, goes, ComesFrom, AtPlace}

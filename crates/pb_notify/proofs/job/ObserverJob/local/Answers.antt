@@ -1,5 +1,5 @@
 use Rattle.std.proofs.Common.{arith, refl, sym, subst, ◌∙◌, rules}
-use Rattle.pb_base.specs.declared.cell.Cell.{Cell}
+use Rattle.pb_notify.specs.Words.{Cell}
 use Rattle.pb_notify.specs.declared.place.RunPlace.{RunPlace}
 use Rattle.pb_notify.specs.Places.{goes, ComesFrom, AtPlace}
 use Rattle.pb_notify.specs.Runs.{RunOf, IsJob, Computes}

@@ -1,7 +1,5 @@
 use Rattle.std.proofs.Common.{◌≡◌, ◌-◌, IfOk, rules, subst, arith}
-use Rattle.pb_vm.specs.MachineSlot.{IsAtSlot}
-use Rattle.pb_vm.specs.Moves.{Finishes}
-use Rattle.pb_vm.specs.Position.{Position}
+use Rattle.pb_notify.specs.Words.{IsAtSlot, Finishes, Position}
 use Rattle.pb_notify.specs.Steps.{ExitsAs}
 use Rattle.pb_notify.proofs.Exits.{at_exit, at_slot, left}
 use Rattle.pb_notify.proofs.machine.Machine.exit.Goals as goal

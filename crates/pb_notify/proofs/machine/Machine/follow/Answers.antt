@@ -1,10 +1,5 @@
 use Rattle.std.proofs.Common.{◌≡◌, inl, inr, ℕ, zero, suc, ◌≤◌, refl, sym, ap, subst, arith, rules}
-use Rattle.pb_isa.specs.Programs.{JudgedOf}
-use Rattle.pb_isa.specs.Slots.{slots}
-use Rattle.pb_vm.specs.Position.{Position}
-use Rattle.pb_vm.specs.Moves.{Moves, IsStop, Advances}
-use Rattle.pb_vm.specs.declared.moved.Moved.{Moved}
-use Rattle.pb_vm.specs.declared.moved.MachinePhase.{MachinePhase}
+use Rattle.pb_notify.specs.Words.{JudgedOf, slots, Position, Moves, IsStop, Advances, Moved, MachinePhase}
 use Rattle.pb_notify.specs.Steps.{WentOn, Proceeds, at_first, one_more, FollowsOn}
 use Rattle.pb_notify.proofs.machine.Machine.follow.Goals as goal
 use Rattle.pb_notify.proofs.machine.Machine.follow.Goals.{in-Running, in-Exited}

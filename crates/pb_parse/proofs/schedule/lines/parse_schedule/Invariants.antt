@@ -1,6 +1,5 @@
 use Rattle.std.proofs.Common.{◌≡◌, ◌+◌, ◌≤◌, length}
-use Rattle.pb_base.specs.declared.limits.TheConstants.{MAX_EVENTS}
-use Rattle.pb_reading.specs.Reading.{lines_left}
+use Rattle.pb_parse.specs.Words.{MAX_EVENTS, lines_left}
 use Rattle.pb_parse.specs.Schedules.{events_of_lines, schedule_of}
 use Rattle.pb_parse.proofs.schedule.lines.parse_schedule.Given as goal
 

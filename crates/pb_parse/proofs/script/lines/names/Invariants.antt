@@ -1,5 +1,5 @@
 use Rattle.std.proofs.Common.{◌≡◌, drop, is_some}
-use Rattle.pb_base.specs.Batch.{writes_of, content_in}
+use Rattle.pb_parse.specs.Words.{writes_of, content_in}
 use Rattle.pb_parse.proofs.script.lines.names.Given as goal
 
 abbrev pub invariant-loop-write : goal.invariant-loop-write

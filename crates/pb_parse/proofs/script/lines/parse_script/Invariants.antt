@@ -1,7 +1,6 @@
 use Rattle.std.proofs.Common.{◌≡◌, ◌+◌, ◌≤◌, length}
-use Rattle.pb_reading.specs.Faults.{in_lines}
+use Rattle.pb_parse.specs.Words.{in_lines, lines_left}
 use Rattle.pb_parse.specs.Codes.{script_code}
-use Rattle.pb_reading.specs.Reading.{lines_left}
 use Rattle.pb_parse.specs.ScriptLines.{with_line, script_of}
 use Rattle.pb_parse.proofs.script.lines.parse_script.Given as goal
 

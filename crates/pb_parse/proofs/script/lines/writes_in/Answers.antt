@@ -1,6 +1,6 @@
 use Rattle.std.proofs.Common.{arith, rules, ◌∙◌}
 use Rattle.std.proofs.lemmas.Result.{err_from_is_err_and}
-use Rattle.pb_base.specs.Batch.{writes_of}
+use Rattle.pb_parse.specs.Words.{writes_of}
 use Rattle.pb_parse.specs.ScriptLines.{batch_of}
 use Rattle.pb_parse.proofs.PartByPart.{goes_on, stops, last_part}
 use Rattle.pb_parse.proofs.script.lines.writes_in.Goals as goal

@@ -1,7 +1,7 @@
 use Rattle.std.proofs.Common.{◌≡◌, length}
 use denote.Text.{Utf8}
 use denote.Shadow.{shadow}
-use Rattle.pb_base.specs.Batch.{writes_of}
+use Rattle.pb_parse.specs.Words.{writes_of}
 use Rattle.pb_parse.specs.ScriptLines.{batch_of}
 use Rattle.pb_parse.proofs.PartByPart.{from_here}
 use Rattle.pb_parse.proofs.script.lines.writes_in.Given as goal

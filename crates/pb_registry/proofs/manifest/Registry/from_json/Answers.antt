@@ -2,7 +2,7 @@ use Rattle.std.proofs.Common.{◌≤◌, ◌∙◌, map, sym, subst}
 use Rattle.std.proofs.lemmas.List.{length-map}
 use Rattle.std.proofs.lemmas.Slice.Zip.{AllZip-long}
 use Rattle.serde_json.specs.View.{view}
-use Rattle.pb_base.specs.declared.limits.TheConstants.{MAX_OBSERVERS}
+use Rattle.pb_registry.specs.Words.{MAX_OBSERVERS}
 use Rattle.pb_registry.specs.Observers.{observers_of}
 use Rattle.pb_registry.specs.Judging.{IsObserver}
 use Rattle.pb_registry.proofs.manifest.Registry.from_json.Goals as goal

@@ -1,6 +1,6 @@
 use Rattle.std.specs.BTreeMap as tree
 use Rattle.std.proofs.Common.{sym, ◌∙◌}
-use Rattle.pb_base.specs.Cell.{cell_cmp}
+use Rattle.pb_script.specs.Words.{cell_cmp}
 use Rattle.pb_script.proofs.Newests.{noted, passed}
 use Rattle.pb_script.proofs.reports.newest.note.Goals as goal
 

@@ -1,6 +1,6 @@
 use Rattle.std.proofs.Common.{◌≡◌, ◌≤◌, ◌<◌, ◌+◌, Some, ap, subst, arith}
 use Rattle.std.specs.FinMap as map
-use Rattle.pb_steps.specs.State.{StateOf}
+use Rattle.pb_state.specs.Words.{StateOf}
 use Rattle.pb_history.proofs.SoundHasData.{keeps_data}
 use Rattle.pb_state.proofs.parts.Parts.begin.Goals as goal
 

@@ -1,9 +1,5 @@
 use Rattle.std.proofs.Common.{arith, ◌≡◌, refl, sym, ap, subst, ◌∙◌, is_some, Some}
-use Rattle.pb_steps.specs.State.{StateOf}
-use Rattle.pb_steps.specs.Readings.{NoLock, IsLockOn, lock_at, write_at}
-use Rattle.pb_steps.specs.Commits.{commit_lock}
-use Rattle.pb_steps.specs.Marks.{with_mark}
-use Rattle.pb_steps.specs.Clear.{NoWriteOf}
+use Rattle.pb_state.specs.Words.{StateOf, NoLock, IsLockOn, lock_at, write_at, commit_lock, with_mark, NoWriteOf}
 use Rattle.pb_state.proofs.NewState.{same_marks, new_entries}
 use Rattle.pb_state.proofs.parts.Parts.clear.Goals as goal
 use Rattle.pb_state.proofs.parts.Parts.clear.Goals.{then-eq-via-then-eq, then-eq-via-else-eq+then-has_lock}

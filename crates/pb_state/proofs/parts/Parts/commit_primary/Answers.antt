@@ -1,6 +1,5 @@
 use Rattle.std.proofs.Common.{◌≡◌, rules, sym, ap, ◌∙◌, is_some}
-use Rattle.pb_steps.specs.State.{StateOf}
-use Rattle.pb_steps.specs.Readings.{lock_at}
+use Rattle.pb_state.specs.Words.{StateOf, lock_at}
 use Rattle.pb_state.proofs.parts.Parts.commit_primary.Goals as goal
 
 pub returns-then-not-has_lock-clause-taken : goal.returns-then-not-has_lock-clause-taken

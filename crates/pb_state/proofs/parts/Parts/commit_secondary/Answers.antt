@@ -1,7 +1,5 @@
 use Rattle.std.proofs.Common.{◌≡◌, true, false, rules, sym, ap, ◌∙◌, is_some}
-use Rattle.pb_steps.specs.State.{StateOf}
-use Rattle.pb_steps.specs.Readings.{lock_at}
-use Rattle.pb_steps.specs.CommitSecondary.{if_locked}
+use Rattle.pb_state.specs.Words.{StateOf, lock_at, if_locked}
 use Rattle.pb_state.proofs.parts.Parts.commit_secondary.Goals as goal
 
 pub returns-then-not-has_lock-clause-taken : goal.returns-then-not-has_lock-clause-taken

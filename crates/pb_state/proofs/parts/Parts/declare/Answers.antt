@@ -1,7 +1,6 @@
 use Rattle.std.proofs.Common.{◌≡◌, true, arith}
 use Rattle.std.proofs.lemmas.Grind.{common_steps}
-use Rattle.pb_steps.specs.State.{cells_of}
-use Rattle.pb_steps.specs.Declarations.{is_its}
+use Rattle.pb_state.specs.Words.{cells_of, is_its}
 use Rattle.pb_state.specs.Cells.{cells_in}
 use Rattle.pb_state.proofs.ItsDeclaration.{may_be_its, script_writes, run_writes_all}
 use Rattle.pb_state.proofs.parts.Parts.declare.Goals as goal

@@ -1,10 +1,8 @@
 use Rattle.std.proofs.Common.{arith, ◌≡◌, refl, ap, subst, ◌∙◌}
 use Rattle.std.specs.FinMap as map
-use Rattle.pb_steps.specs.State.{StateOf, TransactionOf}
-use Rattle.pb_steps.specs.Read.{with_read}
+use Rattle.pb_state.specs.Words.{StateOf, TransactionOf, with_read, NoLockUpTo, NoVersion}
 use Rattle.pb_state.proofs.Outcomes.{err_always}
 use Rattle.pb_state.proofs.Rising.{put_again}
-use Rattle.pb_steps.specs.Readings.{NoLockUpTo, NoVersion}
 use Rattle.pb_state.proofs.NewState.{same_marks, new_state}
 use Rattle.pb_state.proofs.ReadsTaken.{found, absent}
 use Rattle.pb_state.proofs.parts.Parts.read.Goals as goal

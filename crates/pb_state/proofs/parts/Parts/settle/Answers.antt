@@ -1,6 +1,5 @@
 use Rattle.std.proofs.Common.{arith, ◌≡◌, refl, ap, subst}
-use Rattle.pb_steps.specs.State.{StateOf}
-use Rattle.pb_steps.specs.Readings.{NoLock, IsLockOn}
+use Rattle.pb_state.specs.Words.{StateOf, NoLock, IsLockOn}
 use Rattle.pb_state.proofs.NewState.{same_marks, new_entries}
 use Rattle.pb_state.proofs.SameCells.{same_if}
 use Rattle.pb_state.proofs.parts.Parts.settle.Goals as goal

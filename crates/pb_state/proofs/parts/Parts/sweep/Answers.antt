@@ -1,9 +1,6 @@
 use Rattle.std.proofs.Common.{◌≡◌, List, sym, ap, subst, ◌∙◌}
 use Rattle.std.specs.FinMap as map
-use Rattle.pb_store.specs.Contents.{Entries}
-use Rattle.pb_verify.specs.Observers.{ObserverOf}
-use Rattle.pb_steps.specs.State.{StateOf}
-use Rattle.pb_steps.specs.Marks.{is_marked, AllUpToDate}
+use Rattle.pb_state.specs.Words.{Entries, ObserverOf, StateOf, is_marked, AllUpToDate}
 use Rattle.pb_state.proofs.NewState.{new_entries}
 use Rattle.pb_state.proofs.parts.Parts.sweep.Goals as goal
 

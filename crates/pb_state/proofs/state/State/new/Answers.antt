@@ -1,6 +1,5 @@
 use Rattle.std.proofs.Common.{◌≡◌, sym, subst, rules}
-use Rattle.pb_steps.specs.State.{opening}
-use Rattle.pb_history.specs.Sound.{IsSoundTable}
+use Rattle.pb_state.specs.Words.{opening, IsSoundTable}
 use Rattle.pb_history.proofs.OpeningSound.{opening_sound}
 use Rattle.pb_state.specs.Keeping.{parts_as_state}
 use Rattle.pb_state.proofs.state.State.new.Goals as goal
