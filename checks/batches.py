@@ -1,12 +1,29 @@
-"""Which edits of `checks/wrong-bodies` share a check: those that each change the body of one function, where none leads to another."""
+"""Which edits of `checks/wrong-bodies` share a check: those that are tried on copies of their functions (copies.py), and of the others
+those that each change the body of one function, where none leads to another."""
 from __future__ import annotations
 
 import re
+from dataclasses import dataclass
 
+from copies import has_copy
 from sources import BadEdit, applied, functions_in, without_comments
 
 # More bodies in one check leave processors idle.
-MOST_IN_A_CHECK = 12
+MOST_IN_A_CHECK = 16
+
+
+@dataclass(frozen=True)
+class Batch:
+    """Edits that are tried in one check, whether a fault is planted in the text of their functions' proofs, and whether they are tried
+    on copies of these."""
+
+    edits: list
+    is_planted: bool
+    are_copies: bool = False
+
+    @property
+    def is_alone(self):
+        return len(self.edits) == 1
 
 
 def calls_in(crate):
@@ -27,7 +44,15 @@ def calls_in(crate):
 
 
 def batches_of(crate):
-    """The edits by the checks that they are tried in."""
+    """The edits that are left to try, by the checks that they are tried in."""
+    ahead = [it for it in crate.edits if it.name not in crate.before]
+    copied, others = [it for it in ahead if has_copy(it)], [it for it in ahead if not has_copy(it)]
+    checks = -(-len(copied) // MOST_IN_A_CHECK)
+    return [Batch(copied[at::checks], True, True) for at in range(checks)] + [Batch(its, its[0].is_body) for its in apart(crate, others)]
+
+
+def apart(crate, ahead):
+    """Edits by checks, in each of which every one changes a function that leads to none that another changes."""
     leads = calls_in(crate)
 
     def are_apart(a, b):
@@ -36,7 +61,6 @@ def batches_of(crate):
         is_free = a.function.name not in reached(b) and b.function.name not in reached(a)
         return a.function.key != b.function.key and is_free
 
-    ahead = [it for it in crate.edits if it.name not in crate.before]
     alone = [[it] for it in ahead if not it.function]
     shared = []
     for edit in (it for it in ahead if it.function):

@@ -1,9 +1,11 @@
 """The notes on wrong bodies in checks/wrong-bodies.tried: which crates' were tried, and over what.
 
-Each crate with wrong bodies has a line: its name, a sum, how many bodies there are, and how many of them are unsettled. The sum is of
-all that a verdict rests on: the crate's code, definitions, proofs and edits, the code, definitions and proofs of each crate below
-it, the kit's version, and the tool. `untried` in the place of the sum says openly that the bodies weren't tried over what is there
-now. `checks/wrong-bodies` writes the sums; with --untried it writes that word where a sum is no longer that of now.
+Each crate with wrong bodies has a line: its name, a sum, how many bodies there are, how many of them are unsettled, and the kit by
+which they were tried. The sum is of all in the repository that a verdict rests on: the crate's code, definitions, proofs and edits,
+the code, definitions and proofs of each crate below it, and the tool. `untried` in the place of the sum says openly that the bodies
+weren't tried over what is there now. `checks/wrong-bodies` writes the sums; with --untried it writes that word where a sum is no
+longer that of now. The kit isn't in the sum, since the next machine may have another, and nothing in the repository is changed by
+that.
 """
 from __future__ import annotations
 
@@ -15,17 +17,21 @@ from dataclasses import dataclass
 from sources import PLACES, SOURCES, TOP, edits_of, lines_of_crates
 
 NOTES = TOP / "checks/wrong-bodies.tried"
-TOOL = ("wrong-bodies", "batches.py", "verdicts.py", "trials.py", "sources.py", "tried.py")
+TOOL = ("wrong-bodies", "batches.py", "copies.py", "verdicts.py", "trials.py", "sources.py", "tried.py")
 UNTRIED = "untried"
+# In the place of a kit's name, where the bodies weren't tried.
+NO_KIT = "-"
 
 
 @dataclass(frozen=True)
 class Note:
-    """What is noted of a crate: a sum, or that its bodies are untried, how many they are, and how many of them are unsettled."""
+    """What is noted of a crate: a sum, or that its bodies are untried, how many they are, how many of them are unsettled, and the kit by
+    which they were tried."""
 
     made: str
     count: int
     unsettled: int = 0
+    kit: str = NO_KIT
 
 
 def sum_of_files(files, folder):
@@ -46,10 +52,13 @@ def sum_of_parts(crate, parts):
 
 @functools.cache
 def sum_of_tool():
-    """A sum of the kit's version and of the tool."""
-    version = subprocess.run(["rt", "version"], stdout=subprocess.PIPE, check=True).stdout
-    files = sum_of_files([TOP / "checks" / it for it in TOOL], TOP)
-    return hashlib.sha256(version + files.encode()).hexdigest()
+    """A sum of the tool."""
+    return sum_of_files([TOP / "checks" / it for it in TOOL], TOP)
+
+
+def kit_here():
+    """The name of the kit that is installed."""
+    return subprocess.run(["rt", "version"], stdout=subprocess.PIPE, text=True, check=True).stdout.split()[0]
 
 
 @functools.cache
@@ -65,7 +74,7 @@ def crates_below(crate):
 
 
 def basis_of(crate):
-    """A sum of all that the verdict on an edit of this crate rests on, but the edit itself."""
+    """A sum of all in the repository that the verdict on an edit of this crate rests on, but the edit itself."""
     sums = [sum_of_tool(), *(f"{it} {sum_of_parts(it, SOURCES)}" for it in [*sorted(crates_below(crate)), crate])]
     return hashlib.sha256("\n".join(sums).encode()).hexdigest()[:16]
 
@@ -78,12 +87,12 @@ def sum_of(crate):
 def notes():
     """What is noted of each crate."""
     lines = NOTES.read_text(encoding="utf-8").splitlines() if NOTES.is_file() else []
-    return {name: Note(made, int(count), int(unsettled)) for name, made, count, unsettled in (it.split("\t") for it in lines)}
+    return {name: Note(made, int(count), int(unsettled), kit) for name, made, count, unsettled, kit in (it.split("\t") for it in lines)}
 
 
 def write_notes(noted):
     """Writes what is noted of the crates, each on a line."""
-    lines = (f"{name}\t{it.made}\t{it.count}\t{it.unsettled}\n" for name, it in sorted(noted.items()))
+    lines = (f"{name}\t{it.made}\t{it.count}\t{it.unsettled}\t{it.kit}\n" for name, it in sorted(noted.items()))
     NOTES.write_text("".join(lines), encoding="utf-8")
 
 
