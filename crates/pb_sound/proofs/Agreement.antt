@@ -123,7 +123,8 @@ write_agrees x a b f s t k y row column c same hx l =
     let ws = m.add_write (m.cell_of row column) c t.writes in
     let v = m.write_result (m.cell_of row column) t.writes in
     let on : (us : Writes) (v : ℕ) → Alike a b (after f (Insn.Call k)) (m.state_after_call s us v) (m.state_after_call t us v) = λ us v. to_call a b f k y _ _ hx (rw same (alike_returned a b f s t (m.state_after_call s us v) (m.state_after_call t us v) v l (ap (λ n. n + 1) l.slot) refl refl refl refl refl)) in
-    let go : (low : Bool) → Agree a b f (Insn.Call k) (cond low (Goes (m.state_after_call s ws v)) (Goes (m.state_after_call s t.writes 2))) (cond low (Goes (m.state_after_call t ws v)) (Goes (m.state_after_call t t.writes 2))) = λ low. elim low as (λ low. Agree a b f (Insn.Call k) (cond low (Goes (m.state_after_call s ws v)) (Goes (m.state_after_call s t.writes 2))) (cond low (Goes (m.state_after_call t ws v)) (Goes (m.state_after_call t t.writes 2)))) [ true ↦ on ws v | false ↦ on t.writes 2 ] in
+    let P : Bool → Type 0 = λ low. Agree a b f (Insn.Call k) (cond low (Goes (m.state_after_call s ws v)) (Goes (m.state_after_call s t.writes 2))) (cond low (Goes (m.state_after_call t ws v)) (Goes (m.state_after_call t t.writes 2))) in
+    let go : (low : Bool) → P low = λ low. elim low as P [ true ↦ on ws v | false ↦ on t.writes 2 ] in
     rw l.writes (go (nat_lt column COLUMNS))
 
 -- both ask for the same cell, and each reply leaves both alike
@@ -136,7 +137,8 @@ read_agrees x a b f s t k hx h two =
     let y = filled_two x a b f s t (kind_of f 3) ok.1 p3.1 (two.fits_a.reg 3) (two.fits_b.reg 3) refl two in
     let on : (bs : List ℕ) (v : ℕ) → length bs ≡ 32 → Alike a b (after f (Insn.Call k)) (m.state_after_read s y.at_a bs v) (m.state_after_read t y.at_b bs v) = λ bs v n. to_call a b f k Read _ _ hx (y.alike bs v n) in
     let out : State → ℕ → Bool → Outcome = λ u at low. cond low (Asks (record { row = c.row; column = c.column }) (λ r. m.state_after_read u at (m.reply_bytes r) (m.reply_result r))) (Goes (m.state_after_read u at (replicate 32 0) 2)) in
-    let go : (low : Bool) → Agree a b f (Insn.Call k) (out s y.at_a low) (out t y.at_b low) = λ low. elim low as (λ low. Agree a b f (Insn.Call k) (out s y.at_a low) (out t y.at_b low)) [
+    let P : Bool → Type 0 = λ low. Agree a b f (Insn.Call k) (out s y.at_a low) (out t y.at_b low) in
+    let go : (low : Bool) → P low = λ low. elim low as P [
       | true ↦ (refl, λ r n. on (m.reply_bytes r) (m.reply_result r) (reply_long r n))
       | false ↦ on (replicate 32 0) 2 refl
     ] in

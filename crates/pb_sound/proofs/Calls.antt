@@ -103,7 +103,8 @@ read_on e f s k pl hx lands b t =
     let ok = and_true (is_cell f) (is_place (kind_of f 3)) (not_false _ (when_not _ _ p4.1)) in
     let c = cell_is e f s ok.0 t in
     let x = filled_at e f s (kind_of f 3) pl ok.1 p3.1 (t.reg 3) refl t in
-    let go : (low : Bool) → nat_lt c.column COLUMNS ≡ low → GoesOn e f s.slot (Insn.Call k) (cond low (m.Asks (record { row = c.row; column = c.column }) (λ r. m.state_after_read s x.at (m.reply_bytes r) (m.reply_result r))) (m.Goes (m.state_after_read s x.at (replicate 32 0) 2))) = λ low. elim low as (λ low. nat_lt c.column COLUMNS ≡ low → GoesOn e f s.slot (Insn.Call k) (cond low (m.Asks (record { row = c.row; column = c.column }) (λ r. m.state_after_read s x.at (m.reply_bytes r) (m.reply_result r))) (m.Goes (m.state_after_read s x.at (replicate 32 0) 2)))) [
+    let P : Bool → Type 0 = λ low. nat_lt c.column COLUMNS ≡ low → GoesOn e f s.slot (Insn.Call k) (cond low (m.Asks (record { row = c.row; column = c.column }) (λ r. m.state_after_read s x.at (m.reply_bytes r) (m.reply_result r))) (m.Goes (m.state_after_read s x.at (replicate 32 0) 2))) in
+    let go : (low : Bool) → P low = λ low. elim low as P [
       | true ↦ λ q. (below _ _ q, λ r l. arrives e f s _ k Read hx lands refl (x.fits (m.reply_bytes r) (m.reply_result r) (reply_long r l)))
       | false ↦ λ q. arrives e f s _ k Read hx lands refl (x.fits (replicate 32 0) 2 refl)
     ] in
@@ -115,7 +116,8 @@ write_on e f s k x row column c same hx lands t =
     let on : (ws : Writes) (v : ℕ) → Arrives e f s.slot (Insn.Call k) (m.state_after_call s ws v) = λ ws v. arrives e f s _ k x hx lands refl (rw same (fits_returned e f s (m.state_after_call s ws v) v t refl refl)) in
     let ws = m.add_write (m.cell_of row column) c s.writes in
     let v = m.write_result (m.cell_of row column) s.writes in
-    let go : (low : Bool) → GoesOn e f s.slot (Insn.Call k) (cond low (m.Goes (m.state_after_call s ws v)) (m.Goes (m.state_after_call s s.writes 2))) = λ low. elim low as (λ low. GoesOn e f s.slot (Insn.Call k) (cond low (m.Goes (m.state_after_call s ws v)) (m.Goes (m.state_after_call s s.writes 2)))) [ true ↦ on ws v | false ↦ on s.writes 2 ] in
+    let P : Bool → Type 0 = λ low. GoesOn e f s.slot (Insn.Call k) (cond low (m.Goes (m.state_after_call s ws v)) (m.Goes (m.state_after_call s s.writes 2))) in
+    let go : (low : Bool) → P low = λ low. elim low as P [ true ↦ on ws v | false ↦ on s.writes 2 ] in
     go (nat_lt column COLUMNS)
 
 -- each of the four helpers, where its arguments are accepted

@@ -127,7 +127,8 @@ record_got e c s x n bs pl t h q =
 got : (e : Environment) (c : Cells) (s : State) (x n : ℕ) (bs : List ℕ) → IsHere e → Mirrors e c s → fetch e s x n ≡ Some bs → Got c x n bs
 unfolding fetch
 got e c s x n bs pl t q =
-    let go : (a b : Bool) → m.stack_has e x n ≡ a → m.record_has e x n ≡ b → cond a (entries s.stack x n) (cond b (entries (m.record_map e) x n) None) ≡ Some bs → Got c x n bs = λ a b. elim a as (λ a. m.stack_has e x n ≡ a → m.record_has e x n ≡ b → cond a (entries s.stack x n) (cond b (entries (m.record_map e) x n) None) ≡ Some bs → Got c x n bs) [
+    let P : Bool → Bool → Type 0 = λ a b. m.stack_has e x n ≡ a → m.record_has e x n ≡ b → cond a (entries s.stack x n) (cond b (entries (m.record_map e) x n) None) ≡ Some bs → Got c x n bs in
+    let go : (a b : Bool) → P a b = λ a b. elim a as (λ a. P a b) [
       | true ↦ λ ea eb q. stack_got e c s x n bs pl t ea q
       | false ↦ λ ea. elim b as (λ b. m.record_has e x n ≡ b → cond b (entries (m.record_map e) x n) None ≡ Some bs → Got c x n bs) [
         | true ↦ λ eb q. record_got e c s x n bs pl t eb q
@@ -271,7 +272,8 @@ read_copy e c s pl t =
     let r2 = t.reg 2 column (omega arith) h2 in
     let a = room_at e c s x pl t h3 h in
     let safe : cell.IsSafeCall c (Some Read) = rw a.is a.high in
-    let go : (low : Bool) → Copies e (cell.IsSafeCall c (Some Read)) (cond low (Asks (record { row = row; column = column }) (λ r. m.state_after_read s x (m.reply_bytes r) (m.reply_result r))) (Goes (m.state_after_read s x (replicate 32 0) 2))) (cond low (cell.CellsAsk (record { row = row; column = column }) (λ r. cell.cells_after_read c (cell.argument c 3) (m.reply_bytes r) (m.reply_result r))) (CellsGo (cell.cells_after_read c (cell.argument c 3) (replicate 32 0) 2))) = λ low. elim low as (λ low. Copies e (cell.IsSafeCall c (Some Read)) (cond low (Asks (record { row = row; column = column }) (λ r. m.state_after_read s x (m.reply_bytes r) (m.reply_result r))) (Goes (m.state_after_read s x (replicate 32 0) 2))) (cond low (cell.CellsAsk (record { row = row; column = column }) (λ r. cell.cells_after_read c (cell.argument c 3) (m.reply_bytes r) (m.reply_result r))) (CellsGo (cell.cells_after_read c (cell.argument c 3) (replicate 32 0) 2)))) [
+    let P : Bool → Type 0 = λ low. Copies e (cell.IsSafeCall c (Some Read)) (cond low (Asks (record { row = row; column = column }) (λ r. m.state_after_read s x (m.reply_bytes r) (m.reply_result r))) (Goes (m.state_after_read s x (replicate 32 0) 2))) (cond low (cell.CellsAsk (record { row = row; column = column }) (λ r. cell.cells_after_read c (cell.argument c 3) (m.reply_bytes r) (m.reply_result r))) (CellsGo (cell.cells_after_read c (cell.argument c 3) (replicate 32 0) 2))) in
+    let go : (low : Bool) → P low = λ low. elim low as P [
       | true ↦ (safe, refl, λ r l. filled_copy e c s x (cell.argument c 3) (m.reply_bytes r) (m.reply_result r) t a.low (let n = reply_long r l in let k = a.high in omega arith) a.is)
       | false ↦ (safe, filled_copy e c s x (cell.argument c 3) (replicate 32 0) 2 t a.low a.high a.is)
     ] in
@@ -281,7 +283,8 @@ write_copy : (e : Environment) (p : Type 0) (c : Cells) (s : State) (row column 
 write_copy e p c s row column x y t safe r1 r2 ex =
     let ws = m.add_write (m.cell_of row column) x s.writes in
     let v = m.write_result (m.cell_of row column) s.writes in
-    let go : (low : Bool) → Copies e p (cond low (Goes (m.state_after_call s ws v)) (Goes (m.state_after_call s s.writes 2))) (cond low (CellsGo (cell.cells_after_call c ws v)) (CellsGo (cell.cells_after_call c s.writes 2))) = λ low. elim low as (λ low. Copies e p (cond low (Goes (m.state_after_call s ws v)) (Goes (m.state_after_call s s.writes 2))) (cond low (CellsGo (cell.cells_after_call c ws v)) (CellsGo (cell.cells_after_call c s.writes 2)))) [
+    let P : Bool → Type 0 = λ low. Copies e p (cond low (Goes (m.state_after_call s ws v)) (Goes (m.state_after_call s s.writes 2))) (cond low (CellsGo (cell.cells_after_call c ws v)) (CellsGo (cell.cells_after_call c s.writes 2))) in
+    let go : (low : Bool) → P low = λ low. elim low as P [
       | true ↦ (safe, returned_copy e c s ws ws v v t refl refl)
       | false ↦ (safe, returned_copy e c s s.writes s.writes 2 2 t refl refl)
     ] in
