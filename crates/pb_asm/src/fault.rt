@@ -3,7 +3,7 @@ ghost use Rattle.std.specs.Prelude.{◌≡◌};
 ghost use Rattle.pb_asm.specs.Codes.{asm_code};
 
 /// What is wrong with a line, or with the text.
-#[derive(Clone, Copy, Debug, PartialEq, Eq, Drop)]
+#[derive(Clone, Copy, Drop)]
 pub enum AsmCode {
     /// A first word that is none of the profile's instructions'.
     Word,

@@ -6,7 +6,7 @@ use pb_isa::{AluOp, Cmp, Extension, Profile, Reg, Size, Width};
 
 /// The first word of a line: which instruction it is, and on how many bits or bytes. A load of 64 bits with a sign has
 /// one though no profile has the instruction, so that each load has a name.
-#[derive(Clone, Copy, Debug, PartialEq, Eq)]
+#[derive(Clone, Copy)]
 pub enum Word {
     Alu(AluOp, Width),
     MovSx(Width),

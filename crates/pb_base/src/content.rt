@@ -14,7 +14,7 @@ pub enum Content {
 
 /// A committed version of a cell: the start and the commit of the transaction that wrote it, and what it wrote. A
 /// snapshot is cut by commits; the start names the transaction.
-#[derive(Clone, Copy, Debug, PartialEq, Eq)]
+#[derive(Clone, Copy)]
 pub struct Revision {
     pub start: Ts,
     pub commit: Ts,

@@ -46,7 +46,7 @@ impl NoMemory {
 
 /// Why a call of the table, or of its tablets, is refused, but for want of memory, which has no reason beside the refused
 /// growth. Definitions name the reason, since a number says nothing to those who read them; callers get the number.
-#[derive(Clone, Copy, Debug, PartialEq, Eq, Drop)]
+#[derive(Clone, Copy, Drop)]
 pub enum Reason {
     /// There is no tablet.
     NoTablet,
@@ -108,7 +108,7 @@ impl Reason {
 }
 
 /// The number of a refusal. It is private, so that 1 is made of a refused growth alone.
-#[derive(Debug, PartialEq, Eq, Drop, Error)]
+#[derive(Debug, Drop, Error)]
 #[error("refused with {0}")]
 pub struct Refusal(u8);
 

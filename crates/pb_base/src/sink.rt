@@ -7,7 +7,7 @@ use std::io::Write;
 use thiserror::Error;
 
 /// A write that failed.
-#[derive(Clone, Copy, Debug, PartialEq, Eq, Drop, Error)]
+#[derive(Clone, Copy, Debug, Drop, Error)]
 #[error("the write failed")]
 pub struct SinkFault;
 

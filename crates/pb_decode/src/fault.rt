@@ -10,7 +10,7 @@ use thiserror::Error;
 
 /// What is wrong with the bytes. A slot is looked at in the order of the numbers, so that the first code that is found
 /// is the lowest.
-#[derive(Clone, Copy, Debug, PartialEq, Eq)]
+#[derive(Clone, Copy)]
 pub enum DecodeCode {
     /// Their length is zero, or no multiple of 8.
     Length,
@@ -49,7 +49,7 @@ impl DecodeCode {
 /// or no multiple of 8, 11 more slots than the profile has, 12 an opcode outside the profile, 13 a register number over 10,
 /// 14 an unused field that is not zero, 15 a pair cut off by the end, 16 a pair's second slot that has more than an
 /// immediate. For 10 and 11 the slot is 0, and for 15 and 16 it is the pair's first.
-#[derive(Debug, PartialEq, Eq, Drop, Error)]
+#[derive(Debug, Drop, Error)]
 pub enum DecodeFault {
     #[error("{0}")]
     NoMemory(NoMemory),

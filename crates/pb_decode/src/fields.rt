@@ -5,7 +5,7 @@ ghost use Rattle.pb_decode.specs.Fields.{slot_of_bytes, slot_bytes};
 use byteorder::{ByteOrder, LittleEndian};
 
 /// A slot. Offset and immediate are words, whose sign is read later, since the halves of a 64-bit immediate have none.
-#[derive(Clone, Copy, Debug, PartialEq, Eq)]
+#[derive(Clone, Copy)]
 pub struct SlotFields {
     pub opcode: u8,
     pub dst: u8,

@@ -14,7 +14,7 @@ pub struct Ask {
 }
 
 /// What the program is told of the cell.
-#[derive(Clone, Copy, Debug, PartialEq, Eq)]
+#[derive(Clone, Copy)]
 pub enum Reply {
     /// Its value.
     Found(Value),

@@ -10,7 +10,7 @@ use pb_isa::{MAX_RECORD_BYTES, RECORD_BYTES};
 use std::marker::Model;
 
 /// Which record a program is told. A program is judged for one, since it may load only bytes that the record has.
-#[derive(Clone, Copy, Debug, PartialEq, Eq)]
+#[derive(Clone, Copy, PartialEq, Eq)]
 pub enum Version {
     First,
     Second,

@@ -7,7 +7,7 @@ use std::marker::Model;
 
 /// The helpers that a program may call: a set of 1 (read), 2 (write), 3 (delete) and 4 (start). A set, since a manifest
 /// names each for itself, and a program that is declared neither write nor delete can't change any cell.
-#[derive(Clone, Copy, Debug, PartialEq, Eq)]
+#[derive(Clone, Copy, PartialEq, Eq)]
 pub struct HelperTable {
     reads: bool,
     writes: bool,

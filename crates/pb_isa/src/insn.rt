@@ -3,7 +3,7 @@ ghost use Rattle.std.specs.Prelude.{◌≡◌, ◌<◌};
 ghost use Rattle.pb_isa.specs.Registers.{number, reg_of};
 
 /// A register. R10 is read-only: it points to the end of the stack.
-#[derive(Clone, Copy, Debug, PartialEq, Eq)]
+#[derive(Clone, Copy, PartialEq, Eq)]
 pub enum Reg {
     R0,
     R1,
@@ -56,7 +56,7 @@ pub enum Width {
 }
 
 /// How many bytes a load or a store moves: 1, 2, 4 or 8 (RFC 9669, section 5).
-#[derive(Clone, Copy, Debug, PartialEq, Eq)]
+#[derive(Clone, Copy, PartialEq, Eq)]
 pub enum Size {
     B,
     H,
@@ -98,7 +98,7 @@ pub enum Cmp {
 }
 
 /// The source operand of arithmetic and of a comparison: an immediate, or a register (RFC 9669, section 4.1).
-#[derive(Clone, Copy, Debug, PartialEq, Eq)]
+#[derive(Clone, Copy, PartialEq, Eq)]
 pub enum Operand {
     Imm(i32),
     Reg(Reg),
@@ -106,7 +106,7 @@ pub enum Operand {
 
 /// How a load of fewer bytes than a register has fills the rest of it (RFC 9669, sections 5.1 and 5.2). It is a field
 /// of the load and makes no instruction of its own, so that rules and machine have one case for both.
-#[derive(Clone, Copy, Debug, PartialEq, Eq)]
+#[derive(Clone, Copy, PartialEq, Eq)]
 pub enum Extension {
     /// MEM
     Zeros,
@@ -117,7 +117,7 @@ pub enum Extension {
 /// An instruction, with the fields of RFC 9669, section 3.1, that it uses. Each takes one slot, and the 64-bit
 /// immediate takes two. Which of them a program may have, its [`Profile`](crate::Profile) says. Numbers have the widths
 /// of their fields, so that no instruction has one that its slots can't hold.
-#[derive(Clone, Copy, Debug, PartialEq, Eq)]
+#[derive(Clone, Copy, PartialEq, Eq)]
 pub enum Insn {
     /// An operation on destination and source, whose result is the destination's.
     Alu {

@@ -8,7 +8,7 @@ use crate::limits::{MAX_SLOTS, PROFILE_1_SLOTS};
 
 /// What a program may be. What profile 1 has means the same in profile 2, so that a manifest may go over to it with the
 /// programs that it has.
-#[derive(Clone, Copy, Debug, PartialEq, Eq)]
+#[derive(Clone, Copy)]
 pub enum Profile {
     /// No moves and loads that extend the sign, and at most [`PROFILE_1_SLOTS`] slots.
     One,

@@ -2,7 +2,7 @@
 use pb_base::{Cell, ObserverNo, Row};
 
 /// What an actor is launched for.
-#[derive(Clone, Copy, Debug, PartialEq, Eq)]
+#[derive(Clone, Copy)]
 pub enum Job {
     /// The change of this number in the script, from 1.
     Change(u32),
@@ -11,7 +11,7 @@ pub enum Job {
 }
 
 /// One event. An actor is told by its number, which is that of its seat. A schedule's text names actors from 1 to 63.
-#[derive(Clone, Copy, Debug, PartialEq, Eq)]
+#[derive(Clone, Copy)]
 pub enum Event {
     /// The actor gets a job; no step is taken.
     Launch(u32, Job),

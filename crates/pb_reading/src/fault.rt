@@ -11,7 +11,7 @@ use std::error::Error;
 use std::fmt;
 
 /// Why a line wasn't taken. A format's codes have no case of memory, since no line is at fault for that.
-#[derive(Debug, PartialEq, Eq, Drop)]
+#[derive(Drop)]
 pub enum LineFault<C> {
     /// A growth was refused.
     NoMemory(NoMemory),
@@ -36,7 +36,7 @@ impl<T: Drop, C> From<AllocFailed<T>> for LineFault<C> {
 }
 
 /// A fault of a text. Want of memory is told as line 0 and code 1, and is made of a refused growth alone.
-#[derive(Debug, PartialEq, Eq, Drop)]
+#[derive(Debug, Drop)]
 pub enum TextFault {
     /// A growth was refused, whichever line was read.
     NoMemory(NoMemory),

@@ -2,7 +2,7 @@
 use pb_base::Ts;
 
 /// How far a transaction has come. Nothing ends one that only reads, since it stands in nobody's way.
-#[derive(Clone, Copy, Debug, PartialEq, Eq)]
+#[derive(Clone, Copy, PartialEq, Eq)]
 pub enum Phase {
     Reading,
     Declared,

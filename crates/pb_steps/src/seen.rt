@@ -10,7 +10,7 @@ use pb_helpers::Reply;
 
 /// A read that was answered with what the cell held, as it is recorded with its transaction: the cell, the timestamp up to
 /// which it was read, where the read named one, and the answer. One that named none read up to the start.
-#[derive(Clone, Copy, Debug, PartialEq, Eq)]
+#[derive(Clone, Copy)]
 pub struct RecordedRead {
     pub cell: Cell,
     pub at: Option<Ts>,
@@ -19,7 +19,7 @@ pub struct RecordedRead {
 
 /// What a run saw of its cell: the newest version; the stamp of its acknowledgment, 0 where there was none; and, where its
 /// program is told that, the value at the acknowledged timestamp, if there was one.
-#[derive(Clone, Copy, Debug, PartialEq, Eq)]
+#[derive(Clone, Copy)]
 pub struct Seen {
     pub version: Revision,
     pub acknowledged: Ts,

@@ -8,7 +8,7 @@ use std::marker::Model;
 use std::sync::Arc;
 
 /// What a transaction is for.
-#[derive(Clone, Copy, Debug, PartialEq, Eq)]
+#[derive(Clone, Copy, PartialEq, Eq)]
 pub enum Work {
     /// A change of a script.
     Script,

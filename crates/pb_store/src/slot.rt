@@ -31,7 +31,7 @@ pub enum Item {
 }
 
 /// A change of what a tablet contains. To erase or unmark what isn't there changes nothing.
-#[derive(Clone, Copy, Debug)]
+#[derive(Clone, Copy)]
 pub enum Edit {
     Put(Slot, Item),
     Erase(Slot),

@@ -44,7 +44,7 @@ use std::alloc::{AllocError, Global};
 use thiserror::Error;
 
 /// Why a program isn't accepted: memory was refused, or the rules fail, at a slot (from 0) and with a code from 21 to 38.
-#[derive(Debug, PartialEq, Eq, Drop, Error)]
+#[derive(Debug, Drop, Error)]
 pub enum VerifyFault {
     #[error("{0}")]
     NoMemory(NoMemory),

@@ -7,7 +7,7 @@ use pb_helpers::Version;
 use pb_isa::Profile;
 
 /// The files of a replay, and the last timestamp given out before its events.
-#[derive(Clone, Copy, Debug)]
+#[derive(Clone, Copy)]
 pub struct ReplayFiles<'a> {
     pub manifest: &'a str,
     pub script: &'a str,
@@ -16,7 +16,7 @@ pub struct ReplayFiles<'a> {
 }
 
 /// A file with the bytes of a program of this profile, for change records of this version.
-#[derive(Clone, Copy, Debug)]
+#[derive(Clone, Copy)]
 pub struct ProgramFile<'a> {
     pub file: &'a str,
     pub profile: Profile,
@@ -24,7 +24,7 @@ pub struct ProgramFile<'a> {
 }
 
 /// What the program is to do.
-#[derive(Clone, Copy, Debug)]
+#[derive(Clone, Copy)]
 pub enum Options<'a> {
     /// Reads a manifest and a script, runs the transactions by so many workers while so many tablets are replaced, and tells
     /// what is newest then.
@@ -52,7 +52,7 @@ pub enum Options<'a> {
 }
 
 /// What the story program is to do.
-#[derive(Clone, Copy, Debug)]
+#[derive(Clone, Copy)]
 pub enum StoryOptions<'a> {
     /// Reads the bytes of a program, and tells what is known before each of its slots. That is the same for change records of
     /// either version.
