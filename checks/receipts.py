@@ -43,7 +43,7 @@ HOLDERS = {
     "pb_registry": {"ManifestCode", "RegistryFault"},
     "pb_core": {"OpenRefused"},
     "pb_script": {"ReportFault"},
-    "pb_worker": {"Cut", "NotRun", "Rooms", "Worked", "Worker"},
+    "pb_threads": {"Cut", "NotRun", "Rooms", "Worked", "Worker"},
     "pb_world": {"AfterStep", "EventFault", "NotCalled", "WorldFault"},
     "pb_driver": {"Ran", "RunFault"},
     "pb_command": {"Fault", "PathFault"},

@@ -3,7 +3,7 @@
 use Rattle.std.specs.Prelude.{◌≡◌, ◌⊎◌, ℕ, List, [], ◌∷◌, None, Result, Ok, Err, All}
 use Rattle.pb_texts.specs.declared.words.choice.Options.{Options}
 use Rattle.pb_texts.specs.declared.words.choice.ReplayFiles.{ReplayFiles}
-use Rattle.pb_worker.specs.Swaps.{Spare}
+use Rattle.pb_threads.specs.Swaps.{Spare}
 use Rattle.pb_asm.specs.Listing.{listing}
 use Rattle.pb_base.specs.Taking.{Taking, TookNothing}
 use Rattle.pb_driver.specs.declared.fault.RunFault.{RunFault}

@@ -3,7 +3,7 @@ ghost use Rattle.std.specs.Prelude.{◌≡◌, ◌≤◌, ◌<◌, ◌↔◌, fa
 ghost use Rattle.pb_base.specs.declared.limits.TheConstants.{MAX_SEATS};
 ghost use Rattle.pb_store.specs.Contents.{nothing};
 ghost use Rattle.pb_texts.specs.CommandLines.{IsInRange, swaps_asked};
-ghost use Rattle.pb_worker.specs.Swaps.{spares_of};
+ghost use Rattle.pb_threads.specs.Swaps.{spares_of};
 ghost use Rattle.pb_base.specs.Taking.{taking};
 ghost use Rattle.pb_driver.specs.Replays.{ReplaysTexts};
 ghost use Rattle.pb_command.specs.Files.{filing};
@@ -18,7 +18,7 @@ use pb_base::{Sink, Ts};
 use pb_driver::{Ran, replay_texts, run_texts};
 use pb_store::{Table, Tablet};
 use pb_texts::{Options, ReplayFiles};
-use pb_worker::end_spares;
+use pb_threads::end_spares;
 use std::alloc::Global;
 use std::sync::Wait;
 use std::thread::Threads;

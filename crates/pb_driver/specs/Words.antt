@@ -25,8 +25,8 @@ pub use Rattle.pb_world.specs.Faults.{event_and_code, fault_code, memory_fault}
 pub use Rattle.pb_world.specs.declared.fault.EventFault.{EventFault}
 pub use Rattle.pb_world.specs.declared.fault.WorldFault.{WorldFault}
 pub use Rattle.pb_world.specs.declared.note.Note.{Note}
-pub use Rattle.pb_worker.specs.Agrees.{Agree}
-pub use Rattle.pb_worker.specs.Gains.{OpeningOf, opening_of}
+pub use Rattle.pb_threads.specs.Gains.{OpeningOf, opening_of}
+pub use Rattle.pb_threads.specs.Swaps.{Spare, spares_of}
+pub use Rattle.pb_threads.specs.Work.{KeepsOpening, WorkedOn}
+pub use Rattle.pb_ending.specs.Agrees.{Agree}
 pub use Rattle.pb_worker.specs.Laws.{ChangesAreMade, MakesChanges}
-pub use Rattle.pb_worker.specs.Swaps.{Spare, spares_of}
-pub use Rattle.pb_worker.specs.Work.{KeepsOpening, WorkedOn}

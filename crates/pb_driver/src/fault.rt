@@ -21,7 +21,7 @@ pub enum RunFault {
     Schedule(ScriptFault),
     /// An event was at fault.
     Event(WorldFault),
-    /// What the workers' seats were told isn't what the journal has of them: refusal 48 of [`pb_worker::finish`].
+    /// What the workers' seats were told isn't what the journal has of them: refusal 48 of [`pb_ending::finish`].
     SeatsDiffer,
     /// A write of the report failed, or took no byte.
     Output,

@@ -3,7 +3,7 @@ ghost use Rattle.std.specs.Prelude.{◌≡◌, ◌<◌, ◌≤◌, false, length
 ghost use Rattle.pb_base.specs.declared.limits.TheConstants.{MAX_SEATS};
 ghost use Rattle.pb_store.specs.Contents.{nothing};
 ghost use Rattle.pb_core.specs.Calls.{AreSeats};
-ghost use Rattle.pb_worker.specs.Swaps.{spares_of};
+ghost use Rattle.pb_threads.specs.Swaps.{spares_of};
 ghost use Rattle.pb_base.specs.Taking.{taking};
 ghost use Rattle.pb_driver.specs.Runs.{Concludes, RunsOnTable, RunsTexts};
 
@@ -12,9 +12,11 @@ use crate::replay::unopened;
 use crate::texts::read_run;
 use pb_base::{Batch, MAX_ENTRIES, Refusal, Sink, Ts};
 use pb_core::{Seat, Shared};
+use pb_ending::finish;
 use pb_script::report;
 use pb_store::{Table, Tablet};
-use pb_worker::{NotRun, Open, Worked, changes_are_made, end_spares, finish, run_workers};
+use pb_threads::{NotRun, Open, Worked, end_spares, run_workers};
+use pb_worker::changes_are_made;
 use std::alloc::Global;
 use std::sync::Wait;
 use std::thread::Threads;

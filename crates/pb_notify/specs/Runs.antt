@@ -1,5 +1,5 @@
 -- Jobs of observers, as their owners see them. The contracts of `ObserverJob` cite them, and `pb_world` and
--- `pb_worker` say by them how a run goes on.
+-- `pb_threads` say by them how a run goes on.
 use Rattle.std.specs.Prelude.{◌≡◌, ℕ, Option, Some}
 use Rattle.pb_notify.specs.Words.{Cell, Row, JudgedOf, tells_old, ObserverOf, Step, Answer}
 use Rattle.pb_txn.specs.Plans as plans

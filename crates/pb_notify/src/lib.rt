@@ -2,7 +2,7 @@
 //!
 //! An `ObserverJob` joins the parts of a run: looks at cells, which clear locks that others left; the machine of
 //! `pb_vm` on the record of the change; and the plan of `pb_txn` for what the program wrote. It knows no table, so
-//! that an actor of `pb_world` follows it instruction by instruction, and a worker of `pb_worker` up to each ask at
+//! that an actor of `pb_world` follows it instruction by instruction, and a worker of `pb_threads` up to each ask at
 //! once. A run that copies its cell asks `Begin`, `Read` of the cell, `Read` of the acknowledgment, its plan's steps,
 //! and `Sweep`.
 //!

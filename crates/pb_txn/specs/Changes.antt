@@ -1,5 +1,5 @@
 -- Changes of a script: a transaction that begins and then follows its plan. The contracts of `ChangeJob` cite them,
--- and those of `pb_world` and `pb_worker` say by them what an actor or a worker has asked.
+-- and those of `pb_world` and `pb_threads` say by them what an actor or a worker has asked.
 use Rattle.std.specs.Prelude.{◌≡◌, ◌≢◌, List, [], ◌∷◌, ◌++◌, Option, Some, None}
 use Rattle.pb_txn.specs.Words.{Writes, Ts, Work, Declared, Step, Answer, batch_in, CanAnswer, Received}
 use Rattle.pb_txn.specs.declared.place.Outcome.{Outcome}

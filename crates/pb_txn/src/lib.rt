@@ -2,7 +2,7 @@
 //!
 //! A `Plan` asks for the steps of a declared transaction, and a `ChangeJob` for those of a script's change, from its
 //! begin on. They know steps and answers and no table, so that one order serves workers under a lock, actors of a
-//! world, and a program with a loop of its own: `pb_notify` follows plans for its runs, `pb_world` and `pb_worker`
+//! world, and a program with a loop of its own: `pb_notify` follows plans for its runs, `pb_world` and `pb_threads`
 //! follow changes. A change of two cells asks `Begin`, `Declare`, `Prewrite` twice, `Stamp`, `CommitPrimary` and
 //! `CommitSecondary`.
 //!

@@ -1,10 +1,10 @@
 -- A try that was left after its commit has committed.
 use Rattle.std.proofs.Common.{arith, ◌≡◌, ◌≢◌, ◌⊎◌, Bool, true, false, ◌||◌, List, [], ◌∷◌, ◌++◌, inl, inr, refl, sym, ap, subst, ◌∙◌}
-use Rattle.pb_worker.specs.Words.{Ts, Cell, Writes, Step, Answer, Work, Declared, CanAnswer, Received, Has, Outcome, PlanPlace, told, IsWhole, AreCleared, committed, conflicted_first, conflicted_later, lost, prewrites, secondaries, ChangeOf, new_change, Converses}
+use Rattle.pb_worker.specs.Words.{Ts, Cell, Writes, Step, Answer, Work, Declared, CanAnswer, Received, Has, Outcome, PlanPlace, told, IsWhole, AreCleared, committed, conflicted_first, conflicted_later, lost, prewrites, secondaries, ChangeOf, new_change, Converses, is_commit_outcome, is_commit, has_commit}
 use Rattle.pb_txn.specs.Plans.{fresh}
 use Rattle.pb_txn.proofs.ChangeConversation.{HasBegun, begins as has_begun}
 use Rattle.pb_txn.proofs.Conversation.{SoFar, declaring, prewriting, stamping, committing, finishing, settling, clearing, over, said_all, clears, are_cleared}
-use Rattle.pb_worker.specs.Tries.{is_commit_outcome, is_commit, has_commit}
+use Rattle.pb_threads.proofs.TryAlong.{or_assoc}
 use Rattle.pb_worker.proofs.Committing.{HasCommitted}
 use Rattle.std.proofs.lemmas.Bool.{or_from as both_false, or_right as true_right}
 use Rattle.pb_base.proofs.Logic.{not_both}
@@ -15,10 +15,6 @@ use Rattle.pb_history.proofs.Updates.{has_right}
 pub left_false : (a b : Bool) → (a || b) ≡ false → a ≡ false
 left_false true b e = e
 left_false false b e = refl
-
-pub or_assoc : (a b c : Bool) → (a || (b || c)) ≡ ((a || b) || c)
-or_assoc true b c = refl
-or_assoc false b c = refl
 
 -- ---- answers and steps in a list
 

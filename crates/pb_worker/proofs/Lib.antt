@@ -1,14 +1,3 @@
-pub mod Refusing
-pub mod Gaining
-pub mod TryAlong
-pub mod ChangesAlong
-pub mod RunAlong
-pub mod PassAlong
-pub mod WorkAlong
-pub mod Joined
-pub mod Swapping
-pub mod Walks
-pub mod Cursors
 pub mod Committing
 pub mod CutTries
 pub mod OneTransaction

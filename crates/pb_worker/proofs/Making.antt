@@ -4,13 +4,9 @@ use Rattle.std.proofs.lemmas.Bool.{eqb-true, eqb-false, cases_lt, cases_order}
 use Rattle.std.proofs.lemmas.Nat.{div-mul-add, mod-mul-add}
 use Rattle.std.proofs.lemmas.Option.{slice_get_within}
 use Rattle.std.proofs.Math.Nat.{mod-add-div', mod-lt}
-use Rattle.pb_worker.specs.Words.{Row, Ts, Refusal, Writes, Step, Answer, Work, ObserverOf, opening, Entry, Received, entries_of, Has, IsEntry, Member, InHistory, TransactionsAreTold, TellsTransactions, SharedOf, SeatOf, AreSeats, AreSeatsFrom, IsLegalTable, told}
-use Rattle.pb_worker.specs.Gains.{Gains, OpeningOf}
-use Rattle.pb_worker.specs.Swaps.{Spare}
-use Rattle.pb_worker.specs.Work.{share_of, IsWork, IsLastDrain, WorkedOn, is_done, undone_below}
-use Rattle.pb_worker.specs.Agrees.{Agree}
+use Rattle.pb_worker.specs.Words.{Row, Ts, Refusal, Writes, Step, Answer, Work, ObserverOf, opening, Entry, Received, entries_of, Has, IsEntry, Member, InHistory, TransactionsAreTold, TellsTransactions, SharedOf, SeatOf, AreSeats, AreSeatsFrom, IsLegalTable, told, Gains, OpeningOf, Spare, share_of, IsWork, IsLastDrain, WorkedOn, is_done, undone_below, Agree}
 use Rattle.pb_worker.specs.Laws.{IsMade, IsFinished, ChangesAreMade}
-use Rattle.pb_worker.proofs.Joined.{numbered}
+use Rattle.pb_threads.proofs.Joined.{numbered}
 use Rattle.pb_worker.proofs.Committing.{commit_of}
 use Rattle.pb_worker.proofs.RunCommits.{HasBegunRun, of_last_drain}
 use Rattle.pb_worker.proofs.Starts.{HasTwice, twice_right, AreStarts, IsStart, of_work}

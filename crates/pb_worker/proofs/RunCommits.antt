@@ -1,12 +1,9 @@
 -- What is committed in passes are runs of observers that began there.
 use Rattle.std.proofs.Common.{arith, ◌≡◌, ◌≢◌, ℕ, inl, inr, List, [], ◌∷◌, ◌++◌, Option, Some, None, refl, sym, ap, subst, ◌∙◌}
-use Rattle.pb_worker.specs.Words.{Cell, Row, Ts, Refusal, row_of, Work, Step, Answer, ObserverOf, Received, Has, told, watch_of}
-use Rattle.pb_worker.specs.Gains.{OpeningOf}
-use Rattle.pb_worker.specs.Passes.{IsRun, AreRuns, before_all, runs, passes_by, IsWalk, at_beginning, found, IsPass, ArePasses, at_first, one_more, IsDrain}
-use Rattle.pb_worker.specs.Stops.{RunStops, RunsStop, PassStops, at_a_mark, in_runs, DrainStops}
-use Rattle.pb_worker.specs.Swaps.{Spare}
-use Rattle.pb_worker.specs.Work.{IsDrainTo, IsLastDrain}
-use Rattle.pb_worker.proofs.Gaining.{append_nil}
+use Rattle.pb_worker.specs.Words.{Cell, Row, Ts, Refusal, row_of, Work, Step, Answer, ObserverOf, Received, Has, told, watch_of, OpeningOf, IsRun, AreRuns, runs, passes_by, IsWalk, at_beginning, found, IsPass, ArePasses, IsDrain, RunStops, RunsStop, PassStops, at_a_mark, in_runs, DrainStops, Spare, IsDrainTo, IsLastDrain}
+use Rattle.pb_threads.specs.Passes.{before_all, at_first, one_more}
+use Rattle.pb_threads.proofs.Gaining.{append_nil}
+use Rattle.pb_ending.proofs.Walks.{heads}
 use Rattle.pb_worker.proofs.Committing.{commit_of}
 use Rattle.pb_worker.proofs.OneTransaction.{IsOneTransaction, of_run}
 use Rattle.pb_history.proofs.Updates.{has_before as has_left, has_right, has_which}
@@ -41,9 +38,6 @@ and_first : (r : Received) (rs : List Received) → ((u : Ts) → r.step ≢ Ste
 and_first r rs other more = grind arith
 
 -- ---- a run, whole or cut off
-
-pub heads : (x y : Received) (xs ys : List Received) → x ∷ xs ≡ y ∷ ys → x ≡ y
-heads x y xs ys e = cc
 
 -- the beginning of a run's conversation commits that run alone, which begins first
 of_beginning : (o : ℕ) (row : Row) (s : Ts) (said rest : List Received) → IsOneTransaction (Work.Run o row) s (said ++ rest) → CommitRuns said

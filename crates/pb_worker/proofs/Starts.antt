@@ -1,11 +1,8 @@
 -- Of each change of a worker that was committed, the worker's list tells one start.
 use Rattle.std.proofs.Common.{◌≡◌, ℕ, zero, suc, ◌+◌, ◌*◌, ◌<◌, ◌⊎◌, Bool, true, false, cond, eqb, List, [], ◌∷◌, ◌++◌, length, Option, Some, None, inl, inr, refl, sym, ap, subst, ◌∙◌, arith, slice_get, slice_index_or}
 use Rattle.std.proofs.lemmas.Bool.{eq-eqb, ne_eqb}
-use Rattle.pb_worker.specs.Words.{Ts, Refusal, Writes, Step, Answer, Work, ObserverOf, Received, Has, told}
-use Rattle.pb_worker.specs.Gains.{OpeningOf}
-use Rattle.pb_worker.specs.Tries.{AreTried, before_all, tried}
-use Rattle.pb_worker.specs.Stops.{ChangesStop}
-use Rattle.pb_worker.specs.Work.{share_of, IsWork, IsWorkBegun, in_changes, in_passes, AreFilled}
+use Rattle.pb_worker.specs.Words.{Ts, Refusal, Writes, Step, Answer, Work, ObserverOf, Received, Has, told, OpeningOf, AreTried, tried, ChangesStop, share_of, IsWork, IsWorkBegun, in_changes, in_passes, AreFilled}
+use Rattle.pb_threads.specs.Tries.{before_all}
 use Rattle.pb_worker.proofs.Committing.{commit_of, HasCommitted, within}
 use Rattle.pb_worker.proofs.RunCommits.{HasBegunRun, CommitRuns, run_left, run_right, of_drain, of_drain_stop}
 use Rattle.pb_worker.proofs.TryCommits.{TellsCommit, of_tries, of_cut}

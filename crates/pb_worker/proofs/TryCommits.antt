@@ -1,9 +1,7 @@
 -- Of all tries of a change one is committed at most, with this start.
 use Rattle.std.proofs.Common.{arith, ◌≡◌, ◌≢◌, ℕ, Bool, true, false, ◌||◌, List, [], ◌∷◌, ◌++◌, inl, inr, refl, sym, ap, subst, ◌∙◌, Option}
-use Rattle.pb_worker.specs.Words.{Cell, Ts, Refusal, Writes, Step, Answer, Declared, Received, Has, Outcome, told, IsWhole, committed, conflicted_first, conflicted_later, lost, prewrites, secondaries, IsWholeChange}
-use Rattle.pb_worker.specs.Gains.{OpeningOf}
-use Rattle.pb_worker.specs.Tries.{is_commit_outcome, is_commit, has_commit, IsTry, AreVain, at_first, one_more, IsDone, AreTries}
-use Rattle.pb_worker.specs.Stops.{TriesStop}
+use Rattle.pb_worker.specs.Words.{Cell, Ts, Refusal, Writes, Step, Answer, Declared, Received, Has, Outcome, told, IsWhole, committed, conflicted_first, conflicted_later, lost, prewrites, secondaries, IsWholeChange, OpeningOf, is_commit_outcome, is_commit, has_commit, IsTry, AreVain, IsDone, AreTries, TriesStop}
+use Rattle.pb_threads.specs.Tries.{at_first, one_more}
 use Rattle.pb_worker.proofs.Committing.{commit_of, HasCommitted, within}
 use Rattle.pb_worker.proofs.CutTries.{commit_in, uncommitted, cut_commits}
 use Rattle.pb_worker.proofs.OneTransaction.{of_change}

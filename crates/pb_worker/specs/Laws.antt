@@ -1,10 +1,6 @@
 -- What the workers' lists and the journal tell together.
 use Rattle.std.specs.Prelude.{◌≡◌, ℕ, ◌+◌, ◌-◌, ◌%◌, ◌<◌, List, [], length, Option, Some, slice_get}
-use Rattle.pb_worker.specs.Words.{Refusal, Writes, Work, ObserverOf, Has, Member, InHistory, SharedOf, SeatOf, AreSeats, IsLegalTable}
-use Rattle.pb_worker.specs.Agrees.{Agree}
-use Rattle.pb_worker.specs.Gains.{OpeningOf}
-use Rattle.pb_worker.specs.Swaps.{Spare}
-use Rattle.pb_worker.specs.Work.{WorkedOn}
+use Rattle.pb_worker.specs.Words.{Refusal, Writes, Work, ObserverOf, Has, Member, InHistory, SharedOf, SeatOf, AreSeats, IsLegalTable, Agree, OpeningOf, Spare, WorkedOn}
 
 -- the change of this number, of the worker of seat 1 + i mod n, is this committed transaction
 pub record IsMade (table : SharedOf) (n i : ℕ) (batch : Writes) (m : Member) : Type 0 where

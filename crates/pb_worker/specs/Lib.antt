@@ -1,10 +1,2 @@
 pub mod Words
-pub mod Gains
-pub mod Passes
-pub mod Tries
-pub mod Stops
-pub mod Swaps
-pub mod Work
-pub mod Agrees
-pub mod Cursors
 pub mod Laws

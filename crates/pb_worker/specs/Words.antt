@@ -1,7 +1,6 @@
 -- The words of the crates below, for this crate's definitions and proofs.
 pub use Rattle.pb_base.specs.Batch.{Writes}
-pub use Rattle.pb_base.specs.Cell.{column_of, row_of}
-pub use Rattle.pb_base.specs.Reasons.{memory_refusal, refusal_by}
+pub use Rattle.pb_base.specs.Cell.{row_of}
 pub use Rattle.pb_base.specs.declared.cell.Cell.{Cell}
 pub use Rattle.pb_base.specs.declared.content.Revision.{Revision}
 pub use Rattle.pb_base.specs.declared.names.Row.{Row}
@@ -11,8 +10,6 @@ pub use Rattle.pb_base.specs.declared.refusal.Refusal.{Refusal}
 pub use Rattle.pb_isa.specs.Meaning.{Talk}
 pub use Rattle.pb_verify.specs.Observers.{ObserverOf}
 pub use Rattle.pb_finished.specs.Finished.{Meant}
-pub use Rattle.pb_store.specs.Contents.{Contents}
-pub use Rattle.pb_store.specs.Tiles.{refusal_or_want, swap_reason}
 pub use Rattle.pb_steps.specs.Answers.{CanAnswer}
 pub use Rattle.pb_steps.specs.Read.{read_step}
 pub use Rattle.pb_steps.specs.Reads.{asked_cell}
@@ -31,16 +28,20 @@ pub use Rattle.pb_history.specs.Places.{entries_of}
 pub use Rattle.pb_history.specs.TransactionsTold.{BeginsOnce, TellsTransactions, entries_naming, is_begin, names_start}
 pub use Rattle.pb_history.specs.declared.entry.Entry.{Entry}
 pub use Rattle.pb_history.specs.declared.entry.Received.{Received}
-pub use Rattle.pb_core.specs.Calls.{AreSeats, AreSeatsFrom, SeatOf, SharedOf, call_reason}
-pub use Rattle.pb_core.specs.Codes.{shared_code}
+pub use Rattle.pb_core.specs.Calls.{AreSeats, AreSeatsFrom, SeatOf, SharedOf}
 pub use Rattle.pb_core.specs.Histories.{IsLegalTable}
-pub use Rattle.pb_txn.specs.Changes.{ChangeOf, ChangesConverse, ChangesEnd, Converses, IsWholeChange, new_change, outcome_of}
+pub use Rattle.pb_txn.specs.Changes.{ChangeOf, Converses, IsWholeChange, new_change}
 pub use Rattle.pb_txn.specs.Conversations.{told}
-pub use Rattle.pb_txn.specs.Forms.{AreCleared, IsWhole, PlansStop, committed, conflicted_first, conflicted_later, lost, prewrites, secondaries}
+pub use Rattle.pb_txn.specs.Forms.{AreCleared, IsWhole, committed, conflicted_first, conflicted_later, lost, prewrites, secondaries}
 pub use Rattle.pb_txn.specs.declared.place.Outcome.{Outcome}
 pub use Rattle.pb_txn.specs.declared.place.PlanPlace.{PlanPlace}
-pub use Rattle.pb_notify.specs.Conversations.{Reaches, computed, made, took}
-pub use Rattle.pb_notify.specs.Forms.{AreAsked, AreRounds, IsAcknowledged, IsLooked, IsObserved, IsRecalled, IsRound, IsRunConversation, JobsConverse, JobsEnd, LooksFrom, WasMeant, absent, asked, at_acknowledgment, at_ask, at_cell, at_old, blocked, clean, conflicted, dirty, its_begin, ran}
-pub use Rattle.pb_notify.specs.Runs.{ComputesOn, HasNext, HearsLook, RunOf, Watch, need_of, watch_of}
+pub use Rattle.pb_notify.specs.Forms.{AreAsked, AreRounds, IsAcknowledged, IsLooked, IsObserved, IsRecalled, IsRound, IsRunConversation, LooksFrom, absent, asked, at_acknowledgment, at_ask, at_cell, at_old, blocked, clean, conflicted, dirty, its_begin, ran}
+pub use Rattle.pb_notify.specs.Runs.{Watch, watch_of}
 pub use Rattle.pb_notify.specs.declared.need.JobEnd.{JobEnd}
-pub use Rattle.pb_notify.specs.declared.need.Need.{Need}
+pub use Rattle.pb_threads.specs.Gains.{Gains, OpeningOf}
+pub use Rattle.pb_threads.specs.Passes.{ArePasses, AreRuns, IsDrain, IsPass, IsRun, IsWalk, at_beginning, found, passes_by, runs}
+pub use Rattle.pb_threads.specs.Stops.{ChangesStop, DrainStops, PassStops, RunStops, RunsStop, TriesStop, at_a_mark, in_runs}
+pub use Rattle.pb_threads.specs.Swaps.{Spare}
+pub use Rattle.pb_threads.specs.Tries.{AreTried, AreTries, AreVain, IsDone, IsTry, has_commit, is_commit, is_commit_outcome, tried}
+pub use Rattle.pb_threads.specs.Work.{AreFilled, IsDrainTo, IsLastDrain, IsWork, IsWorkBegun, WorkedOn, in_changes, in_passes, is_done, share_of, undone_below}
+pub use Rattle.pb_ending.specs.Agrees.{Agree}

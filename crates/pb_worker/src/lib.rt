@@ -1,34 +1,16 @@
-//! Workers in threads of their own, over one table under a lock.
+//! What a run of workers made, by the journal of its table.
 //!
-//! `run_workers` is what a run does with its changes: each worker tries its own and then makes passes over the marked
-//! cells, and the calling thread swaps spare tablets in meanwhile. Each step of a job is one call under the lock, so
-//! that between two of them those of others come, as in a world of `pb_world`. `finish` then compares what each seat
-//! was told with the table's journal, and `pb_driver` reports what stands there. Of five changes and two workers seat
-//! 1 has those of number 0, 2 and 4.
-//!
-//! Of a table under a lock nothing is known at a call but what its type keeps; so all is said of what each seat
-//! gained.
+//! Workers run in `pb_threads`, and `pb_ending` compares their seats' lists with the journal, each without the other.
+//! Here stands what both come to: the law `changes_are_made`, which `pb_driver` calls before a run, and all that a
+//! program with workers calls. Of five changes of which none is named as unfinished, the journal has five committed
+//! script transactions and no others.
 #![tactic(auto)]
 
-mod desk;
-mod ending;
-mod gate;
-mod job;
 mod laws;
-mod named;
-mod passes;
-mod run;
-mod same;
-mod spares;
-mod tries;
-mod worker;
 
-pub use desk::{Callee, Desk};
-pub use ending::{Ended, finish};
-pub use gate::{Gate, Open};
 pub use laws::changes_are_made;
-pub use named::{Held, Opening};
-pub use passes::{MAX_PASSES, worker_passes_limit_is_this};
-pub use run::{NotRun, Worked, run_workers};
-pub use spares::end_spares;
-pub use tries::{MAX_TRIES, tries_limit_is_this};
+pub use pb_ending::{Ended, finish};
+pub use pb_threads::{
+    Callee, Desk, Gate, Held, MAX_PASSES, MAX_TRIES, NotRun, Open, Opening, Worked, end_spares,
+    run_workers,
+};

@@ -19,7 +19,7 @@ use pb_base::{NoMemory, Out, Row};
 use pb_command::{Files, command, exit_status, lent, refuse, words_given};
 use pb_store::{Table, Tablet};
 use pb_texts::{Options, options};
-use pb_worker::end_spares;
+use pb_threads::end_spares;
 use std::process::ExitCode;
 use std::sync::Wait;
 use std::thread::Threads;

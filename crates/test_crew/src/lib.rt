@@ -6,7 +6,7 @@ ghost use Rattle.pb_core.specs.Calls.{AreSeats};
 use pb_base::Batch;
 use pb_core::{Seat, Shared};
 use pb_store::Tablet;
-use pb_worker::{Gate, NotRun, Worked, run_workers};
+use pb_threads::{Gate, NotRun, Worked, run_workers};
 use std::alloc::Global;
 use std::sync::Wait;
 use std::thread::Threads;

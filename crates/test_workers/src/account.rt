@@ -2,11 +2,12 @@
 use crate::clearing::is_clearing_told;
 use pb_base::{Batch, Content, Out, Refusal};
 use pb_core::{Seat, Shared};
+use pb_ending::finish;
 use pb_history::{Entry, Received};
 use pb_script::report;
 use pb_steps::{Answer, Declared, Step, Work};
 use pb_store::Tablet;
-use pb_worker::{Worked, finish};
+use pb_threads::Worked;
 use std::io;
 
 /// What is told besides the refusals, the seats, the changes that are left and the report.

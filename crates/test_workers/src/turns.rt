@@ -3,7 +3,7 @@ use crate::tablets::{Count, no_changes};
 use crate::task::Task;
 use pb_base::NoMemory;
 use pb_steps::Step;
-use pb_worker::Gate;
+use pb_threads::Gate;
 use std::alloc::Global;
 use std::sync::atomic::{AtomicU64, AtomicUsize, Ordering};
 use std::thread;

@@ -7,7 +7,7 @@ use crate::task::Task;
 use pb_base::{MAX_ENTRIES, Row, Ts};
 use pb_core::{Seat, Shared};
 use pb_store::Table;
-use pb_worker::{Gate, Worked};
+use pb_threads::{Gate, Worked};
 use std::alloc::Global;
 use std::sync::Wait;
 use std::thread::Threads;

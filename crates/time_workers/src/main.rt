@@ -11,7 +11,7 @@ use pb_core::Seat;
 use pb_memtablet::EitherTablet;
 use pb_script::report;
 use pb_steps::Answer;
-use pb_worker::{Open, Worked};
+use pb_threads::{Open, Worked};
 use std::alloc::{AllocError, Global};
 use std::env;
 use std::process::ExitCode;

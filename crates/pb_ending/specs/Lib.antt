@@ -1,0 +1,2 @@
+pub mod Agrees
+pub mod Cursors

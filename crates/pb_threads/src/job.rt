@@ -1,0 +1,77 @@
+//! Runs of observers, each followed to its end.
+ghost use Rattle.std.specs.Prelude.{◌≡◌, ◌<◌, length, IfOk, IfErr, OnOk};
+ghost use Rattle.pb_threads.specs.Gains.{Gains, IsWant};
+ghost use Rattle.pb_threads.specs.Passes.{HasColumn, IsJobOn, IsComputed, IsRun, ReachesOn};
+ghost use Rattle.pb_threads.specs.Stops.{RunStops};
+
+use crate::desk::{Callee, ask};
+use crate::gate::Gate;
+use pb_base::{Cell, NoMemory, ObserverNo, Refusal};
+use pb_core::Seat;
+use pb_notify::{Need, ObserverJob, jobs_converse};
+use pb_verify::Observer;
+use std::alloc::Global;
+use std::sync::{Arc, Mutex, Wait};
+
+// The run of an observer on a cell of its column, before its first step.
+fn job_on(observers: &[Observer], number: ObserverNo, cell: Cell) -> Result<ObserverJob, NoMemory>
+    requires { number < length observers.now }
+    ensures { IfOk result (IsJobOn observers.now number cell) }
+{
+    let observer = &observers[number.number() as usize];
+    let program = Arc::try_clone(&observer.program)?;
+    Ok(ObserverJob::new(number, program, cell.row(), observer.column))
+}
+
+// The instructions of its machine up to the next ask or the exit, if it is at one. They need no lock, so that others
+// call the table meanwhile. Refused for memory, it stands where one is next.
+fn compute(alloc: Global, job: &mut ObserverJob) -> Result<(), NoMemory>
+    ensures ok { OnOk result (IsComputed job.old job.new) }
+    ensures on { ReachesOn job.old job.new }
+{
+    if job.needs() == Need::Local {
+        job.follow(alloc)?;
+    }
+    Ok(())
+}
+
+// These instructions. Want of memory is the refusal of this seat alone, since the others go on.
+fn compute_on(alloc: Global, job: &mut ObserverJob) -> Result<(), Refusal>
+    ensures ok { OnOk result (IsComputed job.old job.new) }
+    ensures on { ReachesOn job.old job.new }
+    ensures want { IfErr result IsWant }
+{
+    Ok(compute(alloc, job)?)
+}
+
+/// Runs an observer on a cell of its column, from its first step to its end.
+pub(crate) fn run_one<R: Wait, C: Callee, G: Gate>(
+    rt: &R,
+    alloc: Global,
+    shared: &Mutex<C>,
+    seat: &mut Seat,
+    observers: &[Observer],
+    number: ObserverNo,
+    cell: Cell,
+    gate: &G,
+) -> Result<(), Refusal>
+    requires known { HasColumn observers.now number cell }
+    ensures ok { OnOk result (Gains (IsRun observers.now number cell) seat.old seat.new) }
+    ensures err { IfErr result
+        (λ r. Gains (RunStops C.opening seat.old.number observers.now number cell r)
+        seat.old seat.new) }
+{
+    // For the proof: what a job has asked is a beginning of a run's conversation, and at its end a whole one.
+    jobs_converse();
+    let mut job = job_on(observers, number, cell)?;
+    // As many steps as the job asks: it has an end of its own, since it gives up at its last lock.
+    for _turn in rt.forever() {
+        let Some(step) = job.next() else {
+            return Ok(());
+        };
+        let answer = ask(rt, shared, seat, step, gate)?;
+        job.took(answer);
+        compute_on(alloc, &mut job)?;
+    }
+    unreachable!()
+}

@@ -1,0 +1,213 @@
+//! Changes, each tried until it commits.
+ghost use Rattle.std.specs.Prelude.{◌≡◌, ◌||◌, ◌<◌, ◌≤◌, ◌++◌, ◌∷◌, [], length, vec_len, vec_capacity, IfOk, IfErr, OnOk};
+ghost use Rattle.pb_base.specs.declared.limits.TheConstants.{MAX_SEATS};
+ghost use Rattle.pb_txn.specs.Changes.{new_change, outcome_of};
+ghost use Rattle.pb_threads.specs.Gains.{Gains, IsWant};
+ghost use Rattle.pb_threads.specs.Tries.{IsTry, AreTries, AreAllTried, committed_in, is_commit};
+ghost use Rattle.pb_threads.specs.Stops.{TryStops, TriesStop, ChangesStop};
+
+use crate::desk::{Callee, ask};
+use crate::gate::Gate;
+use pb_base::{Batch, NoMemory, Refusal};
+use pb_core::Seat;
+use pb_steps::Answer;
+use pb_txn::{ChangeJob, Outcome, changes_converse, plans_converse};
+use std::alloc::Global;
+use std::sync::{Mutex, Wait};
+use std::thread;
+
+/// How often a change is tried at most, so that a worker ends whatever others commit before it.
+pub const MAX_TRIES: u32 = 100;
+
+// How often a thread yields after a try for each that was in vain, and how often at most. The limit isn't lower,
+// since with one of 32 several workers took longer to change one row.
+const TURNS: u32 = 16;
+
+const MOST_TURNS: u32 = 512;
+
+/// The limit of tries has this value.
+pub fn tries_limit_is_this()
+    ensures { MAX_TRIES ≡ 100 }
+{}
+
+/// Why a change was left, and whether a try of it had committed by then, since one that is cut off behind its commit
+/// has.
+#[derive(Drop)]
+pub(crate) struct Cut {
+    refusal: Refusal,
+    committed: bool,
+}
+
+// A change of a copy of this batch, before its first step: a copy, since another try may follow.
+fn job_of(alloc: Global, batch: &Batch) -> Result<ChangeJob, NoMemory>
+    ensures { IfOk result (λ j. j ≡ new_change batch.now) }
+{
+    let copy = batch.copy()?;
+    match ChangeJob::new(alloc, copy) {
+        Ok(job) => Ok(job),
+        Err((_, refused)) => Err(refused),
+    }
+}
+
+// Whether an answer says that the transaction is committed.
+fn is_commit(answer: &Answer) -> bool
+    ensures { result ≡ is_commit answer.now }
+{
+    matches!(answer, Answer::Committed)
+}
+
+// What is committed stays so, whatever the later answers are.
+fn or_commits(committed: bool, answer: &Answer) -> bool
+    ensures { result ≡ (committed || is_commit answer.now) }
+{
+    committed || is_commit(answer)
+}
+
+// Whether it is over, and committed.
+fn has_committed(job: &ChangeJob) -> bool
+    ensures { result ≡ committed_in (outcome_of job.now) }
+{
+    matches!(job.outcome(), Some(Outcome::Committed(_)))
+}
+
+// One try of a change, and whether it committed. It may be left with its transaction committed, and some of its cells
+// still locked.
+fn try_once<R: Wait, C: Callee, G: Gate>(
+    rt: &R,
+    alloc: Global,
+    shared: &Mutex<C>,
+    seat: &mut Seat,
+    batch: &Batch,
+    gate: &G,
+) -> Result<bool, Cut>
+    ensures ok { IfOk result (λ committed. Gains (IsTry batch.now committed) seat.old seat.new) }
+    ensures err { IfErr result
+        (λ cut. Gains
+        (TryStops C.opening seat.old.number batch.now cut.committed cut.refusal)
+        seat.old seat.new) }
+{
+    // For the proof: a batch has some cells; and what a change has asked is a beginning of its conversation, and at
+    // its end a whole one.
+    batch.known();
+    plans_converse();
+    changes_converse();
+    let mut committed = false;
+    let mut job = match job_of(alloc, batch) {
+        Ok(job) => job,
+        Err(refused) => {
+            let refusal = Refusal::from(refused);
+            return Err(Cut { refusal, committed });
+        }
+    };
+    for _turn in rt.forever() {
+        let Some(step) = job.next() else {
+            return Ok(has_committed(&job));
+        };
+        match ask(rt, shared, seat, step, gate) {
+            Ok(answer) => {
+                // Noted at once, since a step behind the commit may be refused.
+                committed = or_commits(committed, &answer);
+                job.took(answer);
+            }
+            Err(refusal) => return Err(Cut { refusal, committed }),
+        }
+    }
+    unreachable!()
+}
+
+// Lets others go on, the longer the more tries were in vain, so that those whose locks it met come to their ends.
+fn stand_back(tries: u32) {
+    let turns = tries.saturating_mul(TURNS).min(MOST_TURNS);
+    for _turn in 0..turns {
+        thread::yield_now();
+    }
+}
+
+// Tries a change until it commits, or so often as may be, and tells whether it committed.
+fn try_all<R: Wait, C: Callee, G: Gate>(
+    rt: &R,
+    alloc: Global,
+    shared: &Mutex<C>,
+    seat: &mut Seat,
+    batch: &Batch,
+    gate: &G,
+) -> Result<bool, Cut>
+    ensures ok { IfOk result (λ committed. Gains (AreTries batch.now committed) seat.old seat.new) }
+    ensures err { IfErr result
+        (λ cut. Gains
+        (TriesStop C.opening seat.old.number batch.now cut.committed cut.refusal)
+        seat.old seat.new) }
+{
+    for count in 0..MAX_TRIES {
+        let committed = try_once(rt, alloc, shared, seat, batch, gate)?;
+        if committed {
+            return Ok(true);
+        }
+        stand_back(count + 1);
+    }
+    Ok(false)
+}
+
+// Room for one flag more, made before the change is tried, so that what became of it is never lost.
+fn make_room(done: &mut Vec<bool>) -> Result<(), Refusal>
+    ensures items { done.new.items ≡ done.old.items }
+    ensures room { OnOk result (vec_len done.new < vec_capacity done.new) }
+    ensures want { IfErr result IsWant }
+{
+    match done.reserve(1) {
+        Ok(()) => Ok(()),
+        Err(refused) => Err(Refusal::from(NoMemory::from(refused))),
+    }
+}
+
+// Notes whether a change committed, where there is room for it.
+fn note(done: &mut Vec<bool>, committed: bool)
+    requires { vec_len done.old < vec_capacity done.old }
+    ensures { done.new.items ≡ done.old.items ++ committed ∷ [] }
+{
+    done.push(committed).unwrap();
+}
+
+/// Tries the changes of one of so many workers, its first at this number and each later one so many further. It notes
+/// of each whether it committed.
+pub(crate) fn change_all<R: Wait, C: Callee, G: Gate>(
+    rt: &R,
+    alloc: Global,
+    shared: &Mutex<C>,
+    seat: &mut Seat,
+    batches: &[Batch],
+    count: usize,
+    first: usize,
+    done: &mut Vec<bool>,
+    gate: &G,
+) -> Result<(), Refusal>
+    requires some { 0 < count }
+    requires few { count ≤ MAX_SEATS }
+    requires none { done.old.items ≡ [] }
+    ensures ok { OnOk result
+        (Gains (AreAllTried batches.now count first done.new.items) seat.old seat.new) }
+    ensures err { IfErr result
+        (λ r. Gains
+        (ChangesStop C.opening seat.old.number batches.now count first done.new.items r)
+        seat.old seat.new) }
+{
+    // For the proof: what a change has asked is a beginning of its conversation.
+    changes_converse();
+    let mut next = first;
+    while next < batches.len() {
+        // For the proof: a batch has some cells.
+        batches[next].known();
+        make_room(done)?;
+        match try_all(rt, alloc, shared, seat, &batches[next], gate) {
+            Ok(committed) => {
+                note(done, committed);
+                next += count;
+            }
+            Err(cut) => {
+                note(done, cut.committed);
+                return Err(cut.refusal);
+            }
+        }
+    }
+    Ok(())
+}

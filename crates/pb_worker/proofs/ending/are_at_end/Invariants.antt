@@ -1,6 +1,0 @@
-use Rattle.std.proofs.Common.{◌≡◌, ℕ, ◌<◌, length, slice_index_or}
-use Rattle.pb_worker.specs.Words.{SeatOf}
-use Rattle.pb_worker.proofs.ending.are_at_end.Given as goal
-
-abbrev pub invariant-loop-k : goal.invariant-loop-k
-invariant-loop-k l = (i : ℕ) (d : SeatOf) → i < l.k → slice_index_or l.cursors i 0 ≡ length (slice_index_or l.seats i d).received

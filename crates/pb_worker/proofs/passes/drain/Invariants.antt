@@ -1,6 +1,0 @@
-use Rattle.pb_worker.specs.Gains.{Gains}
-use Rattle.pb_worker.specs.Passes.{ArePasses}
-use Rattle.pb_worker.proofs.passes.drain.Given as goal
-
-abbrev pub invariant-loop-count : goal.invariant-loop-count
-invariant-loop-count g l = Gains (ArePasses l.fn.observers l._count) l.fn.seat l.seat
