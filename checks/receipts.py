@@ -23,11 +23,17 @@ MAKER = "pb_base/src/refusal.rt"
 MADE = {"NoMemory { refused: () }": 4, "Refusal(1)": 1, "Refusal(": 3}
 
 # How many lines of a crate turn a library's want of memory into a receipt.
-DOORS = {"pb_command": 3, "pb_registry": 2}
+DOORS = {"pb_command": 2, "pb_files": 1, "pb_registry": 2}
 
 # Where the text stands, but for clauses, and how often: in the first as what `NoMemory` displays, and in the others in a function
 # that is given a receipt, or in the arm of a variant that holds one.
-TEXTS = {MAKER: 1, "pb_command/src/fault.rt": 2, "pb_command/src/words.rt": 1, "pb_driver/src/fault.rt": 1}
+TEXTS = {
+    MAKER: 1,
+    "pb_driver/src/fault.rt": 1,
+    "pb_files/src/fault.rt": 1,
+    "pb_command/src/fault.rt": 1,
+    "pb_command/src/words.rt": 1,
+}
 OF_RECEIPT = re.compile(r":\s*&?\s*NoMemory\b")
 ARM = re.compile(r"\bNoMemory\(\w+\)\s*=>[^;]*$")
 
@@ -46,7 +52,8 @@ HOLDERS = {
     "pb_threads": {"Cut", "NotRun", "Rooms", "Worked", "Worker"},
     "pb_world": {"AfterStep", "EventFault", "NotCalled", "WorldFault"},
     "pb_driver": {"Ran", "RunFault"},
-    "pb_command": {"Fault", "PathFault"},
+    "pb_files": {"FileFault", "PathFault"},
+    "pb_command": {"Fault"},
     "pb_story": {"StoryFault"},
 }
 RECEIPTS = {"NoMemory", "Refusal"}

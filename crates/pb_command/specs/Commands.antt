@@ -10,12 +10,13 @@ use Rattle.pb_driver.specs.declared.fault.RunFault.{RunFault}
 use Rattle.pb_driver.specs.declared.run.Ran.{Ran}
 use Rattle.pb_driver.specs.Runs.{RunsTexts}
 use Rattle.pb_driver.specs.Replays.{ReplaysTexts}
-use Rattle.pb_command.specs.declared.answer.Verdict.{Verdict}
+use Rattle.pb_files.specs.declared.answer.Verdict.{Verdict}
+use Rattle.pb_files.specs.declared.fault.FileFault.{FileFault}
+use Rattle.pb_files.specs.Files.{Text, Held, Filing, KeepsFiles, IsKnownAs}
+use Rattle.pb_files.specs.PathFaults.{IsFileFault}
+use Rattle.pb_files.specs.Programs.{AsmLeaves, AnswerLeaves, TellsProgram, Checks}
 use Rattle.pb_command.specs.declared.fault.Fault.{Fault}
 use Rattle.pb_command.specs.FaultLines.{Tells}
-use Rattle.pb_command.specs.Files.{Text, Held, Filing, KeepsFiles, IsKnownAs}
-use Rattle.pb_command.specs.PathFaults.{IsFileFault}
-use Rattle.pb_command.specs.Programs.{AsmLeaves, AnswerLeaves, TellsProgram, Checks}
 
 -- ---- `run`
 
@@ -41,7 +42,7 @@ pub record RanWhole (places : ℕ) (before : Held) (manifest script : Text) (wor
 abbrev pub RunFails : ℕ → Held → Text → Text → ℕ → List Spare → Taking → Fault → Type 0
 RunFails places before manifest script workers spares out (Fault.Undone left) = RanFrom places before manifest script workers spares out (Ok left) × (IsAllDone left → ⊥)
 RunFails places before manifest script workers spares out (Fault.Run f) = RanFrom places before manifest script workers spares out (Err f)
-RunFails places before manifest script workers spares out f = TookNothing out × IsFileFault before (manifest ∷ script ∷ []) f
+RunFails places before manifest script workers spares out (Fault.File f) = TookNothing out × IsFileFault before (manifest ∷ script ∷ []) f
 
 -- what `run` leaves: the whole report where all is done, or a fault; it refuses nothing that it is given
 abbrev pub RunLeaves : ℕ → Held → Text → Text → ℕ → List Spare → Taking → Result Verdict Fault → Type 0
@@ -67,9 +68,9 @@ pub record ReplayedFrom (replays : Replaying) (before : Held) (files : ReplayFil
 
 -- one of the files is at fault, and nothing was written; or the texts were replayed to this fault
 abbrev pub ReplayFails : Replaying → Held → ReplayFiles → Taking → Fault → Type 0
-ReplayFails replays before files out f =
-    (IsFileFault before (files.manifest.now ∷ files.script.now ∷ files.schedule.now ∷ []) f × TookNothing out) ⊎
-    ((g : RunFault) × (f ≡ Fault.Run g) × ReplayedFrom replays before files out (Err g))
+ReplayFails replays before files out (Fault.File f) = IsFileFault before (files.manifest.now ∷ files.script.now ∷ files.schedule.now ∷ []) f × TookNothing out
+ReplayFails replays before files out (Fault.Run f) = ReplayedFrom replays before files out (Err f)
+ReplayFails replays before files out (Fault.Undone left) = ⊥
 
 -- what a replay leaves: the whole of what it writes, or a fault; it refuses nothing that it is given
 abbrev pub ReplayLeaves : Replaying → Held → ReplayFiles → Taking → Result Verdict Fault → Type 0
@@ -78,6 +79,15 @@ ReplayLeaves replays before files out (Ok Verdict.Refused) = ⊥
 ReplayLeaves replays before files out (Err f) = ReplayFails replays before files out f
 
 -- ---- any command
+
+-- the outcome of what is done with files alone, as a command's
+abbrev pub files_outcome : Result Verdict FileFault → Result Verdict Fault
+files_outcome (Ok verdict) = Ok verdict
+files_outcome (Err f) = Err (Fault.File f)
+
+-- this is the outcome of what is done with files alone, which leaves this
+abbrev pub FilesLeave : (Result Verdict FileFault → Type 0) → Result Verdict Fault → Type 0
+FilesLeave leaves outcome = (left : Result Verdict FileFault) × (outcome ≡ files_outcome left) × leaves left
 
 -- it is done in one thread, and waits for nothing
 abbrev pub IsSequential : Options → Type 0
@@ -90,11 +100,11 @@ LeavesBehind (Options.Run manifest script workers swaps) places spares files out
     KeepsFiles files × RunLeaves places files.before manifest.now script.now workers spares out outcome
 LeavesBehind (Options.Replay replay) places spares files out outcome = KeepsFiles files × ReplayLeaves (ReplaysTexts places) files.before replay out outcome
 LeavesBehind (Options.Asm input output profile) places spares files out outcome =
-    TookNothing out × AsmLeaves profile files input.now output.now outcome
+    TookNothing out × FilesLeave (AsmLeaves profile files input.now output.now) outcome
 LeavesBehind (Options.Dis file profile) places spares files out outcome =
-    KeepsFiles files × AnswerLeaves (TellsProgram listing profile) (files.before file.now) file.now out outcome
+    KeepsFiles files × FilesLeave (AnswerLeaves (TellsProgram listing profile) (files.before file.now) file.now out) outcome
 LeavesBehind (Options.Check program) places spares files out outcome =
-    KeepsFiles files × AnswerLeaves (Checks program.profile program.version) (files.before program.file.now) program.file.now out outcome
+    KeepsFiles files × FilesLeave (AnswerLeaves (Checks program.profile program.version) (files.before program.file.now) program.file.now out) outcome
 
 -- an outcome as a status, with what was told
 abbrev pub IsToldAs : Result Verdict Fault → Taking → ℕ → Type 0

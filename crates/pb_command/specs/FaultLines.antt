@@ -2,8 +2,8 @@
 use Rattle.std.specs.Prelude.{ℕ, ◌+◌, ◌⊎◌, List, [], ◌++◌, codes, Option, Some, None, decimal}
 use Rattle.std.specs.List.{enumerate_from, flat_map}
 use Rattle.pb_base.specs.declared.refusal.Refusal.{Refusal}
-use Rattle.pb_reading.specs.Faults.{line_told, code_told, line_and_code}
 use Rattle.pb_base.specs.Taking.{Taking, TookAll, TookPart}
+use Rattle.pb_files.specs.FaultTexts.{file_fault_text}
 use Rattle.pb_driver.specs.FaultTexts.{run_fault_text}
 use Rattle.pb_driver.specs.declared.run.Ran.{Ran}
 use Rattle.pb_command.specs.declared.fault.Fault.{Fault}
@@ -31,15 +31,9 @@ undone_lines ran = worker_lines ran.refusals.items ++ change_lines ran.unfinishe
 
 -- each fault has one line, but what a run left undone as many as there are seats and changes to tell
 abbrev pub fault_lines : Fault → List ℕ
-fault_lines (Fault.Unreadable path) = codes "cannot read " ++ (path.now ++ codes "\n")
-fault_lines (Fault.TooLarge path) = codes "too large " ++ (path.now ++ codes "\n")
-fault_lines (Fault.NotText path) = codes "not text " ++ (path.now ++ codes "\n")
-fault_lines (Fault.Unwritable path) = codes "cannot write " ++ (path.now ++ codes "\n")
-fault_lines (Fault.Text f) = line_and_code (line_told f) (code_told f) ++ codes "\n"
+fault_lines (Fault.File f) = file_fault_text f ++ codes "\n"
 fault_lines (Fault.Run f) = run_fault_text f ++ codes "\n"
 fault_lines (Fault.Undone ran) = undone_lines ran
-fault_lines Fault.Output = codes "cannot write the output\n"
-fault_lines (Fault.NoMemory refused) = codes "no memory\n"
 
 -- the text was written whole, or a beginning of it where a write failed
 abbrev pub SaysLines : List ℕ → Taking → Type 0

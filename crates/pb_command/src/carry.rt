@@ -6,16 +6,16 @@ ghost use Rattle.pb_texts.specs.CommandLines.{IsInRange, swaps_asked};
 ghost use Rattle.pb_threads.specs.Swaps.{spares_of};
 ghost use Rattle.pb_base.specs.Taking.{taking};
 ghost use Rattle.pb_driver.specs.Replays.{ReplaysTexts};
-ghost use Rattle.pb_command.specs.Files.{filing};
-ghost use Rattle.pb_command.specs.Commands.{IsAllDone, RunLeaves, ReplayLeaves, IsToldAs, IsSequential, Commands};
+ghost use Rattle.pb_files.specs.Files.{filing};
+ghost use Rattle.pb_command.specs.Commands.{IsAllDone, files_outcome, RunLeaves, ReplayLeaves, IsToldAs, IsSequential, Commands};
 
-use crate::answer::Verdict;
 use crate::fault::{Fault, tell};
-use crate::paths::Paths;
-use crate::programs::{Listing, assemble_file, check_file, tell_file};
-use crate::reading::{texts_at, three_texts_at};
 use pb_base::{Sink, Ts};
 use pb_driver::{Ran, replay_texts, run_texts};
+use pb_files::{
+    FileFault, Listing, Paths, Verdict, assemble_file, check_file, tell_file, texts_at,
+    three_texts_at,
+};
 use pb_store::{Table, Tablet};
 use pb_texts::{Options, ReplayFiles};
 use pb_threads::end_spares;
@@ -57,7 +57,7 @@ fn run_files<'a, R: Threads + Wait + Sync, T: Tablet + Send, P: Paths, O: Sink>(
         Err(fault) => {
             table.close();
             end_spares(spares);
-            return Err(fault);
+            return Err(Fault::File(fault));
         }
     };
     let ran = run_texts(
@@ -98,11 +98,21 @@ fn replay_files<'a, T: Tablet, P: Paths, O: Sink>(
         Ok(texts) => texts,
         Err(fault) => {
             table.close();
-            return Err(fault);
+            return Err(Fault::File(fault));
         }
     };
     replay_texts(alloc, &manifest, &script, &events, table, files.clock, out)?;
     Ok(Verdict::Accepted)
+}
+
+/// The outcome of what is done with files alone, as a command's.
+pub fn of_files<'a>(left: Result<Verdict, FileFault<'a>>) -> Result<Verdict, Fault<'a>>
+    ensures { result ≡ files_outcome left.entry }
+{
+    match left {
+        Ok(verdict) => Ok(verdict),
+        Err(fault) => Err(Fault::File(fault)),
+    }
 }
 
 /// The status of an outcome. Its fault, if it is one, is told.
@@ -163,15 +173,15 @@ pub fn sequential_command<T: Tablet, P: Paths, O: Sink, E: Sink>(
             profile,
         } => {
             table.close();
-            assemble_file(alloc, *profile, input, output, paths)
+            of_files(assemble_file(alloc, *profile, input, output, paths))
         }
         Options::Dis { file, profile } => {
             table.close();
-            tell_file::<Listing, P, O>(alloc, *profile, file, paths, out)
+            of_files(tell_file::<Listing, P, O>(alloc, *profile, file, paths, out))
         }
         Options::Check(program) => {
             table.close();
-            check_file(alloc, program, paths, out)
+            of_files(check_file(alloc, program, paths, out))
         }
     };
     status_of(alloc, &outcome, err)

@@ -2,43 +2,20 @@
 ghost use Rattle.std.specs.Prelude.{◌≡◌, ◌+◌, false, IfOk, codes, string_bytes};
 ghost use Rattle.pb_base.specs.Taking.{taking};
 ghost use Rattle.pb_command.specs.FaultLines.{worker_line, worker_lines, change_line, change_lines, undone_lines, fault_lines, SaysLines, Tells};
-ghost use Rattle.pb_command.specs.PathFaults.{memory_fault};
 ghost use Rattle.pb_command.specs.declared.fault.Fault.TheVariants as faults;
 
-use pb_asm::AsmFault;
 use pb_base::{NoMemory, Refusal, Sink};
 use pb_driver::{Ran, RunFault};
+use pb_files::FileFault;
 use std::alloc::{AllocError, Global};
 
 /// Why a command failed.
 #[derive(Drop)]
 pub enum Fault<'a> {
-    Unreadable(&'a str),
-    TooLarge(&'a str),
-    NotText(&'a str),
-    Unwritable(&'a str),
-    Text(AsmFault),
+    File(FileFault<'a>),
     Run(RunFault),
     /// The report of a run was written, but a worker was refused or a change is unfinished.
     Undone(Ran),
-    Output,
-    NoMemory(NoMemory),
-}
-
-impl<'a> From<NoMemory> for Fault<'a> {
-    ghost from_gives = { λ e f. f ≡ faults.NoMemory e };
-
-    fn from(e: NoMemory) -> Fault<'a> {
-        Fault::NoMemory(e)
-    }
-}
-
-impl<'a> From<AllocError> for Fault<'a> {
-    ghost from_gives = { λ _ f. f ≡ memory_fault };
-
-    fn from(e: AllocError) -> Fault<'a> {
-        Fault::NoMemory(NoMemory::from(e))
-    }
 }
 
 impl<'a> From<RunFault> for Fault<'a> {
@@ -110,15 +87,9 @@ fn lines_of(alloc: Global, fault: &Fault) -> Result<String, AllocError>
     ensures { IfOk result (λ s. string_bytes s ≡ fault_lines fault.now) }
 {
     match fault {
-        Fault::Unreadable(path) => format!(in alloc; "cannot read {path}\n"),
-        Fault::TooLarge(path) => format!(in alloc; "too large {path}\n"),
-        Fault::NotText(path) => format!(in alloc; "not text {path}\n"),
-        Fault::Unwritable(path) => format!(in alloc; "cannot write {path}\n"),
-        Fault::Text(fault) => format!(in alloc; "{fault}\n"),
+        Fault::File(fault) => format!(in alloc; "{fault}\n"),
         Fault::Run(fault) => format!(in alloc; "{fault}\n"),
         Fault::Undone(ran) => undone_lines(alloc, ran),
-        Fault::Output => String::from_str(alloc, "cannot write the output\n"),
-        Fault::NoMemory(_) => String::from_str(alloc, "no memory\n"),
     }
 }
 

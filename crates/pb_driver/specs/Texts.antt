@@ -2,7 +2,7 @@
 -- where it is read; here stands that they are read in turn, and only so far as they are read. Both drivers cite it,
 -- and the story program.
 use Rattle.std.specs.Prelude.{◌≡◌, ℕ, List, [], Result, Ok, Err}
-use Rattle.pb_driver.specs.Words.{MAX_ENTRIES, Writes, refused_growth, TextFault, ObserverOf, opening, SharedOf, ReadsManifest, script_of, Event, schedule_of, ReportFault}
+use Rattle.pb_driver.specs.Words.{MAX_ENTRIES, Writes, refused_growth, IsFaultOf, ObserverOf, opening, SharedOf, ReadsManifest, script_of, Event, schedule_of, ReportFault}
 use Rattle.pb_driver.specs.declared.fault.RunFault.{RunFault}
 
 -- the fault of a run or a replay whose report ended so
@@ -15,11 +15,6 @@ abbrev pub memory_fault : RunFault
 memory_fault = RunFault.NoMemory refused_growth
 
 -- ---- each text
-
--- reading ends with the fault of this line
-abbrev pub IsFaultOf : {Y : Type 0} → Result Y (ℕ × ℕ) → TextFault → Type 0
-IsFaultOf read (TextFault.NoMemory refused) = ⊥
-IsFaultOf read (TextFault.At line code) = read ≡ Err (line, code)
 
 -- the manifest is refused with this fault, or memory was refused
 abbrev pub IsBadManifest : List ℕ → RunFault → Type 0

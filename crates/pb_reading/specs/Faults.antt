@@ -36,6 +36,11 @@ ReadsText view (Ok x) read = read ≡ Ok (view x)
 ReadsText view (Err (TextFault.NoMemory refused)) read = Unit {0}
 ReadsText view (Err (TextFault.At line code)) read = read ≡ Err (line, code)
 
+-- reading ends with the fault of this line
+abbrev pub IsFaultOf : {Y : Type 0} → Result Y (ℕ × ℕ) → TextFault → Type 0
+IsFaultOf read (TextFault.NoMemory refused) = ⊥
+IsFaultOf read (TextFault.At line code) = read ≡ Err (line, code)
+
 -- the lines one after the other, each after what those before it made; the first fault ends it, and is told by the
 -- number of its line, to which skipped lines count, and by that of its code
 abbrev pub in_lines : {S C : Type 0} → (C → ℕ) → (S → List ℕ → Result S C) → ℕ → S → List (List ℕ) → Result S (ℕ × ℕ)

@@ -16,7 +16,8 @@ mod tablets;
 
 use crate::tablets::{first_tablets, spares_for};
 use pb_base::{NoMemory, Out, Row};
-use pb_command::{Files, command, exit_status, lent, refuse, words_given};
+use pb_command::{command, exit_status, lent, refuse, words_given};
+use pb_files::Files;
 use pb_store::{Table, Tablet};
 use pb_texts::{Options, options};
 use pb_threads::end_spares;

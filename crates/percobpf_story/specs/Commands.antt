@@ -1,18 +1,18 @@
 -- What a command of the story program leaves: its status, its output and the line of its fault. No path is written.
 use Rattle.std.specs.Prelude.{ℕ, Result}
 use Rattle.pb_texts.specs.declared.words.choice.StoryOptions.{StoryOptions}
-use Rattle.pb_command.specs.declared.answer.Verdict.{Verdict}
+use Rattle.pb_files.specs.declared.answer.Verdict.{Verdict}
 use Rattle.pb_command.specs.declared.fault.Fault.{Fault}
 use Rattle.pb_base.specs.Taking.{Taking}
 use Rattle.pb_story.specs.Frames.{frames_text}
-use Rattle.pb_command.specs.Files.{Held, Filing, KeepsFiles}
-use Rattle.pb_command.specs.Programs.{AnswerLeaves, TellsProgram}
-use Rattle.pb_command.specs.Commands.{ReplayLeaves, IsToldAs}
+use Rattle.pb_files.specs.Files.{Held, Filing, KeepsFiles}
+use Rattle.pb_files.specs.Programs.{AnswerLeaves, TellsProgram}
+use Rattle.pb_command.specs.Commands.{FilesLeave, ReplayLeaves, IsToldAs}
 use Rattle.percobpf_story.specs.Replays.{TellsTexts}
 
 -- What is left on the output where a command ended so, with a table of so many tablets. What is known before a slot is the same for every version.
 abbrev pub StoryLeaves : StoryOptions → ℕ → Held → Taking → Result Verdict Fault → Type 0
-StoryLeaves (StoryOptions.Frames program) places before out outcome = AnswerLeaves (TellsProgram frames_text program.profile) (before program.file.now) program.file.now out outcome
+StoryLeaves (StoryOptions.Frames program) places before out outcome = FilesLeave (AnswerLeaves (TellsProgram frames_text program.profile) (before program.file.now) program.file.now out) outcome
 StoryLeaves (StoryOptions.Replay files) places before out outcome = ReplayLeaves (TellsTexts places) before files out outcome
 
 -- how a command ended, as its status and the line of its fault tell it

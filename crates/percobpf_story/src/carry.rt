@@ -3,7 +3,7 @@
 ghost use Rattle.std.specs.Prelude.{◌≡◌, false, length};
 ghost use Rattle.pb_store.specs.Contents.{nothing};
 ghost use Rattle.pb_base.specs.Taking.{taking};
-ghost use Rattle.pb_command.specs.Files.{filing};
+ghost use Rattle.pb_files.specs.Files.{filing};
 ghost use Rattle.pb_command.specs.Commands.{ReplayLeaves};
 ghost use Rattle.percobpf_story.specs.Replays.{TellsTexts};
 ghost use Rattle.percobpf_story.specs.Commands.{StoryCommands};
@@ -11,7 +11,8 @@ ghost use Rattle.percobpf_story.specs.Commands.{StoryCommands};
 use crate::frames::Frames;
 use crate::replay::tell_texts;
 use pb_base::Sink;
-use pb_command::{Fault, Paths, Verdict, status_of, tell_file, three_texts_at};
+use pb_command::{Fault, of_files, status_of};
+use pb_files::{Paths, Verdict, tell_file, three_texts_at};
 use pb_store::{Table, Tablet};
 use pb_texts::{ReplayFiles, StoryOptions};
 use std::alloc::Global;
@@ -35,7 +36,7 @@ fn tell_files<'a, T: Tablet, P: Paths, O: Sink>(
         Ok(texts) => texts,
         Err(fault) => {
             table.close();
-            return Err(fault);
+            return Err(Fault::File(fault));
         }
     };
     tell_texts(alloc, &manifest, &script, &events, table, files.clock, out)?;
@@ -67,7 +68,7 @@ pub fn story_command<T: Tablet, P: Paths, O: Sink, E: Sink>(
         // The version isn't asked, since what is known before a slot is the same for records of each.
         StoryOptions::Frames(program) => {
             table.close();
-            tell_file::<Frames, P, O>(alloc, program.profile, program.file, paths, out)
+            of_files(tell_file::<Frames, P, O>(alloc, program.profile, program.file, paths, out))
         }
         StoryOptions::Replay(files) => tell_files(alloc, files, paths, table, out),
     };

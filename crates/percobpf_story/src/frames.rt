@@ -2,7 +2,7 @@
 ghost use Rattle.pb_story.specs.Frames.{frames_text};
 
 use pb_base::NoMemory;
-use pb_command::ProgramText;
+use pb_files::ProgramText;
 use pb_isa::Program;
 use std::alloc::Global;
 

@@ -2,8 +2,8 @@
 //! `replay MANIFEST SCRIPT SCHEDULE` does a schedule's events, prints what each did, and then the report.
 //!
 //! It stands beside `percobpf`, which prints neither, so that no contract of the command has a case for lines and
-//! frames. It reads files, tells faults and answers its status as `percobpf` does, by the calls of `pb_command`.
-//! `frames` of the bytes of examples/watch.s begins with `0 r1=record+0 r10=stack+0`.
+//! frames. It reads files, tells faults and answers its status as `percobpf` does, by the calls of `pb_files` and
+//! `pb_command`. `frames` of the bytes of examples/watch.s begins with `0 r1=record+0 r10=stack+0`.
 #![tactic(auto)]
 
 mod carry;
@@ -12,7 +12,8 @@ mod replay;
 
 use crate::carry::story_command;
 use pb_base::{NoMemory, Out, Row};
-use pb_command::{Files, exit_status, lent, refuse, words_given};
+use pb_command::{exit_status, lent, refuse, words_given};
+use pb_files::Files;
 use pb_memtablet::ListTablet;
 use pb_store::Table;
 use pb_texts::{StoryOptions, story_options};

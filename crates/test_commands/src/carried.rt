@@ -4,10 +4,11 @@ ghost use Rattle.pb_base.specs.Growths.{refused_growth};
 ghost use Rattle.pb_store.specs.Contents.{nothing};
 ghost use Rattle.pb_texts.specs.CommandLines.{IsInRange, swaps_asked};
 ghost use Rattle.pb_command.specs.Commands.{IsSequential};
-ghost use Rattle.pb_command.specs.declared.paths.PathFault.TheVariants as faults;
+ghost use Rattle.pb_files.specs.declared.paths.PathFault.TheVariants as faults;
 
 use pb_base::{NoMemory, Sink, SinkFault};
-use pb_command::{PathFault, Paths, command, sequential_command};
+use pb_command::{command, sequential_command};
+use pb_files::{PathFault, Paths};
 use pb_store::{Table, Tablet};
 use pb_texts::Options;
 use std::alloc::Global;

@@ -4,7 +4,7 @@ ghost use Rattle.std.specs.Str.{bytes_eq};
 ghost use Rattle.pb_command.specs.Commands.{IsSequential};
 
 use crate::carried::{File, Outcome, Unread, carry, copy_of, has_told, is_cut};
-use pb_command::{PathFault, Paths};
+use pb_files::{PathFault, Paths};
 use pb_isa::Profile;
 use pb_texts::Options;
 use std::alloc::Global;
@@ -32,7 +32,7 @@ impl<'a> Paths for Folder<'a> {
     ghost use Rattle.std.specs.Option.{option_map, ok_or};
     ghost use Rattle.std.specs.Result.{result_ok};
     ghost use Rattle.std.specs.Str.{bytes_eq};
-    ghost use Rattle.pb_command.specs.declared.paths.PathFault.TheVariants.{Failed};
+    ghost use Rattle.pb_files.specs.declared.paths.PathFault.TheVariants.{Failed};
 
     // An input that isn't read answers a fault, but which isn't said here, as it is made anew each time.
     ghost held = { λ f path.

@@ -1,5 +1,5 @@
-use Rattle.std.proofs.Common.{inl, refl}
+use Rattle.std.proofs.Common.{refl}
 use Rattle.pb_command.proofs.carry.replay_files.Goals as goal
 
 pub returns-in-Err-clause-ran : goal.returns-in-Err-clause-ran
-returns-in-Err-clause-ran g c = inl (c.in-Err.ensures.fault, (refl, c.requires.unfailed))
+returns-in-Err-clause-ran g c = (c.in-Err.ensures.fault, (refl, c.requires.unfailed))

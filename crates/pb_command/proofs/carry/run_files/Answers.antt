@@ -1,5 +1,5 @@
 use Rattle.std.proofs.Common.{arith, rules, Ok}
-use Rattle.pb_command.specs.Files.{IsKnownAs}
+use Rattle.pb_files.specs.Files.{IsKnownAs}
 use Rattle.pb_command.specs.Commands.{IsAllDone}
 use Rattle.pb_command.proofs.carry.run_files.Goals as goal
 

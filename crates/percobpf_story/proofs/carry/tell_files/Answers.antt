@@ -1,5 +1,5 @@
-use Rattle.std.proofs.Common.{inl, refl}
+use Rattle.std.proofs.Common.{refl}
 use Rattle.percobpf_story.proofs.carry.tell_files.Goals as goal
 
 pub returns-in-Err-clause-told : goal.returns-in-Err-clause-told
-returns-in-Err-clause-told g c = inl (c.in-Err.ensures.fault, (refl, c.requires.unfailed))
+returns-in-Err-clause-told g c = (c.in-Err.ensures.fault, (refl, c.requires.unfailed))

@@ -1,0 +1,26 @@
+//! What is done with files, whatever the command: they are read as bytes and as text, and programs in them are
+//! assembled, listed and checked.
+//!
+//! Files are known by their paths alone (`Paths`), so that files in memory do as well, and the contracts speak wherever
+//! it is known what a reading answers. The system's are `Files`. It stands beside `pb_driver`, since neither asks for
+//! the other: `pb_command` takes both, and the story program takes the reading too. All files of a command are read
+//! before one is taken as text, and a program's text is made before any of it is written. So of an empty file
+//! `check_file` writes `refused slot 0 code 10`, and a file that isn't there is a fault whose text is
+//! `cannot read PATH`.
+#![tactic(auto)]
+
+mod answer;
+mod fault;
+mod files;
+mod laws;
+mod paths;
+mod programs;
+mod reading;
+
+pub use answer::Verdict;
+pub use fault::FileFault;
+pub use files::Files;
+pub use laws::{first_file_fault_is_told, known_programs_are_judged};
+pub use paths::{PathFault, Paths};
+pub use programs::{Listing, ProgramText, assemble_file, check_file, tell_file};
+pub use reading::{texts_at, three_texts_at};
