@@ -1,7 +1,7 @@
 # Sourced by the scripts that time `time_programs`: how long it takes for programs of 64 and of 512 slots. Each time is the
 # median of RUNS runs (5, if not set), taken in turns, and is of the whole process.
 top=$(cd "$(dirname "${BASH_SOURCE[0]}")/.." && pwd)
-program=$top/crates/time_programs/out/time_programs
+program=$top/crates/time_bench/out/time_bench
 runs=${RUNS:-5}
 room=$(mktemp -d)
 trap 'rm -rf "$room"' EXIT
@@ -18,10 +18,10 @@ median() { sort -n "$room/$1" | sed -n "$(((runs + 1) / 2))p"; }
 
 # Sets `small` and `large` to the microseconds for 64 and 512 slots.
 time_both() {
-    "$top/checks/build" time_programs "$1" 64
+    "$top/checks/build" time_bench programs "$1" 64
     for ((run = 0; run < runs; run++)); do
-        microseconds "$program" "$1" 64 >>"$room/64"
-        microseconds "$program" "$1" 512 >>"$room/512"
+        microseconds "$program" programs "$1" 64 >>"$room/64"
+        microseconds "$program" programs "$1" 512 >>"$room/512"
     done
     small=$(median 64)
     large=$(median 512)

@@ -12,8 +12,8 @@ from dataclasses import dataclass, field, replace
 from functools import cache
 
 # how many tables there are, and how many rows in all, so that a lost one is noticed
-TABLE_COUNT = 280
-ROW_COUNT = 9735
+TABLE_COUNT = 282
+ROW_COUNT = 9750
 
 TOO_LARGE = bytes(16_777_217)
 
@@ -33,6 +33,12 @@ COPY = (
 
 # The program of rows that no program of the product has words for.
 ROWS = "test_rows"
+
+# The program that the scripts of bench/ time.
+TIMED = "time_bench"
+
+# The words by which a new program is tried that has no help of its own.
+TRIED_BY = {ROWS: ["machine", "--help"], TIMED: ["tablets", "list", "build", "1"]}
 
 
 @dataclass(frozen=True)

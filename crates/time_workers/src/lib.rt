@@ -1,7 +1,8 @@
-//! A program to be timed: with the words `WORKERS COUNT ROWS SWAPS` so many workers, 1 to 63, make so many changes, each of one
+//! Times workers: with the words `WORKERS COUNT ROWS SWAPS` so many workers, 1 to 63, make so many changes, each of one
 //! cell: with `spread` of a row of its own, with `one` all of one row. Meanwhile so many tablets are replaced, up to 1,000. With
-//! `busy` as a fifth word the manifest has an observer that copies each change. It prints how many calls were answered by a conflict, and how many changes are unfinished, where no seat
-//! was refused a step, the report is written, and no mark and no lock is left.
+//! `busy` as a fifth word the manifest has an observer that copies each change. It prints how many calls were answered by a
+//! conflict, and how many changes are unfinished, where no seat was refused a step, the report is written, and no mark and no
+//! lock is left.
 #![tactic(auto)]
 
 ghost use Rattle.std.specs.Prelude.{◌≤◌, ◌<◌};
@@ -12,9 +13,7 @@ use pb_memtablet::EitherTablet;
 use pb_script::report;
 use pb_steps::Answer;
 use pb_threads::{Open, Worked};
-use std::alloc::{AllocError, Global};
-use std::env;
-use std::process::ExitCode;
+use std::alloc::Global;
 use std::sync::Wait;
 use std::thread::Threads;
 use test_crew::worked_on;
@@ -37,7 +36,7 @@ struct Task {
 }
 
 // What was met.
-#[derive(Clone, Copy, Debug, Drop)]
+#[derive(Clone, Copy, Drop)]
 struct Met {
     conflicts: usize,
     unfinished: usize,
@@ -114,7 +113,7 @@ fn do_task<R: Threads + Wait + Sync>(
     Ok(met_by(alloc, worked))
 }
 
-// What the words behind the program's own ask for.
+// What the words behind the crate's own ask for.
 fn task_in(words: &[String]) -> Option<Task> {
     let workers = words.get(1)?.as_str().parse::<u32>().ok()?;
     let count = words.get(2)?.as_str().parse::<u32>().ok()?;
@@ -140,25 +139,17 @@ fn task_in(words: &[String]) -> Option<Task> {
     })
 }
 
-fn do_words<R: Threads + Wait + Sync>(rt: &R, alloc: Global, words: &[String]) -> Option<Met> {
+/// Whether what these words ask for, the crate's own first, was done and printed; none where they ask for nothing, or there is
+/// no memory.
+pub fn is_done<R: Threads + Wait + Sync>(
+    threads: &R,
+    rt: &HostRuntime,
+    words: &[String],
+) -> Option<bool> {
     let task = task_in(words)?;
-    do_task(rt, alloc, &task).ok()?
-}
-
-fn main(rt: HostRuntime) -> ExitCode {
-    let Ok(args) = env::args(&rt) else {
-        return ExitCode::FAILURE;
-    };
-    let words: Result<Vec<String>, AllocError> = args.collect(rt.alloc());
-    let Ok(words) = words else {
-        return ExitCode::FAILURE;
-    };
-    match do_words(&rt, rt.alloc(), &words) {
-        Some(met) => {
-            let (conflicts, unfinished) = (met.conflicts, met.unfinished);
-            let _ = println!(rt; "{conflicts} {unfinished}");
-            ExitCode::SUCCESS
-        }
-        None => ExitCode::FAILURE,
-    }
+    let Met {
+        conflicts,
+        unfinished,
+    } = do_task(threads, rt.alloc(), &task).ok()??;
+    Some(println!(rt; "{conflicts} {unfinished}").is_ok())
 }

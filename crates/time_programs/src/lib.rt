@@ -15,8 +15,6 @@ use pb_helpers::HelperTable;
 use pb_isa::{AluOp, Extension, Insn, Operand, Profile, Program, Reg, Size, Width};
 use pb_verify::verify;
 use std::alloc::Global;
-use std::env;
-use std::process::ExitCode;
 
 // Straight code: arithmetic on register 0, and its way over the stack.
 fn insn_at(place: u16) -> Insn {
@@ -113,8 +111,7 @@ fn tell_run(rt: &HostRuntime, path: &str, runs: &str, is_by_steps: bool) -> Opti
         Ok(ran) => {
             let end = ran.finished.result();
             let writes = ran.finished.writes().len();
-            let _ = println!(rt; "result {end} taken {} writes {writes}", ran.taken);
-            Some(true)
+            Some(println!(rt; "result {end} taken {} writes {writes}", ran.taken).is_ok())
         }
         Err(NoRun::Refused(refused)) => {
             let _ = println!(rt; "{refused}");
@@ -124,10 +121,9 @@ fn tell_run(rt: &HostRuntime, path: &str, runs: &str, is_by_steps: bool) -> Opti
     }
 }
 
-// Does what the words behind the program's own ask for: whether it went, none where they ask for nothing.
-fn obey(rt: &HostRuntime) -> Option<bool> {
-    let args = env::args(rt).ok()?;
-    let words: Vec<String> = args.collect(rt.alloc()).ok()?;
+/// Whether what these words ask for, the crate's own first, was done and printed; none where they ask for nothing, or there is
+/// no memory.
+pub fn is_done(rt: &HostRuntime, words: &[String]) -> Option<bool> {
     let word = words.get(1)?.as_str();
     if word == "run" || word == "step" {
         return tell_run(
@@ -138,13 +134,5 @@ fn obey(rt: &HostRuntime) -> Option<bool> {
         );
     }
     let total = total_of(rt, word, words.get(2)?.as_str())?;
-    let _ = println!(rt; "{total}");
-    Some(true)
-}
-
-fn main(rt: HostRuntime) -> ExitCode {
-    match obey(&rt) {
-        Some(true) => ExitCode::SUCCESS,
-        _ => ExitCode::FAILURE,
-    }
+    Some(println!(rt; "{total}").is_ok())
 }

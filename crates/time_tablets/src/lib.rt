@@ -13,8 +13,6 @@ use pb_base::{Cell, Column, Content, NoMemory, Row, Ts};
 use pb_memtablet::{ListTablet, SlabTablet};
 use pb_store::{Edit, Item, Slot, Sort, Table, Tablet};
 use std::alloc::Global;
-use std::env;
-use std::process::ExitCode;
 
 // The n-th row: no two are the same below this prime.
 fn row_at(n: u32) -> Row {
@@ -222,29 +220,25 @@ fn copy(alloc: Global, is_list: bool, count: u32, times: u32) -> Result<Option<u
     Ok(fill_and_swap(parts, spares, count))
 }
 
-fn do_words(rt: &HostRuntime) -> Option<usize> {
-    let args = env::args(rt).ok()?;
-    let words: Vec<String> = args.collect(rt.alloc()).ok()?;
+// How many entries, met entries or taken spares there are, once what these words ask for is done.
+fn count_by(alloc: Global, words: &[String]) -> Option<usize> {
     let is_list = words.get(1)?.as_str() == "list";
     let word = words.get(2)?.as_str();
     let count = words.get(3)?.parse::<u32>().ok()?;
     if word == "copy" {
         let times = words.get(4)?.parse::<u32>().ok()?;
-        return copy(rt.alloc(), is_list, count, times).ok()?;
+        return copy(alloc, is_list, count, times).ok()?;
     }
     if is_list {
-        time_tablet(ListTablet::new(rt.alloc()), word, count)
+        time_tablet(ListTablet::new(alloc), word, count)
     } else {
-        time_tablet(SlabTablet::new(rt.alloc()), word, count)
+        time_tablet(SlabTablet::new(alloc), word, count)
     }
 }
 
-fn main(rt: HostRuntime) -> ExitCode {
-    match do_words(&rt) {
-        Some(count) => {
-            let _ = println!(rt; "{count}");
-            ExitCode::SUCCESS
-        }
-        None => ExitCode::FAILURE,
-    }
+/// Whether what these words ask for, the crate's own first, was done and printed; none where they ask for nothing, or there is
+/// no memory.
+pub fn is_done(rt: &HostRuntime, words: &[String]) -> Option<bool> {
+    let count = count_by(rt.alloc(), words)?;
+    Some(println!(rt; "{count}").is_ok())
 }
