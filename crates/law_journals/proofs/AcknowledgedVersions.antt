@@ -58,8 +58,8 @@ module _ (journal : List Entry) (state : StateOf) (g : Agrees journal state) (i 
         absurd cc
     finds seat s at is _ new step = absurd step
 
-pub found : AcknowledgedVersionsAreFound
-found observers seats clock journal state l s o row c a both newer seat answer new step =
+pub finds_acknowledged : AcknowledgedVersionsAreFound
+finds_acknowledged observers seats clock journal state l s o row c a both newer seat answer new step =
     let g = legal_agrees observers seats clock journal state l in
     let i = legal_sound observers seats clock journal state l in
     let x = observed_cell state.observers o row in

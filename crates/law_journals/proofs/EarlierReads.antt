@@ -19,8 +19,8 @@ taken_at state seat s x t m low = rw (own_is state seat s.0 m) (grind (arith, na
 refused_above : (state : StateOf) (seat : ℕ) (s : Ts) (x : Cell) (t : Ts) → MayRead state seat s.0 → s.0 < t.0 → step_reason state seat (Step.ReadAt s x t) ≡ Some Reason.LaterThanStart
 refused_above state seat s x t m high = rw (own_is state seat s.0 m) (grind (arith, nat_tests, m.reading, high))
 
-pub taken : ReadsUpToTheStartAreTaken
-taken state seat s x t m = (taken_at state seat s x t m, refused_above state seat s x t m)
+pub reads_are_taken : ReadsUpToTheStartAreTaken
+reads_are_taken state seat s x t m = (taken_at state seat s x t m, refused_above state seat s x t m)
 
 -- where each lock is later, none stands up to t
 no_lock : (e : Entries) (x : Cell) (t : ℕ) → LocksAreLater e x t → NoLockUpTo e x t

@@ -13,8 +13,8 @@ value_is (Content.Value v) reply is = is
 value_is Content.Deleted reply is = is
 value_is (Content.Stamp t) reply is = is
 
-pub shown : ValuesAreShown
-shown observers journal s x reply = (
+pub value_is_shown : ValuesAreShown
+value_is_shown observers journal s x reply = (
   elim [ inl none ↦ inl none | inr k ↦ inr (k.0, k.1, k.2, k.3, shows k.2 reply k.4) ],
   elim [ inl none ↦ inl none | inr k ↦ inr (k.0, k.1, k.2, k.3, value_is k.2 reply k.4) ],
 )

@@ -9,18 +9,18 @@ use Rattle.law_programs.specs.Touches.{Touch, touch, size_bytes, Touches, Loadin
 use Rattle.law_programs.specs.Targets.{jump_offset, next_slot}
 use Rattle.law_programs.specs.Breaks.{IsWrong, Breaks}
 use Rattle.law_programs.proofs.Told.{each_one, each_when}
-use Rattle.law_programs.proofs.Tests.{Decides-unset, Decides-pointer, Decides-stack, Decides-none, bytes_are, unwritten, lt_from}
+use Rattle.law_programs.proofs.Tests.{Decides-unset, Decides-pointer, Decides-stack, Decides-none, bytes_are, some_unwritten, lt_from}
 use Rattle.pb_base.proofs.Logic.{le_true as le_from}
 
 some_and : {A : Type 0} (o : Option A) (x : A) (Q : A → Type 0) → o ≡ Some x → Q x → IsSomeAnd o Q
 some_and o x Q e q = subst (λ p. IsSomeAnd p Q) (sym e) q
 
 -- where the rules' test finds a pointer, one operand is it
-pub pointing : (f : Frame) (d : Reg) (x : Operand) → on_pointer f d x ≡ true → (r : ℕ) × ((r ≡ number d) ⊎ IsOperand x r) × IsPointer (kind_of f r)
-pointing f d (Operand.Imm k) e =
+pub one_is_pointer : (f : Frame) (d : Reg) (x : Operand) → on_pointer f d x ≡ true → (r : ℕ) × ((r ≡ number d) ⊎ IsOperand x r) × IsPointer (kind_of f r)
+one_is_pointer f d (Operand.Imm k) e =
     let h = (Decides-or (is_pointer (at f d)) false (Decides-pointer (at f d)) ((λ (e : false ≡ true). let z : ⊥ = cc in z), (λ (z : ⊥). absurd z))).0 e in
     elim h as (λ _. (r : ℕ) × ((r ≡ number d) ⊎ IsOperand (Operand.Imm k) r) × IsPointer (kind_of f r)) [ inl p ↦ (number d, inl refl, p) | inr z ↦ absurd z ]
-pointing f d (Operand.Reg s) e =
+one_is_pointer f d (Operand.Reg s) e =
     let h = (Decides-or (is_pointer (at f d)) (is_pointer (at f s)) (Decides-pointer (at f d)) (Decides-pointer (at f s))).0 e in
     elim h as (λ _. (r : ℕ) × ((r ≡ number d) ⊎ IsOperand (Operand.Reg s) r) × IsPointer (kind_of f r)) [ inl p ↦ (number d, inl refl, p) | inr p ↦ (number s, inr refl, p) ]
 
@@ -47,13 +47,13 @@ module _ (j : JudgedOf) (n : ℕ) (f : Frame) (i : Insn) where
       let a = unset_breaks (number d) (reading (number d) (inl refl)) in
       let b = operand_breaks x (λ r h. reading r (inr h)) in
       let s = sets_breaks d setting in
-      let p = each_when Broken (on_pointer f d x) RuleCode.PointerArithmetic (λ e. let q = pointing f d x e in (arithmetic, (q.0, reading q.0 q.1, q.2))) in
+      let p = each_when Broken (on_pointer f d x) RuleCode.PointerArithmetic (λ e. let q = one_is_pointer f d x e in (arithmetic, (q.0, reading q.0 q.1, q.2))) in
       search (All-append, a, b, s, p)
 
   -- ---- memory
 
   stack_reads_breaks : (t : Touch) (k : ℤ) → Touches j i t → IsReading t.how → kind_of f t.base ≡ Kind.Stack k → All Broken (stack_reads f (k +ℤ t.offset) t.bytes)
-  stack_reads_breaks t k h reading is = grind (arith, each_when, unwritten, each_one, not_from_Decides, t.offset, t.bytes)
+  stack_reads_breaks t k h reading is = grind (arith, each_when, some_unwritten, each_one, not_from_Decides, t.offset, t.bytes)
 
   stack_writes_breaks : (t : Touch) (k : ℤ) → Touches j i t → kind_of f t.base ≡ Kind.Stack k → All Broken (stack_writes (k +ℤ t.offset) t.bytes)
   stack_writes_breaks t k h is = each_when Broken (not (in_stack (k +ℤ t.offset) t.bytes)) RuleCode.OutsideStack (λ e. (t, k, h, is, (Decides-not _ (Decides-stack (k +ℤ t.offset) t.bytes)).0 e))
@@ -176,7 +176,7 @@ all_broken j n f (Insn.JumpIf c w d x o) =
     let s = operand_breaks j n f i x (λ r h. inr h) in
     let g = jump_breaks j n f i o refl in
     let b = falls_breaks j n f i (n + 1) refl in
-    let p = each_when (Broken j n f i) (on_pointer f d x) RuleCode.PointerCompared (λ e. let q = pointing f d x e in (tt, (q.0, q.1, q.2))) in
+    let p = each_when (Broken j n f i) (on_pointer f d x) RuleCode.PointerCompared (λ e. let q = one_is_pointer f d x e in (tt, (q.0, q.1, q.2))) in
     search (All-append, a, s, g, b, p)
 all_broken j n f (Insn.Call k) =
     let a = call_breaks j n f k (declared_helper j.helpers k) refl in

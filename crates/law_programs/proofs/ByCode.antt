@@ -4,10 +4,10 @@ use Rattle.std.proofs.lemmas.List.Elements.{All-contains, Contains-append_left, 
 use Rattle.law_programs.specs.Words.{Insn, Operand, number, Helper, declared_helper, JudgedOf, Kind, Frame, kind_of, RuleCode, at, loads, stores, insn_rules}
 use Rattle.law_programs.specs.Touches.{Touch, size_bytes, HelperTouches, Storing, IsReading, IsOfInstruction, LieInStack, LieInRecord, SomeUnwritten}
 use Rattle.law_programs.specs.Breaks.{Breaks, RulesAreByCode}
-use Rattle.law_programs.proofs.Told.{stands}
+use Rattle.law_programs.proofs.Told.{when_contains}
 use Rattle.law_programs.proofs.Tests.{bytes_are}
 use Rattle.law_programs.proofs.Broken.{all_broken}
-use Rattle.law_programs.proofs.Listed.{unset_at, pointer_at, is_ten, unset_operand, pointing, falls_at, numeric_sets, numeric_pointer, alu_operand, alu_sets, alu_pointer, loads_outside, loads_unwritten, loads_beyond, loads_number, stores_outside, stores_record, stores_number, call_unset, call_outside, call_unwritten, call_wrong, jumps_back, jumps_outside, jumps_into}
+use Rattle.law_programs.proofs.Listed.{unset_at, pointer_at, is_ten, unset_operand, finds_pointer, falls_at, numeric_sets, numeric_pointer, alu_operand, alu_sets, alu_pointer, loads_outside, loads_unwritten, loads_beyond, loads_number, stores_outside, stores_record, stores_number, call_unset, call_outside, call_unwritten, call_wrong, jumps_back, jumps_outside, jumps_into}
 
 -- the code stands in what the instruction's rules list
 abbrev Lists : RuleCode → Type 0
@@ -20,38 +20,38 @@ reads_unset j n f (Insn.Alu op w d (Operand.Imm k)) (r, inr h, e) = absurd h
 reads_unset j n f (Insn.Alu op w d (Operand.Reg s)) (r, inr h, e) =
     let a = alu_operand f op w d s (unset_at f r (number s) h e) in
     search (Contains-append_left, a)
-reads_unset j n f (Insn.MovSx w z d r) b = let e = unset_at f b.0 (number r) b.1 b.2 in search (Contains-append_left, stands)
+reads_unset j n f (Insn.MovSx w z d r) b = let e = unset_at f b.0 (number r) b.1 b.2 in search (Contains-append_left, when_contains)
 reads_unset j n f (Insn.Neg w d) b = grind arith
 reads_unset j n f (Insn.LoadImm d v) b = absurd b.1
-reads_unset j n f (Insn.Load z x d r o) b = let e = unset_at f b.0 (number r) b.1 b.2 in search (Contains-append_left, stands)
-reads_unset j n f (Insn.StoreImm z d o k) b = let e = unset_at f b.0 (number d) b.1 b.2 in search (Contains-append_left, stands)
-reads_unset j n f (Insn.Store z d s o) (r, inl h, e) = let u = unset_at f r (number d) h e in search (Contains-append_left, stands)
-reads_unset j n f (Insn.Store z d s o) (r, inr h, e) = let u = unset_at f r (number s) h e in search (Contains-append_left, Contains-append_right, stands)
+reads_unset j n f (Insn.Load z x d r o) b = let e = unset_at f b.0 (number r) b.1 b.2 in search (Contains-append_left, when_contains)
+reads_unset j n f (Insn.StoreImm z d o k) b = let e = unset_at f b.0 (number d) b.1 b.2 in search (Contains-append_left, when_contains)
+reads_unset j n f (Insn.Store z d s o) (r, inl h, e) = let u = unset_at f r (number d) h e in search (Contains-append_left, when_contains)
+reads_unset j n f (Insn.Store z d s o) (r, inr h, e) = let u = unset_at f r (number s) h e in search (Contains-append_left, Contains-append_right, when_contains)
 reads_unset j n f (Insn.Jump o) b = absurd b.1
-reads_unset j n f (Insn.JumpIf c w d x o) (r, inl h, e) = let u = unset_at f r (number d) h e in search (Contains-append_left, stands)
+reads_unset j n f (Insn.JumpIf c w d x o) (r, inl h, e) = let u = unset_at f r (number d) h e in search (Contains-append_left, when_contains)
 reads_unset j n f (Insn.JumpIf c w d x o) (r, inr h, e) = let u = unset_operand f x r h e in search (Contains-append_left, Contains-append_right, u)
 reads_unset j n f (Insn.Call k) b = let a = call_unset f (declared_helper j.helpers k) b.0 b.1 b.2 in search (Contains-append_left, a)
-reads_unset j n f Insn.Exit b = let e = unset_at f b.0 0 b.1 b.2 in search (Contains-append_left, stands)
+reads_unset j n f Insn.Exit b = let e = unset_at f b.0 0 b.1 b.2 in search (Contains-append_left, when_contains)
 
 writes_r10 : Lists RuleCode.WritesR10
 writes_r10 j n f (Insn.Alu op w d x) b = let a = alu_sets f op w d x (is_ten d b) in search (Contains-append_left, a)
-writes_r10 j n f (Insn.MovSx w z d r) b = let e = is_ten d b in search (Contains-append_left, Contains-append_right, stands)
+writes_r10 j n f (Insn.MovSx w z d r) b = let e = is_ten d b in search (Contains-append_left, Contains-append_right, when_contains)
 writes_r10 j n f (Insn.Neg w d) b = let a = numeric_sets f d (Operand.Imm (pos 0)) (is_ten d b) in search (Contains-append_left, a)
-writes_r10 j n f (Insn.LoadImm d v) b = let e = is_ten d b in search (Contains-append_left, stands)
-writes_r10 j n f (Insn.Load z x d r o) b = let e = is_ten d b in search (Contains-append_left, Contains-append_right, stands)
+writes_r10 j n f (Insn.LoadImm d v) b = let e = is_ten d b in search (Contains-append_left, when_contains)
+writes_r10 j n f (Insn.Load z x d r o) b = let e = is_ten d b in search (Contains-append_left, Contains-append_right, when_contains)
 writes_r10 j n f _ b = absurd b
 
 -- 23: of arithmetic alone, on either side
 pointer_arithmetic : Lists RuleCode.PointerArithmetic
 pointer_arithmetic j n f (Insn.Alu op w d x) b = let a = alu_pointer f op w d x b.1.0 b.0 b.1.1 b.1.2 in search (Contains-append_left, a)
-pointer_arithmetic j n f (Insn.MovSx w z d r) b = let e = pointer_at f b.1.0 (number r) b.1.1 b.1.2 in search (Contains-append_left, Contains-append_right, stands)
+pointer_arithmetic j n f (Insn.MovSx w z d r) b = let e = pointer_at f b.1.0 (number r) b.1.1 b.1.2 in search (Contains-append_left, Contains-append_right, when_contains)
 pointer_arithmetic j n f (Insn.Neg w d) b =
-    let a = numeric_pointer f d (Operand.Imm (pos 0)) (pointing f d (Operand.Imm (pos 0)) b.1.0 (inl b.1.1) b.1.2) in
+    let a = numeric_pointer f d (Operand.Imm (pos 0)) (finds_pointer f d (Operand.Imm (pos 0)) b.1.0 (inl b.1.1) b.1.2) in
     search (Contains-append_left, a)
 pointer_arithmetic j n f _ b = absurd b.0
 
 pointer_stored : Lists RuleCode.PointerStored
-pointer_stored j n f (Insn.Store z d s o) b = let e = pointer_at f b.0 (number s) b.1 b.2 in search (Contains-append_left, Contains-append_right, stands)
+pointer_stored j n f (Insn.Store z d s o) b = let e = pointer_at f b.0 (number s) b.1 b.2 in search (Contains-append_left, Contains-append_right, when_contains)
 pointer_stored j n f _ b = absurd b.1
 
 -- 25: of loads, stores and helpers alike
@@ -152,7 +152,7 @@ exits_with_pointer : Lists RuleCode.ExitsWithPointer
 exits_with_pointer j n f x b = grind arith
 
 pointer_compared : Lists RuleCode.PointerCompared
-pointer_compared j n f (Insn.JumpIf c w d x o) b = let e = pointing f d x b.1.0 b.1.1 b.1.2 in search (Contains-append_left, Contains-append_right, stands)
+pointer_compared j n f (Insn.JumpIf c w d x o) b = let e = finds_pointer f d x b.1.0 b.1.1 b.1.2 in search (Contains-append_left, Contains-append_right, when_contains)
 pointer_compared j n f _ b = absurd b.0
 
 -- each code, by its own lemma above

@@ -30,8 +30,8 @@ module _ (one : OneProgram) (read : ReadAlike) where
   new_bytes : (i : Insn) (bytes : List ℕ) → is_of Profile.One i ≡ false → slots (i ∷ []) ≡ 1 → is_of Profile.Two i ≡ true → Fits i → bytes ≡ encoding (i ∷ []) → AreBytesOf i bytes
   new_bytes i bytes none one_slot has fits spelt = bytes_of i bytes none (slot_of i bytes one_slot has fits spelt)
 
-  pub encoded : SignsAreEncoded
-  encoded = record {
+  pub signs_encoded : SignsAreEncoded
+  signs_encoded = record {
     byte_to_64 = new_bytes _ _ refl refl refl tt refl;
     half_to_64 = new_bytes _ _ refl refl refl tt refl;
     word_to_64 = new_bytes _ _ refl refl refl tt refl;

@@ -7,7 +7,7 @@ use Rattle.law_programs.specs.Words.{Insn, AluOp, Width, Operand, Reg, number, H
 use Rattle.law_programs.specs.Operands.{IsPointer, IsStackPointer, IsCellArgument, IsPlaceArgument, IsOperand, KeepsPointers}
 use Rattle.law_programs.specs.Touches.{Touch, HelperTouches, IsReading, LieInStack, LieInRecord, SomeUnwritten}
 use Rattle.law_programs.specs.Breaks.{IsWrong}
-use Rattle.law_programs.proofs.Told.{stands, stands_one}
+use Rattle.law_programs.proofs.Told.{when_contains, stands_one}
 use Rattle.law_programs.proofs.Tests.{Decides-unset, Decides-number, Decides-pointer, Decides-stack, Decides-record, not_written}
 
 -- ---- registers
@@ -26,11 +26,11 @@ pub unset_operand : (f : Frame) (x : Operand) (r : ℕ) → IsOperand x r → ki
 unset_operand f x r h e = grind arith
 
 -- an operand that is a pointer is found by the rules' test
-pub pointing : (f : Frame) (d : Reg) (x : Operand) (r : ℕ) → (r ≡ number d) ⊎ IsOperand x r → IsPointer (kind_of f r) → on_pointer f d x ≡ true
-pointing f d x r w h = grind arith
+pub finds_pointer : (f : Frame) (d : Reg) (x : Operand) (r : ℕ) → (r ≡ number d) ⊎ IsOperand x r → IsPointer (kind_of f r) → on_pointer f d x ≡ true
+finds_pointer f d x r w h = grind arith
 
 pub falls_at : (p : List Insn) (m : ℕ) → Some m ≡ Some (slots p) → Contains (falls p m) RuleCode.FallsOff
-falls_at p m h = let e : m ≡ slots p = cc in stands (nat_eq m (slots p)) RuleCode.FallsOff ((Decides-eqb m (slots p)).1 e)
+falls_at p m h = let e : m ≡ slots p = cc in when_contains (nat_eq m (slots p)) RuleCode.FallsOff ((Decides-eqb m (slots p)).1 e)
 
 -- ---- arithmetic
 
@@ -38,26 +38,26 @@ numeric_operand : (f : Frame) (d : Reg) (x : Operand) → Contains (reads_operan
 numeric_operand f d x h = search (Contains-append_left, Contains-append_right, h)
 
 pub numeric_sets : (f : Frame) (d : Reg) (x : Operand) → nat_eq (number d) 10 ≡ true → Contains (numeric_rules f d x) RuleCode.WritesR10
-numeric_sets f d x e = search (Contains-append_left, Contains-append_right, stands)
+numeric_sets f d x e = search (Contains-append_left, Contains-append_right, when_contains)
 
 -- a pointer on either side of an operation on numbers is listed
 pub numeric_pointer : (f : Frame) (d : Reg) (x : Operand) → on_pointer f d x ≡ true → Contains (numeric_rules f d x) RuleCode.PointerArithmetic
-numeric_pointer f d x e = search (Contains-append_left, Contains-append_right, stands)
+numeric_pointer f d x e = search (Contains-append_left, Contains-append_right, when_contains)
 
 pub alu_operand : (f : Frame) (op : AluOp) (w : Width) (d : Reg) (s : Reg) → is_unset (at f s) ≡ true → Contains (alu_rules f op w d (Operand.Reg s)) RuleCode.ReadsUnset
-alu_operand f AluOp.Mov Width.Bits64 d s e = search (Contains-append_left, Contains-append_right, stands)
-alu_operand f AluOp.Mov Width.Bits32 d s e = search (Contains-append_left, Contains-append_right, stands)
-alu_operand f AluOp.Add Width.Bits64 d s e = numeric_operand f d (Operand.Reg s) (stands (is_unset (at f s)) RuleCode.ReadsUnset e)
-alu_operand f AluOp.Sub Width.Bits64 d s e = numeric_operand f d (Operand.Reg s) (stands (is_unset (at f s)) RuleCode.ReadsUnset e)
-alu_operand f op w d s e = numeric_operand f d (Operand.Reg s) (stands (is_unset (at f s)) RuleCode.ReadsUnset e)
+alu_operand f AluOp.Mov Width.Bits64 d s e = search (Contains-append_left, Contains-append_right, when_contains)
+alu_operand f AluOp.Mov Width.Bits32 d s e = search (Contains-append_left, Contains-append_right, when_contains)
+alu_operand f AluOp.Add Width.Bits64 d s e = numeric_operand f d (Operand.Reg s) (when_contains (is_unset (at f s)) RuleCode.ReadsUnset e)
+alu_operand f AluOp.Sub Width.Bits64 d s e = numeric_operand f d (Operand.Reg s) (when_contains (is_unset (at f s)) RuleCode.ReadsUnset e)
+alu_operand f op w d s e = numeric_operand f d (Operand.Reg s) (when_contains (is_unset (at f s)) RuleCode.ReadsUnset e)
 
 pub alu_sets : (f : Frame) (op : AluOp) (w : Width) (d : Reg) (x : Operand) → nat_eq (number d) 10 ≡ true → Contains (alu_rules f op w d x) RuleCode.WritesR10
-alu_sets f AluOp.Mov Width.Bits64 d (Operand.Imm k) e = stands (nat_eq (number d) 10) RuleCode.WritesR10 e
-alu_sets f AluOp.Mov Width.Bits32 d (Operand.Imm k) e = stands (nat_eq (number d) 10) RuleCode.WritesR10 e
-alu_sets f AluOp.Mov Width.Bits64 d (Operand.Reg s) e = search (Contains-append_left, Contains-append_right, stands)
-alu_sets f AluOp.Mov Width.Bits32 d (Operand.Reg s) e = search (Contains-append_left, Contains-append_right, stands)
-alu_sets f AluOp.Add Width.Bits64 d (Operand.Imm k) e = search (Contains-append_left, Contains-append_right, stands)
-alu_sets f AluOp.Sub Width.Bits64 d (Operand.Imm k) e = search (Contains-append_left, Contains-append_right, stands)
+alu_sets f AluOp.Mov Width.Bits64 d (Operand.Imm k) e = when_contains (nat_eq (number d) 10) RuleCode.WritesR10 e
+alu_sets f AluOp.Mov Width.Bits32 d (Operand.Imm k) e = when_contains (nat_eq (number d) 10) RuleCode.WritesR10 e
+alu_sets f AluOp.Mov Width.Bits64 d (Operand.Reg s) e = search (Contains-append_left, Contains-append_right, when_contains)
+alu_sets f AluOp.Mov Width.Bits32 d (Operand.Reg s) e = search (Contains-append_left, Contains-append_right, when_contains)
+alu_sets f AluOp.Add Width.Bits64 d (Operand.Imm k) e = search (Contains-append_left, Contains-append_right, when_contains)
+alu_sets f AluOp.Sub Width.Bits64 d (Operand.Imm k) e = search (Contains-append_left, Contains-append_right, when_contains)
 alu_sets f AluOp.Add Width.Bits64 d (Operand.Reg s) e = numeric_sets f d (Operand.Reg s) e
 alu_sets f AluOp.Sub Width.Bits64 d (Operand.Reg s) e = numeric_sets f d (Operand.Reg s) e
 alu_sets f op w d x e = numeric_sets f d x e
@@ -71,7 +71,7 @@ alu_pointer f AluOp.Mov Width.Bits64 d x r none h p = absurd (none tt)
 alu_pointer f AluOp.Mov Width.Bits32 d (Operand.Imm k) r none (inl h) p = absurd (h.0 refl)
 alu_pointer f AluOp.Mov Width.Bits32 d (Operand.Imm k) r none (inr h) p = absurd h
 alu_pointer f AluOp.Mov Width.Bits32 d (Operand.Reg s) r none (inl h) p = absurd (h.0 refl)
-alu_pointer f AluOp.Mov Width.Bits32 d (Operand.Reg s) r none (inr h) p = let e = pointer_at f r (number s) h p in search (Contains-append_left, Contains-append_right, stands)
+alu_pointer f AluOp.Mov Width.Bits32 d (Operand.Reg s) r none (inr h) p = let e = pointer_at f r (number s) h p in search (Contains-append_left, Contains-append_right, when_contains)
 alu_pointer f AluOp.Add Width.Bits64 d (Operand.Imm k) r none h p = absurd (none tt)
 alu_pointer f AluOp.Sub Width.Bits64 d (Operand.Imm k) r none h p = absurd (none tt)
 alu_pointer f AluOp.Add Width.Bits64 d (Operand.Reg s) r none h p = numeric_pointer f d (Operand.Reg s) (alu_operands f AluOp.Add d (Operand.Reg s) r h p)
@@ -86,10 +86,10 @@ reads_outside f z n out = grind arith
 
 -- and those that lie there, of which one isn't written, as 26
 reads_unwritten : (f : Frame) (z : ℤ) (n : ℕ) → LieInStack z n → SomeUnwritten f z n → Contains (stack_reads f z n) RuleCode.UnwrittenByte
-reads_unwritten f z n lie some = grind (arith, stands, not_written)
+reads_unwritten f z n lie some = grind (arith, when_contains, not_written)
 
 writes_outside : (z : ℤ) (n : ℕ) → ¬ (LieInStack z n) → Contains (stack_writes z n) RuleCode.OutsideStack
-writes_outside z n out = stands (not (in_stack z n)) RuleCode.OutsideStack ((Decides-not (in_stack z n) (Decides-stack z n)).1 out)
+writes_outside z n out = when_contains (not (in_stack z n)) RuleCode.OutsideStack ((Decides-not (in_stack z n) (Decides-stack z n)).1 out)
 
 module _ (size : ℕ) (f : Frame) (k : Kind) (o : ℤ) (n : ℕ) where
   pub loads_outside : (z : ℤ) → k ≡ Kind.Stack z → ¬ (LieInStack (z +ℤ o) n) → Contains (loads size f k o n) RuleCode.OutsideStack
@@ -99,7 +99,7 @@ module _ (size : ℕ) (f : Frame) (k : Kind) (o : ℤ) (n : ℕ) where
   loads_unwritten z e lie some = subst (λ k. Contains (loads size f k o n) RuleCode.UnwrittenByte) (sym e) (reads_unwritten f (z +ℤ o) n lie some)
 
   pub loads_beyond : (z : ℤ) → k ≡ Kind.Record z → ¬ (LieInRecord size (z +ℤ o) n) → Contains (loads size f k o n) RuleCode.OutsideRecord
-  loads_beyond z e out = subst (λ k. Contains (loads size f k o n) RuleCode.OutsideRecord) (sym e) (stands (not (in_record size (z +ℤ o) n)) RuleCode.OutsideRecord ((Decides-not (in_record size (z +ℤ o) n) (Decides-record size (z +ℤ o) n)).1 out))
+  loads_beyond z e out = subst (λ k. Contains (loads size f k o n) RuleCode.OutsideRecord) (sym e) (when_contains (not (in_record size (z +ℤ o) n)) RuleCode.OutsideRecord ((Decides-not (in_record size (z +ℤ o) n) (Decides-record size (z +ℤ o) n)).1 out))
 
   pub loads_number : k ≡ Kind.Number → Contains (loads size f k o n) RuleCode.ThroughNumber
   loads_number e = subst (λ k. Contains (loads size f k o n) RuleCode.ThroughNumber) (sym e) (stands_one RuleCode.ThroughNumber)
@@ -155,9 +155,9 @@ wrong f r w = grind arith
 -- a wrong argument is listed, of each helper that takes it
 pub call_wrong : (f : Frame) (o : Option Helper) → IsSomeAnd o (λ h. (r : ℕ) × IsWrong f h r) → Contains (call_rules f o) RuleCode.WrongArgument
 call_wrong f None h = absurd h
-call_wrong f (Some Read) h = let e = wrong f h.0 h.1 in search (Contains-append_left, Contains-append_right, stands)
-call_wrong f (Some Write) h = let e = wrong f h.0 h.1 in search (Contains-append_left, Contains-append_right, stands)
-call_wrong f (Some Delete) (r, inl h) = let e = (Decides-not _ (Decides-cell f)).1 (not_cell f r h.0 h.1) in search (Contains-append_left, Contains-append_right, stands)
+call_wrong f (Some Read) h = let e = wrong f h.0 h.1 in search (Contains-append_left, Contains-append_right, when_contains)
+call_wrong f (Some Write) h = let e = wrong f h.0 h.1 in search (Contains-append_left, Contains-append_right, when_contains)
+call_wrong f (Some Delete) (r, inl h) = let e = (Decides-not _ (Decides-cell f)).1 (not_cell f r h.0 h.1) in search (Contains-append_left, Contains-append_right, when_contains)
 call_wrong f (Some Delete) (r, inr h) = absurd h.0
 call_wrong f (Some Start) (r, inl h) = absurd h.0
 call_wrong f (Some Start) (r, inr h) = absurd h.0

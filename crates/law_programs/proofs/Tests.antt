@@ -57,8 +57,8 @@ not_from f i (suc n) (suc k) l e = later (has_byte f i) (not_from f (i + 1) n k 
     later false h = refl
 
 -- where the bytes aren't all written there is one that isn't
-pub unwritten : (f : Frame) (z : ℤ) (n : ℕ) → not (are_written f z n) ≡ true → SomeUnwritten f z n
-unwritten f z n e = grind (arith, unwritten_from)
+pub some_unwritten : (f : Frame) (z : ℤ) (n : ℕ) → not (are_written f z n) ≡ true → SomeUnwritten f z n
+some_unwritten f z n e = grind (arith, unwritten_from)
 
 pub not_written : (f : Frame) (z : ℤ) (n : ℕ) → SomeUnwritten f z n → not (are_written f z n) ≡ true
 not_written f z n s = ap not (not_from f (from_low z) n s.0 s.1 s.2)

@@ -14,5 +14,5 @@ pub stands_one : (d : RuleCode) → Contains (d ∷ []) d
 stands_one d = (0, omega arith, refl)
 
 -- a code is listed where its rule is broken
-pub stands : (b : Bool) (d : RuleCode) → b ≡ true → Contains (when b d) d
-stands b d e = grind arith
+pub when_contains : (b : Bool) (d : RuleCode) → b ≡ true → Contains (when b d) d
+when_contains b d e = grind arith

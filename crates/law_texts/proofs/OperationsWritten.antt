@@ -14,7 +14,7 @@ use Rattle.pb_reading.proofs.Readings.{then_ok, ok_is, else_ok, next_is, none_le
 use Rattle.pb_parse.proofs.NextWords.{same_text}
 use Rattle.law_texts.specs.OperationTexts.{AreDigitsOf, AreInRange, IsOperationOf}
 use Rattle.law_texts.proofs.LowerHex.{lower_written}
-use Rattle.pb_base.proofs.Logic.{chosen}
+use Rattle.pb_base.proofs.Logic.{chosen_branch}
 
 -- ---- places
 
@@ -96,7 +96,7 @@ in_front words x verb w cut is h = subst (λ (ws : List (List ℕ)). IsWriteOf w
 
 write_is : (words : List (List ℕ)) (w : Cell × Content) → write_of words ≡ Ok w → IsWriteOf words w
 unfolding write_of
-write_is words w h = grind (arith, then_ok, next_is, chosen, in_front, put_is, del_is)
+write_is words w h = grind (arith, then_ok, next_is, chosen_branch, in_front, put_is, del_is)
 
 -- a text that is read as a write, or a deletion, is written as that
 pub operation_written : (text : List ℕ) (x : Cell) (content : Content) → operation text ≡ Ok (x, content) → IsOperationOf x content text

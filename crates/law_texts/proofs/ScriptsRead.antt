@@ -5,7 +5,7 @@ use Rattle.std.proofs.lemmas.Bool.{eqb-false, ne_eqb}
 use Rattle.std.proofs.lemmas.List.Elements.{All-from_recursion, recursion_from_All}
 use Rattle.std.proofs.lemmas.List.Splits.{join_with_byte-slice_split}
 use Rattle.law_texts.specs.Words.{Writes, lines_of, ScriptCode, Batches, batch_of, script_of}
-use Rattle.pb_reading.proofs.LinesInTurn.{heads}
+use Rattle.pb_reading.proofs.LinesInTurn.{cons_is_same}
 use Rattle.pb_reading.proofs.Parts.{Lacks, AreParts, parts_are, joined_parts}
 use Rattle.pb_reading.proofs.SkippedLines.{kept}
 use Rattle.pb_parse.proofs.WholeScripts.{lines_are, lines_back}
@@ -34,7 +34,7 @@ are_lines law [] [] h = tt
 are_lines law [] (l ∷ ls) h = absurd cc
 are_lines law (b ∷ bs) [] h = absurd cc
 are_lines law (b ∷ bs) (l ∷ ls) h =
-    let p = heads (batch_of l) (Ok b) (map batch_of ls) (map (λ batch. Ok batch) bs) h in
+    let p = cons_is_same (batch_of l) (Ok b) (map batch_of ls) (map (λ batch. Ok batch) bs) h in
     ((law l b).0 p.0, are_lines law bs ls p.1)
 
 are_read : ReadsLines → (batches : Batches) (ls : List (List ℕ)) → AllZip IsBatchLine batches ls → AreRead batches ls

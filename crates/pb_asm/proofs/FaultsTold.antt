@@ -12,7 +12,7 @@ use Rattle.pb_asm.specs.Listing.{insn_text}
 use Rattle.pb_asm.specs.Texts.{with_insn_line, some_of, program_of_text, HasNone}
 use Rattle.pb_asm.proofs.NamesAndDigits.{word_back}
 use Rattle.pb_asm.proofs.ListingsReadBack.{line_back, insn_shown}
-use Rattle.pb_asm.proofs.FirstFault.{first}
+use Rattle.pb_asm.proofs.FirstFault.{first_is_told}
 use Rattle.pb_asm.proofs.OnlyListings.{lines_are, lines_back}
 use Rattle.pb_reading.proofs.Readings.{err_is, FailsBy, then_fails, if_fails, there_fails, next_fails, end_fails, numeral_fails}
 use Rattle.pb_asm.specs.Codes.{asm_code}
@@ -186,11 +186,11 @@ abbrev pub failed : (A : Type 0) → AsmCode → Result A AsmCode
 failed A c = Err c
 
 -- a fault is the same whatever the reading would have given
-pub moved : (A B : Type 0) (c d : AsmCode) → failed A c ≡ failed A d → failed B c ≡ failed B d
-moved A B c d h = ap (failed B) (err_is {A = A} c d h)
+pub same_fault : (A B : Type 0) (c d : AsmCode) → failed A c ≡ failed A d → failed B c ≡ failed B d
+same_fault A B c d h = ap (failed B) (err_is {A = A} c d h)
 
 read_past : (q : Profile) (front : List Insn) (line : List ℕ) (r : Result Insn AsmCode) → line_of q line ≡ r → (r >>= λ i. cond (nat_lt (max_slots q) (slots (front ++ i ∷ []))) (Err AsmCode.TooLong) (Ok (front ++ i ∷ []))) ≡ Err AsmCode.TooLong → PastEnd q front line
-read_past q front line (Err c) is h = absurd (line_short q (slice_split blank line) (is ∙ moved (List Insn) Insn c AsmCode.TooLong h))
+read_past q front line (Err c) is h = absurd (line_short q (slice_split blank line) (is ∙ same_fault (List Insn) Insn c AsmCode.TooLong h))
 read_past q front line (Ok i) is h =
     let s = line_spelled q line i is in
     (i, s.0, s.1, s.2, ltb-true _ _ (slots_past front (front ++ i ∷ []) (nat_lt (max_slots q) (slots (front ++ i ∷ []))) h))
@@ -247,4 +247,4 @@ none_told q text h = ap (λ (r : Result (List Insn) (ℕ × ℕ)). r >>= some_of
 
 -- 84 is told exactly where each line is empty or a remark
 pub nothing_told : (q : Profile) (text : List ℕ) → (program_of_text q text ≡ Err (0, 84)) ↔ (shown_lines text ≡ [])
-nothing_told q text = (λ h. has_none q text (first q text 0 84 h), none_told q text)
+nothing_told q text = (λ h. has_none q text (first_is_told q text 0 84 h), none_told q text)

@@ -11,5 +11,5 @@ whole : (q : Profile) (text : List ℕ) (line told : ℕ) (r : Result (List Insn
 whole q text line told r is h = grind (arith, stops_at, err_is)
 
 -- the fault that is told is that of the first line at fault, or there is no instruction
-pub first : (q : Profile) (text : List ℕ) (line told : ℕ) → program_of_text q text ≡ Err (line, told) → StopsAt asm_code (with_insn_line q) [] text line told ⊎ HasNone q text line told
-first q text line told h = whole q text line told (insns_of_lines q 0 [] (lines_of text)) refl h
+pub first_is_told : (q : Profile) (text : List ℕ) (line told : ℕ) → program_of_text q text ≡ Err (line, told) → StopsAt asm_code (with_insn_line q) [] text line told ⊎ HasNone q text line told
+first_is_told q text line told h = whole q text line told (insns_of_lines q 0 [] (lines_of text)) refl h

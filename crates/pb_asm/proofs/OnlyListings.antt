@@ -8,7 +8,7 @@ use Rattle.pb_asm.specs.Operands.{line_of}
 use Rattle.pb_asm.specs.Listing.{insn_text, listing}
 use Rattle.pb_asm.specs.Codes.{asm_code}
 use Rattle.pb_asm.specs.Texts.{with_insn_line, insns_of_lines, some_of, program_of_text}
-use Rattle.pb_reading.proofs.LinesInTurn.{Adds, TakesLines, heads, read, back}
+use Rattle.pb_reading.proofs.LinesInTurn.{Adds, TakesLines, cons_is_same, read_adds_all, said_is_read}
 use Rattle.pb_asm.proofs.OneSpelling.{line_spelled}
 use Rattle.pb_asm.proofs.ListingsReadBack.{insn_shown, line_back, lines_cut, slots_append, some_there}
 use Rattle.pb_reading.proofs.SkippedLines.{kept, kept_one}
@@ -64,7 +64,7 @@ listed k [] [] h = (refl, tt, tt)
 listed k [] (i ∷ is) h = absurd cc
 listed k (l ∷ ls) [] h = absurd cc
 listed k (l ∷ ls) (i ∷ is) h =
-    let p = heads (line_of k l) (Ok i) (map (line_of k) ls) (map (λ j. Ok j) is) h in
+    let p = cons_is_same (line_of k l) (Ok i) (map (line_of k) ls) (map (λ j. Ok j) is) h in
     let s = line_spelled k l i p.0 in
     let f = listed k ls is p.1 in
     (ap (λ (x : List ℕ). x ∷ ls) s.0 ∙ ap (λ (xs : List (List ℕ)). insn_text i ∷ xs) f.0, (s.1, f.1), (s.2, f.2))
@@ -76,7 +76,7 @@ said k (i ∷ is) fits have = ap (λ (r : Result Insn AsmCode). r ∷ map (line_
 -- lines that are read are those of their instructions
 pub lines_are : (k : Profile) (text : List ℕ) (q : List Insn) → insns_of_lines k 0 [] (lines_of text) ≡ Ok q → AreListed k (shown_lines text) q
 lines_are k text q h =
-    let f = read asm_code (with_insn_line k) (line_of k) one (Room k) (takes k) 0 [] q (lines_of text) h (omega arith) in
+    let f = read_adds_all asm_code (with_insn_line k) (line_of k) one (Room k) (takes k) 0 [] q (lines_of text) h (omega arith) in
     let p = listed k (kept (lines_of text)) f.things f.says in
     let same : q ≡ f.things = f.whole ∙ singles f.things in
     record { lines = p.0 ∙ ap (map insn_text) (sym same); fits = subst (AllByRecursion Fits) (sym same) p.1; of_profile = subst (AllByRecursion (IsOf k)) (sym same) p.2; most = f.room }
@@ -84,7 +84,7 @@ lines_are k text q h =
 -- and lines whose kept ones are a listing are read as it
 pub lines_back : (k : Profile) (text : List ℕ) (p : List Insn) → AreListed k (shown_lines text) p → insns_of_lines k 0 [] (lines_of text) ≡ Ok p
 lines_back k text p a =
-    back asm_code (with_insn_line k) (line_of k) one (Room k) (takes k) 0 (lines_of text) [] p (ap (map (line_of k)) a.lines ∙ said k p a.fits a.of_profile) (subst (Room k) (sym (singles p)) a.most)
+    said_is_read asm_code (with_insn_line k) (line_of k) one (Room k) (takes k) 0 (lines_of text) [] p (ap (map (line_of k)) a.lines ∙ said k p a.fits a.of_profile) (subst (Room k) (sym (singles p)) a.most)
     ∙ ap Ok (singles p)
 
 -- ---- programs

@@ -16,7 +16,7 @@ use Rattle.pb_asm.specs.Texts.{with_insn_line}
 use Rattle.pb_asm.proofs.ListingsReadBack.{few_bits}
 use Rattle.pb_reading.proofs.Readings.{there_ok}
 use Rattle.pb_asm.proofs.OneSpelling.{behind_whole, before_whole, around_whole, reg_is, word_is, operand_is, place_is, comma_is}
-use Rattle.pb_asm.proofs.FaultsTold.{moved, own_told}
+use Rattle.pb_asm.proofs.FaultsTold.{same_fault, own_told}
 use Rattle.pb_asm.proofs.NumbersBeyond.{range_told}
 
 -- ---- what a reading that ended out of range has read
@@ -28,7 +28,7 @@ IsOver r = r ≡ Err AsmCode.Range
 -- of two readings one after the other, the first did, or the second
 then_over : {A B P : Type 0} (r : Result A AsmCode) (f : A → Result B AsmCode) → IsOver (r >>= f) → (IsOver r → P) → ((x : A) → r ≡ Ok x → IsOver (f x) → P) → P
 then_over (Ok x) f h first later = later x refl h
-then_over {A = A} {B = B} (Err c) f h first later = first (moved B A c AsmCode.Range h)
+then_over {A = A} {B = B} (Err c) f h first later = first (same_fault B A c AsmCode.Range h)
 
 ok_never : {A P : Type 0} (x : A) → IsOver (Ok x) → P
 ok_never x h = absurd cc

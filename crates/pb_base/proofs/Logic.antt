@@ -47,8 +47,8 @@ first_of_drop (e ∷ es) zero = refl
 first_of_drop (e ∷ es) (suc i) = first_of_drop es i
 
 -- a number that is not zero is positive
-pub positive : (n : ℕ) → (n == 0) ≡ false → 0 < n
-positive n h = let k = eqb-false n 0 h in grind arith
+pub nonzero_positive : (n : ℕ) → (n == 0) ≡ false → 0 < n
+nonzero_positive n h = let k = eqb-false n 0 h in grind arith
 
 -- a place without an item lies past the end
 pub none_past : {E : Type 0} (es : List E) (i : ℕ) → None ≡ slice_get es i → length es ≤ i
@@ -73,8 +73,8 @@ pub or_false : (b : Bool) → (b || false) ≡ b
 or_false b = grind arith
 
 -- a test that holds is true
-pub truth : (b : Bool) → T b → b ≡ true
-truth b t = grind arith
+pub test_is_true : (b : Bool) → T b → b ≡ true
+test_is_true b t = grind arith
 
 -- a test whose opposite holds fails
 pub false_if_not : (b : Bool) → not b ≡ true → b ≡ false
@@ -85,8 +85,8 @@ pub true_if_not : (b : Bool) → not b ≡ false → b ≡ true
 true_if_not b e = grind arith
 
 -- a choice is one of its two branches, by its test
-pub chosen : {A : Type 0} (b : Bool) (x y z : A) → cond b x y ≡ z → ((b ≡ true) × (x ≡ z)) ⊎ ((b ≡ false) × (y ≡ z))
-chosen b x y z h = grind arith
+pub chosen_branch : {A : Type 0} (b : Bool) (x y z : A) → cond b x y ≡ z → ((b ≡ true) × (x ≡ z)) ⊎ ((b ≡ false) × (y ≡ z))
+chosen_branch b x y z h = grind arith
 
 -- the test of less holds of less
 pub less_holds : (o : Ordering) → o ≡ Less → T (is_lt o)
@@ -122,8 +122,8 @@ pub same_both : {A : Type 0} (b : Bool) (x : A) → x ≡ cond b x x
 same_both b x = grind arith
 
 -- an order the other way round is turned
-pub turned : {K : Type 0} {R : K → K → Ordering} → IsTotalOrder R → (x y : K) (r : Ordering) → R x y ≡ r → R y x ≡ ordering_reverse r
-turned o x y r e = o.antisymm y x ∙ ap ordering_reverse e
+pub turned_order : {K : Type 0} {R : K → K → Ordering} → IsTotalOrder R → (x y : K) (r : Ordering) → R x y ≡ r → R y x ≡ ordering_reverse r
+turned_order o x y r e = o.antisymm y x ∙ ap ordering_reverse e
 
 -- a number below another, by the test
 pub below_true : (a b : ℕ) → nat_lt a b ≡ true → a < b

@@ -14,5 +14,5 @@ pub goes_to : (old now new : Option (List ℕ)) (bytes rest left : List ℕ) (n 
 goes_to old now new bytes rest left n h e is = subst (IsPart old new bytes) (sym is) (goes_on old now new bytes rest n h e)
 
 -- a write that took some bytes did not fail
-pub still : (a b new : Bool) (n : ℕ) → n ≢ 0 → new ≡ (a || (b && took_none {E = SinkFault} (Ok n))) → new ≡ a
-still a b new n some h = grind arith
+pub took_without_fault : (a b new : Bool) (n : ℕ) → n ≢ 0 → new ≡ (a || (b && took_none {E = SinkFault} (Ok n))) → new ≡ a
+took_without_fault a b new n some h = grind arith

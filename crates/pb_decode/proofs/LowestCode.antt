@@ -126,8 +126,8 @@ told profile bytes = form_told profile bytes (form_of profile (slot_of_bytes byt
 -- ---- both ways
 
 -- the code that is told at the front is the lowest that applies
-pub lowest : (profile : Profile) (bytes : List ℕ) (code : DecodeCode) → first_of profile bytes ≡ Err code → IsLowest profile bytes code
-lowest profile bytes code e = subst (Told profile bytes) e (told profile bytes)
+pub lowest_at_front : (profile : Profile) (bytes : List ℕ) (code : DecodeCode) → first_of profile bytes ≡ Err code → IsLowest profile bytes code
+lowest_at_front profile bytes code e = subst (Told profile bytes) e (told profile bytes)
 
 -- where something is read, no code applies
 none_read : (profile : Profile) (bytes : List ℕ) (x : Read) (code : DecodeCode) → first_of profile bytes ≡ Ok x → Applies profile bytes code → ⊥
@@ -151,7 +151,7 @@ same_code c d p q = let e : decode_code c ≡ decode_code d = omega (arith, p, q
 read_lowest : (profile : Profile) (bytes : List ℕ) (code : DecodeCode) → IsLowest profile bytes code → (r : Result Read DecodeCode) → first_of profile bytes ≡ r → r ≡ Err code
 read_lowest profile bytes code h (Ok x) e = absurd (none_read profile bytes x code e h.applies)
 read_lowest profile bytes code h (Err other) e =
-    let o = lowest profile bytes other e in
+    let o = lowest_at_front profile bytes other e in
     ap Err (same_code other code (o.least code h.applies) (h.least other o.applies))
 
 -- and the lowest that applies is the one that is told, since there is but one

@@ -11,7 +11,7 @@ use Rattle.pb_decode.specs.Reading.{first_of}
 use Rattle.pb_decode.specs.Faults.{decode_code, whole_fault, IsFaultAt, IsDecodeFault, AreRefusedAs, AreBytes, HasProgram, HasFault, AreSpelt, IsRefusal, IsNoMemory, IsNoMemoryOr}
 use Rattle.pb_decode.proofs.SlotBytes.{rest_bytes}
 use Rattle.pb_decode.proofs.FrontRead.{first_takes, first_again, one_insn}
-use Rattle.pb_decode.proofs.LowestCode.{lowest, lowest_read}
+use Rattle.pb_decode.proofs.LowestCode.{lowest_at_front, lowest_read}
 use Rattle.pb_isa.proofs.Instructions.{all_next}
 use Rattle.pb_base.proofs.Logic.{one_value as some_same}
 
@@ -172,7 +172,7 @@ even_rest i bytes after e even = grind arith
 
 from : (profile : Profile) (n : ℕ) (bytes : List ℕ) → length bytes ≤ suc n → 0 < length bytes → length bytes % 8 ≡ 0 → AreBytes bytes → (r : Result (Insn × List ℕ) DecodeCode) → first_of profile bytes ≡ r
     → ((after : List ℕ) → length after ≤ n → length after % 8 ≡ 0 → AreBytes after → Rest profile after) → Rest profile bytes
-from profile n bytes le some even fits (Err code) is next = inr (0, code, record { front = []; rest = bytes; some = some; fits = tt; of_profile = tt; parts = refl; place = refl; fault = lowest profile bytes code is })
+from profile n bytes le some even fits (Err code) is next = inr (0, code, record { front = []; rest = bytes; some = some; fits = tt; of_profile = tt; parts = refl; place = refl; fault = lowest_at_front profile bytes code is })
 from profile n bytes le some even fits (Ok x) is next =
     let t = first_takes profile bytes x fits (omega (arith, some, even)) is in
     let e = even_rest x.0 bytes x.1 t.0 even in
@@ -195,8 +195,8 @@ chosen profile bytes None is fits =
     ]
 
 -- bytes are a program's, or have a fault
-pub either : (profile : Profile) (bytes : List ℕ) → AreBytes bytes → HasProgram profile bytes ⊎ HasFault profile bytes
-either profile bytes fits = chosen profile bytes (whole_fault profile bytes) refl fits
+pub program_or_fault : (profile : Profile) (bytes : List ℕ) → AreBytes bytes → HasProgram profile bytes ⊎ HasFault profile bytes
+program_or_fault profile bytes fits = chosen profile bytes (whole_fault profile bytes) refl fits
 
 -- ---- both ways
 
@@ -243,7 +243,7 @@ pub fault_at : (profile : Profile) (bytes rest : List ℕ) (p : List Insn) (code
 fault_at profile bytes rest p code slot parts all some is at =
     let l : length bytes ≡ length (encoding p) + length rest = ap length parts ∙ length-append (encoding p) rest in
     let k = bytes_len p in
-    record { front = p; rest = rest; some = some; fits = all.0; of_profile = all.1; parts = parts; place = omega (arith, l, k, at); fault = lowest profile rest code is }
+    record { front = p; rest = rest; some = some; fits = all.0; of_profile = all.1; parts = parts; place = omega (arith, l, k, at); fault = lowest_at_front profile rest code is }
 
 -- ---- profile 1 in profile 2
 

@@ -22,12 +22,12 @@ module _ (law : ChangesAreMade) (before : SharedOf) (olds : List SeatOf) (batche
     made = law (opening_of before) before.state.observers batches spares olds left.seats left.refusals left.unfinished before left.table seated some leave.worked legal agree;
   }
 
-  pub concluded : (out : Taking) (r : Result Ran RunFault) → Concludes left out r → RunsOnTable before olds batches spares out r
-  concluded out (Ok ran) c = record { left = left; accepts = accepts c.0 c.1; undone = c.2; wrote = c.3 }
-  concluded out (Err RunFault.Output) c = record { left = left; accepts = accepts c.0 c.1; began = c.2 }
-  concluded out (Err RunFault.SeatsDiffer) c = (record { left = left; leave = leave; differ = c.0 }, c.1)
-  concluded out (Err (RunFault.NoMemory refused)) c = c.1
-  concluded out (Err (RunFault.Manifest f)) c = absurd c
-  concluded out (Err (RunFault.Script f)) c = absurd c
-  concluded out (Err (RunFault.Schedule f)) c = absurd c
-  concluded out (Err (RunFault.Event f)) c = absurd c
+  pub table_run_ends : (out : Taking) (r : Result Ran RunFault) → Concludes left out r → RunsOnTable before olds batches spares out r
+  table_run_ends out (Ok ran) c = record { left = left; accepts = accepts c.0 c.1; undone = c.2; wrote = c.3 }
+  table_run_ends out (Err RunFault.Output) c = record { left = left; accepts = accepts c.0 c.1; began = c.2 }
+  table_run_ends out (Err RunFault.SeatsDiffer) c = (record { left = left; leave = leave; differ = c.0 }, c.1)
+  table_run_ends out (Err (RunFault.NoMemory refused)) c = c.1
+  table_run_ends out (Err (RunFault.Manifest f)) c = absurd c
+  table_run_ends out (Err (RunFault.Script f)) c = absurd c
+  table_run_ends out (Err (RunFault.Schedule f)) c = absurd c
+  table_run_ends out (Err (RunFault.Event f)) c = absurd c

@@ -10,7 +10,7 @@ use Rattle.pb_history.specs.declared.entry.Entry.{Entry}
 use Rattle.pb_core.specs.Calls.{SeatOf}
 use Rattle.pb_ending.specs.Agrees.{EachTold, no_twice}
 use Rattle.pb_ending.specs.Cursors.{told_by, AreNumberedBelow, ArePlaces, IsAt, HasNoSeat, AreAtEnd}
-use Rattle.pb_ending.proofs.Walks.{unlike, skipped, matched, ended}
+use Rattle.pb_ending.proofs.Walks.{unlike_is_off, skips_other_seat, matches_next, walk_at_end}
 use Rattle.pb_base.proofs.Logic.{same_some as same_place}
 
 -- ---- places
@@ -71,12 +71,12 @@ at_first j seats n k d lt = subst (λ c. IsAlong j 0 (slice_index_or seats k d) 
 
 module _ (j : List Entry) (i : ℕ) (e : Entry) (lt : i < length j) (is : e ≡ slice_index_or j i e) where
   passed : (s : SeatOf) (n : ℕ) → e.seat ≢ s.number → IsAlong j i s n → IsAlong j (i + 1) s n
-  passed s n other a = record { within = a.within; rests = skipped s.number j s.received i n _ e lt is other a.rests }
+  passed s n other a = record { within = a.within; rests = skips_other_seat s.number j s.received i n _ e lt is other a.rests }
 
   taken : (s : SeatOf) (n next : ℕ) → e.seat ≡ s.number → slice_get s.received n ≡ Some (told_by e) → next ≡ n + 1 → IsAlong j i s n → IsAlong j (i + 1) s next
   taken s n next own here next-is a = subst (λ c. IsAlong j (i + 1) s c) (sym next-is) (record {
     within = let inside = slice_get_within s.received n (told_by e) here in omega (arith, inside);
-    rests = matched s.number j s.received i n _ e lt is own here a.rests;
+    rests = matches_next s.number j s.received i n _ e lt is own here a.rests;
   })
 
   module _ (seats : List SeatOf) (cursors : List ℕ) (along : AreAlong j i seats cursors) where
@@ -92,8 +92,8 @@ module _ (j : List Entry) (i : ℕ) (e : Entry) (lt : i < length j) (is : e ≡ 
       here = subst (λ z. IsAlong j i z (slice_index_or cursors place 0)) (sym s-is) (along place s at.within)
 
       -- an entry that isn't its list's next
-      pub off : (count : ℕ) → slice_get s.received (slice_index_or cursors place 0) ≢ Some (told_by e) → EachTold count j seats → ⊥
-      off count other told = grind (arith, unlike, own, s.number, s.received, at.within)
+      pub off_not_told : (count : ℕ) → slice_get s.received (slice_index_or cursors place 0) ≢ Some (told_by e) → EachTold count j seats → ⊥
+      off_not_told count other told = grind (arith, unlike_is_off, own, s.number, s.received, at.within)
 
       -- its list's next
       pub one_on : (places : List ℕ) (next : ℕ) → ArePlaces places seats → place < length cursors → slice_get s.received (slice_index_or cursors place 0) ≡ Some (told_by e) → next ≡ slice_index_or cursors place 0 + 1
@@ -123,4 +123,4 @@ all_told j i seats cursors count end below along = (
     done k d lt =
         let s = slice_index_or seats k d in
         let a = along k d lt in
-        ended s.number j s.received i (slice_index_or cursors k 0) _ end a.within a.rests
+        walk_at_end s.number j s.received i (slice_index_or cursors k 0) _ end a.within a.rests

@@ -14,9 +14,9 @@ from_lower a b c [] l h = omega arith
 from_lower a b c (x ∷ xs) l h = (omega (arith, h.0), h.1)
 
 -- two rising lists one after the other rise, where the second begins no lower than the first ends
-pub joined : (a b c : ℕ) (xs ys : List RuleCode) → CodesRiseWithin a b xs → CodesRiseWithin b c ys → CodesRiseWithin a c (xs ++ ys)
-joined a b c [] ys h k = from_lower a b c ys h k
-joined a b c (x ∷ xs) ys h k = (h.0, joined (code_number x) b c xs ys h.1 k)
+pub rising_joined : (a b c : ℕ) (xs ys : List RuleCode) → CodesRiseWithin a b xs → CodesRiseWithin b c ys → CodesRiseWithin a c (xs ++ ys)
+rising_joined a b c [] ys h k = from_lower a b c ys h k
+rising_joined a b c (x ∷ xs) ys h k = (h.0, rising_joined (code_number x) b c xs ys h.1 k)
 
 -- one code, if it is listed at all, lies from itself to itself
 one : (a : ℕ) (t : Bool) (c : RuleCode) → a ≤ code_number c → CodesRiseWithin a (code_number c) (when t c)
@@ -35,16 +35,16 @@ filled k = grind arith
 taken : (f : Frame) (k : Kind) → CodesRiseWithin 21 26 (taken_bytes f k)
 taken f k = grind arith
 
-pub reads : (f : Frame) (r : ℕ) → CodesRiseWithin 21 21 (unset f r)
-reads f r = one 21 (is_unset (kind_of f r)) RuleCode.ReadsUnset (omega arith)
+pub unset_rises : (f : Frame) (r : ℕ) → CodesRiseWithin 21 21 (unset f r)
+unset_rises f r = one 21 (is_unset (kind_of f r)) RuleCode.ReadsUnset (omega arith)
 
 wrong : (t : Bool) → CodesRiseWithin 26 31 (when t RuleCode.WrongArgument)
 wrong t = one 26 t RuleCode.WrongArgument (omega arith)
 
 -- three registers, then the bytes, then the wrong argument: the order of the rules is that of the codes
 with_place : (f : Frame) (cs : List RuleCode) (t : Bool) → CodesRiseWithin 21 26 cs → CodesRiseWithin 21 31 (unset f 1 ++ unset f 2 ++ unset f 3 ++ cs ++ when t RuleCode.WrongArgument)
-with_place f cs t h = grind (arith, joined, reads, wrong)
+with_place f cs t h = grind (arith, rising_joined, unset_rises, wrong)
 
 -- so the codes of each helper's rules rise from 21 to 31
 pub codes_rise : (f : Frame) (h : Option Helper) → CodesRiseWithin 21 31 (call_rules f h)
-codes_rise f h = grind (arith, with_place, filled, taken, joined, to_higher, reads, wrong)
+codes_rise f h = grind (arith, with_place, filled, taken, rising_joined, to_higher, unset_rises, wrong)

@@ -21,16 +21,16 @@ abbrev pub Owns : StateOf → ℕ → ℕ → Type 0
 Owns state seat s = (t : TransactionOf) × (got state s ≡ Some t) × (t.seat ≡ seat)
 
 -- nothing is both there and not
-pub both : (o : Option TransactionOf) (t : TransactionOf) → o ≡ Some t → o ≡ None → ⊥
-both o t p q = cc
+pub there_and_not : (o : Option TransactionOf) (t : TransactionOf) → o ≡ Some t → o ≡ None → ⊥
+there_and_not o t p q = cc
 
 -- ---- one step
 
 module _ (old : StateOf) (seat : ℕ) (new : StateOf) (s : ℕ) where
   -- what names s begins it, with a fresh start, or finds it there as its seat's
-  pub named : (step : Step) (answer : Answer) → StepCase old seat step answer new → names_start s step answer ≡ true
+  pub begins_or_finds : (step : Step) (answer : Answer) → StepCase old seat step answer new → names_start s step answer ≡ true
       → ((is_begin step ≡ true) × (s ≡ old.clock + 1)) ⊎ ((is_begin step ≡ false) × Owns old seat s)
-  named step answer m e = grind arith
+  begins_or_finds step answer m e = grind arith
 
 -- ---- the transaction after it
 
@@ -38,11 +38,11 @@ module _ (old : StateOf) (seat : ℕ) (new : StateOf) (s : ℕ) where
 abbrev pub IsOf : ℕ → Option TransactionOf → Type 0
 IsOf seat o = (u : TransactionOf) × (o ≡ Some u) × (u.seat ≡ seat)
 
-pub begun : (observers : List ObserverOf) (seat s : ℕ) (step : Step) (answer : Answer) (o : Option TransactionOf) → is_begin step ≡ true → names_start s step answer ≡ true
+pub after_begin_is_of : (observers : List ObserverOf) (seat s : ℕ) (step : Step) (answer : Answer) (o : Option TransactionOf) → is_begin step ≡ true → names_start s step answer ≡ true
     → IsOf seat (transaction_after observers seat step answer o)
-begun observers seat s (Step.Begin work) (Answer.At n) o b e = (new_transaction seat work, refl, refl)
-begun observers seat s (Step.Begin work) _ o b e = absurd cc
-begun observers seat s _ _ o b e = absurd cc
+after_begin_is_of observers seat s (Step.Begin work) (Answer.At n) o b e = (new_transaction seat work, refl, refl)
+after_begin_is_of observers seat s (Step.Begin work) _ o b e = absurd cc
+after_begin_is_of observers seat s _ _ o b e = absurd cc
 
 stays : (observers : List ObserverOf) (seat : ℕ) (step : Step) (answer : Answer) (t : TransactionOf) → is_begin step ≡ false → IsOf t.seat (transaction_after observers seat step answer (Some t))
 stays observers seat (Step.Begin work) answer t b = absurd cc
@@ -65,8 +65,8 @@ stays_by observers seat step answer o h b = subst (λ z. IsOf h.0.seat (transact
 -- ---- a run of steps
 
 -- a transaction that is there began up to the clock
-pub early : (state : StateOf) (s : ℕ) → IsSoundTable state → Has state s → s ≤ state.clock
-early state s i h = i.begun s h.0.phase (ap (option_map (λ (u : TransactionOf). u.phase)) h.1)
+pub begins_by_clock : (state : StateOf) (s : ℕ) → IsSoundTable state → Has state s → s ≤ state.clock
+begins_by_clock state s i h = i.begun s h.0.phase (ap (option_map (λ (u : TransactionOf). u.phase)) h.1)
 
 -- no later entry begins a transaction that is there, since a fresh start is above the clock
 none_later : (old : StateOf) (es : List Entry) (new : StateOf) (s : ℕ) → IsSoundTable old → Has old s → JournalLeads old es new → list_any (λ d. is_begin d.step) (entries_naming s es) ≡ false
@@ -76,8 +76,8 @@ none_later old (e ∷ es) new s i h r =
     let after = case_tells old e.seat r.0 s e.step e.answer r.1.taken in
     let told : Bool → Option TransactionOf = λ b. cond b (transaction_after old.observers e.seat e.step e.answer (got old s)) (got old s) in
     elim (names_start s e.step e.answer) as (λ b. names_start s e.step e.answer ≡ b → list_any (λ d. is_begin d.step) (cond b (e ∷ entries_naming s es) (entries_naming s es)) ≡ false) [
-      | true ↦ λ n. elim (named old e.seat r.0 s e.step e.answer r.1.taken n) [
-        | inl f ↦ (let low = early old s i h in let is = f.1 in absurd (omega (arith, low, is)))
+      | true ↦ λ n. elim (begins_or_finds old e.seat r.0 s e.step e.answer r.1.taken n) [
+        | inl f ↦ (let low = begins_by_clock old s i h in let is = f.1 in absurd (omega (arith, low, is)))
         | inr f ↦ (let u = stays_by old.observers e.seat e.step e.answer (got old s) h f.0 in ap (λ b. b || list_any (λ d. is_begin d.step) (entries_naming s es)) f.0 ∙ on (u.0, after ∙ ap told n ∙ u.1) r.2)
       ]
       | false ↦ λ n. on (h.0, after ∙ ap told n ∙ h.1) r.2
@@ -91,7 +91,7 @@ begins_first old (e ∷ es) new s i h r =
     let after = case_tells old e.seat r.0 s e.step e.answer r.1.taken in
     let told : Bool → Option TransactionOf = λ b. cond b (transaction_after old.observers e.seat e.step e.answer (got old s)) (got old s) in
     elim (names_start s e.step e.answer) as (λ b. names_start s e.step e.answer ≡ b → BeginsOnce (cond b (e ∷ entries_naming s es) (entries_naming s es))) [
-      | true ↦ λ n. grind (arith, got, named, begun, none_later, both, e.seat, e.step, e.answer, r.1.taken, old.observers)
+      | true ↦ λ n. grind (arith, got, begins_or_finds, after_begin_is_of, none_later, there_and_not, e.seat, e.step, e.answer, r.1.taken, old.observers)
       | false ↦ λ n. begins_first r.0 es new s sound (after ∙ ap told n ∙ h) r.2
     ] refl
 

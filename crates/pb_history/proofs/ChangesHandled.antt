@@ -11,9 +11,9 @@ use Rattle.pb_history.specs.Handled.{Handles, TellsOneHandler, TellsHandlers}
 use Rattle.pb_history.proofs.Updates.{same_cell, same_cell_itself, same_number}
 use Rattle.pb_history.proofs.Agreement.{ts, Agrees}
 use Rattle.pb_history.proofs.StepsAgree.{legal_agrees}
-use Rattle.pb_history.proofs.HistoryTold.{one, is_committed}
+use Rattle.pb_history.proofs.HistoryTold.{one_under_start, is_committed}
 use Rattle.pb_history.proofs.JournalsAreSound.{legal_sound}
-use Rattle.pb_history.proofs.SnapshotsTold.{phase_in_view, stands_at, written_by, apart}
+use Rattle.pb_history.proofs.SnapshotsTold.{phase_in_view, stands_at, written_by, no_writers_overlap}
 use Rattle.pb_history.proofs.Acknowledgments.{acknowledged_by}
 use Rattle.pb_history.proofs.RunsTold.{run_of_member}
 use Rattle.pb_history.proofs.MarksCover.{IsCovered, legal_covers}
@@ -56,7 +56,7 @@ module _ (journal : List Entry) (state : StateOf) (a : Agrees journal state) (i 
             let most = s.greatest m (Content.Stamp (ts m.start)) hm wm (omega (arith, after)) in
             elim (same_number m.start s.m.start) [
               | inl e ↦ omega (arith, e, stamp)
-              | inr e ↦ elim (apart journal state a i m s.m hm s.in_history e (acknowledgment state.observers o row) (Content.Stamp (ts m.start)) (Content.Stamp (ts q.acknowledged)) wm s.writes) [
+              | inr e ↦ elim (no_writers_overlap journal state a i m s.m hm s.in_history e (acknowledgment state.observers o row) (Content.Stamp (ts m.start)) (Content.Stamp (ts q.acknowledged)) wm s.writes) [
                 | inl l ↦ (let first = above m hm in omega (arith, l, first, stamp))
                 | inr l ↦ (let first = above m hm in omega (arith, l, first, most))
               ]
@@ -68,7 +68,7 @@ module _ (journal : List Entry) (state : StateOf) (a : Agrees journal state) (i 
   same_member m n hm hn start =
       let c = is_committed journal state a m hm in
       let d = is_committed journal state a n hn in
-      let same : c.t ≡ d.t = one _ d.t c.t (subst (λ s. got_there s d.t) (sym start) d.there) c.there in
+      let same : c.t ≡ d.t = one_under_start _ d.t c.t (subst (λ s. got_there s d.t) (sym start) d.there) c.there in
       let phase : Phase.Committed (ts m.commit) ≡ Phase.Committed (ts n.commit) = sym c.phase ∙ ap (λ (t : TransactionOf). t.phase) same ∙ d.phase in
       let commit : m.commit ≡ n.commit = same_commits m.commit n.commit phase in
       let seat : m.seat ≡ n.seat = c.seat ∙ ap (λ (t : TransactionOf). t.seat) same ∙ sym d.seat in
@@ -85,7 +85,7 @@ module _ (journal : List Entry) (state : StateOf) (a : Agrees journal state) (i 
   once : TellsOneHandler journal state
   once m n hm hn o row c p q = elim (same_number m.start n.start) [
     | inl e ↦ same_member m n hm hn e
-    | inr e ↦ elim (apart journal state a i m n hm hn e (acknowledgment state.observers o row) (Content.Stamp (ts m.start)) (Content.Stamp (ts n.start)) (writes_ack m hm o row p.run) (writes_ack n hn o row q.run)) [
+    | inr e ↦ elim (no_writers_overlap journal state a i m n hm hn e (acknowledgment state.observers o row) (Content.Stamp (ts m.start)) (Content.Stamp (ts n.start)) (writes_ack m hm o row p.run) (writes_ack n hn o row q.run)) [
       | inl l ↦ absurd (not_again m n hm hn o row c p q l)
       | inr l ↦ absurd (not_again n m hn hm o row c q p l)
     ]

@@ -9,16 +9,16 @@ use Rattle.pb_history.specs.CommitOrder.{commit_entry, TellsCommitOrder}
 use Rattle.pb_history.proofs.Updates.{has_before}
 use Rattle.pb_history.proofs.Agreement.{ts, PastStamp}
 use Rattle.pb_history.proofs.StepsAgree.{legal_agrees}
-use Rattle.pb_history.proofs.HistoryTold.{is_committed, same_stamp, one}
-use Rattle.pb_history.proofs.JournalParts.{split}
+use Rattle.pb_history.proofs.HistoryTold.{is_committed, same_stamp, one_under_start}
+use Rattle.pb_history.proofs.JournalParts.{leads_around}
 use Rattle.pb_history.proofs.JournalsAreSound.{legal_sound}
-use Rattle.pb_history.proofs.TimestampsRise.{run_rises, behind}
+use Rattle.pb_history.proofs.TimestampsRise.{run_rises, rising_after_entry}
 
 -- a start that is given out is above all that were given out before
 start_above : (low high seat : ℕ) (work : Work) (s : Ts) (es : List Entry) → IsEntry es seat (Step.Begin work) (Answer.At s) → AreRising low high (timestamps es) → low < s.0
 start_above low high seat work s [] has r = absurd has
 start_above low high seat work s (e ∷ es) (inl q) r = (subst (λ (d : Entry). AreRising low high (with_timestamp d.step d.answer (timestamps es))) q r).0
-start_above low high seat work s (e ∷ es) (inr has) r = start_above low high seat work s es has (behind low high e.step e.answer (timestamps es) r)
+start_above low high seat work s (e ∷ es) (inr has) r = start_above low high seat work s es has (rising_after_entry low high e.step e.answer (timestamps es) r)
 
 module _ (observers : List ObserverOf) (seats clock : ℕ) (journal : List Entry) (state : StateOf) (l : IsLegal observers seats clock journal state) where
   above : (m : Member) → InHistory state.observers journal m → m.start < m.commit
@@ -30,12 +30,12 @@ module _ (observers : List ObserverOf) (seats clock : ℕ) (journal : List Entry
   seen m h before after is seat work s has =
       let a = legal_agrees observers seats clock journal state l in
       let k = is_committed journal state a m h in
-      let p = split (opening observers seats clock) before (commit_entry m) after state (subst (λ j. JournalLeads (opening observers seats clock) j state) is l.run) in
+      let p = leads_around (opening observers seats clock) before (commit_entry m) after state (subst (λ j. JournalLeads (opening observers seats clock) j state) is l.run) in
       let c = p.3.taken in
       let begun : IsLegal observers seats clock before p.0 = record { fits = l.fits; run = p.1 } in
       let stamped = ((legal_agrees observers seats clock before p.0 begun).logged m.start c.t c.own.there).stamped c.c (inl c.stamped) in
       let told = a.told _ (subst (λ j. IsEntry j c.t.seat (Step.Stamp (ts m.start)) (Answer.At (ts c.c))) (sym is) (has_before before (commit_entry m ∷ after) _ stamped)) in
-      let commit : m.commit ≡ c.c = same_stamp k.t.phase m.commit c.c k.phase (subst (λ (t : TransactionOf). PastStamp t.phase c.c) (one _ k.t told.0 k.there told.1) told.2) in
+      let commit : m.commit ≡ c.c = same_stamp k.t.phase m.commit c.c k.phase (subst (λ (t : TransactionOf). PastStamp t.phase c.c) (one_under_start _ k.t told.0 k.there told.1) told.2) in
       let low = ((legal_sound observers seats clock before p.0 begun).stamped m.start c.c (inl (ap (option_map (λ (t : TransactionOf). t.phase)) c.own.there ∙ ap Some c.stamped))).1 in
       let next : p.2.clock ≡ p.0.clock = ap (λ (z : StateOf). z.clock) c.new_is in
       let high = start_above p.2.clock state.clock seat work s after has (run_rises p.2 after state p.4) in

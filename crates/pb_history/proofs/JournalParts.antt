@@ -5,14 +5,14 @@ use Rattle.pb_history.specs.declared.entry.Entry.{Entry}
 use Rattle.pb_history.specs.Journals.{JournalLeads}
 
 -- a beginning and the rest
-pub parted : (s : StateOf) (before after : List Entry) (t : StateOf) → JournalLeads s (before ++ after) t → (mid : StateOf) × JournalLeads s before mid × JournalLeads mid after t
-parted s [] after t r = (s, refl, r)
-parted s (d ∷ before) after t r = let p = parted r.0 before after t r.2 in (p.0, (r.0, r.1, p.1), p.2)
+pub leads_in_parts : (s : StateOf) (before after : List Entry) (t : StateOf) → JournalLeads s (before ++ after) t → (mid : StateOf) × JournalLeads s before mid × JournalLeads mid after t
+leads_in_parts s [] after t r = (s, refl, r)
+leads_in_parts s (d ∷ before) after t r = let p = leads_in_parts r.0 before after t r.2 in (p.0, (r.0, r.1, p.1), p.2)
 
 -- the entries before one, its step, and those after it
-pub split : (s : StateOf) (before : List Entry) (e : Entry) (after : List Entry) (t : StateOf) → JournalLeads s (before ++ e ∷ after) t
+pub leads_around : (s : StateOf) (before : List Entry) (e : Entry) (after : List Entry) (t : StateOf) → JournalLeads s (before ++ e ∷ after) t
     → (mid : StateOf) × JournalLeads s before mid × (next : StateOf) × TableStep mid e.seat e.step e.answer next × JournalLeads next after t
-split s before e after t r = let p = parted s before (e ∷ after) t r in (p.0, p.1, p.2.0, p.2.1, p.2.2)
+leads_around s before e after t r = let p = leads_in_parts s before (e ∷ after) t r in (p.0, p.1, p.2.0, p.2.1, p.2.2)
 
 -- a journal and one step more
 pub one_more : (s : StateOf) (before : List Entry) (mid : StateOf) (e : Entry) (next : StateOf) → JournalLeads s before mid → TableStep mid e.seat e.step e.answer next → JournalLeads s (before ++ e ∷ []) next

@@ -5,7 +5,7 @@ use Rattle.pb_history.specs.declared.entry.Entry.{Entry}
 use Rattle.pb_history.specs.Journals.{JournalLeads, IsLegal}
 use Rattle.pb_history.specs.Sound.{IsSoundTable}
 use Rattle.pb_history.specs.SoundJournals.{LeadsToSound, TellsSoundness}
-use Rattle.pb_history.proofs.JournalParts.{parted}
+use Rattle.pb_history.proofs.JournalParts.{leads_in_parts}
 use Rattle.pb_history.proofs.StepsKeepSound.{steps_keep}
 use Rattle.pb_history.proofs.OpeningSound.{opening_sound}
 use Rattle.pb_history.proofs.TransactionAfter.{case_observers}
@@ -26,7 +26,7 @@ run_observers old (e ∷ es) new r = run_observers r.0 es new r.2 ∙ case_obser
 -- a beginning of a legal journal is legal, and so leads to a sound table
 beginning : (observers : List ObserverOf) (seats clock : ℕ) (journal : List Entry) (state : StateOf) → IsLegal observers seats clock journal state → (before after : List Entry) → journal ≡ before ++ after → LeadsToSound observers seats clock before
 beginning observers seats clock journal state l before after is =
-    let p = parted (opening observers seats clock) before after state (subst (λ j. JournalLeads (opening observers seats clock) j state) is l.run) in
+    let p = leads_in_parts (opening observers seats clock) before after state (subst (λ j. JournalLeads (opening observers seats clock) j state) is l.run) in
     let legal : IsLegal observers seats clock before p.0 = record { fits = l.fits; run = p.1 } in
     record { state = p.0; legal = legal; sound = legal_sound observers seats clock before p.0 legal }
 

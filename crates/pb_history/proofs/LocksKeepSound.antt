@@ -4,7 +4,7 @@ use Rattle.pb_history.specs.Words.{Cell, Content, Phase, RecordedRead, Answer, r
 use Rattle.pb_history.specs.History.{Has}
 use Rattle.pb_history.specs.TableView.{TableView}
 use Rattle.pb_history.specs.Sound.{HasStamp, LacksPrimary, ReadTells, IsSoundView}
-use Rattle.pb_history.proofs.Updates.{set1, set2, Apart, same_cell, same_cell_is, same_cell_itself, changed, set1_here, set2_here, set2_there, set2_none, placed, cleared, decide, same_number}
+use Rattle.pb_history.proofs.Updates.{set1, set2, Apart, same_cell, same_cell_is, same_cell_itself, changed_or_before, set1_here, set2_here, set2_there, set2_none, placed_or_before, left_after_clearing, at_or_apart, same_number}
 use Rattle.pb_history.proofs.PhasesKeepSound.{stamped_at, committed_at, same_commit}
 use Rattle.std.proofs.lemmas.Bool.{or_right}
 use Rattle.pb_base.proofs.Logic.{or_cases}
@@ -19,7 +19,7 @@ tells_on v w s x answer f g h t = grind arith
 
 module _ (v : TableView) (i : IsSoundView v) (s : ℕ) (x p : Cell) (k : Content) (was : v.phase s ≡ Some Phase.Declared) (first : v.primary s ≡ Some p) (declared : v.content s x ≡ Some k) (order : (x ≡ p) ⊎ (v.prewritten s p ≡ true)) (once : v.prewritten s x ≢ true) (unlocked : (u : ℕ) → v.lock x u ≡ None) (early : (c u : ℕ) → v.write x c ≡ Some u → c < s) where
   pre_back : (u : ℕ) (y : Cell) → (with_prewrite v s x p k).prewritten u y ≡ true → ((u ≡ s) × (y ≡ x)) ⊎ (v.prewritten u y ≡ true)
-  pre_back u y e = grind (arith, changed, same_cell, or_cases, same_cell_is, v.prewritten)
+  pre_back u y e = grind (arith, changed_or_before, same_cell, or_cases, same_cell_is, v.prewritten)
 
   pre_on : (u : ℕ) (y : Cell) → v.prewritten u y ≡ true → (with_prewrite v s x p k).prewritten u y ≡ true
   pre_on u y e = grind arith
@@ -37,7 +37,7 @@ module _ (v : TableView) (i : IsSoundView v) (s : ℕ) (x p : Cell) (k : Content
   stamp_away u c y w = grind arith
 
   lock_back : (y : Cell) (u : ℕ) (q : Cell) → (with_prewrite v s x p k).lock y u ≡ Some q → ((y ≡ x) × (u ≡ s) × (p ≡ q)) ⊎ ((v.lock y u ≡ Some q) × Apart y u x s)
-  lock_back y u q e = placed v.lock x s p y u q e
+  lock_back y u q e = placed_or_before v.lock x s p y u q e
 
   lock_on : (y : Cell) (u : ℕ) (q : Cell) → v.lock y u ≡ Some q → (with_prewrite v s x p k).lock y u ≡ Some q
   lock_on y u q e = set2_there v.lock x s (Some p) y u (λ a b. let z : v.lock x u ≡ Some q = subst (λ w. v.lock w u ≡ Some q) a e in let n = unlocked u in cc) ∙ e
@@ -84,7 +84,7 @@ without_lock v s x = record v { lock = set2 v.lock x s None; stored = set2 v.sto
 
 module _ (v : TableView) (i : IsSoundView v) (s : ℕ) (x p : Cell) (locked : v.lock x s ≡ Some p) (open_still : (c : ℕ) → v.phase s ≢ Some (committed_at c)) (dead : (x ≡ p) ⊎ (v.lock p s ≡ None)) where
   roll_back : (y : Cell) (u : ℕ) (q : Cell) → (without_lock v s x).lock y u ≡ Some q → (v.lock y u ≡ Some q) × Apart y u x s
-  roll_back y u q e = cleared v.lock x s y u q e
+  roll_back y u q e = left_after_clearing v.lock x s y u q e
 
   complete_far : (u c : ℕ) (y : Cell) → v.phase u ≡ Some (committed_at c) → Apart y u x s
   complete_far u c y e a b = open_still c (subst (λ w. v.phase w ≡ Some (committed_at c)) b e)
@@ -134,14 +134,14 @@ module _ (v : TableView) (i : IsSoundView v) (s c : ℕ) (x p : Cell) (locked : 
   stamp = elim may [ inl a ↦ inr a | inr b ↦ inl b.0 ]
 
   unlock_back : (y : Cell) (u : ℕ) (q : Cell) → (with_record v s x c).lock y u ≡ Some q → (v.lock y u ≡ Some q) × Apart y u x s
-  unlock_back y u q e = cleared v.lock x s y u q e
+  unlock_back y u q e = left_after_clearing v.lock x s y u q e
 
   write_back : (y : Cell) (d u : ℕ) → (with_record v s x c).write y d ≡ Some u → ((y ≡ x) × (d ≡ c) × (s ≡ u)) ⊎ ((v.write y d ≡ Some u) × Apart y d x c)
-  write_back y d u e = placed v.write x c s y d u e
+  write_back y d u e = placed_or_before v.write x c s y d u e
 
   -- an earlier write record stands
   pub write_on : (y : Cell) (d u : ℕ) → v.write y d ≡ Some u → (with_record v s x c).write y d ≡ Some u
-  write_on y d u e = elim (decide y d x c) [
+  write_on y d u e = elim (at_or_apart y d x c) [
     | inl a ↦ (let z : u ≡ s = i.one_stamp u s c (inr (subst (λ w. v.phase u ≡ Some (committed_at w)) a.1 (i.record_committed y d u e))) stamp in (λ j. (with_record v s x c).write (a.0 j) (a.1 j)) ∙ set2_here v.write x c (Some s) ∙ ap Some (sym z))
     | inr b ↦ set2_there v.write x c (Some s) y d b ∙ e
   ]
@@ -151,7 +151,7 @@ module _ (v : TableView) (i : IsSoundView v) (s c : ℕ) (x p : Cell) (locked : 
 
   -- who is committed is s, or was it before
   complete_now : (u d : ℕ) → (with_record v s x c).phase u ≡ Some (committed_at d) → ((u ≡ s) × (d ≡ c)) ⊎ (v.phase u ≡ Some (committed_at d))
-  complete_now u d e = elim (changed v.phase s (Some (committed_at c)) u (Some (committed_at d)) e) [ inl a ↦ inl (a.0, same_commit d c (sym a.1)) | inr b ↦ inr b.0 ]
+  complete_now u d e = elim (changed_or_before v.phase s (Some (committed_at c)) u (Some (committed_at d)) e) [ inl a ↦ inl (a.0, same_commit d c (sym a.1)) | inr b ↦ inr b.0 ]
 
   complete_stays : (u d : ℕ) → v.phase u ≡ Some (committed_at d) → (with_record v s x c).phase u ≡ Some (committed_at d)
   complete_stays u d e = grind arith
@@ -176,7 +176,7 @@ module _ (v : TableView) (i : IsSoundView v) (s c : ℕ) (x p : Cell) (locked : 
 
   now_stands : (u d : ℕ) (y : Cell) → d ≡ c ⊎ (u ≢ s) → (v.write y d ≡ Some u) ⊎ ((q : Cell) × (v.lock y u ≡ Some q)) → ((with_record v s x c).write y d ≡ Some u) ⊎ ((q : Cell) × ((with_record v s x c).lock y u ≡ Some q))
   now_stands u d y which (inl a) = inl (write_on y d u a)
-  now_stands u d y which (inr b) = elim (decide y u x s) [
+  now_stands u d y which (inr b) = elim (at_or_apart y u x s) [
     | inl a ↦ grind (arith, set2_here, v.write)
     | inr n ↦ inr (b.0, set2_there v.lock x s None y u n ∙ b.1)
   ]
@@ -184,13 +184,13 @@ module _ (v : TableView) (i : IsSoundView v) (s c : ℕ) (x p : Cell) (locked : 
   pub record_kept : IsSoundView (with_record v s x c)
   record_kept = record {
     small = i.small;
-    begun = λ u g e. elim (changed v.phase s (Some (committed_at c)) u (Some g) e) [ inl q ↦ (let o = i.stamped s c stamp in let z = q.0 in omega arith) | inr q ↦ i.begun u g q.0 ];
+    begun = λ u g e. elim (changed_or_before v.phase s (Some (committed_at c)) u (Some g) e) [ inl q ↦ (let o = i.stamped s c stamp in let z = q.0 in omega arith) | inr q ↦ i.begun u g q.0 ];
     stamped = λ u d e. i.stamped u d (stamp_was u d e);
     one_stamp = λ u w d a b. i.one_stamp u w d (stamp_was u d a) (stamp_was w d b);
     was_declared = i.was_declared;
-    past_reading = λ u y e. (grind (arith, changed, committed_at, v.phase, i.past_reading));
+    past_reading = λ u y e. (grind (arith, changed_or_before, committed_at, v.phase, i.past_reading));
     primary_first = i.primary_first;
-    all_prewritten = λ u d y k e g. elim (changed v.phase s (Some (committed_at c)) u (Some (stamped_at d)) e) [ inl a ↦ cc | inr b ↦ i.all_prewritten u d y k b.0 g ];
+    all_prewritten = λ u d y k e g. elim (changed_or_before v.phase s (Some (committed_at c)) u (Some (stamped_at d)) e) [ inl a ↦ cc | inr b ↦ i.all_prewritten u d y k b.0 g ];
     lock_prewritten = λ y u q e. i.lock_prewritten y u q (unlock_back y u q e).0;
     lock_data = λ y u q e. i.lock_data y u q (unlock_back y u q e).0;
     one_lock = λ y a b q r e f. i.one_lock y a b q r (unlock_back y a q e).0 (unlock_back y b r f).0;

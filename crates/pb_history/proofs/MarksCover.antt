@@ -10,7 +10,7 @@ use Rattle.pb_history.specs.Journals.{JournalLeads, IsLegal}
 use Rattle.pb_history.specs.TableView.{view_of}
 use Rattle.pb_history.specs.Sound.{IsSoundTable}
 use Rattle.pb_history.specs.MarksTold.{TellsMarks}
-use Rattle.pb_history.proofs.Updates.{same_cell, same_cell_is, same_cell_itself, same_number, placed}
+use Rattle.pb_history.proofs.Updates.{same_cell, same_cell_is, same_cell_itself, same_number, placed_or_before}
 use Rattle.pb_history.proofs.Agreement.{ts, Agrees}
 use Rattle.pb_history.proofs.StepsAgree.{legal_agrees}
 use Rattle.pb_history.proofs.JournalParts.{one_more}
@@ -90,7 +90,7 @@ module _ (journal : List Entry) (old : StateOf) (a : Agrees journal old) (i : Is
             let known : slice_get old.observers o ≡ Some observer = ap (λ os. slice_get os o) (sym obs) ∙ there in
             let off : is_marked (with_mark old.observers old.marks x) y ≡ false = ap (λ m. is_marked m y) (sym marks) ∙ unmarked in
             let e' = ap (λ (f : Cell → ℕ → Option ℕ). f y d) (sym w) ∙ e in
-            elim (placed (write_at old.entries) x c s y d u e') [
+            elim (placed_or_before (write_at old.entries) x c s y d u e') [
               | inl g ↦
                   (let on = marked_now old.marks x old.observers (ap (is_observed old.observers) (sym g.0) ∙ observed_one old.observers o observer known) in
                   absurd cc)

@@ -11,7 +11,7 @@ use Rattle.pb_history.proofs.Agreement.{got}
 use Rattle.pb_history.proofs.StepsKeepSound.{steps_keep}
 use Rattle.pb_history.proofs.OpeningSound.{opening_sound}
 use Rattle.pb_history.proofs.TransactionAfter.{case_tells}
-use Rattle.pb_history.proofs.BeginsOnce.{both, named, begun, stays_by, early}
+use Rattle.pb_history.proofs.BeginsOnce.{there_and_not, begins_or_finds, after_begin_is_of, stays_by, begins_by_clock}
 
 -- all entries are this seat's
 abbrev AreOf : ℕ → List Entry → Type 0
@@ -33,8 +33,8 @@ module _ (s : ℕ) where
       let after = case_tells old e.seat r.0 s e.step e.answer r.1.taken in
       let told : Bool → Option TransactionOf = λ b. cond b (transaction_after old.observers e.seat e.step e.answer (got old s)) (got old s) in
       elim (names_start s e.step e.answer) as (λ b. names_start s e.step e.answer ≡ b → AreOf seat (cond b (e ∷ entries_naming s es) (entries_naming s es))) [
-        | true ↦ λ n. elim (named old e.seat r.0 s e.step e.answer r.1.taken n) [
-          | inl f ↦ (let low = early old s i (t, h) in let is = f.1 in absurd (omega (arith, low, is)))
+        | true ↦ λ n. elim (begins_or_finds old e.seat r.0 s e.step e.answer r.1.taken n) [
+          | inl f ↦ (let low = begins_by_clock old s i (t, h) in let is = f.1 in absurd (omega (arith, low, is)))
           | inr f ↦ (let u = stays_by old.observers e.seat e.step e.answer (got old s) (t, h) f.0 in
               and_first seat e (entries_naming s es) (sym f.1.2 ∙ same_seat (got old s) t f.1.0 h f.1.1 ∙ mine)
               (of_transaction r.0 es new seat u.0 sound (after ∙ ap told n ∙ u.1) (u.2 ∙ mine) r.2))
@@ -50,10 +50,10 @@ module _ (s : ℕ) where
       let after = case_tells old e.seat r.0 s e.step e.answer r.1.taken in
       let told : Bool → Option TransactionOf = λ b. cond b (transaction_after old.observers e.seat e.step e.answer (got old s)) (got old s) in
       elim (names_start s e.step e.answer) as (λ b. names_start s e.step e.answer ≡ b → (seat : ℕ) × AreOf seat (cond b (e ∷ entries_naming s es) (entries_naming s es))) [
-        | true ↦ λ n. elim (named old e.seat r.0 s e.step e.answer r.1.taken n) [
-          | inl f ↦ (let u = begun old.observers e.seat s e.step e.answer (got old s) f.0 n in
+        | true ↦ λ n. elim (begins_or_finds old e.seat r.0 s e.step e.answer r.1.taken n) [
+          | inl f ↦ (let u = after_begin_is_of old.observers e.seat s e.step e.answer (got old s) f.0 n in
               (e.seat, and_first e.seat e (entries_naming s es) refl (of_transaction r.0 es new e.seat u.0 sound (after ∙ ap told n ∙ u.1) u.2 r.2)))
-          | inr f ↦ absurd (both (got old s) f.1.0 f.1.1 h)
+          | inr f ↦ absurd (there_and_not (got old s) f.1.0 f.1.1 h)
         ]
         | false ↦ λ n. of_first r.0 es new sound (after ∙ ap told n ∙ h) r.2
       ] refl

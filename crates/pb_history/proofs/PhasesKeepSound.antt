@@ -5,7 +5,7 @@ use Rattle.pb_history.specs.History.{Has}
 use Rattle.pb_history.specs.TableView.{TableView}
 use Rattle.pb_history.specs.Sound.{HasStamp, LacksPrimary, ReadTells, IsSoundView}
 use Rattle.pb_history.proofs.Agreement.{read_of}
-use Rattle.pb_history.proofs.Updates.{set1, changed, set1_there, none_if, has_more}
+use Rattle.pb_history.proofs.Updates.{set1, changed_or_before, set1_there, none_if, has_more}
 use Rattle.pb_base.proofs.Logic.{same_some as same_phase}
 
 abbrev pub stamped_at : ℕ → Phase
@@ -34,14 +34,14 @@ with_phase v s h k = record v { clock = k; phase = set1 v.phase s (Some h) }
 
 module _ (v : TableView) (i : IsSoundView v) (s : ℕ) (h : Phase) (plain : IsPlain h) (open_still : (c : ℕ) → v.phase s ≢ Some (committed_at c)) (k : ℕ) (low : v.clock ≤ k) (mine : s ≤ k) (small : k < 2 ^ 64) (ready : (x : Cell) → v.prewritten s x ≡ true → h ≢ Phase.Reading) where
   stamp_back : (u c : ℕ) → HasStamp (with_phase v s h k) u c → HasStamp v u c
-  stamp_back u c (inl e) = elim (changed v.phase s (Some h) u (Some (stamped_at c)) e) [ inl p ↦ absurd ((plain c).0 (same_phase _ _ p.1)) | inr q ↦ inl q.0 ]
-  stamp_back u c (inr e) = elim (changed v.phase s (Some h) u (Some (committed_at c)) e) [ inl p ↦ absurd ((plain c).1 (same_phase _ _ p.1)) | inr q ↦ inr q.0 ]
+  stamp_back u c (inl e) = elim (changed_or_before v.phase s (Some h) u (Some (stamped_at c)) e) [ inl p ↦ absurd ((plain c).0 (same_phase _ _ p.1)) | inr q ↦ inl q.0 ]
+  stamp_back u c (inr e) = elim (changed_or_before v.phase s (Some h) u (Some (committed_at c)) e) [ inl p ↦ absurd ((plain c).1 (same_phase _ _ p.1)) | inr q ↦ inr q.0 ]
 
   complete_back : (u c : ℕ) → (with_phase v s h k).phase u ≡ Some (committed_at c) → v.phase u ≡ Some (committed_at c)
-  complete_back u c e = elim (changed v.phase s (Some h) u (Some (committed_at c)) e) [ inl p ↦ absurd ((plain c).1 (same_phase _ _ p.1)) | inr q ↦ q.0 ]
+  complete_back u c e = elim (changed_or_before v.phase s (Some h) u (Some (committed_at c)) e) [ inl p ↦ absurd ((plain c).1 (same_phase _ _ p.1)) | inr q ↦ q.0 ]
 
   stamped_back : (u c : ℕ) → (with_phase v s h k).phase u ≡ Some (stamped_at c) → v.phase u ≡ Some (stamped_at c)
-  stamped_back u c e = elim (changed v.phase s (Some h) u (Some (stamped_at c)) e) [ inl p ↦ absurd ((plain c).0 (same_phase _ _ p.1)) | inr q ↦ q.0 ]
+  stamped_back u c e = elim (changed_or_before v.phase s (Some h) u (Some (stamped_at c)) e) [ inl p ↦ absurd ((plain c).0 (same_phase _ _ p.1)) | inr q ↦ q.0 ]
 
   complete_on : (u c : ℕ) → v.phase u ≡ Some (committed_at c) → (with_phase v s h k).phase u ≡ Some (committed_at c)
   complete_on u c e = set1_there v.phase s (Some h) u (λ p. open_still c (subst (λ w. v.phase w ≡ Some (committed_at c)) p e)) ∙ e
@@ -49,11 +49,11 @@ module _ (v : TableView) (i : IsSoundView v) (s : ℕ) (h : Phase) (plain : IsPl
   pub phase_kept : IsSoundView (with_phase v s h k)
   phase_kept = record {
     small = small;
-    begun = λ u g e. elim (changed v.phase s (Some h) u (Some g) e) [ inl p ↦ subst (λ w. w ≤ k) (sym p.0) mine | inr q ↦ omega (arith, i.begun u g q.0) ];
+    begun = λ u g e. elim (changed_or_before v.phase s (Some h) u (Some g) e) [ inl p ↦ subst (λ w. w ≤ k) (sym p.0) mine | inr q ↦ omega (arith, i.begun u g q.0) ];
     stamped = λ u c e. let p = i.stamped u c (stamp_back u c e) in (p.0, omega arith);
     one_stamp = λ u w c a b. i.one_stamp u w c (stamp_back u c a) (stamp_back w c b);
     was_declared = i.was_declared;
-    past_reading = λ u x e. (grind (arith, changed, same_phase, v.phase, v.prewritten, i.past_reading));
+    past_reading = λ u x e. (grind (arith, changed_or_before, same_phase, v.phase, v.prewritten, i.past_reading));
     primary_first = i.primary_first;
     all_prewritten = λ u c x k' e. i.all_prewritten u c x k' (stamped_back u c e);
     lock_prewritten = i.lock_prewritten;
@@ -80,7 +80,7 @@ has_read v s r = record v { reads = set1 v.reads s (v.reads s ++ r ∷ []) }
 -- a read is recorded: it tells what stands, and no lock at most the timestamp read at was seen
 module _ (v : TableView) (i : IsSoundView v) (s : ℕ) (x : Cell) (at : Option Ts) (answer : Answer) (begun : read_up_to s at ≤ v.clock) (unlocked : (u : ℕ) → u ≤ read_up_to s at → v.lock x u ≡ None) (tells : ReadTells v (read_up_to s at) x answer) where
   read_back : (u : ℕ) (r : RecordedRead) → Has ((has_read v s (read_of x at answer)).reads u) r → ((u ≡ s) × (read_of x at answer ≡ r)) ⊎ Has (v.reads u) r
-  read_back u r e = grind (arith, changed, read_of, has_more, v.reads)
+  read_back u r e = grind (arith, changed_or_before, read_of, has_more, v.reads)
 
   lacks_primary : (u c : ℕ) (k : Content) → v.phase u ≡ Some (stamped_at c) → c ≤ read_up_to s at → v.content u x ≡ Some k → LacksPrimary v u
   lacks_primary u c k e l f p g =
@@ -184,21 +184,21 @@ module _ (v : TableView) (i : IsSoundView v) (s c : ℕ) (fresh : c ≡ v.clock 
   not_own u d e q = let p = i.stamped u d e in absurd (omega arith)
 
   complete_was : (u d : ℕ) → (with_stamp v s c).phase u ≡ Some (committed_at d) → v.phase u ≡ Some (committed_at d)
-  complete_was u d e = elim (changed v.phase s (Some (stamped_at c)) u (Some (committed_at d)) e) [ inl p ↦ cc | inr q ↦ q.0 ]
+  complete_was u d e = elim (changed_or_before v.phase s (Some (stamped_at c)) u (Some (committed_at d)) e) [ inl p ↦ cc | inr q ↦ q.0 ]
 
   pub stamp_kept : IsSoundView (with_stamp v s c)
   stamp_kept = record {
     small = small;
-    begun = λ u g e. elim (changed v.phase s (Some (stamped_at c)) u (Some g) e) [ inl p ↦ (let o = own in let q = p.0 in omega arith) | inr q ↦ (let o = i.begun u g q.0 in omega arith) ];
+    begun = λ u g e. elim (changed_or_before v.phase s (Some (stamped_at c)) u (Some g) e) [ inl p ↦ (let o = own in let q = p.0 in omega arith) | inr q ↦ (let o = i.begun u g q.0 in omega arith) ];
     stamped = λ u d e. elim (stamps_back u d e) [ inl p ↦ (let o = own in let a = p.0 in let b = p.1 in (omega arith, omega arith)) | inr q ↦ (let o = i.stamped u d q in (o.0, omega arith)) ];
     one_stamp = λ u w d a b. elim (stamps_back u d a) [
       | inl p ↦ elim (stamps_back w d b) [ inl q ↦ p.0 ∙ sym q.0 | inr q ↦ absurd (not_own w d q p.1) ]
       | inr p ↦ elim (stamps_back w d b) [ inl q ↦ absurd (not_own u d p q.1) | inr q ↦ i.one_stamp u w d p q ]
     ];
     was_declared = i.was_declared;
-    past_reading = λ u x e. (grind (arith, changed, i.past_reading));
+    past_reading = λ u x e. (grind (arith, changed_or_before, i.past_reading));
     primary_first = i.primary_first;
-    all_prewritten = λ u d x k e g. grind (arith, changed, v.prewritten, v.content, i.all_prewritten);
+    all_prewritten = λ u d x k e g. grind (arith, changed_or_before, v.prewritten, v.content, i.all_prewritten);
     lock_prewritten = i.lock_prewritten;
     lock_data = i.lock_data;
     one_lock = i.one_lock;

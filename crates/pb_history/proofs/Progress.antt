@@ -39,5 +39,5 @@ module _ (old : StateOf) (seat : ℕ) (new : StateOf) where
 pub finds_first : (old : StateOf) (seat : ℕ) (step : Step) (answer : Answer) (new : StateOf) → TableStep old seat step answer new → TellsFirstMark old step answer
 finds_first old seat step answer new m = case_first old seat new step answer m.taken
 
-pub unmarks : (old : StateOf) (seat : ℕ) (step : Step) (answer : Answer) (new : StateOf) → TableStep old seat step answer new → TellsUnmarked old step new
-unmarks old seat step answer new m = case_unmarks old seat new step answer m.taken
+pub step_unmarks : (old : StateOf) (seat : ℕ) (step : Step) (answer : Answer) (new : StateOf) → TableStep old seat step answer new → TellsUnmarked old step new
+step_unmarks old seat step answer new m = case_unmarks old seat new step answer m.taken

@@ -10,8 +10,8 @@ use Rattle.pb_history.specs.Timestamps.{with_timestamp, timestamps, AreRising}
 use Rattle.pb_history.specs.RunCounts.{IsRunOf, RiseByStart, phase_is_committed, begins_committed_run, run_count, TellsRunCounts}
 use Rattle.pb_history.proofs.Agreement.{ts, got, Agrees}
 use Rattle.pb_history.proofs.StepsAgree.{legal_agrees}
-use Rattle.pb_history.proofs.HistoryTold.{tells}
-use Rattle.pb_history.proofs.TimestampsRise.{behind, tells_timestamps}
+use Rattle.pb_history.proofs.HistoryTold.{legal_tells_history}
+use Rattle.pb_history.proofs.TimestampsRise.{rising_after_entry, tells_timestamps}
 use Rattle.pb_base.proofs.Logic.{and_true as both}
 
 -- a phase that tests as committed has its commit
@@ -90,11 +90,11 @@ module _ (journal : List Entry) (state : StateOf) (a : Agrees journal state) (hi
       let on : (to : ℕ) → AreRising to high (timestamps es) → Counted to es = λ to r. counted to high es (λ d h. within d (inr h)) r in
       elim (begins_committed_run state o e.step e.answer) as (λ b. begins_committed_run state o e.step e.answer ≡ b → Counted low (e ∷ es)) [
         | true ↦ λ is. one_more low high e es is (begun e.seat e.step e.answer (within e (inl refl)) is) rise on
-        | false ↦ λ is. no_more low e es is (on low (behind low high e.step e.answer (timestamps es) rise))
+        | false ↦ λ is. no_more low e es is (on low (rising_after_entry low high e.step e.answer (timestamps es) rise))
       ] refl
 
 pub tells_counts : (observers : List ObserverOf) (seats clock : ℕ) (journal : List Entry) (state : StateOf) → IsLegal observers seats clock journal state → TellsRunCounts journal state
 tells_counts observers seats clock journal state l = λ o.
     let a = legal_agrees observers seats clock journal state l in
-    let c = counted journal state a (tells observers seats clock journal state l) o clock state.clock journal (λ e h. h) (tells_timestamps observers seats clock journal state l).rising in
+    let c = counted journal state a (legal_tells_history observers seats clock journal state l) o clock state.clock journal (λ e h. h) (tells_timestamps observers seats clock journal state l).rising in
     record { ms = c.ms; count = c.count; each = c.each; whole = λ m h run. c.whole m h run h.begun; rising = lower_starts 0 clock c.ms (omega arith) c.rising }

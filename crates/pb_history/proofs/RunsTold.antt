@@ -9,7 +9,7 @@ use Rattle.pb_history.specs.Sound.{IsSoundTable}
 use Rattle.pb_history.specs.History.{Has, Member, InHistory, IsSnapshot, NoSnapshot}
 use Rattle.pb_history.specs.ReadsTold.{TellsVersion, TellsReads}
 use Rattle.pb_history.specs.RunsTold.{IsAcknowledgedAt, IsValueAt, AreRepliesAt, IsObserverRun, TellsRuns}
-use Rattle.pb_history.proofs.JournalParts.{split}
+use Rattle.pb_history.proofs.JournalParts.{leads_around}
 use Rattle.pb_history.proofs.Agreement.{Agrees}
 use Rattle.pb_history.proofs.StepsAgree.{legal_agrees}
 use Rattle.pb_history.proofs.HistoryTold.{is_committed}
@@ -26,7 +26,7 @@ case_tells old seat step answer new c = grind arith
 pub tells_reads : (observers : List ObserverOf) (seats clock : ℕ) (journal : List Entry) (state : StateOf) → IsLegal observers seats clock journal state → TellsReads observers seats clock journal
 tells_reads observers seats clock journal state l = record {
   at = λ before e after is.
-      let p = split (opening observers seats clock) before e after state (subst (λ j. JournalLeads (opening observers seats clock) j state) is l.run) in
+      let p = leads_around (opening observers seats clock) before e after state (subst (λ j. JournalLeads (opening observers seats clock) j state) is l.run) in
       record { state = p.0; run = p.1; tells = case_tells p.0 e.seat e.step e.answer p.2 p.3.taken };
 }
 

@@ -54,8 +54,8 @@ module _ (journal : List Entry) (state : StateOf) (a : Agrees journal state) (i 
 
   -- ---- two writers
 
-  pub apart : (m n : Member) → InHistory state.observers journal m → InHistory state.observers journal n → m.start ≢ n.start → (x : Cell) (j k : Content) → WritesTo m x j → WritesTo n x k → DoNotOverlap m n
-  apart m n hm hn other x j k wm wn = elim (stands_at m hm x j wm) [
+  pub no_writers_overlap : (m n : Member) → InHistory state.observers journal m → InHistory state.observers journal n → m.start ≢ n.start → (x : Cell) (j k : Content) → WritesTo m x j → WritesTo n x k → DoNotOverlap m n
+  no_writers_overlap m n hm hn other x j k wm wn = elim (stands_at m hm x j wm) [
     | inl p ↦ grind (arith, stands_at, i.apart, m.commit, m.start, n.commit, n.start, i.behind_lock)
     | inr p ↦ grind (arith, stands_at, m.start, n.commit, n.start, i.behind_lock, i.one_lock)
   ]
@@ -120,7 +120,7 @@ module _ (observers : List ObserverOf) (seats clock : ℕ) (journal : List Entry
   tells_snapshots = grind (arith, read_tells, legal_agrees, legal_sound, read_at_tells, reads_in_time, l.run)
 
   pub tells_writers : TellsWriters journal state
-  tells_writers = record { apart = apart journal state (legal_agrees observers seats clock journal state l) (legal_sound observers seats clock journal state l) }
+  tells_writers = record { apart = no_writers_overlap journal state (legal_agrees observers seats clock journal state l) (legal_sound observers seats clock journal state l) }
 
   pub tells_records : TellsRecords journal state
   tells_records = records journal state (legal_agrees observers seats clock journal state l) (legal_sound observers seats clock journal state l)

@@ -22,19 +22,19 @@ pub at_most : (low high : ℕ) (ts : List ℕ) → AreRising low high ts → low
 at_most low high [] r = r
 at_most low high (t ∷ ts) r = let le = at_most t high ts r.1 in let lt = r.0 in omega (arith, le, lt)
 
-pub lower : (low to high : ℕ) (ts : List ℕ) → low ≤ to → AreRising to high ts → AreRising low high ts
-lower low to high [] le r = omega (arith, le, r)
-lower low to high (t ∷ ts) le r = let lt = r.0 in (omega (arith, le, lt), r.1)
+pub rising_from_lower : (low to high : ℕ) (ts : List ℕ) → low ≤ to → AreRising to high ts → AreRising low high ts
+rising_from_lower low to high [] le r = omega (arith, le, r)
+rising_from_lower low to high (t ∷ ts) le r = let lt = r.0 in (omega (arith, le, lt), r.1)
 
 -- those after an entry
-pub behind : (low high : ℕ) (step : Step) (answer : Answer) (ts : List ℕ) → AreRising low high (with_timestamp step answer ts) → AreRising low high ts
-behind low high step answer ts r = grind (arith, lower)
+pub rising_after_entry : (low high : ℕ) (step : Step) (answer : Answer) (ts : List ℕ) → AreRising low high (with_timestamp step answer ts) → AreRising low high ts
+rising_after_entry low high step answer ts r = grind (arith, rising_from_lower)
 
 -- a commit that was given out is at most the clock
 commit_at_most : (low high seat : ℕ) (s c : Ts) (es : List Entry) → Has es (record { seat = seat; step = Step.Stamp s; answer = Answer.At c }) → AreRising low high (timestamps es) → c.0 ≤ high
 commit_at_most low high seat s c [] has r = absurd has
 commit_at_most low high seat s c (e ∷ es) (inl q) r = at_most c.0 high (timestamps es) (subst (λ (d : Entry). AreRising low high (with_timestamp d.step d.answer (timestamps es))) q r).1
-commit_at_most low high seat s c (e ∷ es) (inr has) r = commit_at_most low high seat s c es has (behind low high e.step e.answer (timestamps es) r)
+commit_at_most low high seat s c (e ∷ es) (inr has) r = commit_at_most low high seat s c es has (rising_after_entry low high e.step e.answer (timestamps es) r)
 
 pub tells_timestamps : (observers : List ObserverOf) (seats clock : ℕ) (journal : List Entry) (state : StateOf) → IsLegal observers seats clock journal state → TellsTimestamps clock journal state
 tells_timestamps observers seats clock journal state l = grind (arith, run_rises, commit_at_most, l.run, state.clock)

@@ -34,8 +34,8 @@ pub at_place_itself : (x : Cell) (s : ℕ) → at_place x s x s ≡ true
 at_place_itself x s = ap (λ b. b && nat_eq s s) (same_cell_itself x) ∙ eq-eqb s s refl
 
 -- a place is that of the change, or apart from it
-pub decide : (y : Cell) (u : ℕ) (x : Cell) (s : ℕ) → ((y ≡ x) × (u ≡ s)) ⊎ Apart y u x s
-decide y u x s = grind arith
+pub at_or_apart : (y : Cell) (u : ℕ) (x : Cell) (s : ℕ) → ((y ≡ x) × (u ≡ s)) ⊎ Apart y u x s
+at_or_apart y u x s = grind arith
 
 pub apart_test : (y : Cell) (u : ℕ) (x : Cell) (s : ℕ) → Apart y u x s → at_place y u x s ≡ false
 apart_test y u x s h = not_true _ (λ e. let p = at_place_is y u x s e in h p.0 p.1)
@@ -50,11 +50,11 @@ module _ {A : Type 0} where
   pub set2_there : (f : Cell → ℕ → A) (x : Cell) (s : ℕ) (v : A) (y : Cell) (u : ℕ) → Apart y u x s → set2 f x s v y u ≡ f y u
   set2_there f x s v y u h = ap (λ b. cond b v (f y u)) (apart_test y u x s h)
 
-  pub placed : (f : Cell → ℕ → Option A) (x : Cell) (s : ℕ) (v : A) (y : Cell) (u : ℕ) (w : A) → cond (at_place y u x s) (Some v) (f y u) ≡ Some w → ((y ≡ x) × (u ≡ s) × (v ≡ w)) ⊎ ((f y u ≡ Some w) × Apart y u x s)
-  placed f x s v y u w e = grind (arith, decide, at_place_itself, apart_test)
+  pub placed_or_before : (f : Cell → ℕ → Option A) (x : Cell) (s : ℕ) (v : A) (y : Cell) (u : ℕ) (w : A) → cond (at_place y u x s) (Some v) (f y u) ≡ Some w → ((y ≡ x) × (u ≡ s) × (v ≡ w)) ⊎ ((f y u ≡ Some w) × Apart y u x s)
+  placed_or_before f x s v y u w e = grind (arith, at_or_apart, at_place_itself, apart_test)
 
-  pub cleared : (f : Cell → ℕ → Option A) (x : Cell) (s : ℕ) (y : Cell) (u : ℕ) (w : A) → cond (at_place y u x s) None (f y u) ≡ Some w → (f y u ≡ Some w) × Apart y u x s
-  cleared f x s y u w e = grind (arith, decide, at_place_itself, apart_test)
+  pub left_after_clearing : (f : Cell → ℕ → Option A) (x : Cell) (s : ℕ) (y : Cell) (u : ℕ) (w : A) → cond (at_place y u x s) None (f y u) ≡ Some w → (f y u ≡ Some w) × Apart y u x s
+  left_after_clearing f x s y u w e = grind (arith, at_or_apart, at_place_itself, apart_test)
 
   abbrev pub set1 : (ℕ → A) → ℕ → A → ℕ → A
   set1 f s v = λ u. cond (nat_eq u s) v (f u)
@@ -66,8 +66,8 @@ module _ {A : Type 0} where
   set1_there f s v u h = ap (λ b. cond b v (f u)) (not_true _ (λ e. h (eqb-true u s e)))
 
   -- what stands after a change, at the place or elsewhere
-  pub changed : (f : ℕ → A) (s : ℕ) (v : A) (u : ℕ) (w : A) → cond (nat_eq u s) v (f u) ≡ w → ((u ≡ s) × (v ≡ w)) ⊎ ((f u ≡ w) × (u ≡ s → ⊥))
-  changed f s v u w e = grind arith
+  pub changed_or_before : (f : ℕ → A) (s : ℕ) (v : A) (u : ℕ) (w : A) → cond (nat_eq u s) v (f u) ≡ w → ((u ≡ s) × (v ≡ w)) ⊎ ((f u ≡ w) × (u ≡ s → ⊥))
+  changed_or_before f s v u w e = grind arith
 
   pub set2_none : (f : Cell → ℕ → Option A) (x : Cell) (s : ℕ) (y : Cell) (u : ℕ) → f y u ≡ None → cond (at_place y u x s) None (f y u) ≡ None
   set2_none f x s y u e = elim (at_place y u x s) as (λ b. cond b None (f y u) ≡ None) [ true ↦ refl | false ↦ e ]

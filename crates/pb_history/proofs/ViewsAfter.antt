@@ -5,7 +5,7 @@ use Rattle.std.specs.Cmp.{Equal-is, tied_itself, nat_cmp_total, unsigned_tied}
 use Rattle.std.specs.FinMap as map
 use Rattle.std.proofs.lemmas.Bool.{eqb-true, false_from_ne_true as not_true}
 use Rattle.pb_history.specs.Words.{Cell, Content, Slot, Item, Sort, slot_cmp, slot_cmp_total, slot_cmp-IsAntisymmetric, Entries, slot_at, TransactionOf, Transactions, data_of, primary_of, start_of, data_at, lock_at, write_at, put_lock, commit_lock, erase_lock}
-use Rattle.pb_history.proofs.Updates.{set1, set2, at_place, decide, apart_test, at_place_itself}
+use Rattle.pb_history.proofs.Updates.{set1, set2, at_place, at_or_apart, apart_test, at_place_itself}
 
 through : {A B : Type 0} (f : A → B) (b : Bool) (x y : A) → f (cond b x y) ≡ cond b (f x) (f y)
 through f b x y = grind arith
@@ -30,7 +30,7 @@ module _ {A : Type 0} (f : Option TransactionOf → A) (m : Transactions) (s : �
 
 -- two slots of one sort are one where cell and timestamp are
 same_slot : (y : Cell) (u : ℕ) (x : Cell) (s : ℕ) (so : Sort) → eq_by_cmp slot_cmp (slot_at y so u) (slot_at x so s) ≡ at_place y u x s
-same_slot y u x s so = elim (decide y u x s) [
+same_slot y u x s so = elim (at_or_apart y u x s) [
   | inl p ↦ ap (λ (z : Slot). eq_by_cmp slot_cmp z (slot_at x so s)) (λ i. slot_at (p.0 i) so (p.1 i)) ∙ ap is_eq (tied_itself slot_cmp_total (slot_at x so s)) ∙ sym ((λ i. at_place (p.0 i) (p.1 i) x s) ∙ at_place_itself x s)
   | inr n ↦ not_true _ (λ e. let same = slot_cmp-IsAntisymmetric (slot_at y so u) (slot_at x so s) ((Equal-is (slot_cmp (slot_at y so u) (slot_at x so s))).0 e) in n (ap (λ (z : Slot). z.cell) same) (ap (λ (z : Slot). z.ts.0) same)) ∙ sym (apart_test y u x s n)
 ]

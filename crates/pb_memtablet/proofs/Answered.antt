@@ -3,7 +3,7 @@ use Rattle.std.proofs.Common.{◌≡◌, ◌==◌, ◌&&◌, ℕ, cond, true, fa
 use Rattle.std.specs.FinMap as map
 use Rattle.pb_memtablet.specs.Words.{cell_cmp, Slot, slot_cmp, slot_cmp-IsAntisymmetric, IsOfSort, is_nothing, entries_after}
 use Rattle.pb_memtablet.specs.Listed.{EntryList, MarkList, contents_of, AllOfSort, AreLists}
-use Rattle.pb_memtablet.proofs.Spots.{holds}
+use Rattle.pb_memtablet.proofs.Spots.{true_holds}
 
 -- what a look-up in a slot finds is of the slot's sort
 pub of_sort_found : (es : EntryList) (q : Slot) → AllOfSort es → IfSome (map.find slot_cmp q es) (IsOfSort q.sort)
@@ -33,13 +33,13 @@ of_sort_after (Some slot) (e ∷ es) all =
 
 module _ (es : EntryList) (ms : MarkList) (l : AreLists es ms) where
   pub get-listed : (q : Slot) → map.get (contents_of es ms).entries q ≡ map.find slot_cmp q es
-  get-listed q = map.get-from_sorted slot_cmp es q (holds _ l.entries)
+  get-listed q = map.get-from_sorted slot_cmp es q (true_holds _ l.entries)
 
   pub entries-listed : map.entries (contents_of es ms).entries ≡ es
-  entries-listed = map.entries-from_sorted slot_cmp es (holds _ l.entries)
+  entries-listed = map.entries-from_sorted slot_cmp es (true_holds _ l.entries)
 
   marks-listed : map.entries (contents_of es ms).marks ≡ ms
-  marks-listed = map.entries-from_sorted cell_cmp ms (holds _ l.marks)
+  marks-listed = map.entries-from_sorted cell_cmp ms (true_holds _ l.marks)
 
   pub len-listed : map.len (contents_of es ms).entries ≡ length es
   len-listed = map.len-entries _ ∙ ap length entries-listed

@@ -6,8 +6,8 @@ use Rattle.std.specs.FinMap.{put}
 use Rattle.std.specs.FinMap.Entries.{by_order, where_key, is_sorted-put, is_sorted-where_key}
 use Rattle.pb_memtablet.specs.Words.{Cell, cell_cmp, cell_cmp_total, cell_cmp-IsAntisymmetric, Slot, Item, slot_cmp, slot_cmp_total, slot_cmp-IsAntisymmetric, Edit, Contents, IsOfSort, nothing, after_edit, after_edits}
 use Rattle.pb_memtablet.specs.Listed.{EntryList, MarkList, contents_of, AllOfSort, AreLists}
-use Rattle.pb_memtablet.proofs.Spots.{holds, inserted, removed}
-use Rattle.pb_base.proofs.Logic.{truth}
+use Rattle.pb_memtablet.proofs.Spots.{true_holds, put_inserts, without_removes}
+use Rattle.pb_base.proofs.Logic.{test_is_true}
 
 both_same : (m n : map.FinMap slot_cmp Item) (p q : map.FinMap cell_cmp (Unit {0})) → m ≡ n → p ≡ q → ◌≡◌ {A = Contents} (record { entries = m; marks = p }) (record { entries = n; marks = q })
 both_same m n p q e f = λ i. record { entries = e i; marks = f i }
@@ -41,47 +41,47 @@ pub record IsDone (fs : EntryList) (ns : MarkList) (edit : Edit) (es : EntryList
 module _ (es : EntryList) (ms : MarkList) (l : AreLists es ms) where
   lists_put : (k : Slot) (v : Item) → IsOfSort k.sort v → AreLists (put slot_cmp k v es) ms
   lists_put k v new = record {
-    entries = truth _ (is_sorted-put slot_cmp slot_cmp_total k v es (holds _ l.entries));
+    entries = test_is_true _ (is_sorted-put slot_cmp slot_cmp_total k v es (true_holds _ l.entries));
     marks = l.marks;
     of_sort = of_sort-put es k v new l.of_sort;
   }
 
   lists_erased : (p : Slot → Bool) → AreLists (where_key slot_cmp p es) ms
   lists_erased p = record {
-    entries = truth _ (is_sorted-where_key slot_cmp p es (holds _ l.entries));
+    entries = test_is_true _ (is_sorted-where_key slot_cmp p es (true_holds _ l.entries));
     marks = l.marks;
     of_sort = of_sort-where_key es p l.of_sort;
   }
 
   lists_marked : (k : Cell) → AreLists es (put cell_cmp k tt ms)
-  lists_marked k = record { entries = l.entries; marks = truth _ (is_sorted-put cell_cmp cell_cmp_total k tt ms (holds _ l.marks)); of_sort = l.of_sort }
+  lists_marked k = record { entries = l.entries; marks = test_is_true _ (is_sorted-put cell_cmp cell_cmp_total k tt ms (true_holds _ l.marks)); of_sort = l.of_sort }
 
   lists_unmarked : (p : Cell → Bool) → AreLists es (where_key cell_cmp p ms)
-  lists_unmarked p = record { entries = l.entries; marks = truth _ (is_sorted-where_key cell_cmp p ms (holds _ l.marks)); of_sort = l.of_sort }
+  lists_unmarked p = record { entries = l.entries; marks = test_is_true _ (is_sorted-where_key cell_cmp p ms (true_holds _ l.marks)); of_sort = l.of_sort }
 
   -- the lists that were es and ms, after one edit
   pub put_done : (fs : EntryList) (k : Slot) (v : Item) → fs ≡ put slot_cmp k v es → IsOfSort k.sort v → IsDone fs ms (Edit.Put k v) es ms
   put_done fs k v e new = record {
     lists = subst (λ (xs : EntryList). AreLists xs ms) (sym e) (lists_put k v new);
-    contents = both_same _ _ _ _ (ap (λ xs. map.from_sorted {R = slot_cmp} xs) e ∙ inserted slot_cmp_total slot_cmp-IsAntisymmetric es k v (holds _ l.entries)) refl;
+    contents = both_same _ _ _ _ (ap (λ xs. map.from_sorted {R = slot_cmp} xs) e ∙ put_inserts slot_cmp_total slot_cmp-IsAntisymmetric es k v (true_holds _ l.entries)) refl;
   }
 
   pub erase_done : (fs : EntryList) (k : Slot) → fs ≡ where_key slot_cmp (λ q. not (eq_by_cmp slot_cmp k q)) es → IsDone fs ms (Edit.Erase k) es ms
   erase_done fs k e = record {
     lists = subst (λ (xs : EntryList). AreLists xs ms) (sym e) (lists_erased _);
-    contents = both_same _ _ _ _ (ap (λ xs. map.from_sorted {R = slot_cmp} xs) e ∙ removed slot_cmp_total slot_cmp-IsAntisymmetric es k (holds _ l.entries)) refl;
+    contents = both_same _ _ _ _ (ap (λ xs. map.from_sorted {R = slot_cmp} xs) e ∙ without_removes slot_cmp_total slot_cmp-IsAntisymmetric es k (true_holds _ l.entries)) refl;
   }
 
   pub mark_done : (ns : MarkList) (k : Cell) → ns ≡ put cell_cmp k tt ms → IsDone es ns (Edit.Mark k) es ms
   mark_done ns k e = record {
     lists = subst (AreLists es) (sym e) (lists_marked k);
-    contents = both_same _ _ _ _ refl (ap (λ xs. map.from_sorted {R = cell_cmp} xs) e ∙ inserted cell_cmp_total cell_cmp-IsAntisymmetric ms k tt (holds _ l.marks));
+    contents = both_same _ _ _ _ refl (ap (λ xs. map.from_sorted {R = cell_cmp} xs) e ∙ put_inserts cell_cmp_total cell_cmp-IsAntisymmetric ms k tt (true_holds _ l.marks));
   }
 
   pub unmark_done : (ns : MarkList) (k : Cell) → ns ≡ where_key cell_cmp (λ q. not (eq_by_cmp cell_cmp k q)) ms → IsDone es ns (Edit.Unmark k) es ms
   unmark_done ns k e = record {
     lists = subst (AreLists es) (sym e) (lists_unmarked _);
-    contents = both_same _ _ _ _ refl (ap (λ xs. map.from_sorted {R = cell_cmp} xs) e ∙ removed cell_cmp_total cell_cmp-IsAntisymmetric ms k (holds _ l.marks));
+    contents = both_same _ _ _ _ refl (ap (λ xs. map.from_sorted {R = cell_cmp} xs) e ∙ without_removes cell_cmp_total cell_cmp-IsAntisymmetric ms k (true_holds _ l.marks));
   }
 
 -- ---- two edits of entries

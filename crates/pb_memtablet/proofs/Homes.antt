@@ -10,7 +10,7 @@ use Rattle.std.specs.FinMap.{find, put}
 use Rattle.std.specs.FinMap.Entries.{by_order, below_all, is_sorted, where_key}
 use Rattle.pb_memtablet.specs.Places.{IsCut}
 use Rattle.pb_memtablet.specs.Chunks.{AreBelow, AreAbove, entries_up_to, entries_above}
-use Rattle.pb_base.proofs.Logic.{both_hold as both, first_holds as first, second_holds as second, less_if as less, turned}
+use Rattle.pb_base.proofs.Logic.{both_hold as both, first_holds as first, second_holds as second, less_if as less, turned_order}
 
 not_lt : (r : Ordering) → r ≢ Less → is_lt r ≡ false
 not_lt r n = grind arith
@@ -21,7 +21,7 @@ module _ {K : Type 0} {R : K → K → Ordering} (o : IsTotalOrder R) where
 
   -- ---- the first key beside k
   pub at_most : (e k : K) → is_le (R e k) ≡ true → R k e ≢ Less
-  at_most e k le lt = let turn : R e k ≡ Greater = turned o k e Less lt in cc (ap is_le turn)
+  at_most e k le lt = let turn : R e k ≡ Greater = turned_order o k e Less lt in cc (ap is_le turn)
 
   pub is_above : (e k : K) → is_le (R e k) ≡ false → R k e ≡ Less
   is_above e k not_le = grind arith
@@ -182,8 +182,8 @@ pub back_of : {E : Type 0} (xs ys zs : List E) (n : ℕ) → xs ++ ys ≡ zs →
 back_of xs ys zs n e same = sym (ap (λ m. drop m zs) same ∙ ap (drop (length xs)) (sym e) ∙ drop-append_seam xs ys)
 
 -- what a call that succeeded made
-pub made : {E : Type 0} (fs es old : List E) (b : Bool) → fs ≡ cond b es old → b ≡ true → fs ≡ es
-made fs es old b e ok = e ∙ ap (λ c. cond c es old) ok
+pub made_on_success : {E : Type 0} (fs es old : List E) (b : Bool) → fs ≡ cond b es old → b ≡ true → fs ≡ es
+made_on_success fs es old b e ok = e ∙ ap (λ c. cond c es old) ok
 
 -- a place in the first part is one of the whole
 pub get_here : {E : Type 0} (es ys : List E) (i : ℕ) (d : E) → i < length es → slice_get (es ++ ys) i ≡ Some (get_or es i d)

@@ -10,7 +10,7 @@ use Rattle.pb_memtablet.specs.Words.{slot_cmp-IsAntisymmetric, Item, slot_cmp, s
 use Rattle.pb_store.specs.declared.slot.Slot.{Slot as Name}
 use Rattle.pb_memtablet.specs.Stored.{Items, KeyList, found_at, HasItem, item_at, seen, AllKeys, AreKeysApart, AreStored}
 use Rattle.pb_memtablet.specs.Listed.{EntryList}
-use Rattle.pb_base.proofs.Logic.{truth}
+use Rattle.pb_base.proofs.Logic.{test_is_true}
 
 -- the keys without that of the slot
 abbrev without : Name → KeyList → KeyList
@@ -172,8 +172,8 @@ without_slot : {X : Type 0} (slot q : Name) (es : List (Name × X)) → find slo
 without_slot slot q es = find-where_key slot_cmp (λ k. not (eq_by_cmp slot_cmp slot k)) q (λ x t. ap (λ r. not (is_eq r)) (sym (alike_right slot_cmp_total q x slot t))) es
 
 -- a slot is free once its entry was taken out
-pub freed : (slot : Name) (ks : KeyList) → find slot_cmp slot (without slot ks) ≡ None
-freed slot ks = without_slot slot slot ks ∙ ap (λ r. cond (not (is_eq r)) (find slot_cmp slot ks) None) (tied_itself slot_cmp_total slot)
+pub found_no_more : (slot : Name) (ks : KeyList) → find slot_cmp slot (without slot ks) ≡ None
+found_no_more slot ks = without_slot slot slot ks ∙ ap (λ r. cond (not (is_eq r)) (find slot_cmp slot ks) None) (tied_itself slot_cmp_total slot)
 
 hidden : {X : Type 0} (a b : Bool) (v x y : X) → a ≡ b → cond a v (cond (not b) x y) ≡ cond a v x
 hidden a b v x y e = grind arith
@@ -258,7 +258,7 @@ pub sorted_keys : (s : Items) (ks : KeyList) → IsTrue (is_sorted slot_cmp (see
 sorted_keys s ks e = sym (is_sorted-seen s ks) ∙ e
 
 pub sorted_without : (slot : Name) (ks ls : KeyList) → T (is_sorted slot_cmp ks) → ls ≡ without slot ks → IsTrue (is_sorted slot_cmp ls)
-sorted_without slot ks ls s e = truth _ (subst (λ (xs : KeyList). T (is_sorted slot_cmp xs)) (sym e) (is_sorted-where_key slot_cmp _ ks s))
+sorted_without slot ks ls s e = test_is_true _ (subst (λ (xs : KeyList). T (is_sorted slot_cmp xs)) (sym e) (is_sorted-where_key slot_cmp _ ks s))
 
 -- ---- an entry in the place of another
 free_without : (gone slot : Name) (ks : KeyList) → find slot_cmp slot ks ≡ None → find slot_cmp slot (without gone ks) ≡ None

@@ -11,7 +11,7 @@ use Rattle.pb_memtablet.specs.Places.{IsGap, IsCut}
 use Rattle.pb_memtablet.specs.Chunks.{entries_above}
 use Rattle.pb_memtablet.proofs.Cuts.{first_above_is, none_above}
 use Rattle.pb_memtablet.specs.Listed.{EntryList, MarkList, AllOfSort}
-use Rattle.pb_memtablet.proofs.Spots.{find-found, find-gap, found_self, cut_above, cut_below, gap_first, gap_after, past}
+use Rattle.pb_memtablet.proofs.Spots.{find-found, find-gap, found_self, cut_above, cut_below, gap_first, gap_after, not_above_is_below}
 use Rattle.pb_base.proofs.Logic.{none_past}
 
 -- slots of one cell and sort go by timestamp
@@ -106,7 +106,7 @@ module _ (ms : MarkList) (s : T (map.is_sorted cell_cmp ms)) where
   unmarked None (suc i) cell cut start le comes above = absurd (omega (arith, start))
   unmarked (Some a) zero cell cut start le comes above = gap_first cell_cmp_total ms cell above
   unmarked (Some a) (suc i) cell cut start le comes above =
-      gap_after cell_cmp_total ms cell i (cell, tt) s (omega arith) (past cell_cmp_total a (get_or ms i (cell, tt)).0 cell (cut_below cell_cmp_total ms a i (cell, tt) cut) comes) above
+      gap_after cell_cmp_total ms cell i (cell, tt) s (omega arith) (not_above_is_below cell_cmp_total a (get_or ms i (cell, tt)).0 cell (cut_below cell_cmp_total ms a i (cell, tt) cut) comes) above
 
   no_mark : (cell : Cell) (i : ℕ) → IsGap cell_cmp ms cell i → map.contains_key (map.from_sorted {R = cell_cmp} ms) cell ≡ false
   no_mark cell i gap = ap is_some (map.get-from_sorted cell_cmp ms cell s ∙ find-gap cell_cmp_total ms cell i s gap)

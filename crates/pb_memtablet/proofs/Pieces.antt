@@ -98,8 +98,8 @@ module _ {E A : Type 0} where
       omega arith
 
   -- a chunk that became empty is taken out
-  pub retired : (cs ds : List (Vec E A)) (i : ℕ) (n x : Vec E A) → i < length cs → ds ≡ remove (set cs i n) i → x ≡ get_or (set cs i n) i x → true ≡ (vec_len x == 0) → chunk_entries ds ≡ chunk_entries (set cs i n)
-  retired cs ds i n x lt ds_is x_is empty =
+  pub retired_chunk : (cs ds : List (Vec E A)) (i : ℕ) (n x : Vec E A) → i < length cs → ds ≡ remove (set cs i n) i → x ≡ get_or (set cs i n) i x → true ≡ (vec_len x == 0) → chunk_entries ds ≡ chunk_entries (set cs i n)
+  retired_chunk cs ds i n x lt ds_is x_is empty =
       let same : x ≡ n = x_is ∙ at_set cs i n x lt in
       let none : vec_len n ≡ 0 = is_zero (vec_len n) (empty ∙ ap (λ (v : Vec E A). vec_len v == 0) same) in
       let within : i < length (set cs i n) = rw length-set lt in
@@ -132,23 +132,23 @@ module _ {K X : Type 0} (R : K → K → Ordering) (o : IsTotalOrder R) where
     none_starts (c ∷ cs) k zero d a lt t = not_above c.items (chunk_entries cs) k a t
     none_starts (c ∷ cs) k (suc j) d a lt t = none_starts cs k j d (above_parts R c.items (chunk_entries cs) k a).1 (omega arith) t
 
-    pub filled : (c : Vec (K × X) A) → IsChunk c → 0 < length c.items
-    filled c h = let n = c.ok.0 in let f = h.filled in omega (arith, n, f)
+    pub chunk_is_filled : (c : Vec (K × X) A) → IsChunk c → 0 < length c.items
+    chunk_is_filled c h = let n = c.ok.0 in let f = h.filled in omega (arith, n, f)
 
-    pub partitioned : (cs : List (Vec (K × X) A)) (k : K) → T (is_sorted R (chunk_entries cs)) → All IsChunk cs → IsPartitionedBy (λ c. starts_by R k c.items) cs
-    partitioned [] k s h i j d le lt t = absurd (omega (arith, lt))
-    partitioned (c ∷ cs) k s h zero j d le lt t =
+    pub chunks_are_partitioned : (cs : List (Vec (K × X) A)) (k : K) → T (is_sorted R (chunk_entries cs)) → All IsChunk cs → IsPartitionedBy (λ c. starts_by R k c.items) cs
+    chunks_are_partitioned [] k s h i j d le lt t = absurd (omega (arith, lt))
+    chunks_are_partitioned (c ∷ cs) k s h zero j d le lt t =
         elim (starts_by R k c.items) as (λ b. starts_by R k c.items ≡ b → b ≡ true) [
           | true ↦ λ e. refl
-          | false ↦ λ e. absurd (none_starts (c ∷ cs) k j d (above_from_first c.items (chunk_entries cs) k (filled c (All-head IsChunk c cs h)) s e) lt t)
+          | false ↦ λ e. absurd (none_starts (c ∷ cs) k j d (above_from_first c.items (chunk_entries cs) k (chunk_is_filled c (All-head IsChunk c cs h)) s e) lt t)
         ] refl
-    partitioned (c ∷ cs) k s h (suc i) zero d le lt t = absurd (omega (arith, le))
-    partitioned (c ∷ cs) k s h (suc i) (suc j) d le lt t = grind (arith, sorted_right, All-tail, c.items, partitioned cs k (sorted_right R c.items (chunk_entries cs) s) (All-tail IsChunk c cs h) i j d (omega arith) (omega arith) t)
+    chunks_are_partitioned (c ∷ cs) k s h (suc i) zero d le lt t = absurd (omega (arith, le))
+    chunks_are_partitioned (c ∷ cs) k s h (suc i) (suc j) d le lt t = grind (arith, sorted_right, All-tail, c.items, chunks_are_partitioned cs k (sorted_right R c.items (chunk_entries cs) s) (All-tail IsChunk c cs h) i j d (omega arith) (omega arith) t)
 
     above_point : (cs : List (Vec (K × X) A)) (k : K) (p : ℕ) → T (is_sorted R (chunk_entries cs)) → All IsChunk cs → AllWithin (λ c. starts_by R k c.items ≡ false) cs p (length cs) → AreAbove R k (chunk_entries (drop p cs))
     above_point [] k zero s h f = tt
     above_point [] k (suc p) s h f = tt
-    above_point (c ∷ cs) k zero s h f = above_from_first c.items (chunk_entries cs) k (filled c (All-head IsChunk c cs h)) s (f 0 c (omega arith) (omega arith))
+    above_point (c ∷ cs) k zero s h f = above_from_first c.items (chunk_entries cs) k (chunk_is_filled c (All-head IsChunk c cs h)) s (f 0 c (omega arith) (omega arith))
     above_point (c ∷ cs) k (suc p) s h f =
         above_point cs k p (sorted_right R c.items (chunk_entries cs) s) (All-tail IsChunk c cs h) (λ j d a b. f (suc j) d (omega arith) (omega arith))
 
@@ -172,7 +172,7 @@ module _ {K X : Type 0} (R : K → K → Ordering) (o : IsTotalOrder R) where
     pub home_between : (cs : List (Vec (K × X) A)) (k : K) (i : ℕ) → i < length cs → T (is_sorted R (chunk_entries cs)) → All IsChunk cs
         → ((d : Vec (K × X) A) → starts_by R k (get_or cs i d).items ≡ true) → ((d : Vec (K × X) A) → i + 1 < length cs → starts_by R k (get_or cs (i + 1) d).items ≡ false) → IsHome R cs k i
     home_between cs k i lt s h here next =
-        let parted : IsPartitionedBy (λ c. starts_by R k c.items) cs = partitioned cs k s h in
+        let parted : IsPartitionedBy (λ c. starts_by R k c.items) cs = chunks_are_partitioned cs k s h in
         home_at_point cs k (i + 1) (omega arith) (omega arith) s h
         (λ j d a b. parted j i d (omega arith) lt (here d))
         (λ j d a b.
@@ -183,29 +183,29 @@ module _ {K X : Type 0} (R : K → K → Ordering) (o : IsTotalOrder R) where
         i (omega arith)
 
     -- ---- the list around the home of k
-    pub around : (cs : List (Vec (K × X) A)) (k : K) (i : ℕ) (m : Vec (K × X) A) → IsHome R cs k i → m ≡ get_or cs i m → chunk_entries cs ≡ chunk_entries (take i cs) ++ (m.items ++ chunk_entries (drop (suc i) cs))
-    around cs k i m h e = chunk_entries-split cs i m h.within ∙ ap (λ (c : Vec (K × X) A). chunk_entries (take i cs) ++ (c.items ++ chunk_entries (drop (suc i) cs))) (sym e)
+    pub around_home : (cs : List (Vec (K × X) A)) (k : K) (i : ℕ) (m : Vec (K × X) A) → IsHome R cs k i → m ≡ get_or cs i m → chunk_entries cs ≡ chunk_entries (take i cs) ++ (m.items ++ chunk_entries (drop (suc i) cs))
+    around_home cs k i m h e = chunk_entries-split cs i m h.within ∙ ap (λ (c : Vec (K × X) A). chunk_entries (take i cs) ++ (c.items ++ chunk_entries (drop (suc i) cs))) (sym e)
 
     pub home_sorted : (cs : List (Vec (K × X) A)) (k : K) (i : ℕ) (m : Vec (K × X) A) → IsHome R cs k i → m ≡ get_or cs i m → T (is_sorted R (chunk_entries cs)) → T (is_sorted R m.items)
     home_sorted cs k i m h e s =
-        sorted_left R m.items (chunk_entries (drop (suc i) cs)) (sorted_right R (chunk_entries (take i cs)) _ (subst (λ l. T (is_sorted R l)) (around cs k i m h e) s))
+        sorted_left R m.items (chunk_entries (drop (suc i) cs)) (sorted_right R (chunk_entries (take i cs)) _ (subst (λ l. T (is_sorted R l)) (around_home cs k i m h e) s))
 
     pub find-in_home : (cs : List (Vec (K × X) A)) (k : K) (i : ℕ) (m : Vec (K × X) A) → IsHome R cs k i → m ≡ get_or cs i m → find R k m.items ≡ find R k (chunk_entries cs)
-    find-in_home cs k i m h e = sym (ap (find R k) (around cs k i m h e) ∙ find-home R (chunk_entries (take i cs)) m.items (chunk_entries (drop (suc i) cs)) k h.below h.above)
+    find-in_home cs k i m h e = sym (ap (find R k) (around_home cs k i m h e) ∙ find-home R (chunk_entries (take i cs)) m.items (chunk_entries (drop (suc i) cs)) k h.below h.above)
 
     pub put-in_home : (cs : List (Vec (K × X) A)) (k : K) (v : X) (i : ℕ) (m n : Vec (K × X) A) → IsHome R cs k i → m ≡ get_or cs i m → n.items ≡ put R k v m.items → chunk_entries (set cs i n) ≡ put R k v (chunk_entries cs)
     put-in_home cs k v i m n h e is =
         chunk_entries-set cs i n h.within
         ∙ ap (λ l. chunk_entries (take i cs) ++ (l ++ chunk_entries (drop (suc i) cs))) is
         ∙ sym (put-home R (chunk_entries (take i cs)) m.items (chunk_entries (drop (suc i) cs)) k v h.below h.above)
-        ∙ ap (put R k v) (sym (around cs k i m h e))
+        ∙ ap (put R k v) (sym (around_home cs k i m h e))
 
     pub without-in_home : (cs : List (Vec (K × X) A)) (k : K) (i : ℕ) (m n : Vec (K × X) A) → IsHome R cs k i → m ≡ get_or cs i m → n.items ≡ without R k m.items → chunk_entries (set cs i n) ≡ without R k (chunk_entries cs)
     without-in_home cs k i m n h e is =
         chunk_entries-set cs i n h.within
         ∙ ap (λ l. chunk_entries (take i cs) ++ (l ++ chunk_entries (drop (suc i) cs))) is
         ∙ sym (without-home R (chunk_entries (take i cs)) m.items (chunk_entries (drop (suc i) cs)) k h.below h.above)
-        ∙ ap (without R k) (sym (around cs k i m h e))
+        ∙ ap (without R k) (sym (around_home cs k i m h e))
 
     -- ---- a change of one chunk alone
     changed_in : (cs : List (Vec (K × X) A)) (k : K) (i : ℕ) (m n : Vec (K × X) A) (f : List (K × X) → List (K × X)) → IsHome R cs k i → m ≡ get_or cs i m → n.items ≡ f m.items
@@ -214,7 +214,7 @@ module _ {K X : Type 0} (R : K → K → Ordering) (o : IsTotalOrder R) where
         chunk_entries-set cs i n h.within
         ∙ ap (λ l. chunk_entries (take i cs) ++ (l ++ chunk_entries (drop (suc i) cs))) is
         ∙ sym local
-        ∙ ap f (sym (around cs k i m h e))
+        ∙ ap f (sym (around_home cs k i m h e))
 
     pub both-in_home : (cs : List (Vec (K × X) A)) (k q : K) (v w : X) (b : Bool) (i : ℕ) (m n : Vec (K × X) A) → IsHome R cs k i → IsHome R cs q i → m ≡ get_or cs i m
         → n.items ≡ cond b (put R q w (put R k v m.items)) m.items → chunk_entries (set cs i n) ≡ cond b (put R q w (put R k v (chunk_entries cs))) (chunk_entries cs)
@@ -254,13 +254,13 @@ module _ {K X : Type 0} (R : K → K → Ordering) (o : IsTotalOrder R) where
     module _ (cs : List (Vec (K × X) A)) (k : K) (i : ℕ) (m : Vec (K × X) A) (h : IsHome R cs k i) (e : m ≡ get_or cs i m) (s : T (is_sorted R (chunk_entries cs))) where
       up_to_in_home : (p : ℕ) → IsCut R m.items k p → entries_up_to R k (chunk_entries cs) ≡ chunk_entries (take i cs) ++ take p m.items
       up_to_in_home p c =
-          ap (entries_up_to R k) (around cs k i m h e)
+          ap (entries_up_to R k) (around_home cs k i m h e)
           ∙ entries_up_to-home R (chunk_entries (take i cs)) m.items (chunk_entries (drop (suc i) cs)) k h.below h.above
           ∙ ap (λ l. chunk_entries (take i cs) ++ l) (entries_up_to-cut R o m.items k p (home_sorted cs k i m h e s) c)
 
       above_in_home : (p : ℕ) → IsCut R m.items k p → entries_above R k (chunk_entries cs) ≡ drop p m.items ++ chunk_entries (drop (suc i) cs)
       above_in_home p c =
-          ap (entries_above R k) (around cs k i m h e)
+          ap (entries_above R k) (around_home cs k i m h e)
           ∙ entries_above-home R (chunk_entries (take i cs)) m.items (chunk_entries (drop (suc i) cs)) k h.below h.above
           ∙ ap (λ l. l ++ chunk_entries (drop (suc i) cs)) (entries_above-cut R o m.items k p (home_sorted cs k i m h e s) c)
 

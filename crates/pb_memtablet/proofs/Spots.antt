@@ -7,11 +7,11 @@ use Rattle.std.specs.FinMap as map
 use Rattle.std.specs.FinMap.{find, put}
 use Rattle.std.specs.FinMap.Entries.{by_order, below_all, is_sorted, where_key, find-put, find-where_key, is_sorted-put, is_sorted-where_key}
 use Rattle.pb_memtablet.specs.Places.{IsFound, IsGap, IsCut}
-use Rattle.pb_base.proofs.Logic.{less_if as less, first_holds as first, second_holds as second, turned}
+use Rattle.pb_base.proofs.Logic.{less_if as less, first_holds as first, second_holds as second, turned_order}
 use Rattle.pb_store.proofs.Copied.{below_at}
 
-pub holds : (b : Bool) → b ≡ true → T b
-holds b e = subst T (sym e) tt
+pub true_holds : (b : Bool) → b ≡ true → T b
+true_holds b e = subst T (sym e) tt
 
 pub is_less : (o : Ordering) (b : Bool) → b ≡ is_lt o → b ≡ true → o ≡ Less
 is_less o b e t = grind arith
@@ -29,16 +29,16 @@ pub equal_not_less : (o : Ordering) → o ≡ Equal → o ≢ Less
 equal_not_less o g l = cc
 
 -- what is not above one key is below all that are above that key
-pub past : {K : Type 0} {R : K → K → Ordering} → IsTotalOrder R → (k x q : K) → R k x ≢ Less → R k q ≡ Less → R q x ≡ Greater
-past {R = R} o k x q above below = grind arith
+pub not_above_is_below : {K : Type 0} {R : K → K → Ordering} → IsTotalOrder R → (k x q : K) → R k x ≢ Less → R k q ≡ Less → R q x ≡ Greater
+not_above_is_below {R = R} o k x q above below = grind arith
 
 module _ {K X : Type 0} {R : K → K → Ordering} (o : IsTotalOrder R) where
   pub found_at : (es : List (K × X)) (k : K) (i : ℕ) → T (is_sorted R es) → i < length es → HoldsAt (λ e. R e.0 k ≡ Equal) es i → IsFound R es k i
   found_at [] k i s lt h = absurd (omega (arith, lt))
-  found_at (e ∷ es) k zero s lt h = turned o _ _ Equal (h e)
+  found_at (e ∷ es) k zero s lt h = turned_order o _ _ Equal (h e)
   found_at (e ∷ es) k (suc i) s lt h =
       let x = (get_or es i e).0 in
-      (sym (o.congr x k e.0 (h e)) ∙ turned o e.0 x Less (below_at o e.0 es i e (first _ _ s) (omega arith)), found_at es k i (second _ _ s) (omega arith) h)
+      (sym (o.congr x k e.0 (h e)) ∙ turned_order o e.0 x Less (below_at o e.0 es i e (first _ _ s) (omega arith)), found_at es k i (second _ _ s) (omega arith) h)
 
   -- ---- what is found
   pub find-found : (es : List (K × X)) (k : K) (i : ℕ) (d : K × X) → IsFound R es k i → find R k es ≡ Some (get_or es i d).1
@@ -128,7 +128,7 @@ module _ {K X : Type 0} {R : K → K → Ordering} (o : IsTotalOrder R) where
   gap_after (e ∷ es) q zero d s lt g above = (g, gap_first es q (λ x more. above x (omega arith)))
   gap_after (e ∷ es) q (suc i) d s lt g above =
       let x = (get_or es i d).0 in (
-        turned o e.0 q Less (o.trans e.0 x q (below_at o e.0 es i d (first _ _ s) (omega arith)) (turned o q x Greater g)),
+        turned_order o e.0 q Less (o.trans e.0 x q (below_at o e.0 es i d (first _ _ s) (omega arith)) (turned_order o q x Greater g)),
         gap_after es q i d (second _ _ s) (omega arith) g (λ y more. above y (omega arith)),
       )
 
@@ -154,7 +154,7 @@ module _ {K X : Type 0} {R : K → K → Ordering} (o : IsTotalOrder R) where
       let above : HoldsAt (λ x. R q x.0 ≡ Greater) es i = λ d. subst (λ n. R q (get_or (e ∷ es) n d).0 ≡ Greater) previous (low (omega arith) d) in
       let same : suc i - 1 ≡ i = omega arith in
       let x = (get_or es i e).0 in (
-        turned o e.0 q Less (o.trans e.0 x q (below_at o e.0 es i e (first _ _ s) (omega arith)) (turned o q x Greater (above e))),
+        turned_order o e.0 q Less (o.trans e.0 x q (below_at o e.0 es i e (first _ _ s) (omega arith)) (turned_order o q x Greater (above e))),
         gap_in_place es q (suc i) (second _ _ s) (omega arith) (λ some. subst (HoldsAt (λ x. R q x.0 ≡ Greater) es) (sym same) above) (λ d more. high d (omega arith)),
       )
 
@@ -164,8 +164,8 @@ module _ {K X : Type 0} {R : K → K → Ordering} (o : IsTotalOrder R) where
   remove-insert (e ∷ es) (suc i) x lt = ap (λ l. e ∷ l) (remove-insert es i x (omega arith))
 
   -- one key goes where it stands, and another comes
-  pub replaced : (es fs : List (K × X)) (g k : K) (v : X) (i : ℕ) → T (is_sorted R es) → i < length es → IsFound R es g i → IsGap R (remove es i) k i → fs ≡ set es i (k, v) → fs ≡ put R k v (without g es)
-  replaced es fs g k v i s lt found gap made =
+  pub replaced_in_order : (es fs : List (K × X)) (g k : K) (v : X) (i : ℕ) → T (is_sorted R es) → i < length es → IsFound R es g i → IsGap R (remove es i) k i → fs ≡ set es i (k, v) → fs ≡ put R k v (without g es)
+  replaced_in_order es fs g k v i s lt found gap made =
       made ∙ sym (remove-insert es i (k, v) lt) ∙ sym (put-gap (remove es i) k v i gap) ∙ ap (put R k v) (sym (without-found es g i s found))
 
   pub gap_behind : (es : List (K × X)) (k q : K) (v : X) (i : ℕ) → IsGap R es k i → R q k ≡ Greater → ((d : K × X) → i < length es → R q (get_or es i d).0 ≡ Less) → IsGap R (insert es i (k, v)) q (suc i)
@@ -173,7 +173,7 @@ module _ {K X : Type 0} {R : K → K → Ordering} (o : IsTotalOrder R) where
   gap_behind [] k q v (suc i) gap above high = absurd gap
   gap_behind (e ∷ es) k q v zero gap above high = (above, high e (omega arith))
   gap_behind (e ∷ es) k q v (suc i) gap above high = (
-    turned o e.0 q Less (o.trans e.0 k q (turned o k e.0 Greater gap.0) (turned o q k Greater above)),
+    turned_order o e.0 q Less (o.trans e.0 k q (turned_order o k e.0 Greater gap.0) (turned_order o q k Greater above)),
     gap_behind es k q v i gap.1 above (λ d lt. high d (omega arith)),
   )
 
@@ -186,18 +186,18 @@ module _ {K X : Type 0} {R : K → K → Ordering} (o : IsTotalOrder R) where
   found_self [] i d s lt = absurd (omega (arith, lt))
   found_self (e ∷ es) zero d s lt = tied_itself o e.0
   found_self (e ∷ es) (suc i) d s lt =
-      (turned o e.0 _ Less (below_at o e.0 es i d (first _ _ s) (omega arith)), found_self es i d (second _ _ s) (omega arith))
+      (turned_order o e.0 _ Less (below_at o e.0 es i d (first _ _ s) (omega arith)), found_self es i d (second _ _ s) (omega arith))
 
   module _ (exact : map.IsAntisymmetric R) where
-    pub inserted : (es : List (K × X)) (k : K) (v : X) → T (is_sorted R es) → map.from_sorted {R = R} (put R k v es) ≡ map.insert (map.from_sorted es) k v
-    inserted es k v s = map.same_map o exact _ _ (λ q.
+    pub put_inserts : (es : List (K × X)) (k : K) (v : X) → T (is_sorted R es) → map.from_sorted {R = R} (put R k v es) ≡ map.insert (map.from_sorted es) k v
+    put_inserts es k v s = map.same_map o exact _ _ (λ q.
         map.get-from_sorted R _ q (is_sorted-put R o k v es s)
         ∙ find-put R o q k v es
         ∙ ap (cond (eq_by_cmp R q k) (Some v)) (sym (map.get-from_sorted R es q s))
         ∙ sym (map.get-insert o _ k v q))
 
-    pub removed : (es : List (K × X)) (k : K) → T (is_sorted R es) → map.from_sorted {R = R} (without k es) ≡ map.remove (map.from_sorted es) k
-    removed es k s = map.same_map o exact _ _ (λ q.
+    pub without_removes : (es : List (K × X)) (k : K) → T (is_sorted R es) → map.from_sorted {R = R} (without k es) ≡ map.remove (map.from_sorted es) k
+    without_removes es k s = map.same_map o exact _ _ (λ q.
         map.get-from_sorted R _ q (is_sorted-where_key R _ es s)
         ∙ find-where_key R (λ x. not (eq_by_cmp R k x)) q (λ x t. ap (λ r. not (is_eq r)) (sym (alike_right o q x k t))) es
         ∙ turned_choice (eq_by_cmp R k q) _ _

@@ -13,13 +13,13 @@ use Rattle.pb_notify.specs.Places.{step_at}
 use Rattle.pb_notify.specs.Runs.{Watch, watch_of}
 use Rattle.pb_notify.specs.Allowed.{entries_by, HasRun, JobsAreAllowed}
 use Rattle.pb_notify.proofs.RunConversation as conversation
-use Rattle.pb_notify.proofs.RecordedReads.{after, after_is, after_append, has_append, with_reads, IsRecorded, HasRead, in_look, cell_begins, observed, acknowledged, has_read, is_newer}
+use Rattle.pb_notify.proofs.RecordedReads.{after, after_is, after_append, has_append, with_reads, IsRecorded, HasRead, in_look, cell_begins, observed_is_recorded, acknowledged_is_recorded, has_read, is_newer}
 use Rattle.pb_notify.proofs.ItsRun.{its_run}
 use Rattle.pb_notify.proofs.PlanEntries.{has_said}
 use Rattle.pb_notify.proofs.PlanSteps.{declaring_said_nothing, plan_step, plan_keeps}
 use Rattle.pb_notify.proofs.OwnSteps.{begins_in_time, looks_in_time, declares_in_time, goes_in_time}
 use Rattle.pb_base.proofs.Logic.{one_value as same_transaction, same_some as same_step, none_some, same_number as itself}
-use Rattle.pb_txn.proofs.PlanTransactions.{keeps}
+use Rattle.pb_txn.proofs.PlanTransactions.{keeps_start_and_what}
 
 has_last : (xs : List Received) (x : Received) → Has (xs ++ x ∷ []) x
 has_last [] x = inl refl
@@ -109,7 +109,7 @@ module _ (observers : List ObserverOf) (seats clock : ℕ) (journal : List Entry
             observer_is = there;
             seen = i.seen;
             asked = read.asked;
-            was = grind (arith, observed, column_is, acknowledged, i.seen.acknowledged, i.seen.old);
+            was = grind (arith, observed_is_recorded, column_is, acknowledged_is_recorded, i.seen.acknowledged, i.seen.old);
             newer = is_newer watch i.s i.seen i.talk n i.base i.asked;
             program = i.run_on.program;
             bytes = i.run_on.bytes ∙ ap (λ c. record_by second (Cell.Data row c) i.seen.version i.seen.acknowledged.0 i.seen.old) (sym column_is);
@@ -143,16 +143,16 @@ module _ (observers : List ObserverOf) (seats clock : ℕ) (journal : List Entry
       by_place at is here next = grind (arith, at_declaration, later_on)
 
       at_plan : plans.next_of p ≡ Some step → why ≡ Reason.OutOfTimestamps
-      at_plan next = grind (arith, keeps, by_place, i.plan, i.converses_are, p.place)
+      at_plan next = grind (arith, keeps_start_and_what, by_place, i.plan, i.converses_are, p.place)
 
     at_place : (n : ℕ) (place : RunPlace) → conversation.SoFar watch n place said → step_at o row observer.column place ≡ Some step → why ≡ Reason.OutOfTimestamps
     at_place n RunPlace.Beginning so next =
         begins_in_time state seat why seated o row observer there (subst (λ z. step_reason state seat z ≡ Some why) (sym (same_step (Step.Begin (Work.Run o row)) step next)) refused)
     at_place n (RunPlace.Observing s look) so next = at_look s _ None look [] (cell_begins state.observers seat s watch look n said so) (omega arith) next
     at_place n (RunPlace.Acknowledging s found look) so next =
-        at_look s _ None look _ (in_look state.observers seat s watch (Cell.Ack o row observer.column) None so.0 so.1 look n said _ (observed state.observers seat s watch found so.0 so.1 so.2) so.3) (omega arith) next
+        at_look s _ None look _ (in_look state.observers seat s watch (Cell.Ack o row observer.column) None so.0 so.1 look n said _ (observed_is_recorded state.observers seat s watch found so.0 so.1 so.2) so.3) (omega arith) next
     at_place n (RunPlace.Recalling s seen look) so next =
-        let recorded = acknowledged state.observers seat s watch seen so.0 so.1 so.2 in
+        let recorded = acknowledged_is_recorded state.observers seat s watch seen so.0 so.1 so.2 in
         let from = conversation.look_goes_on s (Cell.Data row observer.column) (Some seen.acknowledged) so.0 so.1 look n said so.5 in
         at_look s _ (Some seen.acknowledged) look _ (in_look state.observers seat s watch (Cell.Data row observer.column) (Some seen.acknowledged) so.0 so.1 look n said _ recorded so.5)
         (in_time s seen so.0 so.1 from.0 _ recorded from.1 so.2) next
@@ -168,7 +168,7 @@ module _ (observers : List ObserverOf) (seats clock : ℕ) (journal : List Entry
 -- by where the job stands: looks, its declaration and the later steps of its plan each come at their time
 pub jobs_allowed : PlansConverse → PlansEnd → PlansAreAllowed → TransactionsAreTold → JournalsAreSound → AcknowledgedIsEarlier → JobsAreAllowed
 jobs_allowed pt pe allowed told_by sound earlier observers seats clock journal state legal seat o observer row said k step why seated there row_fits column_fits reaches has next refused =
-    let h = conversation.holds (watch_of o observer row) pt pe said k reaches in
+    let h = conversation.reached_holds (watch_of o observer row) pt pe said k reaches in
     let os_is = (sound observers seats clock journal state legal).observers_stay in
     let here : step_at o row observer.column k.place ≡ Some step = ap (λ (j : Watch). step_at j.observer j.row j.column k.place) (sym h.watch) ∙ next in
     at_place observers seats clock journal state legal allowed (told_by observers seats clock journal state legal) (earlier observers seats clock journal state legal) seat o row observer there (ap (λ os. slice_get os o) os_is ∙ there)

@@ -10,8 +10,8 @@ module _ (old new : Position) (r : ℕ) (f : Meant) (taken : ℕ) (did : MovesOn
   at_exit = grind arith
 
   -- what was taken from it is what its exit leaves there
-  pub left : IsMeant f → Leaves (exit_at f taken) f
-  left meant = grind arith
+  pub exit_leaves : IsMeant f → Leaves (exit_at f taken) f
+  exit_leaves meant = grind arith
 
   -- the slot at which it stands once it has ended is the exit's
   pub at_slot : (slot : ℕ) → IsAtSlot new slot → IsAtSlot (exit_at f taken) slot

@@ -54,7 +54,7 @@ module _ (o : Watch) where
       (record { seen = so.0; program = so.1.program; bytes = so.1.bytes; start = so.1.start; met = n; base = said; asked = so.2; since = refl; size = led.1 ∙ ap (λ (j : JudgedOf). j.record_size) so.1.program; led = led.0 }))
   machine_at said n (RunPlace.Asking t w q look) s v stands so led =
       let from = conversation.look_goes_on t (Cell.Data q.row q.column) None so.1 so.2 look n said so.5 in
-      let end = looks.ends t (Cell.Data q.row q.column) None so.1 so.2 look n said so.5 in
+      let end = looks.look_can_end t (Cell.Data q.row q.column) None so.1 so.2 look n said so.5 in
       let open_look : IsLooking t (Cell.Data q.row q.column) None so.1 so.2 said = record { since = from.0; said_is = from.1; next = end.next; rest = end.rest; n = n; look = end.look.0 } in
       subst (λ (z : Position). IsMachineOf o (RunPlace.Asking t w q look) s z said) stands.1
       (subst (λ (z : Ts). IsMachineOf o (RunPlace.Asking t w q look) z w said) stands.0
@@ -64,7 +64,7 @@ module _ (o : Watch) where
 -- with the conversation up to there, the record and the replies are what the job read
 pub machines_are_led : PlansConverse → PlansEnd → MachinesAreLed
 machines_are_led pt pe o said k s v reaches stands =
-    let h = conversation.holds o pt pe said k reaches in
+    let h = conversation.reached_holds o pt pe said k reaches in
     machine_at o said k.locked k.place s v stands h.so (reached_led (fresh o) said k tt reaches)
 
 asking_led : (place : RunPlace) → AtLed place → IsAskingAt place
@@ -85,5 +85,5 @@ module _ (o : Watch) where
 -- what a job declares was left by its machine, as the conversation at that place says
 pub ended_runs_mean : PlansConverse → PlansEnd → EndedRunsMean
 ended_runs_mean pt pe o said k reaches =
-    let h = conversation.holds o pt pe said k reaches in
+    let h = conversation.reached_holds o pt pe said k reaches in
     ended_at o k.locked k.place said h.so

@@ -97,13 +97,13 @@ module _ (s : Ts) (x : Cell) (at : Option Ts) (m : ℕ) (base : List Received) w
   after_one n said r rounds =
       record { next = r; rest = told (read_step s x at) Answer.Absent ∷ []; look = subst (λ l. LooksAs n l Answer.Absent) (append_assoc said (r ∷ []) (told (read_step s x at) Answer.Absent ∷ [])) (then_read n (said ++ r ∷ []) rounds) }
 
-  pub ends : (look : Look) (n : ℕ) (said : List Received) → InLook look n said → CanEnd n said
-  ends Look.Reading n said i = record { next = told (read_step s x at) Answer.Absent; rest = []; look = then_read n said i }
-  ends (Look.Clearing primary) n said i = after_one n said (told (Step.Clear x) Answer.Absent) (round_done n said _ (told (Step.Clear x) Answer.Absent) i.1 (cleared i.0 primary Answer.Absent tt (λ e. cc)))
-  ends (Look.Settling primary) n said i =
+  pub look_can_end : (look : Look) (n : ℕ) (said : List Received) → InLook look n said → CanEnd n said
+  look_can_end Look.Reading n said i = record { next = told (read_step s x at) Answer.Absent; rest = []; look = then_read n said i }
+  look_can_end (Look.Clearing primary) n said i = after_one n said (told (Step.Clear x) Answer.Absent) (round_done n said _ (told (Step.Clear x) Answer.Absent) i.1 (cleared i.0 primary Answer.Absent tt (λ e. cc)))
+  look_can_end (Look.Settling primary) n said i =
       let a = told (Step.Settle primary) Answer.Absent in
       let b = told (Step.Clear x) Answer.Absent in
       let longer = one_longer n said _ a i.1 in
       let done = after_one n (said ++ a ∷ []) b (round_done n (said ++ a ∷ []) _ b longer (settled i.0 primary Answer.Absent Answer.Absent tt tt)) in
       record { next = a; rest = done.next ∷ done.rest; look = subst (λ l. LooksAs n l Answer.Absent) (append_assoc said (a ∷ []) (done.next ∷ done.rest)) done.look }
-  ends Look.ClearingAgain n said i = after_one n said (told (Step.Clear x) Answer.Absent) (round_done n said _ (told (Step.Clear x) Answer.Absent) i.4 (settled i.0 i.1 i.2 Answer.Absent i.3 tt))
+  look_can_end Look.ClearingAgain n said i = after_one n said (told (Step.Clear x) Answer.Absent) (round_done n said _ (told (Step.Clear x) Answer.Absent) i.4 (settled i.0 i.1 i.2 Answer.Absent i.3 tt))

@@ -151,11 +151,11 @@ module _ (observers : List ObserverOf) (seat : ℕ) (s : Ts) where
     pub cell_begins : (look : Look) (n : ℕ) (said : List Received) → InLook s cell None 0 (its_begin o s) look n said → IsRecorded said []
     cell_begins look n said is = in_look cell None 0 (its_begin o s) look n said [] begins is
 
-    pub observed : (found : Revision) (n : ℕ) (said : List Received) (i : IsObserved o s found n said) → IsRecorded said (read_of cell None i.look.answer ∷ [])
-    observed found n said i = looked cell None 0 (its_begin o s) n said [] begins i.look
+    pub observed_is_recorded : (found : Revision) (n : ℕ) (said : List Received) (i : IsObserved o s found n said) → IsRecorded said (read_of cell None i.look.answer ∷ [])
+    observed_is_recorded found n said i = looked cell None 0 (its_begin o s) n said [] begins i.look
 
-    pub acknowledged : (seen : Seen) (n : ℕ) (said : List Received) (i : IsAcknowledged o s seen n said) → IsRecorded said (read_of cell None i.observed.look.answer ∷ read_of ack None i.look.answer ∷ [])
-    acknowledged seen n said i = looked ack None i.met i.base n said (read_of cell None i.observed.look.answer ∷ []) (observed seen.version i.met i.base i.observed) i.look
+    pub acknowledged_is_recorded : (seen : Seen) (n : ℕ) (said : List Received) (i : IsAcknowledged o s seen n said) → IsRecorded said (read_of cell None i.observed.look.answer ∷ read_of ack None i.look.answer ∷ [])
+    acknowledged_is_recorded seen n said i = looked ack None i.met i.base n said (read_of cell None i.observed.look.answer ∷ []) (observed_is_recorded seen.version i.met i.base i.observed) i.look
 
     recalled : (seen : Seen) (n : ℕ) (said : List Received) (at : Option Ts) → old_at second seen.acknowledged ≡ at → IsRecalled o s seen at n said → HasRead seen [] said
     recalled seen n said None is r =
@@ -163,8 +163,8 @@ module _ (observers : List ObserverOf) (seat : ℕ) (s : Ts) where
         record {
           reads = read_of cell None i.observed.look.answer ∷ read_of ack None i.look.answer ∷ [];
           asked = [];
-          recorded = acknowledged seen n said i;
-          was = grind (arith, acknowledged, observed, seen.old);
+          recorded = acknowledged_is_recorded seen n said i;
+          was = grind (arith, acknowledged_is_recorded, observed_is_recorded, seen.old);
           replied = tt;
         }
     recalled seen n said (Some t) is r =
@@ -173,8 +173,8 @@ module _ (observers : List ObserverOf) (seat : ℕ) (s : Ts) where
         record {
           reads = read_of cell None i.observed.look.answer ∷ read_of ack None i.look.answer ∷ third ∷ [];
           asked = [];
-          recorded = looked cell (Some t) r.0 r.1 n said _ (acknowledged seen r.0 r.1 i) r.3;
-          was = grind (arith, acknowledged, observed, seen.old);
+          recorded = looked cell (Some t) r.0 r.1 n said _ (acknowledged_is_recorded seen r.0 r.1 i) r.3;
+          was = grind (arith, acknowledged_is_recorded, observed_is_recorded, seen.old);
           replied = tt;
         }
 
@@ -187,6 +187,6 @@ module _ (observers : List ObserverOf) (seat : ℕ) (s : Ts) where
           reads = h.reads ++ one_more_read ∷ [];
           asked = h.asked ++ one_more_read ∷ [];
           recorded = looked (asked_cell q) None m base k now h.reads h.recorded look;
-          was = grind (arith, observed, acknowledged, old_more, seen.acknowledged, seen.old);
+          was = grind (arith, observed_is_recorded, acknowledged_is_recorded, old_more, seen.acknowledged, seen.old);
           replied = replies_more h.asked before one_more_read q (value_in look.answer) h.replied (record { cell = refl; at = refl }) refl;
         }

@@ -281,7 +281,7 @@ module _ (o : Watch) where
 
     from_recalling : (n : ℕ) (s : Ts) (seen : Seen) (look : Look) (said : List Received) → n < MAX_LOCKED → SoFar n (RunPlace.Recalling s seen look) said → CanEnd said
     from_recalling n s seen look said few i =
-        let l = looks.ends s cell (Some seen.acknowledged) i.0 i.1 look n said i.5 in
+        let l = looks.look_can_end s cell (Some seen.acknowledged) i.0 i.1 look n said i.5 in
         after said (l.next ∷ l.rest) (from_asked n s (record seen { old = None }) [] (said ++ l.next ∷ l.rest) few (recalled_one s seen i.0 i.1 n (said ++ l.next ∷ l.rest) (Looked.Tells Answer.Absent) i.2 i.3 i.4 l.look))
 
     from_dirty : (n : ℕ) (s : Ts) (seen : Seen) (at : Option Ts) (said : List Received) → n < MAX_LOCKED → SoFar n (if_recalled s seen at) said → CanEnd said
@@ -307,20 +307,20 @@ module _ (o : Watch) where
     can_end : (n : ℕ) (place : RunPlace) (said : List Received) → AtPlace n place → SoFar n place said → CanEnd said
     can_end n RunPlace.Beginning said at i =
         let s : Ts = record { 0 = 0 } in
-        let l = looks.ends s cell None 0 (its_begin o s) Look.Reading 0 (its_begin o s) at_first in
+        let l = looks.look_can_end s cell None 0 (its_begin o s) Look.Reading 0 (its_begin o s) at_first in
         subst CanEnd (sym i.1) (after [] (its_begin o s ++ l.next ∷ l.rest) (from_cell 0 s (its_begin o s ++ l.next ∷ l.rest) (omega arith) l.look))
     can_end n (RunPlace.Observing s look) said at i =
-        let l = looks.ends s cell None 0 (its_begin o s) look n said i in
+        let l = looks.look_can_end s cell None 0 (its_begin o s) look n said i in
         after said (l.next ∷ l.rest) (from_cell n s (said ++ l.next ∷ l.rest) at l.look)
     can_end n (RunPlace.Acknowledging s found look) said at i =
-        let l = looks.ends s ack None i.0 i.1 look n said i.3 in
+        let l = looks.look_can_end s ack None i.0 i.1 look n said i.3 in
         let seen : Seen = seen_so_far found (acknowledged_in Answer.Absent) in
         after said (l.next ∷ l.rest) (from_acknowledged n s seen (said ++ l.next ∷ l.rest) (nat_lt seen.acknowledged.0 found.commit.0) refl at refl (record { met = i.0; base = i.1; observed = i.2; look = l.look.0; acknowledged = ap acknowledged_in (sym l.look.1) }))
     can_end n (RunPlace.Recalling s seen look) said at i = from_recalling n s seen look said at i
     can_end n (RunPlace.Starting s seen) said at i = from_asked n s seen [] said at i
     can_end n (RunPlace.Computing s v) said at i = from_asked n s i.0 v.talk said at.0 i.2
     can_end n (RunPlace.Asking s v q look) said at i =
-        let l = looks.ends s (Cell.Data q.row q.column) None i.1 i.2 look n said i.5 in
+        let l = looks.look_can_end s (Cell.Data q.row q.column) None i.1 i.2 look n said i.5 in
         after said (l.next ∷ l.rest) (from_asked n s i.0 _ (said ++ l.next ∷ l.rest) at.0 (asked_so s q i.0 v.talk i.1 i.2 Answer.Absent n (said ++ l.next ∷ l.rest) i.4 l.look))
     can_end n (RunPlace.Planning r p) said at i = subst CanEnd (sym i.said_is) (from_plan n i.s i.seen i.talk i.base i.plan i.run p i.few i.asked i.run_on i.converses_are)
     can_end n (RunPlace.Sweeping end) said at i = record { rest = told (Step.Sweep cell) Answer.Done ∷ []; end = end; run = i.run; whole = i.ends Answer.Done tt }
@@ -344,10 +344,10 @@ module _ (o : Watch) where
     holds_computed : (said : List Received) (k : RunOf) (place : RunPlace) → Holds said k → ComesFrom k.watch.observer k.watch.judged (Cell.Data k.watch.row k.watch.column) k.place place → Holds said (record k { place = place })
     holds_computed said k place h comes = grind (arith, at_computed, computed_more, o.observer, o.judged, k.place, h.watch, k.locked, h.at, h.so)
 
-    pub holds : (said : List Received) (k : RunOf) → Reaches (fresh o) said k → Holds said k
-    holds said k made = record { watch = refl; at = omega arith; so = (refl, refl) }
-    holds said k (took before from r to reaches next can is told) = subst (Holds (before ++ r ∷ [])) (sym is) (holds_answered before from r (holds before from reaches) next can)
-    holds said k (computed before from to reaches need c) = subst (Holds before) (sym c.same) (holds_computed before from to.place (holds before from reaches) c.comes)
+    pub reached_holds : (said : List Received) (k : RunOf) → Reaches (fresh o) said k → Holds said k
+    reached_holds said k made = record { watch = refl; at = omega arith; so = (refl, refl) }
+    reached_holds said k (took before from r to reaches next can is told) = subst (Holds (before ++ r ∷ [])) (sym is) (holds_answered before from r (reached_holds before from reaches) next can)
+    reached_holds said k (computed before from to reaches need c) = subst (Holds before) (sym c.same) (holds_computed before from to.place (reached_holds before from reaches) c.comes)
 
     ended : (said : List Received) (place : RunPlace) (end : JobEnd) (n : ℕ) → SoFar n place said → need_at place ≡ Need.Over end → IsEnded end said
     ended said place end n i e = grind arith
@@ -355,13 +355,13 @@ module _ (o : Watch) where
 -- what was said at any place can be ended: a look by a read without a lock, a plan as plans can
 pub jobs_converse : PlansConverse → PlansEnd → JobsConverse
 jobs_converse pt pe o said k reaches =
-    let h = holds o pt pe said k reaches in
+    let h = reached_holds o pt pe said k reaches in
     let c = can_end o pt pe k.locked k.place said h.at h.so in
     (c.rest, c.end, c.run, c.whole)
 
 -- at the end what was said is whole
 pub jobs_end : PlansConverse → PlansEnd → JobsEnd
 jobs_end pt pe o said k end reaches over =
-    let h = holds o pt pe said k reaches in
+    let h = reached_holds o pt pe said k reaches in
     let e = ended o pt pe said k.place end k.locked h.so over in
     (e.run, e.whole, e.meant)

@@ -11,7 +11,7 @@ use Rattle.pb_parse.specs.ScriptWords.{put_of, del_of, write_of, operation, cell
 use Rattle.pb_parse.specs.ScriptLines.{cut, with_operation, batch_of}
 use Rattle.pb_parse.specs.Operations.{Say}
 use Rattle.pb_reading.proofs.Readings.{ok_is, then_ok}
-use Rattle.pb_base.proofs.Logic.{chosen}
+use Rattle.pb_base.proofs.Logic.{chosen_branch}
 
 -- the cells of a script are data cells, since no word of it names another
 cell_is_data : (words : List (List ℕ)) (c : Cell × List (List ℕ)) → cell_at words ≡ Ok c → is_data c.0 ≡ true
@@ -33,7 +33,7 @@ plain_del words w h = grind (arith, then_ok, is_written, cell_is_data)
 
 plain_write : (words : List (List ℕ)) (w : Cell × Content) → write_of words ≡ Ok w → is_data_write w ≡ true
 unfolding write_of
-plain_write words w h = grind (arith, then_ok, chosen, plain_put, plain_del)
+plain_write words w h = grind (arith, then_ok, chosen_branch, plain_put, plain_del)
 
 -- ---- one write more
 
@@ -43,7 +43,7 @@ none_of o h = grind arith
 -- a cell that none of the writes names isn't named after one more of another cell
 lack_more : (ws : Writes) (w : Cell × Content) (x : Cell) → content_in ws x ≡ None → eq_by_cmp cell_cmp x w.0 ≡ false → content_in (ws ++ w ∷ []) x ≡ None
 lack_more [] w x n e = rw e refl
-lack_more (v ∷ vs) w x n e = elim (chosen (eq_by_cmp cell_cmp x v.0) (Some v.1) (content_in vs x) None n) [
+lack_more (v ∷ vs) w x n e = elim (chosen_branch (eq_by_cmp cell_cmp x v.0) (Some v.1) (content_in vs x) None n) [
   | inl here ↦ let no = here.1 in absurd cc
   | inr there ↦ rw there.0 (lack_more vs w x there.1 e)
 ]
@@ -53,7 +53,7 @@ distinct_more : (ws : Writes) (w : Cell × Content) → are_distinct ws ≡ true
 distinct_more [] w d n = refl
 distinct_more (v ∷ vs) w d n =
     let p = and_parts (is_none (content_in vs v.0)) (are_distinct vs) d in
-    elim (chosen (eq_by_cmp cell_cmp w.0 v.0) (Some v.1) (content_in vs w.0) None n) [
+    elim (chosen_branch (eq_by_cmp cell_cmp w.0 v.0) (Some v.1) (content_in vs w.0) None n) [
       | inl here ↦ let no = here.1 in absurd cc
       | inr there ↦ let apart : eq_by_cmp cell_cmp v.0 w.0 ≡ false = (eq_by_cmp_equiv cell_cmp_total).symm v.0 w.0 ∙ there.0 in
           rw (lack_more vs w v.0 (none_of (content_in vs v.0) p.0) apart, distinct_more vs w p.1 there.1) refl

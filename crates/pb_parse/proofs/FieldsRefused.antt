@@ -13,7 +13,7 @@ use Rattle.pb_reading.proofs.Parts.{AreParts, parts_are}
 use Rattle.pb_reading.proofs.Readings.{err_is, then_err, next_fault, next_is}
 use Rattle.pb_parse.proofs.NextWords.{same_text, next_row_is, next_observer_is, some_named}
 use Rattle.pb_parse.proofs.OrdersWritten.{actor_is}
-use Rattle.pb_base.proofs.Logic.{chosen}
+use Rattle.pb_base.proofs.Logic.{chosen_branch}
 
 -- ---- numbers
 
@@ -43,7 +43,7 @@ record BadName (observers : List ObserverOf) (words : List (List ℕ)) (cause : 
 
 -- a name is refused only where no observer has it
 named_fault : (observers : List ObserverOf) (name : List ℕ) (cause : ScheduleCode) → observer_named observers name ≡ Err cause → IsNobody observers name cause
-named_fault observers name cause h = grind (arith, chosen, ltb-false, some_named, err_is)
+named_fault observers name cause h = grind (arith, chosen_branch, ltb-false, some_named, err_is)
 
 next_observer_fault : (observers : List ObserverOf) (words : List (List ℕ)) (cause : ScheduleCode) → next_observer observers words ≡ Err cause → (cause ≡ ScheduleCode.Form) ⊎ BadName observers words cause
 unfolding next_observer
@@ -118,12 +118,12 @@ job_fault observers words cause some h =
       | inl none ↦ inl (next_fault ScheduleCode.Form words cause none)
       | inr a ↦ let cut = next_is ScheduleCode.Form words a.0 a.1 in
           let parts = subst (AreParts 32) cut some in
-          elim (chosen (bytes_eq a.0.0 (codes "change")) (next_change a.0.1) _ (Err cause) a.2) [
+          elim (chosen_branch (bytes_eq a.0.0 (codes "change")) (next_change a.0.1) _ (Err cause) a.2) [
             | inl p ↦ elim (change_fault a.0.1 cause p.1) [
               | inl form ↦ inl form
               | inr number ↦ inr (inl (record { behind = a.0.1; written = in_front words a.0 (codes "change") cut p.0; number = number }))
             ]
-            | inr q ↦ elim (chosen (bytes_eq a.0.0 (codes "run")) (next_run observers a.0.1) _ (Err cause) q.1) [
+            | inr q ↦ elim (chosen_branch (bytes_eq a.0.0 (codes "run")) (next_run observers a.0.1) _ (Err cause) q.1) [
               | inl p ↦ elim (run_fault observers a.0.1 cause parts.1 p.1) [
                 | inl form ↦ inl form
                 | inr field ↦ inr (inr (record { behind = a.0.1; written = in_front words a.0 (codes "run") cut p.0; field = field }))
@@ -179,7 +179,7 @@ BadCell observers words cause = BadDataCell words cause ⊎ BadAcknowledgment ob
 -- a cell that isn't read is at fault for its form, or for one of its fields
 cell_fault : (observers : List ObserverOf) (words : List (List ℕ)) (cause : ScheduleCode) → AreParts 32 words → next_cell observers words ≡ Err cause → BadCell observers words cause
 cell_fault observers [] cause some h = inl (inl (sym (err_is {A = Cell × List (List ℕ)} ScheduleCode.Form cause h)))
-cell_fault observers (word ∷ words) cause some h = elim (chosen (bytes_eq word (codes "ack")) (next_acknowledgment observers words) _ (Err cause) h) [
+cell_fault observers (word ∷ words) cause some h = elim (chosen_branch (bytes_eq word (codes "ack")) (next_acknowledgment observers words) _ (Err cause) h) [
   | inl p ↦ elim (acknowledgment_fault observers words cause some.1 p.1) [
     | inl form ↦ inl (inl form)
     | inr field ↦ inr (record { behind = words; written = ap (λ (w : List ℕ). w ∷ words) (same_text word (codes "ack") p.0); field = field })
@@ -321,7 +321,7 @@ sweep_fault observers words cause h =
 
 -- one verb: where the word is it, what stands behind is blamed, and else the other verbs say what
 verb_fault : (verb this : List ℕ) (r others : Result Order ScheduleCode) (cause : ScheduleCode) (P : List ℕ → Type 0) → cond (bytes_eq verb this) r others ≡ Err cause → (r ≡ Err cause → P this) → (others ≡ Err cause → P verb) → P verb
-verb_fault verb this r others cause P h mine rest = grind (arith, chosen, same_text)
+verb_fault verb this r others cause P h mine rest = grind (arith, chosen_branch, same_text)
 
 by_verb : (observers : List ObserverOf) (verb : List ℕ) (words : List (List ℕ)) (cause : ScheduleCode) → AreParts 32 words → order_by observers verb words ≡ Err cause → Blames observers (verb ∷ words) cause
 by_verb observers verb words cause some h =
@@ -339,5 +339,5 @@ unfolding order_of_words
 words_blamed observers words cause some h = grind (arith, err_is, by_verb)
 
 -- so a line that isn't of a wrong form stops at a field
-pub blamed : (observers : List ObserverOf) (line : List ℕ) (cause : ScheduleCode) → order_of observers line ≡ Err cause → (cause ≡ ScheduleCode.Form) ⊎ StopsAtField observers (words_of line) cause
-blamed observers line cause h = words_blamed observers (words_of line) cause (parts_are 32 line) h
+pub blames_field : (observers : List ObserverOf) (line : List ℕ) (cause : ScheduleCode) → order_of observers line ≡ Err cause → (cause ≡ ScheduleCode.Form) ⊎ StopsAtField observers (words_of line) cause
+blames_field observers line cause h = words_blamed observers (words_of line) cause (parts_are 32 line) h

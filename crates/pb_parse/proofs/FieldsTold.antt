@@ -134,5 +134,5 @@ field_refused observers SweepRow word rest cause fits out = on_refused Event.Swe
 field_refused observers (SweepColumn row) word rest cause fits out = on_refused Event.Sweep _ cause (column_refused row word rest cause fits out)
 
 -- a line that stops at a field has the field's fault
-pub told : (observers : List ObserverOf) (line : List ℕ) (cause : ScheduleCode) → StopsAtField observers (words_of line) cause → order_of observers line ≡ Err cause
-told observers line cause s = ap (order_of_words observers) s.cut ∙ field_refused observers s.field s.word s.rest cause s.fits s.refused
+pub field_fault_told : (observers : List ObserverOf) (line : List ℕ) (cause : ScheduleCode) → StopsAtField observers (words_of line) cause → order_of observers line ≡ Err cause
+field_fault_told observers line cause s = ap (order_of_words observers) s.cut ∙ field_refused observers s.field s.word s.rest cause s.fits s.refused

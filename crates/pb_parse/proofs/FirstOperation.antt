@@ -10,7 +10,7 @@ use Rattle.pb_reading.proofs.FirstFault.{first_fault}
 use Rattle.pb_reading.proofs.Readings.{err_is, then_err}
 use Rattle.pb_parse.proofs.OwnFaults.{IsOwn, own_fault}
 use Rattle.pb_parse.proofs.Batches.{nothing_open, all_open}
-use Rattle.pb_base.proofs.Logic.{chosen}
+use Rattle.pb_base.proofs.Logic.{chosen_branch}
 
 -- an operation's own fault is the line's, whatever stands before it
 own_after : (before : Writes) (text : List ℕ) (cause : ScriptCode) → IsOwn cause → operation text ≡ Err cause → IsFaultAfter before text cause
@@ -19,7 +19,7 @@ own_after before text cause own h = grind arith
 -- what an operation is refused for is one of the reasons that the format has
 fault_after : (before : Writes) (here : List ℕ) (cause : ScriptCode) → length before ≤ MAX_CELLS → with_operation before here ≡ Err cause → IsFaultAfter before here cause
 unfolding with_operation
-fault_after before here cause few h = grind (arith, then_err, own_after, own_fault, chosen, err_is, leb-true)
+fault_after before here cause few h = grind (arith, then_err, own_after, own_fault, chosen_branch, err_is, leb-true)
 
 -- a line that isn't read stops with its first operation at fault
 pub stops_with : (line : List ℕ) (cause : ScriptCode) → batch_of line ≡ Err cause → StopsWith line cause

@@ -12,7 +12,7 @@ use Rattle.pb_parse.specs.EventLines.{cell_words, job_words, event_words, IsActo
 use Rattle.pb_reading.proofs.Parts.{AreParts, parts_are}
 use Rattle.pb_reading.proofs.Readings.{then_ok, ok_is, next_is, none_left}
 use Rattle.pb_parse.proofs.NextWords.{same_text, once_is, number_is, next_number_is, next_row_is, next_observer_is}
-use Rattle.pb_base.proofs.Logic.{chosen}
+use Rattle.pb_base.proofs.Logic.{chosen_branch}
 
 -- the first word is the spelling of an actor's number
 pub record TakesActor (actor : ℕ) (words rest : List (List ℕ)) : Type 0 where
@@ -60,9 +60,9 @@ job_is observers words x some h =
     let a = then_ok (next_word ScheduleCode.Form words) _ x h in
     let cut = next_is ScheduleCode.Form words a.0 a.1 in
     let parts = subst (AreParts 32) cut some in
-    elim (chosen (bytes_eq a.0.0 (codes "change")) (next_change a.0.1) _ (Ok x) a.2) [
+    elim (chosen_branch (bytes_eq a.0.0 (codes "change")) (next_change a.0.1) _ (Ok x) a.2) [
       | inl p ↦ in_front (λ ws. TakesJob observers x.0 ws x.1) words a.0 (codes "change") cut p.0 (change_is observers a.0.1 x p.1)
-      | inr q ↦ elim (chosen (bytes_eq a.0.0 (codes "run")) (next_run observers a.0.1) _ (Ok x) q.1) [
+      | inr q ↦ elim (chosen_branch (bytes_eq a.0.0 (codes "run")) (next_run observers a.0.1) _ (Ok x) q.1) [
         | inl p ↦ in_front (λ ws. TakesJob observers x.0 ws x.1) words a.0 (codes "run") cut p.0 (run_is observers a.0.1 x parts.1 p.1)
         | inr r ↦ let no = r.1 in absurd cc
       ]
@@ -103,7 +103,7 @@ acknowledgment_is observers words x some h =
 -- a cell is read from its words alone, whichever of two forms it has
 cell_is : (observers : List ObserverOf) (words : List (List ℕ)) (x : Cell × List (List ℕ)) → AreParts 32 words → next_cell observers words ≡ Ok x → TakesCell observers x.0 words x.1
 cell_is observers [] x some h = absurd cc
-cell_is observers (word ∷ words) x some h = elim (chosen (bytes_eq word (codes "ack")) (next_acknowledgment observers words) _ (Ok x) h) [
+cell_is observers (word ∷ words) x some h = elim (chosen_branch (bytes_eq word (codes "ack")) (next_acknowledgment observers words) _ (Ok x) h) [
   | inl p ↦ in_front (λ ws. TakesCell observers x.0 ws x.1) (word ∷ words) (word, words) (codes "ack") refl p.0 (acknowledgment_is observers words x some.1 p.1)
   | inr q ↦ (data_is observers (word ∷ words) x q.1).cell
 ]
@@ -172,7 +172,7 @@ sweep_is observers words order h =
 
 -- one verb: where the word is it, what stands behind says the order, and else the other verbs do
 verb_is : (verb : List ℕ) (this : List ℕ) (r others : Result Order ScheduleCode) (order : Order) (P : List ℕ → Type 0) → cond (bytes_eq verb this) r others ≡ Ok order → (r ≡ Ok order → P this) → (others ≡ Ok order → P verb) → P verb
-verb_is verb this r others order P h mine rest = grind (arith, chosen, same_text)
+verb_is verb this r others order P h mine rest = grind (arith, chosen_branch, same_text)
 
 -- an order is read from its words alone, whichever verb they begin with
 by_verb : (observers : List ObserverOf) (verb : List ℕ) (words : List (List ℕ)) (order : Order) → AreParts 32 words → order_by observers verb words ≡ Ok order → IsWritten observers order (verb ∷ words)

@@ -30,9 +30,9 @@ pub goes_on : (w v : Writes) (rest first after : List ℕ) (total : Result Write
 goes_on w v rest first after total split one before = sym (first_part w rest first after (Ok v) split one) ∙ before
 
 -- a part is at fault
-pub stops : (w : Writes) (rest first after : List ℕ) (total : Result Writes ScriptCode) (fault : LineFault ScriptCode) → SplitsAroundMatch (FindsText joint) rest first after → Ends fault (with_operation w first) → from_here w rest ≡ total → Ends fault total
-stops w rest first after total (LineFault.NoMemory refused) split ends before = tt
-stops w rest first after total (LineFault.Code code) split ends before = sym before ∙ first_part w rest first after (Err code) split ends
+pub ends_at_part : (w : Writes) (rest first after : List ℕ) (total : Result Writes ScriptCode) (fault : LineFault ScriptCode) → SplitsAroundMatch (FindsText joint) rest first after → Ends fault (with_operation w first) → from_here w rest ≡ total → Ends fault total
+ends_at_part w rest first after total (LineFault.NoMemory refused) split ends before = tt
+ends_at_part w rest first after total (LineFault.Code code) split ends before = sym before ∙ first_part w rest first after (Err code) split ends
 
 -- ---- the last part
 

@@ -3,7 +3,7 @@ use Rattle.std.proofs.Common.{◌≡◌, true, ℕ, List, [], ◌∷◌, map, Ok
 use Rattle.std.specs.List.{AllByRecursion}
 use Rattle.std.proofs.lemmas.List.Elements.{All-from_recursion}
 use Rattle.pb_parse.specs.Words.{Writes, is_batch, lines_of}
-use Rattle.pb_reading.proofs.LinesInTurn.{heads}
+use Rattle.pb_reading.proofs.LinesInTurn.{cons_is_same}
 use Rattle.pb_reading.proofs.SkippedLines.{kept}
 use Rattle.pb_parse.specs.ScriptLines.{Batches, batch_of, script_of}
 use Rattle.pb_parse.specs.Scripts.{AreBatches}
@@ -15,7 +15,7 @@ each : (ls : List (List ℕ)) (batches : Batches) → map batch_of ls ≡ map (�
 each ls [] h = tt
 each [] (b ∷ bs) h = absurd cc
 each (l ∷ ls) (b ∷ bs) h =
-    let p = heads (batch_of l) (Ok b) (map batch_of ls) (map (λ batch. Ok batch) bs) h in
+    let p = cons_is_same (batch_of l) (Ok b) (map batch_of ls) (map (λ batch. Ok batch) bs) h in
     (line_is_batch l b p.0, each ls bs p.1)
 
 pub reads_batches : (text : List ℕ) (batches : Batches) → script_of text ≡ Ok batches → AreBatches batches

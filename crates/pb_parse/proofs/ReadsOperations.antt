@@ -10,14 +10,14 @@ use Rattle.pb_parse.specs.ScriptWords.{operation}
 use Rattle.pb_parse.specs.ScriptLines.{cut, with_operation, batch_of}
 use Rattle.pb_parse.specs.Operations.{Say}
 use Rattle.pb_parse.proofs.Batches.{none_of, line_is_open, line_is_batch}
-use Rattle.pb_base.proofs.Logic.{chosen}
+use Rattle.pb_base.proofs.Logic.{chosen_branch}
 
 -- where no cell is named twice, one isn't named before
 
 -- where a cell isn't among the writes, it is none of their cells
 apart : (vs ws : Writes) (w : Cell × Content) (x : Cell) → content_in (vs ++ w ∷ ws) x ≡ None → eq_by_cmp cell_cmp x w.0 ≡ false
 apart [] ws w x n = grind arith
-apart (v ∷ vs) ws w x n = elim (chosen (eq_by_cmp cell_cmp x v.0) (Some v.1) (content_in (vs ++ w ∷ ws) x) None n) [
+apart (v ∷ vs) ws w x n = elim (chosen_branch (eq_by_cmp cell_cmp x v.0) (Some v.1) (content_in (vs ++ w ∷ ws) x) None n) [
   | inl here ↦ let no = here.1 in absurd cc
   | inr there ↦ apart vs ws w x there.1
 ]

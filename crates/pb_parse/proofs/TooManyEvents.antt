@@ -9,7 +9,7 @@ use Rattle.pb_parse.specs.ScheduleWords.{order_of}
 use Rattle.pb_parse.specs.Schedules.{with_order, with_event_line}
 use Rattle.pb_parse.specs.ScheduleFaults.{Field, IsRefusedAt, GoesPast}
 use Rattle.pb_reading.proofs.Readings.{then_err}
-use Rattle.pb_parse.proofs.FieldsRefused.{blamed}
+use Rattle.pb_parse.proofs.FieldsRefused.{blames_field}
 use Rattle.pb_parse.proofs.WholeSchedules.{skip_line, shown_line}
 
 -- the causes of a field's refusal
@@ -22,7 +22,7 @@ field_cause observers field word cause out = grind arith
 
 -- so a line's own fault is its form or one of these two, and never too many events
 line_cause : (observers : List ObserverOf) (line : List ℕ) (cause : ScheduleCode) → order_of observers line ≡ Err cause → (cause ≡ ScheduleCode.Form) ⊎ IsFieldCause cause
-line_cause observers line cause h = elim (blamed observers line cause h) [
+line_cause observers line cause h = elim (blames_field observers line cause h) [
   | inl form ↦ inl form
   | inr s ↦ inr (field_cause observers s.field s.word cause s.refused)
 ]

@@ -3,7 +3,7 @@ use Rattle.std.proofs.Common.{◌≡◌, ℕ, ◌+◌, ◌≤◌, ◌↔◌, tru
 use Rattle.std.proofs.lemmas.Bool.{ltb-false, le-ltb}
 use Rattle.std.proofs.Math.ListN.{length-replicate}
 use Rattle.pb_parse.specs.Words.{MAX_EVENTS, ◌>>=◌, is_skipped, lines_of, ObserverOf}
-use Rattle.pb_reading.proofs.LinesInTurn.{Adds, TakesLines, read, back}
+use Rattle.pb_reading.proofs.LinesInTurn.{Adds, TakesLines, read_adds_all, said_is_read}
 use Rattle.pb_reading.proofs.Readings.{then_ok, ok_is, else_ok}
 use Rattle.pb_parse.specs.declared.event.Event.{Event}
 use Rattle.pb_parse.specs.declared.schedule.words.Order.{Order}
@@ -56,12 +56,12 @@ takes observers = record { skips = skip_line observers; adds = take_line observe
 
 whole : (observers : List ObserverOf) (text : List ℕ) (events : List Event) → schedule_of observers text ≡ Ok events → IsSchedule observers text events
 whole observers text events h =
-    let f = read schedule_code (with_event_line observers) (order_of observers) asked Room (takes observers) 0 [] events (lines_of text) h (omega arith) in
+    let f = read_adds_all schedule_code (with_event_line observers) (order_of observers) asked Room (takes observers) 0 [] events (lines_of text) h (omega arith) in
     record { orders = f.things; lines = f.says; whole = f.whole; few = f.room }
 
 back_whole : (observers : List ObserverOf) (text : List ℕ) (events : List Event) → IsSchedule observers text events → schedule_of observers text ≡ Ok events
 back_whole observers text events s =
-    back schedule_code (with_event_line observers) (order_of observers) asked Room (takes observers) 0 (lines_of text) [] s.orders s.lines (subst Room s.whole s.few)
+    said_is_read schedule_code (with_event_line observers) (order_of observers) asked Room (takes observers) 0 (lines_of text) [] s.orders s.lines (subst Room s.whole s.few)
     ∙ ap Ok (sym s.whole)
 
 -- both ways: a text is read as events exactly where its lines ask for them

@@ -3,7 +3,7 @@
 use Rattle.std.proofs.Common.{◌≡◌, ℕ, ◌<◌, ◌≤◌, true, false, cond, List, [], ◌∷◌, ◌++◌, length, map, Result, Ok, Err, refl, sym, ap, subst, ◌∙◌, arith, length-append, nat_le}
 use Rattle.std.proofs.lemmas.Bool.{leb-false, lt-leb}
 use Rattle.pb_parse.specs.Words.{MAX_CHANGES, Writes, ◌>>=◌, is_skipped, lines_of}
-use Rattle.pb_reading.proofs.LinesInTurn.{Adds, TakesLines, read, back, singles}
+use Rattle.pb_reading.proofs.LinesInTurn.{Adds, TakesLines, read_adds_all, said_is_read, flat_singles}
 use Rattle.pb_reading.proofs.SkippedLines.{kept}
 use Rattle.pb_reading.proofs.Readings.{then_ok, ok_is, else_ok}
 use Rattle.pb_parse.specs.Codes.{script_code}
@@ -50,8 +50,8 @@ takes = record { skips = skip_line; adds = take_line; takes = add_line; fewer = 
 -- a text's transactions are those of its lines
 pub lines_are : (text : List ℕ) (batches : Batches) → script_of text ≡ Ok batches → (map batch_of (kept (lines_of text)) ≡ map (λ batch. Ok batch) batches) × Room batches
 lines_are text batches h =
-    let f = read script_code with_line batch_of one Room takes 0 [] batches (lines_of text) h (omega arith) in
-    (f.says ∙ ap (map (λ batch. Ok batch)) (sym (f.whole ∙ singles f.things)), f.room)
+    let f = read_adds_all script_code with_line batch_of one Room takes 0 [] batches (lines_of text) h (omega arith) in
+    (f.says ∙ ap (map (λ batch. Ok batch)) (sym (f.whole ∙ flat_singles f.things)), f.room)
 
 pub lines_back : (text : List ℕ) (batches : Batches) → map batch_of (kept (lines_of text)) ≡ map (λ batch. Ok batch) batches → Room batches → script_of text ≡ Ok batches
-lines_back text batches says room = back script_code with_line batch_of one Room takes 0 (lines_of text) [] batches says (subst Room (sym (singles batches)) room) ∙ ap Ok (singles batches)
+lines_back text batches says room = said_is_read script_code with_line batch_of one Room takes 0 (lines_of text) [] batches says (subst Room (sym (flat_singles batches)) room) ∙ ap Ok (flat_singles batches)

@@ -27,13 +27,13 @@ pub record TakesLines {T I C : Type 0} (with_line : List T → List ℕ → Resu
   pub takes : (before : List T) (l : List ℕ) (thing : I) → is_skipped l ≡ false → said l ≡ Ok thing → Room (before ++ made thing) → with_line before l ≡ Ok (before ++ made thing)
   pub fewer : (before more : List T) → Room (before ++ more) → Room before
 
-pub heads : {A : Type 0} (x y : A) (xs ys : List A) → x ∷ xs ≡ y ∷ ys → (x ≡ y) × (xs ≡ ys)
-heads x y xs ys h = (cc, cc)
+pub cons_is_same : {A : Type 0} (x y : A) (xs ys : List A) → x ∷ xs ≡ y ∷ ys → (x ≡ y) × (xs ≡ ys)
+cons_is_same x y xs ys h = (cc, cc)
 
 -- things that make one item each
-pub singles : {A : Type 0} (xs : List A) → flat_map (λ x. x ∷ []) xs ≡ xs
-singles [] = refl
-singles {A} (x ∷ xs) = ap (λ (ys : List A). x ∷ ys) (singles xs)
+pub flat_singles : {A : Type 0} (xs : List A) → flat_map (λ x. x ∷ []) xs ≡ xs
+flat_singles [] = refl
+flat_singles {A} (x ∷ xs) = ap (λ (ys : List A). x ∷ ys) (flat_singles xs)
 
 module _ {T I C : Type 0} (code : C → ℕ) (with_line : List T → List ℕ → Result (List T) C) (said : List ℕ → Result I C) (made : I → List T) (Room : List T → Type 0) (law : TakesLines with_line said made Room) where
   -- ---- what has been read
@@ -55,9 +55,9 @@ module _ {T I C : Type 0} (code : C → ℕ) (with_line : List T → List ℕ �
   step n before after l ls r is h room others = grind (arith, one_more)
 
   -- lines that are read add what they say
-  pub read : (n : ℕ) (before after : List T) (ls : List (List ℕ)) → in_lines code with_line n before ls ≡ Ok after → Room before → AddAll said made Room before after ls
-  read n before after [] h room = grind (arith, ok_is, append-nil)
-  read n before after (l ∷ ls) h room = step n before after l ls (with_line before l) refl h room (λ p k m. read (n + 1) p after ls k m)
+  pub read_adds_all : (n : ℕ) (before after : List T) (ls : List (List ℕ)) → in_lines code with_line n before ls ≡ Ok after → Room before → AddAll said made Room before after ls
+  read_adds_all n before after [] h room = grind (arith, ok_is, append-nil)
+  read_adds_all n before after (l ∷ ls) h room = step n before after l ls (with_line before l) refl h room (λ p k m. read_adds_all (n + 1) p after ls k m)
 
   -- ---- and what will be
 
@@ -72,13 +72,13 @@ module _ {T I C : Type 0} (code : C → ℕ) (with_line : List T → List ℕ �
   back_line n before things l ls true is says room others = grind arith
   back_line n before [] l ls false is says room others = grind arith
   back_line n before (i ∷ is) l ls false shown says room others =
-      let h = heads (said l) (Ok i) (map said (kept ls)) (map (λ thing. Ok thing) is) (ap (map said) (sym (kept_one l ls shown)) ∙ says) in
+      let h = cons_is_same (said l) (Ok i) (map said (kept ls)) (map (λ thing. Ok thing) is) (ap (map said) (sym (kept_one l ls shown)) ∙ says) in
       let grouped : (before ++ made i) ++ flat_map made is ≡ before ++ flat_map made (i ∷ is) = append_assoc before (made i) (flat_map made is) in
       let whole : Room ((before ++ made i) ++ flat_map made is) = subst Room (sym grouped) room in
       grind (arith, go_on, law.takes, law.fewer)
 
   -- lines that say such things are read, wherever they begin
-  pub back : (n : ℕ) (ls : List (List ℕ)) → ReadOn n ls
-  back n [] before [] says room = ap Ok (sym (append-nil before))
-  back n [] before (i ∷ is) says room = absurd cc
-  back n (l ∷ ls) before things says room = back_line n before things l ls (is_skipped l) refl says room (back (n + 1) ls)
+  pub said_is_read : (n : ℕ) (ls : List (List ℕ)) → ReadOn n ls
+  said_is_read n [] before [] says room = ap Ok (sym (append-nil before))
+  said_is_read n [] before (i ∷ is) says room = absurd cc
+  said_is_read n (l ∷ ls) before things says room = back_line n before things l ls (is_skipped l) refl says room (said_is_read (n + 1) ls)

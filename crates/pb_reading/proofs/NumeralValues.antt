@@ -10,16 +10,16 @@ use Rattle.pb_reading.proofs.Readings.{if_ok, ok_is}
 use Rattle.std.proofs.lemmas.Str.Parse.{IsDigitsTest, IsNumeralModel, numerals_by_value, parse_digits}
 
 -- digits are told by their test
-pub tells : IsDigitsTest (λ ds. list_all is_ascii_digit ds ≡ true)
-tells = search rules
+pub digits_by_test : IsDigitsTest (λ ds. list_all is_ascii_digit ds ≡ true)
+digits_by_test = search rules
 
 -- so numerals are those of the kit
-pub own : IsNumeralModel (λ ds. list_all is_ascii_digit ds ≡ true) (digits_value 10)
-own = numerals_by_value _ tells
+pub numerals_of_kit : IsNumeralModel (λ ds. list_all is_ascii_digit ds ≡ true) (digits_value 10)
+numerals_of_kit = numerals_by_value _ digits_by_test
 
 -- where two tests fail and the third holds, the whole does
-pub tests : (a b c d : Bool) → a ≡ false → (b && c) ≡ false → d ≡ true → cond a false (cond (b && c) false d) ≡ true
-tests a b c d p q r = rw (p, q, r) refl
+pub third_test_decides : (a b c d : Bool) → a ≡ false → (b && c) ≡ false → d ≡ true → cond a false (cond (b && c) false d) ≡ true
+third_test_decides a b c d p q r = rw (p, q, r) refl
 
 -- a positive length is not zero
 pub not_empty : (n : ℕ) → 0 < n → (n == 0) ≡ false
@@ -39,19 +39,19 @@ digits_in w h = grind arith
 
 -- the digits of a number are a numeral
 pub numeral_of : (n : ℕ) → n < 2 ^ 64 → is_numeral (decimal n) ≡ true
-numeral_of n lt = tests (length (decimal n) == 0) (slice_index (decimal n) 0 == 48) (nat_lt 1 (length (decimal n))) (list_all is_ascii_digit (decimal n)) (not_empty _ (decimal_nonempty n lt)) (no_zero n lt) (digits_decimal own n lt)
+numeral_of n lt = third_test_decides (length (decimal n) == 0) (slice_index (decimal n) 0 == 48) (nat_lt 1 (length (decimal n))) (list_all is_ascii_digit (decimal n)) (not_empty _ (decimal_nonempty n lt)) (no_zero n lt) (digits_decimal numerals_of_kit n lt)
 
 -- a numeral within 64 bits is the spelling of its value, since no other spelling is a numeral
 pub decimal_of : (w : List ℕ) → is_numeral w ≡ true → digits_value 10 w < 2 ^ 64 → w ≡ decimal (digits_value 10 w)
-decimal_of w h lt = let d = digits_in w h in sym (decimal-digits_value own w d.0 d.2 (zero_alone (slice_index w 0) (length w) d.1 d.2) lt)
+decimal_of w h lt = let d = digits_in w h in sym (decimal-digits_value numerals_of_kit w d.0 d.2 (zero_alone (slice_index w 0) (length w) d.1 d.2) lt)
 
 -- a number is the value of its spelling
 pub value_of : (n : ℕ) → n < 2 ^ 64 → digits_value 10 (decimal n) ≡ n
-value_of n lt = digits_value-decimal own n lt
+value_of n lt = digits_value-decimal numerals_of_kit n lt
 
 -- where parsing fails, nothing is wrong with the digits but that they are beyond 64 bits, and so out of any range
 pub none_fits : {C : Type 0} (E : Type 0) (form range : C) (greatest : ℕ) (w : List ℕ) (e : E) → greatest < 2 ^ 64 → is_numeral w ≡ true → ParsesUnsigned {E = E} 64 10 w (Err e) → numeral_upto form range greatest w ≡ Err range
-none_fits E form range greatest w e lt h p = grind (arith, digits_in, parse_digits, own, cases_lt, lt-leb)
+none_fits E form range greatest w e lt h p = grind (arith, digits_in, parse_digits, numerals_of_kit, cases_lt, lt-leb)
 
 -- ---- what is read as a number, and what isn't
 

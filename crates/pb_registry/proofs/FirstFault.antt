@@ -20,8 +20,8 @@ no_observers p os none = subst (AreObservers p []) (sym none) (record { each = t
 
 -- the element at i
 module _ (p : Profile) (vs : List Value) (i : ℕ) (v : Value) (lt : i < length vs) (at : get_or vs i v ≡ v) (old : List ObserverOf) (good : AreObservers p (map view (take i vs)) old) where
-  pub grown : (new : List ObserverOf) → HasOneMore p (view v) old new → IsDistinct bytes_eq (names_of new) → AreObservers p (map view (take (i + 1) vs)) new
-  grown new (o, is, pushed) apart =
+  pub one_more_observer : (new : List ObserverOf) → HasOneMore p (view v) old new → IsDistinct bytes_eq (names_of new) → AreObservers p (map view (take (i + 1) vs)) new
+  one_more_observer new (o, is, pushed) apart =
       let front : map view (take (i + 1) vs) ≡ map view (take i vs) ++ view v ∷ [] = ap (map view) (take_more vs i v lt) ∙ map-append view (take i vs) (get_or vs i v ∷ []) ∙ ap (λ w. map view (take i vs) ++ view w ∷ []) at in
       record {
         each = subst (λ ds. AllZip (IsObserver p) ds new) (sym front) (subst (AllZip (IsObserver p) (map view (take i vs) ++ view v ∷ [])) (sym pushed) (AllZip-push (IsObserver p) (map view (take i vs)) old (view v) o good.each is));

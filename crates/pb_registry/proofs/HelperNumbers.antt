@@ -56,13 +56,13 @@ module _ (ns : List ℕ) where
   as_before k n e = list_any-append (λ x. x == k) ns (n ∷ []) ∙ ap (λ b. is_named k ns || (b || false)) e ∙ or_false (is_named k ns)
 
   -- the set with a helper more
-  pub added : (n : ℕ) (h : HelperSet) → n ≤ 4 → option_map (with_helper (helper_set ns)) (helper_of (pos n)) ≡ Some h → (is_helper n ≡ true) × (helper_set (ns ++ n ∷ []) ≡ h)
-  added zero h low e = absurd (true≢false (sym (ap is_some e)))
-  added (suc zero) h low e = (refl, (λ i. record { read = there 1 refl i; write = as_before 2 1 refl i; delete = as_before 3 1 refl i; start = as_before 4 1 refl i }) ∙ ap (λ o. unwrap_or o h) e)
-  added (suc (suc zero)) h low e = (refl, (λ i. record { read = as_before 1 2 refl i; write = there 2 refl i; delete = as_before 3 2 refl i; start = as_before 4 2 refl i }) ∙ ap (λ o. unwrap_or o h) e)
-  added (suc (suc (suc zero))) h low e = (refl, (λ i. record { read = as_before 1 3 refl i; write = as_before 2 3 refl i; delete = there 3 refl i; start = as_before 4 3 refl i }) ∙ ap (λ o. unwrap_or o h) e)
-  added (suc (suc (suc (suc zero)))) h low e = (refl, (λ i. record { read = as_before 1 4 refl i; write = as_before 2 4 refl i; delete = as_before 3 4 refl i; start = there 4 refl i }) ∙ ap (λ o. unwrap_or o h) e)
-  added (suc (suc (suc (suc (suc n))))) h low e = absurd (omega (arith, low))
+  pub adds_helper : (n : ℕ) (h : HelperSet) → n ≤ 4 → option_map (with_helper (helper_set ns)) (helper_of (pos n)) ≡ Some h → (is_helper n ≡ true) × (helper_set (ns ++ n ∷ []) ≡ h)
+  adds_helper zero h low e = absurd (true≢false (sym (ap is_some e)))
+  adds_helper (suc zero) h low e = (refl, (λ i. record { read = there 1 refl i; write = as_before 2 1 refl i; delete = as_before 3 1 refl i; start = as_before 4 1 refl i }) ∙ ap (λ o. unwrap_or o h) e)
+  adds_helper (suc (suc zero)) h low e = (refl, (λ i. record { read = as_before 1 2 refl i; write = there 2 refl i; delete = as_before 3 2 refl i; start = as_before 4 2 refl i }) ∙ ap (λ o. unwrap_or o h) e)
+  adds_helper (suc (suc (suc zero))) h low e = (refl, (λ i. record { read = as_before 1 3 refl i; write = as_before 2 3 refl i; delete = there 3 refl i; start = as_before 4 3 refl i }) ∙ ap (λ o. unwrap_or o h) e)
+  adds_helper (suc (suc (suc (suc zero)))) h low e = (refl, (λ i. record { read = as_before 1 4 refl i; write = as_before 2 4 refl i; delete = as_before 3 4 refl i; start = there 4 refl i }) ∙ ap (λ o. unwrap_or o h) e)
+  adds_helper (suc (suc (suc (suc (suc n))))) h low e = absurd (omega (arith, low))
 
   -- no set where there is no such helper
   pub not_added : (n : ℕ) → n ≤ 4 → option_map (with_helper (helper_set ns)) (helper_of (pos n)) ≡ None → is_helper n ≡ false

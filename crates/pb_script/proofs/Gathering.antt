@@ -155,8 +155,8 @@ module _ (journal : List Entry) (state : StateOf) (tells : TellsHistory journal 
       in_block (puts_by state) journal (record { seat = h.m.seat; step = Step.Declare (record { 0 = h.m.start }) i.what; answer = Answer.Done }) _ i.declared
       (subst (λ o. Has (if_committed o (written_in i.what)) (record { cell = x; commit = record { 0 = commit }; content = content })) (sym phase) (has_map (put_by (record { 0 = commit })) (written_in i.what) (x, content) has))
 
-  pub gathers : Gathers state.observers journal (all_puts state journal)
-  gathers = record {
+  pub gathers_all_puts : Gathers state.observers journal (all_puts state journal)
+  gathers_all_puts = record {
     sound = λ p h. sound_from journal p (λ e k. k) (contains_has (all_puts state journal) p h);
     whole = λ row column commit content h. has_contains (all_puts state journal) _ (whole_for row column commit content h);
   }

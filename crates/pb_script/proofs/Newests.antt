@@ -83,14 +83,14 @@ newest_same puts p f h old x = grind (arith, cases_Bool, same_cell, stays_here, 
 -- ---- one write more
 
 -- so a write to a data cell is noted where the table keeps the newer one
-pub noted : (puts : List Put) (p : Put) (f g : Cell → Option Newest) → is_data p.cell ≡ true → (is_later (f p.cell) p.commit ≡ true → (x : Cell) → g x ≡ cond (tree.is_at (cell_cmp p.cell) x) (Some (newest_in p)) (f x))
+pub newest_noted : (puts : List Put) (p : Put) (f g : Cell → Option Newest) → is_data p.cell ≡ true → (is_later (f p.cell) p.commit ≡ true → (x : Cell) → g x ≡ cond (tree.is_at (cell_cmp p.cell) x) (Some (newest_in p)) (f x))
     → (is_later (f p.cell) p.commit ≡ false → (x : Cell) → g x ≡ f x) → AreTold puts f → AreTold (puts ++ p ∷ []) g
-noted puts p f g held newer older h x =
+newest_noted puts p f g held newer older h x =
     elim (cases_Bool (is_later (f p.cell) p.commit)) [
       | inl later ↦ newest_more puts p f g h (ap (λ b. b && is_later (f p.cell) p.commit) held ∙ later) (newer later) x
       | inr late ↦ subst (IsTold (IsNewestPut (puts ++ p ∷ [])) x) (sym (older late x)) (newest_same puts p f h (ap (λ b. b && is_later (f p.cell) p.commit) held ∙ late) x)
     ]
 
 -- and one of an acknowledgment is passed over
-pub passed : (puts : List Put) (p : Put) (f : Cell → Option Newest) → is_data p.cell ≡ false → AreTold puts f → AreTold (puts ++ p ∷ []) f
-passed puts p f no_data h = newest_same puts p f h (ap (λ b. b && is_later (f p.cell) p.commit) no_data)
+pub stamp_passed_over : (puts : List Put) (p : Put) (f : Cell → Option Newest) → is_data p.cell ≡ false → AreTold puts f → AreTold (puts ++ p ∷ []) f
+stamp_passed_over puts p f no_data h = newest_same puts p f h (ap (λ b. b && is_later (f p.cell) p.commit) no_data)

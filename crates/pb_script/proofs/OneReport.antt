@@ -61,5 +61,5 @@ one_newest puts apart x (Some m) (Some n) g h =
     ap (λ (p : Put). Some (record { commit = p.commit; content = p.content })) e
 
 -- so there is one report of such writes
-pub one : (puts : List Put) (runs : Tallies) (marks locks : ℕ) (s t : List ℕ) → AreApart puts → IsReport puts runs marks locks s → IsReport puts runs marks locks t → s ≡ t
-one puts runs marks locks s t apart g h = same_report (IsNewestPut puts) runs marks locks s t (one_newest puts apart) g h
+pub one_text_reported : (puts : List Put) (runs : Tallies) (marks locks : ℕ) (s t : List ℕ) → AreApart puts → IsReport puts runs marks locks s → IsReport puts runs marks locks t → s ≡ t
+one_text_reported puts runs marks locks s t apart g h = same_report (IsNewestPut puts) runs marks locks s t (one_newest puts apart) g h

@@ -10,11 +10,11 @@ use Rattle.pb_sound.specs.Fits.{Holds}
 use Rattle.pb_sound.proofs.Alike.{Alike, Agree}
 use Rattle.pb_sound.proofs.Lists.{when_not, cond_when, true_at, flag_from, with_list_below, with_list_above, with_list_in}
 use Rattle.pb_sound.proofs.Offsets.{moved_word}
-use Rattle.pb_sound.proofs.Registers.{value_of, read_value, follows}
-use Rattle.pb_sound.proofs.Loads.{stretch, stack_part, part, record_byte, found, some_bytes}
+use Rattle.pb_sound.proofs.Registers.{value_of, read_value, next_is_there}
+use Rattle.pb_sound.proofs.Loads.{stretch_is_written, stack_part, part_of_record, record_byte, found_at_distance, some_bytes}
 use Rattle.pb_sound.proofs.Stores.{Room, spot, store_room, length-bytes}
 use Rattle.pb_sound.proofs.Arithmetic.{operand_is}
-use Rattle.pb_sound.proofs.Jumps.{lands}
+use Rattle.pb_sound.proofs.Jumps.{jump_lands}
 use Rattle.pb_sound.proofs.AgreeingValues.{Setting, run, Two, number_same, operand_same, agree_set, Agrees}
 use Rattle.pb_verify.proofs.JumpsForward.{empty_parts}
 use Rattle.pb_base.proofs.Logic.{true_if_not as not_false}
@@ -52,16 +52,16 @@ fetched_same x a b f s t (Kind.Stack k) o v w n some u h ha hb two =
     let z = k +ℤ o in
     let at_a : v ≡ address (a.stack + STACK_BYTES) k = cc in
     let at_b : w ≡ address (b.stack + STACK_BYTES) k = cc in
-    let pa = stack_part (run x a) s z n (stretch (run x a) f s z n some two.place_a two.fits_a h) in
-    let pb = stack_part (run x b) t z n (stretch (run x b) f t z n some two.place_b two.fits_b h) in
+    let pa = stack_part (run x a) s z n (stretch_is_written (run x a) f s z n some two.place_a two.fits_a h) in
+    let pb = stack_part (run x b) t z n (stretch_is_written (run x b) f t z n some two.place_b two.fits_b h) in
     rw (at_a, at_b, moved_word (a.stack + STACK_BYTES) k o, moved_word (b.stack + STACK_BYTES) k o) (pa ∙ stack_same x a b f s t z n some h two ∙ sym pb)
 fetched_same x a b f s t (Kind.Record k) o v w n some u h ha hb two =
     let z = k +ℤ o in
     let ok : in_record x.judged.record_size z n ≡ true = not_false _ (when_not _ _ h) in
     let at_a : v ≡ address a.record_at k = cc in
     let at_b : w ≡ address b.record_at k = cc in
-    let pa = part (run x a) s z n some two.place_a ok in
-    let pb = part (run x b) t z n some two.place_b ok in
+    let pa = part_of_record (run x a) s z n some two.place_a ok in
+    let pb = part_of_record (run x b) t z n some two.place_b ok in
     let j = nat_abs z in
     let same = entries_same (m.record_map (run x a)) (m.record_map (run x b)) (a.record_at + j) (b.record_at + j) n (λ i q. record_byte (run x a) j i ∙ sym (record_byte (run x b) j i)) in
     rw (at_a, at_b, moved_word a.record_at k o, moved_word b.record_at k o) (pa.are ∙ same ∙ sym pb.are)
@@ -75,7 +75,7 @@ load_agrees x z y d r o a b f s t here h two =
     let va = read_value (run x a) f s r first.0 two.fits_a in
     let vb = read_value (run x b) f t r first.0 two.fits_b in
     let set_is = when_not _ _ first.0 in
-    let got = found (run x a) f s (at f r) va.value o (bytes_of z) (some_bytes z) two.place_a two.fits_a set_is more.1 va.holds in
+    let got = found_at_distance (run x a) f s (at f r) va.value o (bytes_of z) (some_bytes z) two.place_a two.fits_a set_is more.1 va.holds in
     let same = fetched_same x a b f s t (at f r) o va.value vb.value (bytes_of z) (some_bytes z) set_is more.1 va.holds vb.holds two in
     let v = extended y z (from_le_bytes (width z) got.bytes) in
     let are_b = sym same ∙ got.are in
@@ -125,7 +125,7 @@ store_imm_agrees x z d o k a b f s t here h two =
     let ra = store_room (run x a) f (at f d) va.value o (bytes_of z) (some_bytes z) two.place_a set_is first.1 va.holds in
     let rb = store_room (run x b) f (at f d) vb.value o (bytes_of z) (some_bytes z) two.place_b set_is first.1 vb.holds in
     let vs = to_le_bytes (width z) (word k) in
-    let on = follows x.judged.program.insns (Insn.StoreImm z d o k) t.slot here parts.1 in
+    let on = next_is_there x.judged.program.insns (Insn.StoreImm z d o k) t.slot here parts.1 in
     rw (va.is, vb.is) (agree_stores x a b f s t (Insn.StoreImm z d o k) (at f d) o va.value vb.value (bytes_of z) vs (length-bytes z (word k)) refl on two.alike ra rb)
 
 pub store_agrees : (x : Setting) (z : Size) (d : registers.Reg) (o : ℤ) (r : registers.Reg) → Agrees x (Insn.Store z d r o)
@@ -143,7 +143,7 @@ store_agrees x z d o r a b f s t here h two =
     let ra = store_room (run x a) f (at f d) va.value o (bytes_of z) (some_bytes z) two.place_a set_is p3.1 va.holds in
     let rb = store_room (run x b) f (at f d) vb.value o (bytes_of z) (some_bytes z) two.place_b set_is p3.1 vb.holds in
     let vs = to_le_bytes (width z) fa.value in
-    let on = follows x.judged.program.insns (Insn.Store z d r o) t.slot here parts.1 in
+    let on = next_is_there x.judged.program.insns (Insn.Store z d r o) t.slot here parts.1 in
     rw (va.is, vb.is, fa.is, fb) (agree_stores x a b f s t (Insn.Store z d r o) (at f d) o va.value vb.value (bytes_of z) vs (length-bytes z fa.value) refl on two.alike ra rb)
 
 -- ---- jumps, and the exit
@@ -154,7 +154,7 @@ agree_goes x a b f s t i n ea h l = rw (h, ea) (record { slot = refl; writes = l
 
 pub jump_agrees : (x : Setting) (o : ℤ) → Agrees x (Insn.Jump o)
 jump_agrees x o a b f s t here h two =
-    let l = lands x.judged.program.insns t.slot o h in
+    let l = jump_lands x.judged.program.insns t.slot o h in
     rw (two.alike.slot, l.is) (agree_goes x a b f s t (Insn.Jump o) l.to refl l.first two.alike)
 
 -- a comparison comes out the same, since neither side may be a pointer

@@ -6,8 +6,8 @@ use Rattle.pb_sound.specs.Fits.{Holds}
 use Rattle.pb_sound.proofs.Alike.{SameNumber, Alike, Agree}
 use Rattle.pb_sound.proofs.Lists.{when_not}
 use Rattle.pb_sound.proofs.Offsets.{moved_word, plus_zero}
-use Rattle.pb_sound.proofs.Registers.{follows, IsFollowed}
-use Rattle.pb_sound.proofs.Loads.{stretch}
+use Rattle.pb_sound.proofs.Registers.{next_is_there, IsFollowed}
+use Rattle.pb_sound.proofs.Loads.{stretch_is_written}
 use Rattle.pb_sound.proofs.Stores.{stack_room}
 use Rattle.pb_sound.proofs.Calls.{called_is, reply_long}
 use Rattle.pb_sound.proofs.AgreeingValues.{Setting, run, Two, Agrees, alu_agrees, mov_sx_agrees, neg_agrees, load_imm_agrees}
@@ -87,8 +87,8 @@ taken_two x a b f s t Kind.Unset p h ha hb two = cc
 taken_two x a b f s t Kind.Number p h ha hb two = cc
 taken_two x a b f s t (Kind.Record k) p h ha hb two = cc
 taken_two x a b f s t (Kind.Stack k) p h ha hb two =
-    let sa = stretch (run x a) f s k 32 (omega arith) two.place_a two.fits_a h in
-    let sb = stretch (run x b) f t k 32 (omega arith) two.place_b two.fits_b h in
+    let sa = stretch_is_written (run x a) f s k 32 (omega arith) two.place_a two.fits_a h in
+    let sb = stretch_is_written (run x b) f t k 32 (omega arith) two.place_b two.fits_b h in
     record {
       at_a = a.stack + from_low k;
       at_b = b.stack + from_low k;
@@ -169,7 +169,7 @@ calls_agree x a b f s t k (Some y) hx on h two =
 call_agrees : (x : Setting) (k : ℤ) → Agrees x (Insn.Call k)
 call_agrees x k a b f s t here h two =
     let parts = empty_parts (call_rules f (declared_helper x.judged.helpers k)) (falls x.judged.program.insns (t.slot + 1)) h in
-    calls_agree x a b f s t k (declared_helper x.judged.helpers k) refl (follows x.judged.program.insns (Insn.Call k) t.slot here parts.1) parts.0 two
+    calls_agree x a b f s t k (declared_helper x.judged.helpers k) refl (next_is_there x.judged.program.insns (Insn.Call k) t.slot here parts.1) parts.0 two
 
 -- every instruction, by its kind
 does_agree : (x : Setting) (i : Insn) → Agrees x i

@@ -32,8 +32,8 @@ pub operand_is : (e : Environment) (f : Frame) (s : State) (x : Operand) → rea
 operand_is e f s (Operand.Imm k) h t = (word k, refl)
 operand_is e f s (Operand.Reg r) h t = let v = read_value e f s r h t in (v.value, v.is)
 
-pub both : (e : Environment) (f : Frame) (s : State) (d : registers.Reg) (x : Operand) → numeric_rules f d x ≡ [] → FitsFrame e f s → Both s d x
-both e f s d x h t = grind (arith, empty_parts, read_value, operand_is)
+pub both_operands : (e : Environment) (f : Frame) (s : State) (d : registers.Reg) (x : Operand) → numeric_rules f d x ≡ [] → FitsFrame e f s → Both s d x
+both_operands e f s d x h t = grind (arith, empty_parts, read_value, operand_is)
 
 -- a pointer plus a number points as much further on, since sums of addresses wrap alike
 moved_holds : (e : Environment) (k : Kind) (x : ℕ) (z : ℤ) → Holds e k (Some x) → Holds e (move_pointer k z) (Some (address x z))
@@ -76,9 +76,9 @@ operands_are e f s AluOp.Mov Width.Bits64 d (Operand.Reg r) h t = mov_reg e f s 
 operands_are e f s AluOp.Mov Width.Bits32 d (Operand.Reg r) h t = mov_low e f s d r h t
 operands_are e f s AluOp.Add Width.Bits64 d (Operand.Imm k) h t = add_holds e f s d k h t
 operands_are e f s AluOp.Sub Width.Bits64 d (Operand.Imm k) h t = sub_holds e f s d k h t
-operands_are e f s AluOp.Add Width.Bits64 d (Operand.Reg r) h t = let b = both e f s d (Operand.Reg r) h t in record { left = b.left; right = b.right; left_is = b.left_is; right_is = b.right_is; sets = b.sets; holds = (_, refl) }
-operands_are e f s AluOp.Sub Width.Bits64 d (Operand.Reg r) h t = let b = both e f s d (Operand.Reg r) h t in record { left = b.left; right = b.right; left_is = b.left_is; right_is = b.right_is; sets = b.sets; holds = (_, refl) }
-operands_are e f s op w d x h t = let b = both e f s d x h t in record { left = b.left; right = b.right; left_is = b.left_is; right_is = b.right_is; sets = b.sets; holds = (_, refl) }
+operands_are e f s AluOp.Add Width.Bits64 d (Operand.Reg r) h t = let b = both_operands e f s d (Operand.Reg r) h t in record { left = b.left; right = b.right; left_is = b.left_is; right_is = b.right_is; sets = b.sets; holds = (_, refl) }
+operands_are e f s AluOp.Sub Width.Bits64 d (Operand.Reg r) h t = let b = both_operands e f s d (Operand.Reg r) h t in record { left = b.left; right = b.right; left_is = b.left_is; right_is = b.right_is; sets = b.sets; holds = (_, refl) }
+operands_are e f s op w d x h t = let b = both_operands e f s d x h t in record { left = b.left; right = b.right; left_is = b.left_is; right_is = b.right_is; sets = b.sets; holds = (_, refl) }
 
 -- an operation whose rules hold goes on
 pub alu_on : (e : Environment) (f : Frame) (s : State) (op : AluOp) (w : Width) (d : registers.Reg) (x : Operand) → IsFollowed e.judged.program.insns s.slot (Insn.Alu op w d x) → insn_rules e.judged s.slot f (Insn.Alu op w d x) ≡ [] → FitsFrame e f s → GoesOn e f s.slot (Insn.Alu op w d x) (does e s (Insn.Alu op w d x))
@@ -96,7 +96,7 @@ mov_sx_on e f s w z d r a b t =
 pub neg_on : (e : Environment) (f : Frame) (s : State) (w : Width) (d : registers.Reg) → IsFollowed e.judged.program.insns s.slot (Insn.Neg w d) → insn_rules e.judged s.slot f (Insn.Neg w d) ≡ [] → FitsFrame e f s → GoesOn e f s.slot (Insn.Neg w d) (does e s (Insn.Neg w d))
 neg_on e f s w d a b t =
     let parts = empty_parts (numeric_rules f d (Operand.Imm (pos 0))) (rules.falls e.judged.program.insns (s.slot + 1)) b in
-    let o = both e f s d (Operand.Imm (pos 0)) parts.0 t in
+    let o = both_operands e f s d (Operand.Imm (pos 0)) parts.0 t in
     rw o.left_is (sets_on e f s (Insn.Neg w d) d Kind.Number (alu AluOp.Sub w 0 o.left) refl refl a parts.1 o.sets t (_, refl))
 
 pub load_imm_on : (e : Environment) (f : Frame) (s : State) (d : registers.Reg) (v : ℕ) → IsFollowed e.judged.program.insns s.slot (Insn.LoadImm d v) → insn_rules e.judged s.slot f (Insn.LoadImm d v) ≡ [] → FitsFrame e f s → GoesOn e f s.slot (Insn.LoadImm d v) (does e s (Insn.LoadImm d v))

@@ -6,8 +6,8 @@ use Rattle.pb_sound.specs.Fits.{Holds, FitsFrame}
 use Rattle.pb_sound.specs.Outcomes.{Arrives, GoesOn}
 use Rattle.pb_sound.proofs.Lists.{when_not}
 use Rattle.pb_sound.proofs.Offsets.{plus_zero, moved_word}
-use Rattle.pb_sound.proofs.Registers.{follows, among_one, IsFollowed}
-use Rattle.pb_sound.proofs.Loads.{stretch}
+use Rattle.pb_sound.proofs.Registers.{next_is_there, among_one, IsFollowed}
+use Rattle.pb_sound.proofs.Loads.{stretch_is_written}
 use Rattle.pb_sound.proofs.Stores.{spot, stack_room, fits_put}
 use Rattle.pb_base.proofs.Logic.{below_true as below, true_if_not as not_false, and_true}
 use Rattle.pb_verify.proofs.JumpsForward.{empty_parts}
@@ -78,7 +78,7 @@ taken_at e f s Kind.Unset pl p b h t = cc
 taken_at e f s Kind.Number pl p b h t = cc
 taken_at e f s (Kind.Record k) pl p b h t = cc
 taken_at e f s (Kind.Stack k) pl p b h t =
-    let st = stretch e f s k 32 (omega arith) pl t b in
+    let st = stretch_is_written e f s k 32 (omega arith) pl t b in
     grind (arith, e.place.stack)
 
 -- ---- the helpers
@@ -143,4 +143,4 @@ calls_on e f s k (Some x) pl hx lands b t = rw lands (helps_on e f s k x pl (cal
 
 -- a call whose rules hold is of a declared helper, and goes on
 pub call_on : (e : Environment) (f : Frame) (s : State) (k : ℤ) → IsPlaced e → IsFollowed e.judged.program.insns s.slot (Insn.Call k) → insn_rules e.judged s.slot f (Insn.Call k) ≡ [] → FitsFrame e f s → GoesOn e f s.slot (Insn.Call k) (does e s (Insn.Call k))
-call_on e f s k pl a b t = grind (arith, empty_parts, calls_on, follows, e.judged.helpers, e.judged.program.insns, s.slot)
+call_on e f s k pl a b t = grind (arith, empty_parts, calls_on, next_is_there, e.judged.helpers, e.judged.program.insns, s.slot)

@@ -23,8 +23,8 @@ among_later : (n k : ℕ) (ms : List ℕ) → has_slot ms n ≡ true → has_slo
 among_later n k ms h = grind arith
 
 -- a jump whose rules hold lands on an instruction of a later slot
-pub lands : (p : List Insn) (n : ℕ) (o : ℤ) → jump_rules p n o ≡ [] → Lands p n o
-lands p n o e = grind arith
+pub jump_lands : (p : List Insn) (n : ℕ) (o : ℤ) → jump_rules p n o ≡ [] → Lands p n o
+jump_lands p n o e = grind arith
 
 -- on to a slot that the instruction leads to, with nothing changed
 goes_on : (e : Environment) (f : Frame) (s : State) (i : Insn) (n : ℕ) → after f i ≡ f → has_slot (leads s.slot i) n ≡ true → is_some (insn_at e.judged.program.insns n) ≡ true → FitsFrame e f s → GoesOn e f s.slot i (m.goes e s n s.regs s.stack)

@@ -7,8 +7,8 @@ use Rattle.pb_isa.proofs.Instructions.{all_next as all_of_two}
 -- ---- programs
 
 -- and 512 slots are fewer than 4,096
-pub programs : ProgramsOfOneAreOfTwo
-programs is p = record { some = p.some; most = (let most = p.most in omega (arith, most)); of_profile = all_of_two is p.of_profile }
+pub one_is_of_two : ProgramsOfOneAreOfTwo
+one_is_of_two is p = record { some = p.some; most = (let most = p.most in omega (arith, most)); of_profile = all_of_two is p.of_profile }
 
 module _ (p q : Profile) (is : List Insn) (h : HelperSet) (size : ℕ) where
   -- ---- rules
@@ -73,12 +73,12 @@ module _ (p q : Profile) (is : List Insn) (h : HelperSet) (size : ℕ) where
   means bytes start talk r ws m = record { size = m.size; some = m.some; at = λ a l. ends bytes start a talk r ws (m.at a l) }
 
 -- no rule looks at the profile
-pub accepted : SameAreAccepted
-accepted is h size = (accepts Profile.One Profile.Two is h size, accepts Profile.Two Profile.One is h size)
+pub same_accepted : SameAreAccepted
+same_accepted is h size = (accepts Profile.One Profile.Two is h size, accepts Profile.Two Profile.One is h size)
 
-pub refused : SameAreRefused
-refused is h size n c = (refuses Profile.One Profile.Two is h size n c, refuses Profile.Two Profile.One is h size n c)
+pub same_refused : SameAreRefused
+same_refused is h size n c = (refuses Profile.One Profile.Two is h size n c, refuses Profile.Two Profile.One is h size n c)
 
 -- nor does the machine
-pub meant : SameIsMeant
-meant is h size bytes start talk r ws = (means Profile.One Profile.Two is h size bytes start talk r ws, means Profile.Two Profile.One is h size bytes start talk r ws)
+pub same_meant : SameIsMeant
+same_meant is h size bytes start talk r ws = (means Profile.One Profile.Two is h size bytes start talk r ws, means Profile.Two Profile.One is h size bytes start talk r ws)

@@ -31,19 +31,19 @@ pub record IsFollowed (p : List Insn) (n : ℕ) (i : Insn) : Type 0 where
   pub at : insn_at p n ≡ Some i
   pub next : n + size i ≢ slots p → is_some (insn_at p (n + size i)) ≡ true
 
-pub followed : (p : List Insn) → LeadOn p → (n : ℕ) (i : Insn) → insn_at p n ≡ Some i → IsFollowed p n i
-followed p lead n i a = record { at = a; next = lead.next n i a }
+pub each_is_followed : (p : List Insn) → LeadOn p → (n : ℕ) (i : Insn) → insn_at p n ≡ Some i → IsFollowed p n i
+each_is_followed p lead n i a = record { at = a; next = lead.next n i a }
 
 -- where 36 isn't broken, an instruction stands behind
-pub follows : (p : List Insn) (i : Insn) (n : ℕ) → IsFollowed p n i → falls p (n + size i) ≡ [] → is_some (insn_at p (n + size i)) ≡ true
-follows p i n a h = a.next (ne_from_false _ _ (when_not _ _ h))
+pub next_is_there : (p : List Insn) (i : Insn) (n : ℕ) → IsFollowed p n i → falls p (n + size i) ≡ [] → is_some (insn_at p (n + size i)) ≡ true
+next_is_there p i n a h = a.next (ne_from_false _ _ (when_not _ _ h))
 
 pub among_one : (n : ℕ) → has_slot (n ∷ []) n ≡ true
 among_one n = grind arith
 
 -- a register is set, and the instruction leads to the slot after it
 pub sets_on : (e : Environment) (f : Frame) (s : State) (i : Insn) (d : Reg) (k : Kind) (v : ℕ) → leads s.slot i ≡ (s.slot + size i) ∷ [] → after f i ≡ with_kind f d k → IsFollowed e.judged.program.insns s.slot i → falls e.judged.program.insns (s.slot + size i) ≡ [] → sets d ≡ [] → FitsFrame e f s → Holds e k (Some v) → GoesOn e f s.slot i (m.sets_register e s d v (size i))
-sets_on e f s i d k v el ea a b o h n = grind (arith, when_not, follows, among_one, fits_set, e.judged.program.insns, s.slot)
+sets_on e f s i d k v el ea a b o h n = grind (arith, when_not, next_is_there, among_one, fits_set, e.judged.program.insns, s.slot)
 
 -- a register that is read has a value
 pub record Value (e : Environment) (k : Kind) (v : Option ℕ) : Type 0 where

@@ -7,8 +7,8 @@ use Rattle.pb_isa.specs.Machine as m
 use Rattle.pb_sound.specs.Fits.{HasValue, Holds, FitsFrame}
 use Rattle.pb_sound.specs.Outcomes.{GoesOn}
 use Rattle.pb_sound.proofs.Lists.{when_not, flag_from, with_list_below, with_list_above, with_list_in}
-use Rattle.pb_sound.proofs.Offsets.{moved_word, le_from, stack_at, lies}
-use Rattle.pb_sound.proofs.Registers.{read_value, follows, among_one, IsFollowed}
+use Rattle.pb_sound.proofs.Offsets.{moved_word, le_from, stack_at, lies_between}
+use Rattle.pb_sound.proofs.Registers.{read_value, next_is_there, among_one, IsFollowed}
 use Rattle.pb_sound.proofs.Loads.{some_bytes}
 use Rattle.pb_verify.proofs.JumpsForward.{empty_parts}
 use Rattle.pb_base.proofs.Logic.{true_if_not as not_false, and_true}
@@ -55,7 +55,7 @@ stack_room e f k o n some pl l =
     let low = le_from (negsuc 511) z range.0 in
     let high = le_from (z +ℤ pos n) (pos 0) range.1 in
     let there = stack_at e.place.stack n z some low high pl.place.stack_fits in
-    grind (arith, moved_word, lies, e.place.stack)
+    grind (arith, moved_word, lies_between, e.place.stack)
 
 -- a store whose rules hold goes through a pointer to the stack
 pub store_room : (e : Environment) (f : Frame) (k : Kind) (x : ℕ) (o : ℤ) (n : ℕ) → 0 < n → IsPlaced e → is_unset k ≡ false → stores k o n ≡ [] → Holds e k (Some x) → Room e f k o n x
@@ -80,7 +80,7 @@ store_imm_on e f s z d o k pl a b t =
     let base = read_value e f s d first.0 t in
     let where_to = store_room e f (at f d) base.value o (bytes_of z) (some_bytes z) pl (when_not _ _ first.0) first.1 base.holds in
     let vs = to_le_bytes (width z) (word k) in
-    rw base.is (stores_on e f s (Insn.StoreImm z d o k) (at f d) base.value o (bytes_of z) vs (length-bytes z (word k)) refl refl (follows e.judged.program.insns (Insn.StoreImm z d o k) s.slot a parts.1) t where_to)
+    rw base.is (stores_on e f s (Insn.StoreImm z d o k) (at f d) base.value o (bytes_of z) vs (length-bytes z (word k)) refl refl (next_is_there e.judged.program.insns (Insn.StoreImm z d o k) s.slot a parts.1) t where_to)
 
 -- a store whose rules hold goes on, with its bytes written
 pub store_on : (e : Environment) (f : Frame) (s : State) (z : Size) (d : Reg) (o : ℤ) (r : Reg) → IsPlaced e → IsFollowed e.judged.program.insns s.slot (Insn.Store z d r o) → insn_rules e.judged s.slot f (Insn.Store z d r o) ≡ [] → FitsFrame e f s → GoesOn e f s.slot (Insn.Store z d r o) (does e s (Insn.Store z d r o))
@@ -93,4 +93,4 @@ store_on e f s z d o r pl a b t =
     let from = read_value e f s r p1.1 t in
     let where_to = store_room e f (at f d) base.value o (bytes_of z) (some_bytes z) pl (when_not _ _ p1.0) p3.1 base.holds in
     let vs = to_le_bytes (width z) from.value in
-    rw (base.is, from.is) (stores_on e f s (Insn.Store z d r o) (at f d) base.value o (bytes_of z) vs (length-bytes z from.value) refl refl (follows e.judged.program.insns (Insn.Store z d r o) s.slot a parts.1) t where_to)
+    rw (base.is, from.is) (stores_on e f s (Insn.Store z d r o) (at f d) base.value o (bytes_of z) vs (length-bytes z from.value) refl refl (next_is_there e.judged.program.insns (Insn.Store z d r o) s.slot a parts.1) t where_to)

@@ -12,8 +12,8 @@ may_read old seat start x at t allowed own = grind arith
 
 module _ (old new : StateOf) (seat : ℕ) (start : Ts) (x : Cell) (at : Option Ts) (t : TransactionOf) (allowed : step_reason old seat (read_step start x at) ≡ None) (own : IsOwn old seat start.0 t)
     (unlocked : NoLockUpTo old.entries x (read_up_to start.0 at)) (a : Answer) (put : new ≡ with_transaction old start.0 (with_read t x at a)) where
-  pub found : (v : Revision) → a ≡ found_answer v → IsVersion old.entries x (read_up_to start.0 at) v → TableStep old seat (read_step start x at) a new
-  found v is version = grind arith
+  pub found_is_taken : (v : Revision) → a ≡ found_answer v → IsVersion old.entries x (read_up_to start.0 at) v → TableStep old seat (read_step start x at) a new
+  found_is_taken v is version = grind arith
 
-  pub absent : a ≡ Answer.Absent → NoVersion old.entries x (read_up_to start.0 at) → TableStep old seat (read_step start x at) a new
-  absent is none = grind (arith, may_read, case_absent)
+  pub absent_is_taken : a ≡ Answer.Absent → NoVersion old.entries x (read_up_to start.0 at) → TableStep old seat (read_step start x at) a new
+  absent_is_taken is none = grind (arith, may_read, case_absent)

@@ -69,8 +69,8 @@ module _ {X : Type 0} where
       ap (cond (eq_by_cmp nat_cmp q e.0) (Some e.1)) (find_set es k i v q (tail_rises e es r) (record { within = omega arith; here = h.here }))
       ∙ either _ _ (Some v) (Some e.1) (map.find nat_cmp q es) apart
 
-  pub inserted : (es : List (ℕ × X)) (k i : ℕ) (v : X) → StartsRise es → IsStartAt es k i → map.from_entries {R = nat_cmp} (set es i (k, v)) ≡ map.insert (map.from_entries es) k v
-  inserted es k i v r h = map.same_map nat_cmp_total map.nat_cmp-IsAntisymmetric _ _ (λ q.
+  pub set_inserts : (es : List (ℕ × X)) (k i : ℕ) (v : X) → StartsRise es → IsStartAt es k i → map.from_entries {R = nat_cmp} (set es i (k, v)) ≡ map.insert (map.from_entries es) k v
+  set_inserts es k i v r h = map.same_map nat_cmp_total map.nat_cmp-IsAntisymmetric _ _ (λ q.
       map.get-from_entries nat_cmp_total (set es i (k, v)) q
       ∙ find_set es k i v q r h
       ∙ ap (cond (eq_by_cmp nat_cmp q k) (Some v)) (sym (map.get-from_entries nat_cmp_total es q))
@@ -90,8 +90,8 @@ module _ {X : Type 0} where
       let q = (get_or es i d).0 in
       low q (get_or es i d).1 (map.get-from_entries nat_cmp_total es q ∙ find_at es q i d r (record { within = lt; here = λ e. any_default es i e d lt }))
 
-  pub pushed : (es : List (ℕ × X)) (k : ℕ) (v : X) → IsNoStart es k → map.from_entries {R = nat_cmp} (es ++ (k, v) ∷ []) ≡ map.insert (map.from_entries es) k v
-  pushed es k v h = map.from_entries_push nat_cmp_total map.nat_cmp-IsAntisymmetric es k v (find_nowhere es k h)
+  pub push_inserts : (es : List (ℕ × X)) (k : ℕ) (v : X) → IsNoStart es k → map.from_entries {R = nat_cmp} (es ++ (k, v) ∷ []) ≡ map.insert (map.from_entries es) k v
+  push_inserts es k v h = map.from_entries_push nat_cmp_total map.nat_cmp-IsAntisymmetric es k v (find_nowhere es k h)
 
   -- ---- the same of the map that they are
 
@@ -115,8 +115,8 @@ module _ {X : Type 0} where
 
   module _ (es : List (ℕ × X)) (m : map.FinMap nat_cmp X) (k i : ℕ) (r : StartsRise es) (is : map.from_entries es ≡ m) where
     -- what was found in the list stands at that place of the map
-    pub found : (e : ℕ × X) → IsStartAt es k i → e ≡ get_or es i e → (map.get m k ≡ Some e.1) × (slice_get (map.entries m) i ≡ Some (k, e.1))
-    found e at here =
+    pub found_in_map : (e : ℕ × X) → IsStartAt es k i → e ≡ get_or es i e → (map.get m k ≡ Some e.1) × (slice_get (map.entries m) i ≡ Some (k, e.1))
+    found_in_map e at here =
         let number : e.0 ≡ k = ap (λ (p : ℕ × X). p.0) here ∙ at.here e in (
           ap (λ n. map.get n k) (sym is) ∙ map.get-from_entries nat_cmp_total es k ∙ find_at es k i e r at ∙ ap (λ (p : ℕ × X). Some p.1) (sym here),
           ap (λ ps. slice_get ps i) (entries_are es m r is) ∙ slice_get_read es _ i e refl at.within here ∙ ap (λ n. Some (n, e.1)) number,
@@ -127,8 +127,8 @@ module _ {X : Type 0} where
     start_at t there = grind (arith, entries_are, slice_get_within, get_or_from_slice_get)
 
     -- another value there is put under its number
-    pub changed : (e : ℕ × X) (w : X) → IsStartAt es k i → e ≡ get_or es i e → map.from_entries {R = nat_cmp} (set es i (e.0, w)) ≡ map.insert m k w
-    changed e w at here = grind (arith, inserted, at.here)
+    pub change_inserts : (e : ℕ × X) (w : X) → IsStartAt es k i → e ≡ get_or es i e → map.from_entries {R = nat_cmp} (set es i (e.0, w)) ≡ map.insert m k w
+    change_inserts e w at here = grind (arith, set_inserts, at.here)
 
   set_number : (es : List (ℕ × X)) (i : ℕ) (v : ℕ × X) → ((d : ℕ × X) → (get_or es i d).0 ≡ v.0) → (j : ℕ) (d : ℕ × X) → (get_or (set es i v) j d).0 ≡ (get_or es j d).0
   set_number [] i v h j d = refl
@@ -144,8 +144,8 @@ module _ {X : Type 0} where
   pub not_held : (es : List (ℕ × X)) (m : map.FinMap nat_cmp X) (k : ℕ) → map.from_entries es ≡ m → IsNoStart es k → map.get m k ≡ None
   not_held es m k is none = ap (λ n. map.get n k) (sym is) ∙ map.get-from_entries nat_cmp_total es k ∙ find_nowhere es k none
 
-  pub added : (es : List (ℕ × X)) (m : map.FinMap nat_cmp X) (k : ℕ) (v : X) → StartsRise es → map.from_entries es ≡ m → ((q : ℕ) (x : X) → map.get m q ≡ Some x → q < k) → map.from_entries {R = nat_cmp} (es ++ (k, v) ∷ []) ≡ map.insert m k v
-  added es m k v r is low = grind (arith, all_below, pushed, nowhere_above)
+  pub last_inserts : (es : List (ℕ × X)) (m : map.FinMap nat_cmp X) (k : ℕ) (v : X) → StartsRise es → map.from_entries es ≡ m → ((q : ℕ) (x : X) → map.get m q ≡ Some x → q < k) → map.from_entries {R = nat_cmp} (es ++ (k, v) ∷ []) ≡ map.insert m k v
+  last_inserts es m k v r is low = grind (arith, all_below, push_inserts, nowhere_above)
 
   pub added_rises : (es : List (ℕ × X)) (m : map.FinMap nat_cmp X) (k : ℕ) (v : X) → StartsRise es → map.from_entries es ≡ m → ((q : ℕ) (x : X) → map.get m q ≡ Some x → q < k) → StartsRise (es ++ (k, v) ∷ [])
   added_rises es m k v r is low = push_rises es (k, v) r (all_below es k r (λ q x g. low q x (ap (λ n. map.get n q) (sym is) ∙ g)))

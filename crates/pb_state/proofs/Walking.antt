@@ -56,26 +56,26 @@ less_back : (x y : Cell) → cell_cmp x y ≡ Greater → cell_cmp y x ≡ Less
 less_back x y g = cell_cmp_total.antisymm y x ∙ ap ordering_reverse g
 
 -- a mark that is told, with none between, is one more that was passed
-pub step : (es : List1) → T (is_sorted cell_cmp es) → (last : Option Cell) (n : ℕ) (next : Cell) → IsWalked last es n → has next es ≡ true → ComesAfter last next → NoneBetween last es next → IsWalked (Some next) es (suc n) × (n < length es)
-step [] s last n next w h c none = cc
-step (e ∷ es) s last zero next w h c none =
+pub one_more_walked : (es : List1) → T (is_sorted cell_cmp es) → (last : Option Cell) (n : ℕ) (next : Cell) → IsWalked last es n → has next es ≡ true → ComesAfter last next → NoneBetween last es next → IsWalked (Some next) es (suc n) × (n < length es)
+one_more_walked [] s last n next w h c none = cc
+one_more_walked (e ∷ es) s last zero next w h c none =
     elim (cell_cmp next e.0) as (λ r. cell_cmp next e.0 ≡ r → IsWalked (Some next) (e ∷ es) (suc zero) × (zero < length (e ∷ es))) [
       | Less ↦ λ is. absurd (not_both next e.0 is (above e.0 next es (fst _ _ s) (in_rest next e es h (λ eq. cc))))
       | Equal ↦ λ is. let same : next ≡ e.0 = cell_cmp-IsAntisymmetric next e.0 is in (((λ less. cc), begun_after next es (subst (λ x. T (below_all cell_cmp x es)) (sym same) (fst _ _ s))), omega arith)
       | Greater ↦ λ is. let missed = none e.0 w (less_back next e.0 is) in let there = has_head e es in cc
     ] refl
-step (e ∷ es) s last (suc n) next w h c none =
+one_more_walked (e ∷ es) s last (suc n) next w h c none =
     let apart : (cell_cmp next e.0 ≡ Equal → ⊥) = (λ is. w.0 (subst (ComesAfter last) (cell_cmp-IsAntisymmetric next e.0 is) c)) in
-    let rest : IsWalked (Some next) es (suc n) × (n < length es) = step es (snd _ _ s) last n next w.1 (in_rest next e es h apart) c (λ q after below. none_tail q e es (none q after below)) in
+    let rest : IsWalked (Some next) es (suc n) × (n < length es) = one_more_walked es (snd _ _ s) last n next w.1 (in_rest next e es h apart) c (λ q after below. none_tail q e es (none q after below)) in
     let short : n < length es = rest.1 in
     (((λ less. w.0 (comes_later last next e.0 c less)), rest.0), omega (arith, short))
 
 -- where no entry comes after, all are walked
-pub whole : (es : List1) (last : Option Cell) (n : ℕ) → IsWalked last es n → ((q : Cell) → ComesAfter last q → has q es ≡ false) → n ≡ length es
-whole [] last zero w none = refl
-whole [] last (suc n) w none = absurd w
-whole (e ∷ es) last zero w none = let missed = none e.0 w in let there = has_head e es in cc
-whole (e ∷ es) last (suc n) w none = let rest = whole es last n w.1 (λ q after. none_tail q e es (none q after)) in ap suc rest
+pub all_are_walked : (es : List1) (last : Option Cell) (n : ℕ) → IsWalked last es n → ((q : Cell) → ComesAfter last q → has q es ≡ false) → n ≡ length es
+all_are_walked [] last zero w none = refl
+all_are_walked [] last (suc n) w none = absurd w
+all_are_walked (e ∷ es) last zero w none = let missed = none e.0 w in let there = has_head e es in cc
+all_are_walked (e ∷ es) last (suc n) w none = let rest = all_are_walked es last n w.1 (λ q after. none_tail q e es (none q after)) in ap suc rest
 
 -- before the first none was passed
 pub walked_none : (es : List1) → IsWalked None es zero
@@ -126,12 +126,12 @@ held m q b is = sym (ap is_some (map.get-entries m q)) ∙ is
 -- each mark that a table tells is the next of its marks
 pub walked_on : (m : Marks) (last : Option Cell) (n : ℕ) (next : Cell) → IsWalked last (map.entries m) n → IsNextMark m last (Some next) → IsWalked (Some next) (map.entries m) (n + 1) × (n < length (map.entries m))
 walked_on m last n next w is =
-    let done = step (map.entries m) (map.entries_sorted m) last n next w (held m next true is.0) is.1 (λ q after below. held m q false (is.2 q after below)) in
+    let done = one_more_walked (map.entries m) (map.entries_sorted m) last n next w (held m next true is.0) is.1 (λ q after below. held m q false (is.2 q after below)) in
     (subst (λ k. IsWalked (Some next) (map.entries m) k) (omega arith) done.0, done.1)
 
 -- and where it tells none, all were passed
 pub walked_all : (m : Marks) (last : Option Cell) (n : ℕ) → IsWalked last (map.entries m) n → IsNextMark m last None → n ≡ length (map.entries m)
-walked_all m last n w is = whole (map.entries m) last n w (λ q after. held m q false (is q after))
+walked_all m last n w is = all_are_walked (map.entries m) last n w (λ q after. held m q false (is q after))
 
 -- a mark further on, fewer are left
 pub fewer_left : (m : Marks) (last : Option Cell) (next : Cell) → IsNextMark m last (Some next) → left_after (Some next) (map.entries m) < left_after last (map.entries m)

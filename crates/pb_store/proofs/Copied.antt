@@ -12,8 +12,8 @@ use Rattle.pb_store.specs.declared.slot.Slot.{Slot}
 use Rattle.pb_store.specs.declared.slot.Item.{Item}
 use Rattle.pb_store.specs.Slot.{slot_cmp_total, slot_cmp-IsAntisymmetric}
 use Rattle.pb_store.specs.Contents.{Contents, Entries, Marks, ComesAfter, IsNextMark, entries_after}
-use Rattle.pb_store.proofs.Following.{behind}
-use Rattle.pb_base.proofs.Logic.{none_is as no_item, less_if as less, first_holds as first, second_holds as second, first_of_drop, none_past, turned}
+use Rattle.pb_store.proofs.Following.{after_told_entry}
+use Rattle.pb_base.proofs.Logic.{none_is as no_item, less_if as less, first_holds as first, second_holds as second, first_of_drop, none_past, turned_order}
 
 -- ---- entries
 module _ {K X : Type 0} {R : K → K → Ordering} (o : IsTotalOrder R) where
@@ -28,7 +28,7 @@ module _ {K X : Type 0} {R : K → K → Ordering} (o : IsTotalOrder R) where
   not_before [] i d s lt = absurd (omega (arith, lt))
   not_before (e ∷ es) zero d s lt = refl
   not_before (e ∷ es) (suc i) d s lt =
-      let apart : R (get_or es i d).0 e.0 ≡ Greater = turned o e.0 (get_or es i d).0 Less (below_at e.0 es i d (first _ _ s) (omega arith)) in
+      let apart : R (get_or es i d).0 e.0 ≡ Greater = turned_order o e.0 (get_or es i d).0 Less (below_at e.0 es i d (first _ _ s) (omega arith)) in
       ap (λ r. cond (is_eq r) (Some e.1) (find R (get_or es i d).0 (take i es))) apart ∙ not_before es i d (second _ _ s) (omega arith)
 
   -- a map, of which the entries before place i are copied
@@ -126,11 +126,11 @@ module _ (m : Marks) (after : Option Cell) where
         elim (cell_cmp q n) as (λ r. cell_cmp q n ≡ r → cond (is_eq r) (Some tt) (cond (up_to after q) (map.get m q) None) ≡ cond (up_to (Some n) q) (map.get m q) None) [
           | Less ↦ λ e.
               kept_where_none (up_to after q) (map.get m q) (λ f. no_item _ (next.2 q (comes_or_not after q f) e))
-              ∙ sym (ap (λ r. cond (not (is_lt r)) (map.get m q) None) (turned cell_cmp_total q n Less e))
-          | Equal ↦ λ e. here q e ∙ sym (ap (λ r. cond (not (is_lt r)) (map.get m q) None) (turned cell_cmp_total q n Equal e))
+              ∙ sym (ap (λ r. cond (not (is_lt r)) (map.get m q) None) (turned_order cell_cmp_total q n Less e))
+          | Equal ↦ λ e. here q e ∙ sym (ap (λ r. cond (not (is_lt r)) (map.get m q) None) (turned_order cell_cmp_total q n Equal e))
           | Greater ↦ λ e.
-              ap (λ b. cond b (map.get m q) None) (beyond after n q next.1 (turned cell_cmp_total q n Greater e))
-              ∙ sym (ap (λ r. cond (not (is_lt r)) (map.get m q) None) (turned cell_cmp_total q n Greater e))
+              ap (λ b. cond b (map.get m q) None) (beyond after n q next.1 (turned_order cell_cmp_total q n Greater e))
+              ∙ sym (ap (λ r. cond (not (is_lt r)) (map.get m q) None) (turned_order cell_cmp_total q n Greater e))
         ] refl
 
     -- to mark the next cell is to have copied the marks up to it, since none stands between
@@ -188,7 +188,7 @@ module _ (m : Entries) (after : Option Slot) (i : ℕ) (left : entries_after aft
 
   module _ (e : Slot × Item) (p : Some e ≡ slice_get (entries_after after (map.entries m)) 0) where
     rest : entries_after (Some e.0) (map.entries m) ≡ drop 1 (entries_after after (map.entries m))
-    rest = behind after (map.entries m) e (map.entries_sorted m) p
+    rest = after_told_entry after (map.entries m) e (map.entries_sorted m) p
 
     pub stands_there : Some e ≡ slice_get (map.entries m) i
     stands_there = p ∙ ap (λ es. slice_get es 0) left ∙ first_of_drop (map.entries m) i

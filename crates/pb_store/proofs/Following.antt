@@ -54,15 +54,15 @@ module _ {K X : Type 0} {R : K → K → Ordering} (o : IsTotalOrder R) where
       ] refl p
 
 -- after the entry that a walk was told comes what is left but that one
-pub behind : (after : Option Slot) (es : List (Slot × Item)) (e : Slot × Item) → T (is_sorted slot_cmp es) → Some e ≡ slice_get (entries_after after es) 0
+pub after_told_entry : (after : Option Slot) (es : List (Slot × Item)) (e : Slot × Item) → T (is_sorted slot_cmp es) → Some e ≡ slice_get (entries_after after es) 0
     → entries_after (Some e.0) es ≡ drop 1 (entries_after after es)
-behind None es e s p = behind_first slot_cmp_total es e s p
-behind (Some k) es e s p = behind_next slot_cmp_total k es e s p
+after_told_entry None es e s p = behind_first slot_cmp_total es e s p
+after_told_entry (Some k) es e s p = behind_next slot_cmp_total k es e s p
 
 -- and where it is told none, nothing is to be shown
 pub rest_behind : (after : Option Slot) (es : List (Slot × Item)) (r : Option (Slot × Item)) → T (is_sorted slot_cmp es) → r ≡ slice_get (entries_after after es) 0
     → IfSome r (λ e. entries_after (Some e.0) es ≡ drop 1 (entries_after after es))
-rest_behind after es r s p = grind (arith, behind)
+rest_behind after es r s p = grind (arith, after_told_entry)
 
 -- ---- tablets side by side
 after-append : (after : Option Slot) (xs ys : List (Slot × Item)) → entries_after after (xs ++ ys) ≡ entries_after after xs ++ entries_after after ys

@@ -72,8 +72,8 @@ told_to w es i v u e old mid now was failed (StoryFault.Event f) is t end = grin
 -- ---- the story
 
 -- behind the lines of all events, a report that was written makes the story whole
-pub reported : (w : WorldOf) (es : List Event) (v : WorldOf) (old mid now : Option (List ℕ)) (was failed : Bool) → AreTold w es v (took old mid was) → Reports v.shared (took mid now failed) (Ok tt) → StoryEnds w es v (took old now failed) (Ok tt)
-reported w es v old mid now was failed t r = record {
+pub whole_after_report : (w : WorldOf) (es : List Event) (v : WorldOf) (old mid now : Option (List ℕ)) (was failed : Bool) → AreTold w es v (took old mid was) → Reports v.shared (took mid now failed) (Ok tt) → StoryEnds w es v (took old now failed) (Ok tt)
+whole_after_report w es v old mid now was failed t r = record {
   text = t.lines ++ r.text;
   story = record { lines = t.lines; recounts = t.recounts; report = r.text; reported = r.report; text_is = refl };
   taken = both_took old mid now was failed t.lines r.text t.taken r.taken;

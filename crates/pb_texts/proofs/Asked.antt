@@ -275,5 +275,5 @@ asks_at (Some q) (inr (inr (inr (inr check)))) e f = renamed q.0 (codes "check")
 has_one : (b : Bool) (rows : List Row) → check_fault top rows b ≡ [] → b ≡ true
 has_one b rows h = grind arith
 
-pub asks : (words : List Text) → fault_of program_app words ≡ [] → has_plus (subcommand_of program_app words) ≡ false → (r : Request) × (command_of words ≡ Some r)
-asks words e no_plus = grind (arith, level_none, asks_at, walk_stops, has_one)
+pub taken_asks : (words : List Text) → fault_of program_app words ≡ [] → has_plus (subcommand_of program_app words) ≡ false → (r : Request) × (command_of words ≡ Some r)
+taken_asks words e no_plus = grind (arith, level_none, asks_at, walk_stops, has_one)

@@ -11,7 +11,7 @@ use Rattle.pb_texts.specs.declared.words.choice.Options.{Options}
 use Rattle.pb_isa.specs.declared.profile.Profile.{Profile}
 use Rattle.pb_helpers.specs.declared.change.Version.{Version}
 use Rattle.pb_texts.specs.CommandLines.{most_workers, most_swaps, last_profile, program_app, Request, Run, Asm, Dis, Check, with_both, count_named, workers_of, clock_of, profile_numbered, profile_named, with_profile, last_version, version_numbered, version_of, with_version, asm_in, dis_in, check_in, command_in, command_of, begins_with_plus, has_plus, has_plus_at, request_of, IsInRange}
-use Rattle.pb_texts.proofs.Asked.{run_with, run_by, replay_from, asks}
+use Rattle.pb_texts.proofs.Asked.{run_with, run_by, replay_from, taken_asks}
 use Rattle.std.proofs.lemmas.Bool.{true_from_ne_false as true_unless, false_from_ne_true as false_unless}
 use Rattle.pb_base.proofs.Logic.{or_cases as either}
 
@@ -62,7 +62,7 @@ some_has_no_plus : (q : Option (Text × List Row)) (r : Request) → command_in 
 some_has_no_plus q r e = false_unless (has_plus q) (λ h. none_is_some (command_in q) r (plus_asks_none q h) e)
 
 none_has_plus : (words : List Text) → fault_of program_app words ≡ [] → command_of words ≡ None → has_plus (subcommand_of program_app words) ≡ true
-none_has_plus words f n = true_unless (has_plus (subcommand_of program_app words)) (λ h. let a = asks words f h in none_is_some (command_of words) a.0 n a.1)
+none_has_plus words f n = true_unless (has_plus (subcommand_of program_app words)) (λ h. let a = taken_asks words f h in none_is_some (command_of words) a.0 n a.1)
 
 -- ---- the kinds of fault
 

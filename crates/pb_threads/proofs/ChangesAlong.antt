@@ -5,7 +5,7 @@ use Rattle.pb_threads.specs.declared.tries.TheConstants.{MAX_TRIES}
 use Rattle.pb_threads.specs.Gains.{OpeningOf, Gains, IsWant}
 use Rattle.pb_threads.specs.Tries.{IsTry, AreVain, at_first, one_more, AreTries, AreTried, before_all, tried}
 use Rattle.pb_threads.specs.Stops.{TryStops, TriesStop, ChangesStop}
-use Rattle.pb_threads.proofs.Gaining.{gains_none, gains_on, renumbered}
+use Rattle.pb_threads.proofs.Gaining.{gains_none, gains_on, gains_renumbered}
 
 -- ---- one change
 
@@ -18,11 +18,11 @@ module _ (batch : Writes) (count : ℕ) (a b : SeatOf) (vain : Gains (AreVain ba
   in_vain c true is h = cc
   in_vain c false is h = gains_on a b c vain h (λ said more v t. one_more count said more v t)
 
-  pub done : count < MAX_TRIES → (c : SeatOf) (committed : Bool) → committed ≡ true → Gains (IsTry batch committed) b c → Gains (AreTries batch true) a c
-  done few c committed is h = grind (arith, gains_on)
+  pub tries_are_done : count < MAX_TRIES → (c : SeatOf) (committed : Bool) → committed ≡ true → Gains (IsTry batch committed) b c → Gains (AreTries batch true) a c
+  tries_are_done few c committed is h = grind (arith, gains_on)
 
   pub tries_stop : {opens : Option OpeningOf} → count < MAX_TRIES → (c : SeatOf) (committed : Bool) (r : Refusal) → Gains (TryStops opens b.number batch committed r) b c → Gains (TriesStop opens a.number batch committed r) a c
-  tries_stop {opens} few c committed r h = gains_on a b c vain (renumbered (λ n. TryStops opens n batch committed r) b c b.number a.number vain.number h) (λ said more v t. record { count = count; few = few; vain = said; tries = v; part = more; stops = t; said_is = refl })
+  tries_stop {opens} few c committed r h = gains_on a b c vain (gains_renumbered (λ n. TryStops opens n batch committed r) b c b.number a.number vain.number h) (λ said more v t. record { count = count; few = few; vain = said; tries = v; part = more; stops = t; said_is = refl })
 
 -- ---- change after change
 
@@ -45,7 +45,7 @@ module _ (batches : List Writes) (n first : ℕ) (flags : List Bool) (a b : Seat
   one_change c committed h = gains_on a b c before h (λ said more t r. tried flags said batch committed more t at r)
 
   pub changes_stop : {opens : Option OpeningOf} → (c : SeatOf) (committed : Bool) (r : Refusal) (done : List Bool) → (done ≡ flags ++ committed ∷ []) ⊎ ((done ≡ flags) × (committed ≡ false)) → Gains (TriesStop opens b.number batch committed r) b c → Gains (ChangesStop opens a.number batches n first done r) a c
-  changes_stop c committed r done is h = grind (arith, gains_on, renumbered, b.number, a.number, before.number)
+  changes_stop c committed r done is h = grind (arith, gains_on, gains_renumbered, b.number, a.number, before.number)
 
   pub no_room : {opens : Option OpeningOf} → ChangesConverse → batch ≢ [] → (r : Refusal) → IsWant r → Gains (ChangesStop opens a.number batches n first flags r) a b
   no_room law some r want =

@@ -28,5 +28,5 @@ pub gains_more : {P R : List Received → Type 0} (a b c : SeatOf) (step : Step)
 gains_more a b c step answer g t join = grind (arith, append_assoc, g.said, t.number, g.number, t.received, g.received, a.received, g.are_such)
 
 -- where the part speaks of the seat's number
-pub renumbered : (P : ℕ → List Received → Type 0) (a b : SeatOf) (n k : ℕ) → n ≡ k → Gains (P n) a b → Gains (P k) a b
-renumbered P a b n k same g = subst (λ m. Gains (P m) a b) same g
+pub gains_renumbered : (P : ℕ → List Received → Type 0) (a b : SeatOf) (n k : ℕ) → n ≡ k → Gains (P n) a b → Gains (P k) a b
+gains_renumbered P a b n k same g = subst (λ m. Gains (P m) a b) same g

@@ -9,10 +9,10 @@ use Rattle.pb_threads.specs.Swaps.{Spare}
 use Rattle.pb_threads.specs.Work.{share_of, IsWork, IsLastDrain, AllWork, WorkedOn, AreFilled, seats_in, refusals_in, flags_in, is_done, undone_below}
 
 -- all seats of a table, in order, have their places as numbers
-pub numbered : (from : ℕ) (journal : List Entry) (seats : List SeatOf) → AreSeatsFrom from journal seats → (k : ℕ) (d : SeatOf) → k < length seats → (slice_index_or seats k d).number ≡ from + k
-numbered from j [] a k d lt = absurd (omega (arith, lt))
-numbered from j (s ∷ ss) a zero d lt = a.0 ∙ omega arith
-numbered from j (s ∷ ss) a (suc k) d lt = grind (arith, numbered (from + 1) j ss a.2 k d (omega arith))
+pub seats_are_numbered : (from : ℕ) (journal : List Entry) (seats : List SeatOf) → AreSeatsFrom from journal seats → (k : ℕ) (d : SeatOf) → k < length seats → (slice_index_or seats k d).number ≡ from + k
+seats_are_numbered from j [] a k d lt = absurd (omega (arith, lt))
+seats_are_numbered from j (s ∷ ss) a zero d lt = a.0 ∙ omega arith
+seats_are_numbered from j (s ∷ ss) a (suc k) d lt = grind (arith, seats_are_numbered (from + 1) j ss a.2 k d (omega arith))
 
 length_map : {A B : Type 0} (f : A → B) (xs : List A) → length (map f xs) ≡ length xs
 length_map f [] = refl
@@ -44,7 +44,7 @@ module _ {opening : OpeningOf} (observers : List ObserverOf) (batches : List Wri
   number : (k : ℕ) → k < length olds → (slice_index_or olds k e).seat.number ≡ k
   number k lt =
       let plain : 0 + k ≡ k = omega arith in
-      ap (λ (s : SeatOf). s.number) (old_seat k e.seat lt) ∙ numbered 0 journal (seats_in olds) are k e.seat (subst (λ n. k < n) (sym (length_map (λ (w : Worker). w.seat) olds)) lt) ∙ plain
+      ap (λ (s : SeatOf). s.number) (old_seat k e.seat lt) ∙ seats_are_numbered 0 journal (seats_in olds) are k e.seat (subst (λ n. k < n) (sym (length_map (λ (w : Worker). w.seat) olds)) lt) ∙ plain
 
   one : (w : ℕ) (d : SeatOf) → w + 1 < length olds
       → Gains (IsWork (Some opening) (w + 1) observers (share_of batches (length olds - 1) w) (flags_in news w) (slice_index_or (refusals_in news) (w + 1) None)) (slice_index_or (seats_in olds) (w + 1) d) (slice_index_or (seats_in news) (w + 1) d)
@@ -56,5 +56,5 @@ module _ {opening : OpeningOf} (observers : List ObserverOf) (batches : List Wri
   many : length (seats_in olds) ≡ length olds
   many = length_map (λ (w : Worker). w.seat) olds
 
-  pub joined : AreFilled batches → WorkedOn opening observers batches spares (seats_in olds) (seats_in news) (refusals_in news) (undone_below (is_done (flags_in news) (length news - 1)) (length batches))
-  joined filled = grind (arith, length_map, many, one, first, all.counted)
+  pub work_is_joined : AreFilled batches → WorkedOn opening observers batches spares (seats_in olds) (seats_in news) (refusals_in news) (undone_below (is_done (flags_in news) (length news - 1)) (length batches))
+  work_is_joined filled = grind (arith, length_map, many, one, first, all.counted)

@@ -6,7 +6,7 @@ use Rattle.pb_threads.specs.Gains.{OpeningOf, Gains, Told, MayRefuse}
 use Rattle.pb_threads.specs.Passes.{IsRun, IsOfOther, AreRuns, before_all, runs as ran_then, passes_by, AreAllRuns, IsWalk, at_beginning, found as found_then, IsPass, IsPassThat, ArePasses, at_first, one_more, IsDrain}
 use Rattle.pb_threads.specs.Stops.{RunStops, RunsStop, PassStops, at_a_mark, in_runs, DrainStops}
 use Rattle.pb_threads.proofs.Refusing.{stops_at}
-use Rattle.pb_threads.proofs.Gaining.{append_assoc, gains_none, gains_more, gains_on, gains_as, renumbered}
+use Rattle.pb_threads.proofs.Gaining.{append_assoc, gains_none, gains_more, gains_on, gains_as, gains_renumbered}
 
 -- ---- the observers of a cell, one after another
 
@@ -22,7 +22,7 @@ module _ (observers : List ObserverOf) (x : Cell) (i : ℕ) (a b : SeatOf) (runs
   no_run other = gains_as a b (λ said p. passes_by i said p other) runs
 
   pub runs_stop : {opens : Option OpeningOf} → (c : SeatOf) (r : Refusal) → Gains (RunStops opens b.number observers i x r) b c → Gains (RunsStop opens a.number observers x r) a c
-  runs_stop {opens} c r h = gains_on a b c runs (renumbered (λ m. RunStops opens m observers i x r) b c b.number a.number runs.number h) (λ said more p s. record { i = i; before = said; runs = p; part = more; stops = s; said_is = refl })
+  runs_stop {opens} c r h = gains_on a b c runs (gains_renumbered (λ m. RunStops opens m observers i x r) b c b.number a.number runs.number h) (λ said more p s. record { i = i; before = said; runs = p; part = more; stops = s; said_is = refl })
 
 -- ---- from mark to mark
 
@@ -55,7 +55,7 @@ module _ (observers : List ObserverOf) (last : Option Cell) (a b : SeatOf) (walk
 
     pub walk_stops_at : {opens : Option OpeningOf} → (x : Cell) → Told b (Step.NextMark last) (Answer.Marked x) b1 → (c : SeatOf) (r : Refusal) → Gains (RunsStop opens b1.number observers x r) b1 c → Gains (PassStops opens a.number observers r) a c
     walk_stops_at {opens} x t c r h =
-        gains_on a b1 c (found x t) (renumbered (λ m. RunsStop opens m observers x r) b1 c b1.number a.number (t.number ∙ walk.number) h)
+        gains_on a b1 c (found x t) (gains_renumbered (λ m. RunsStop opens m observers x r) b1 c b1.number a.number (t.number ∙ walk.number) h)
         (λ said more w s. subst (λ l. PassStops opens a.number observers r l) (sym (ap (λ l. l ++ more) w.said_is ∙ append_assoc w.before (told (Step.NextMark last) (Answer.Marked x) ∷ []) more)) (in_runs w.before last x more w.walk s))
 
     pass_that : (o : Option Cell) (said : List Received) → IsPass observers o said → IsPassThat observers (is_some o) said
@@ -79,4 +79,4 @@ module _ (observers : List ObserverOf) (count : ℕ) (a b : SeatOf) (before : Ga
   last_pass few c marked is h = grind (arith, gains_on)
 
   pub passes_stop : {opens : Option OpeningOf} → count < MAX_PASSES → (c : SeatOf) (r : Refusal) → Gains (PassStops opens b.number observers r) b c → Gains (DrainStops opens a.number observers r) a c
-  passes_stop {opens} few c r h = gains_on a b c before (renumbered (λ m. PassStops opens m observers r) b c b.number a.number before.number h) (λ said more p s. record { count = count; few = few; before = said; passes = p; part = more; stops = s; said_is = refl })
+  passes_stop {opens} few c r h = gains_on a b c before (gains_renumbered (λ m. PassStops opens m observers r) b c b.number a.number before.number h) (λ said more p s. record { count = count; few = few; before = said; passes = p; part = more; stops = s; said_is = refl })

@@ -31,8 +31,8 @@ job_is : (observers : List ObserverOf) (n : ℕ) (x : Cell) (job : RunOf) (known
 job_is observers n x job known is = grind arith
 
 -- before its first step the seat has gained nothing
-pub first : (observers : List ObserverOf) (n : ℕ) (x : Cell) (a : SeatOf) (job : RunOf) → HasColumn observers n x → IsJobOn observers n x job → IsAlong observers n x a a job
-first observers n x a job known is = record {
+pub run_at_first : (observers : List ObserverOf) (n : ℕ) (x : Cell) (a : SeatOf) (job : RunOf) → HasColumn observers n x → IsJobOn observers n x job → IsAlong observers n x a a job
+run_at_first observers n x a job known is = record {
   o = known.0;
   observer = known.1;
   gains = gains_none a (subst (λ j. Reaches (job_on n known.0 x) [] j) (sym (job_is observers n x job known is)) made);
@@ -53,9 +53,9 @@ not_made observers n x a law known r want = gains_none a (record {
 })
 
 module _ (observers : List ObserverOf) (n : ℕ) (x : Cell) (a b : SeatOf) (job : RunOf) (along : IsAlong observers n x a b job) where
-  pub next : (step : Step) → next_of job ≡ Some step → (answer : Answer) → CanAnswer step answer → (c : SeatOf) → Told b step answer c → (l : RunOf) → l ≡ answered job answer → HearsLook job answer l → (k : RunOf) → ReachesOn l k
+  pub run_after_step : (step : Step) → next_of job ≡ Some step → (answer : Answer) → CanAnswer step answer → (c : SeatOf) → Told b step answer c → (l : RunOf) → l ≡ answered job answer → HearsLook job answer l → (k : RunOf) → ReachesOn l k
       → IsAlong observers n x a c k
-  next step e answer can c t l is hears k on_to = record {
+  run_after_step step e answer can c t l is hears k on_to = record {
     o = along.o;
     observer = along.observer;
     gains = gains_more a b c step answer along.gains t (λ said h. on_to (job_on n along.o x) (said ++ told step answer ∷ []) (took said job (told step answer) l h e can is hears));
@@ -64,11 +64,11 @@ module _ (observers : List ObserverOf) (n : ℕ) (x : Cell) (a b : SeatOf) (job 
   stopped : {opens : Option OpeningOf} → JobsConverse → (r : Refusal) → IsSeatStop opens a.number (next_of job) r → Gains (RunStops opens a.number observers n x r) a b
   stopped law r stop = gains_as a b (λ said h. record { o = along.o; observer = along.observer; job = job; reaches = h; begins = law (watch_of n along.o (row_of x)) said job h; stop = stop }) along.gains
 
-  pub refused : {opens : Option OpeningOf} → JobsConverse → (step : Step) → next_of job ≡ Some step → (r : Refusal) → MayRefuse opens b.number step r → Gains (RunStops opens a.number observers n x r) a b
-  refused {opens} law step e r h = stopped law r (stops_at a.number (next_of job) step r e (subst (λ m. MayRefuse opens m step r) along.gains.number h))
+  pub run_refused : {opens : Option OpeningOf} → JobsConverse → (step : Step) → next_of job ≡ Some step → (r : Refusal) → MayRefuse opens b.number step r → Gains (RunStops opens a.number observers n x r) a b
+  run_refused {opens} law step e r h = stopped law r (stops_at a.number (next_of job) step r e (subst (λ m. MayRefuse opens m step r) along.gains.number h))
 
-  pub wants : {opens : Option OpeningOf} → JobsConverse → (r : Refusal) → IsWant r → Gains (RunStops opens a.number observers n x r) a b
-  wants law r w = stopped law r (inl w)
+  pub run_wants : {opens : Option OpeningOf} → JobsConverse → (r : Refusal) → IsWant r → Gains (RunStops opens a.number observers n x r) a b
+  run_wants law r w = stopped law r (inl w)
 
 -- ---- at its end
 

@@ -30,8 +30,8 @@ pub record IsOnTheWay {T : Type 0} (places : ℕ) (c : T → Contents) (all wait
   pub swapped : AreSwapped places (spares_of c before) first
 
 -- the last one that waits is swapped in next, since the list was turned round
-pub next : {T : Type 0} (places : ℕ) (c : T → Contents) (all waiting rest : List (ℕ × T)) (x : ℕ × T) (first refused : Option Refusal) → waiting ≡ rest ++ x ∷ [] → IsOnTheWay places c all waiting first → IsSwapped places (x.0, c x.1) refused → IsOnTheWay places c all rest (option_or first refused)
-next {T} places c all waiting rest x first refused is w s = record {
+pub swaps_next : {T : Type 0} (places : ℕ) (c : T → Contents) (all waiting rest : List (ℕ × T)) (x : ℕ × T) (first refused : Option Refusal) → waiting ≡ rest ++ x ∷ [] → IsOnTheWay places c all waiting first → IsSwapped places (x.0, c x.1) refused → IsOnTheWay places c all rest (option_or first refused)
+swaps_next {T} places c all waiting rest x first refused is w s = record {
   before = w.before ++ x ∷ [];
   all_are =
       grind (arith, reverse-append, append_assoc, w.before, w.all_are);

@@ -3,7 +3,7 @@ use Rattle.std.proofs.Common.{◌≡◌, ◌≢◌, Bool, true, false, ◌||◌,
 use Rattle.pb_threads.specs.Words.{Refusal, Writes, Step, Work, Answer, Declared, CanAnswer, Received, SeatOf, told, PlansStop, ChangeOf, new_change, outcome_of, Converses, ChangesConverse, ChangesEnd}
 use Rattle.pb_txn.specs.Plans as plans
 use Rattle.pb_txn.specs.Changes.{next_of, answered}
-use Rattle.pb_txn.proofs.ChangeConversation.{HasBegun, begins as has_begun}
+use Rattle.pb_txn.proofs.ChangeConversation.{HasBegun, answered_has_begun as has_begun}
 use Rattle.pb_threads.specs.Gains.{OpeningOf, Gains, Told, MayRefuse, IsSeatStop, IsWant}
 use Rattle.pb_threads.specs.Tries.{IsTry, committed_in, is_commit, has_commit}
 use Rattle.pb_threads.specs.Stops.{TryStops}
@@ -35,21 +35,21 @@ converse_on p [] q step a t e can = (ap next_of (sym t) ∙ e, can, ap (λ (z : 
 converse_on p (r ∷ rs) q step a t e can = (t.0, t.1, converse_on (answered p r.answer) rs q step a t.2 e can)
 
 -- before its first step nothing was said, and nothing is committed
-pub first : (batch : Writes) (a : SeatOf) (job : ChangeOf) → job ≡ new_change batch → IsAlong batch a a job false
-first batch a job is = gains_none a (record { converses = is; told = refl })
+pub try_at_first : (batch : Writes) (a : SeatOf) (job : ChangeOf) → job ≡ new_change batch → IsAlong batch a a job false
+try_at_first batch a job is = gains_none a (record { converses = is; told = refl })
 
 module _ (batch : Writes) (a b : SeatOf) (job : ChangeOf) (committed : Bool) (along : IsAlong batch a b job committed) where
-  pub next : (step : Step) → next_of job ≡ Some step → (answer : Answer) → CanAnswer step answer → (c : SeatOf) → Told b step answer c → (k : ChangeOf) → k ≡ answered job answer → (now : Bool) → now ≡ (committed || is_commit answer) → IsAlong batch a c k now
-  next step e answer can c t k is now now-is = grind (arith, gains_more, converse_on, commit_on)
+  pub try_after_step : (step : Step) → next_of job ≡ Some step → (answer : Answer) → CanAnswer step answer → (c : SeatOf) → Told b step answer c → (k : ChangeOf) → k ≡ answered job answer → (now : Bool) → now ≡ (committed || is_commit answer) → IsAlong batch a c k now
+  try_after_step step e answer can c t k is now now-is = grind (arith, gains_more, converse_on, commit_on)
 
   stopped : {opens : Option OpeningOf} → ChangesConverse → batch ≢ [] → (r : Refusal) → IsSeatStop opens a.number (next_of job) r → Gains (TryStops opens a.number batch committed r) a b
   stopped law some r stop = gains_as a b (λ said h. record { told = h.told; job = job; converses = h.converses; begins = law batch said job some h.converses; stop = stop }) along
 
-  pub refused : {opens : Option OpeningOf} → ChangesConverse → batch ≢ [] → (step : Step) → next_of job ≡ Some step → (r : Refusal) → MayRefuse opens b.number step r → Gains (TryStops opens a.number batch committed r) a b
-  refused {opens} law some step e r h = stopped law some r (stops_at a.number (next_of job) step r e (subst (λ n. MayRefuse opens n step r) along.number h))
+  pub try_refused : {opens : Option OpeningOf} → ChangesConverse → batch ≢ [] → (step : Step) → next_of job ≡ Some step → (r : Refusal) → MayRefuse opens b.number step r → Gains (TryStops opens a.number batch committed r) a b
+  try_refused {opens} law some step e r h = stopped law some r (stops_at a.number (next_of job) step r e (subst (λ n. MayRefuse opens n step r) along.number h))
 
-  pub wants : {opens : Option OpeningOf} → ChangesConverse → batch ≢ [] → (r : Refusal) → IsWant r → Gains (TryStops opens a.number batch committed r) a b
-  wants law some r w = stopped law some r (inl w)
+  pub try_wants : {opens : Option OpeningOf} → ChangesConverse → batch ≢ [] → (r : Refusal) → IsWant r → Gains (TryStops opens a.number batch committed r) a b
+  try_wants law some r w = stopped law some r (inl w)
 
 -- ---- at its end
 
@@ -72,9 +72,9 @@ ended_by (w ∷ ws) r rest q some stop end t e b =
     }
 
 -- at its end a change is a whole try, which committed where its outcome says so
-pub ended : (batch : Writes) (said : List Received) (q : ChangeOf) → batch ≢ [] → PlansStop → ChangesEnd → Converses (new_change batch) said q → next_of q ≡ None → IsTry batch (committed_in (outcome_of q)) said
-ended batch [] q some stop end t e = absurd (no_step (Step.Begin Work.Script) (ap next_of (sym t) ∙ e))
-ended batch (r ∷ rest) q some stop end t e = ended_by batch r rest q some stop end t e (has_begun batch r rest q t)
+pub try_ends : (batch : Writes) (said : List Received) (q : ChangeOf) → batch ≢ [] → PlansStop → ChangesEnd → Converses (new_change batch) said q → next_of q ≡ None → IsTry batch (committed_in (outcome_of q)) said
+try_ends batch [] q some stop end t e = absurd (no_step (Step.Begin Work.Script) (ap next_of (sym t) ∙ e))
+try_ends batch (r ∷ rest) q some stop end t e = ended_by batch r rest q some stop end t e (has_begun batch r rest q t)
 
 pub has_ended : (batch : Writes) (a b : SeatOf) (job : ChangeOf) (committed : Bool) → IsAlong batch a b job committed → batch ≢ [] → PlansStop → ChangesEnd → next_of job ≡ None → Gains (IsTry batch (committed_in (outcome_of job))) a b
-has_ended batch a b job committed along some stop end e = gains_as a b (λ said h. ended batch said job some stop end h.converses e) along
+has_ended batch a b job committed along some stop end e = gains_as a b (λ said h. try_ends batch said job some stop end h.converses e) along

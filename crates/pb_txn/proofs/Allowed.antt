@@ -10,7 +10,7 @@ use Rattle.pb_txn.specs.Allowed.{IsWorkInRange, IsTimely, PlansAreAllowed}
 use Rattle.pb_txn.proofs.DistinctCells.{cells_in, has_content, not_before, in_order, all_in}
 use Rattle.pb_txn.proofs.WithoutReads.{bare}
 use Rattle.pb_txn.proofs.PlanPlaces.{IsAt, cell_of}
-use Rattle.pb_txn.proofs.PlanTransactions.{HasCells, HasCellsAt, keeps, cells_by_now, stands}
+use Rattle.pb_txn.proofs.PlanTransactions.{HasCells, HasCellsAt, keeps_start_and_what, cells_by_now, table_at_place}
 use Rattle.pb_base.proofs.Logic.{same_some as same_step}
 
 -- ---- reasons
@@ -92,12 +92,12 @@ module _ (state : StateOf) (seat s : ℕ) (what : Declared) (why : Reason) where
 -- a plan's next step is timely, since its transaction has come to where the plan stands
 pub plans_allowed : HistoriesAreTold → TransactionsAreTold → JournalsAreSound → PlansAreAllowed
 plans_allowed histories transactions sound observers seats clock journal state legal seat s what said q step why range talk has next refused =
-    let k = keeps (fresh s what) q said talk in
+    let k = keeps_start_and_what (fresh s what) q said talk in
     let here : step_at s what q.place ≡ Some step = (λ i. step_at (sym k.0 i) (sym k.1 i) q.place) ∙ next in
     let history = histories observers seats clock journal state legal in
     let os-is = (sound observers seats clock journal state legal).observers_stay in
     let told = transactions observers seats clock journal state legal in
     at_place state seat s what why q.place step (λ t h. (
-      stands journal state seat s what said q t told h talk has,
+      table_at_place journal state seat s what said q t told h talk has,
       cells_by_now seat s what journal state said q t history h (subst (λ os. IsWorkInRange os t.work) (sym os-is) (range t h)) talk has,
     )) here refused

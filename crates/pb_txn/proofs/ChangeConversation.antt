@@ -39,8 +39,8 @@ begun : (batch : Writes) (a : Answer) (rest : List Received) (q : ChangeOf) → 
 begun batch a rest q can t = grind (arith, plan_converses)
 
 -- a change of which a step was answered has begun
-pub begins : (batch : Writes) (r : Received) (rest : List Received) (q : ChangeOf) → Converses (new_change batch) (r ∷ rest) q → HasBegun batch r rest q
-begins batch r rest q t =
+pub answered_has_begun : (batch : Writes) (r : Received) (rest : List Received) (q : ChangeOf) → Converses (new_change batch) (r ∷ rest) q → HasBegun batch r rest q
+answered_has_begun batch r rest q t =
     let is : Step.Begin Work.Script ≡ r.step = same_step _ _ t.0 in
     let b = begun batch r.answer rest q (subst (λ z. CanAnswer z r.answer) (sym is) t.1) t.2 in
     subst (λ (z : Received). HasBegun batch z rest q) (λ i. record { step = is i; answer = r.answer }) b
@@ -68,7 +68,7 @@ changes_converse batch [] q some t =
     let w = whole batch some in
     (record { 0 = 0 }, told (Step.Begin Work.Script) (Answer.At (record { 0 = 0 })) ∷ w.0, w.1, record { rest = w.0; said_is = refl; whole = w.2 })
 changes_converse batch (r ∷ rest) q some t =
-    let b = begins batch r rest q t in
+    let b = answered_has_begun batch r rest q t in
     let w = on_from batch b.s rest b.plan some b.said in
     (record { 0 = b.s }, w.0, w.1, record { rest = rest ++ w.0; said_is = ap (λ (z : Received). z ∷ rest ++ w.0) b.first; whole = w.2 })
 
@@ -78,7 +78,7 @@ none_is batch z p is h = let k : z.plan ≡ None = ap (λ (j : ChangeOf). j.plan
 pub changes_end : ChangesEnd
 changes_end batch [] q p o some t e done = absurd (none_is batch q p t e)
 changes_end batch (r ∷ rest) q p o some t e done =
-    let b = begins batch r rest q t in
+    let b = answered_has_begun batch r rest q t in
     let same : b.plan ≡ p = same_plan b.plan p (ap (λ (j : ChangeOf). j.plan) (sym b.q_is) ∙ e) in
     let start : p.start ≡ b.s = ap (λ (z : PlanOf). z.start) (sym same) ∙ start_stays (fresh b.s (Declared.Script batch)) rest b.plan b.said in
     grind (arith, whole, at_end)

@@ -211,15 +211,15 @@ module _ (s : Ts) (what : Declared) (x : Cell) (others : List Cell) where
     no_step f before y after at e = some_none _ (ap (option_map f) (sym (at_seam before y after at)) ∙ e)
 
     -- where there is no step, it is over
-    pub stops : (p : PlanPlace) (l : List Received) → SoFar p l → step_at s.0 what p ≡ None → (o : Outcome) × (outcome_at p ≡ Some o)
-    stops p l declaring e = absurd (some_none _ e)
-    stops p l (prewriting before y after at) e = absurd (no_step (λ z. Step.Prewrite s z) before y after at e)
-    stops p l stamping e = absurd (some_none _ e)
-    stops p l (committing c) e = absurd (some_none _ e)
-    stops p l (finishing c done y left at) e = absurd (no_step (λ z. Step.CommitSecondary s z) (x ∷ done) y left (ap (λ xs. x ∷ xs) at) e)
-    stops p l (settling before y after at) e = absurd (no_step (λ z. Step.Settle z) [] x others refl e)
-    stops p l (clearing o done y left more said cs at c ends) e = absurd (no_step (λ z. Step.Clear z) (x ∷ done) y (left ++ more) at e)
-    stops p l (over o said whole) e = (o, refl)
+    pub no_step_is_over : (p : PlanPlace) (l : List Received) → SoFar p l → step_at s.0 what p ≡ None → (o : Outcome) × (outcome_at p ≡ Some o)
+    no_step_is_over p l declaring e = absurd (some_none _ e)
+    no_step_is_over p l (prewriting before y after at) e = absurd (no_step (λ z. Step.Prewrite s z) before y after at e)
+    no_step_is_over p l stamping e = absurd (some_none _ e)
+    no_step_is_over p l (committing c) e = absurd (some_none _ e)
+    no_step_is_over p l (finishing c done y left at) e = absurd (no_step (λ z. Step.CommitSecondary s z) (x ∷ done) y left (ap (λ xs. x ∷ xs) at) e)
+    no_step_is_over p l (settling before y after at) e = absurd (no_step (λ z. Step.Settle z) [] x others refl e)
+    no_step_is_over p l (clearing o done y left more said cs at c ends) e = absurd (no_step (λ z. Step.Clear z) (x ∷ done) y (left ++ more) at e)
+    no_step_is_over p l (over o said whole) e = (o, refl)
 
     -- a talk goes on from what was said
     pub said_all : (p q : PlanOf) (l said : List Received) → p.start ≡ s.0 → p.what ≡ what → SoFar p.place l → Converses p said q → SoFar q.place (l ++ said)
@@ -260,15 +260,15 @@ module _ (s : Ts) (what : Declared) (x : Cell) (others : List Cell) where
       (rest, o, subst (λ rs. Whole rs o) (sym (append_assoc said cs rest)) (ends (cs ++ rest) (are_cleared done (y ∷ left) cs c)))
   can_end p l (over o said whole) = ([], o, rw append-nil whole)
 
-  pub ended : (p : PlanPlace) (l : List Received) (o : Outcome) → SoFar p l → outcome_at p ≡ Some o → Whole l o
-  ended p l o declaring e = absurd (none_some o e)
-  ended p l o (prewriting before y after at) e = absurd (none_some o e)
-  ended p l o stamping e = absurd (none_some o e)
-  ended p l o (committing c) e = absurd (none_some o e)
-  ended p l o (finishing c done y left at) e = absurd (none_some o e)
-  ended p l o (settling before y after at) e = absurd (none_some o e)
-  ended p l o (clearing w done y left more said cs at c ends) e = absurd (none_some o e)
-  ended p l o (over w said whole) e = subst (λ z. Whole said z) (some_some w o e) whole
+  pub over_is_whole : (p : PlanPlace) (l : List Received) (o : Outcome) → SoFar p l → outcome_at p ≡ Some o → Whole l o
+  over_is_whole p l o declaring e = absurd (none_some o e)
+  over_is_whole p l o (prewriting before y after at) e = absurd (none_some o e)
+  over_is_whole p l o stamping e = absurd (none_some o e)
+  over_is_whole p l o (committing c) e = absurd (none_some o e)
+  over_is_whole p l o (finishing c done y left at) e = absurd (none_some o e)
+  over_is_whole p l o (settling before y after at) e = absurd (none_some o e)
+  over_is_whole p l o (clearing w done y left more said cs at c ends) e = absurd (none_some o e)
+  over_is_whole p l o (over w said whole) e = subst (λ z. Whole said z) (some_some w o e) whole
 
 -- what was said at any place can be ended, by commits while none was refused, and else by clearing what is left
 pub plans_converse : PlansConverse
@@ -280,7 +280,7 @@ plans_converse s what x others said q is t =
 pub plans_end : PlansEnd
 plans_end s what x others said q o is t e =
     subst (λ cs. IsWhole (record { 0 = s }) what cs said o) (sym is)
-    (ended (record { 0 = s }) what x others q.place said o (said_all (record { 0 = s }) what x others is (fresh s what) q [] said refl refl declaring t) e)
+    (over_is_whole (record { 0 = s }) what x others q.place said o (said_all (record { 0 = s }) what x others is (fresh s what) q [] said refl refl declaring t) e)
 
 -- a plan keeps its start and its declaration
 stays : (p : PlanOf) (said : List Received) (q : PlanOf) → Converses p said q → (q.start ≡ p.start) × (q.what ≡ p.what)
@@ -291,4 +291,4 @@ stays p (r ∷ rs) q t = stays (answered p r.answer) rs q t.2
 pub plans_stop : PlansStop
 plans_stop s what x others said q is t e =
     let same = stays (fresh s what) said q t in
-    stops (record { 0 = s }) what x others is q.place said (said_all (record { 0 = s }) what x others is (fresh s what) q [] said refl refl declaring t) ((λ i. step_at (sym same.0 i) (sym same.1 i) q.place) ∙ e)
+    no_step_is_over (record { 0 = s }) what x others is q.place said (said_all (record { 0 = s }) what x others is (fresh s what) q [] said refl refl declaring t) ((λ i. step_at (sym same.0 i) (sym same.1 i) q.place) ∙ e)

@@ -8,14 +8,14 @@ use Rattle.pb_txn.specs.Plans.{PlanOf, fresh, answered}
 use Rattle.pb_txn.specs.Conversations.{Converses}
 use Rattle.pb_txn.specs.Allowed.{names, HasSaid, IsWorkInRange}
 use Rattle.pb_txn.proofs.DeclaredCells.{cells_are}
-use Rattle.pb_txn.proofs.WithoutReads.{bare, named_in, follows}
-use Rattle.pb_txn.proofs.PlanPlaces.{IsAt, entry_of, stays}
+use Rattle.pb_txn.proofs.WithoutReads.{bare, named_in, follows_from_entries}
+use Rattle.pb_txn.proofs.PlanPlaces.{IsAt, entry_of, stays_at_place}
 use Rattle.pb_base.proofs.Logic.{one_value as same_transaction, same_some as same_step}
 
 -- a plan keeps its start and its declaration
-pub keeps : (p q : PlanOf) (said : List Received) → Converses p said q → (q.start ≡ p.start) × (q.what ≡ p.what)
-keeps p q [] talk = (ap (λ (z : PlanOf). z.start) talk, ap (λ (z : PlanOf). z.what) talk)
-keeps p q (r ∷ rs) talk = keeps (answered p r.answer) q rs talk.2
+pub keeps_start_and_what : (p q : PlanOf) (said : List Received) → Converses p said q → (q.start ≡ p.start) × (q.what ≡ p.what)
+keeps_start_and_what p q [] talk = (ap (λ (z : PlanOf). z.start) talk, ap (λ (z : PlanOf). z.what) talk)
+keeps_start_and_what p q (r ∷ rs) talk = keeps_start_and_what (answered p r.answer) q rs talk.2
 
 -- ---- what was declared
 
@@ -68,9 +68,9 @@ module _ (seat s : ℕ) (what : Declared) where
 -- ---- where it stands
 
 -- the table's transaction of this start has come to where the plan stands, its reads aside
-pub stands : (journal : List Entry) (state : StateOf) (seat s : ℕ) (what : Declared) (said : List Received) (q : PlanOf) (t : TransactionOf) → TellsTransactions journal state
+pub table_at_place : (journal : List Entry) (state : StateOf) (seat s : ℕ) (what : Declared) (said : List Received) (q : PlanOf) (t : TransactionOf) → TellsTransactions journal state
     → finite.get state.transactions s ≡ Some t → Converses (fresh s what) said q → HasSaid journal seat s said → IsAt (declared_cells what) q.place (bare t)
-stands journal state seat s what said q t tells there talk has =
-    let f = follows state.observers s journal t (tells.begins s) (sym (tells.each s) ∙ there) in
+table_at_place journal state seat s what said q t tells there talk has =
+    let f = follows_from_entries state.observers s journal t (tells.begins s) (sym (tells.each s) ∙ there) in
     let told = ap (transaction_from state.observers (Some (new_transaction f.seat f.work))) (sym has) ∙ f.is in
-    stays state.observers seat s what (fresh s what) q said (new_transaction f.seat f.work) (bare t) refl refl (refl, refl) talk told
+    stays_at_place state.observers seat s what (fresh s what) q said (new_transaction f.seat f.work) (bare t) refl refl (refl, refl) talk told

@@ -65,9 +65,9 @@ module _ (observers : List ObserverOf) (s : ℕ) where
     pub work : Work
     pub is : transaction_from observers (Some (new_transaction seat work)) (named_in s journal) ≡ Some (bare t)
 
-  pub follows : (journal : List Entry) (t : TransactionOf) → BeginsOnce (entries_naming s journal) → transaction_by observers (entries_naming s journal) ≡ Some t → Follows journal t
-  follows [] t once e = absurd cc
-  follows (e ∷ es) t once told = elim (names_start s e.step e.answer) as
+  pub follows_from_entries : (journal : List Entry) (t : TransactionOf) → BeginsOnce (entries_naming s journal) → transaction_by observers (entries_naming s journal) ≡ Some t → Follows journal t
+  follows_from_entries [] t once e = absurd cc
+  follows_from_entries (e ∷ es) t once told = elim (names_start s e.step e.answer) as
       (λ b. names_start s e.step e.answer ≡ b → BeginsOnce (cond b (e ∷ entries_naming s es) (entries_naming s es))
       → transaction_by observers (cond b (e ∷ entries_naming s es) (entries_naming s es)) ≡ Some t → Follows (e ∷ es) t) [
         | true ↦ λ is o is-t.
@@ -81,7 +81,7 @@ module _ (observers : List ObserverOf) (s : ℕ) where
                   ∙ ap bare_if is-t;
             }
         | false ↦ λ is o is-t.
-            let f = follows es t o is-t in
+            let f = follows_from_entries es t o is-t in
             record {
               seat = f.seat;
               work = f.work;

@@ -3,7 +3,7 @@
 use Rattle.std.proofs.Common.{ℕ, ◌≤◌, Bool, List, ◌++◌, arith, ℤ, nat_eq}
 use Rattle.pb_verify.specs.Words.{Insn, AluOp, Width, Operand, Reg, number, slots, JudgedOf, Kind, Frame, RuleCode, code_number, when, CodesRiseWithin, ArgumentCodesRise}
 use Rattle.pb_verify.specs.Rules.{reads, sets, falls, numeric_rules, part_mov_rules, mov_rules, add_rules, alu_rules, loads, stores, jump_rules, jump_if_rules, insn_rules}
-use Rattle.pb_helpers.proofs.ArgumentCodesRise.{from_lower, joined, to_higher, reads as set}
+use Rattle.pb_helpers.proofs.ArgumentCodesRise.{from_lower, rising_joined, to_higher, unset_rises as set}
 
 -- ---- lists of codes that rise
 
@@ -24,14 +24,14 @@ falls_rise p m = one 34 36 (nat_eq m (slots p)) RuleCode.FallsOff (omega arith) 
 
 -- 36 comes last of an instruction that goes on, above all codes of arithmetic, memory and calls
 with_falls : (p : List Insn) (m : ℕ) (cs : List RuleCode) → CodesRiseWithin 21 34 cs → CodesRiseWithin 21 38 (cs ++ falls p m)
-with_falls p m cs h = to_higher 21 36 38 (cs ++ falls p m) (omega arith) (joined 21 34 36 cs (falls p m) h (falls_rise p m))
+with_falls p m cs h = to_higher 21 36 38 (cs ++ falls p m) (omega arith) (rising_joined 21 34 36 cs (falls p m) h (falls_rise p m))
 
 -- 21 of both operands, then 22 and 23
 numeric_rises : (f : Frame) (d : Reg) (x : Operand) → CodesRiseWithin 21 34 (numeric_rules f d x)
 numeric_rises f d x = grind arith
 
 read_and_set : (f : Frame) (r d : Reg) → CodesRiseWithin 21 22 (reads f r ++ sets d)
-read_and_set f r d = joined 21 21 22 (reads f r) (sets d) (reads_rise f r) (sets_rise d)
+read_and_set f r d = rising_joined 21 21 22 (reads f r) (sets d) (reads_rise f r) (sets_rise d)
 
 part_mov_rises : (f : Frame) (d r : Reg) → CodesRiseWithin 21 34 (part_mov_rules f d r)
 part_mov_rises f d r = grind arith
@@ -63,4 +63,4 @@ compared p n f d x o = grind arith
 
 -- the whole: arguments of helpers rise by a law of `pb_helpers`
 pub codes_rise : ArgumentCodesRise → (j : JudgedOf) (n : ℕ) (f : Frame) (i : Insn) → CodesRiseWithin 21 38 (insn_rules j n f i)
-codes_rise calls j n f i = grind (arith, with_falls, alu_rises, part_mov_rises, numeric_rises, to_higher, sets_rise, joined, read_and_set, loads_rise, reads_rise, from_lower, stores_rise, one, jumps_rise, compared, set)
+codes_rise calls j n f i = grind (arith, with_falls, alu_rises, part_mov_rises, numeric_rises, to_higher, sets_rise, rising_joined, read_and_set, loads_rise, reads_rise, from_lower, stores_rise, one, jumps_rise, compared, set)

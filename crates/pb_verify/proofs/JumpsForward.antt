@@ -22,9 +22,9 @@ empty_parts (x ∷ xs) ys e = cc
 forward_at : (j : JudgedOf) (n : ℕ) (i : Insn) (x : Option Frame) → codes_at j n (Some i) x ≡ [] → IsForward i
 forward_at j n i x b = grind arith
 
-pub inside : (p : List Insn) (n : ℕ) (i : Insn) → insn_at p n ≡ Some i → n < slots p
-inside p n i h = grind (arith, cases_lt, get_or_past)
+pub insn_within_slots : (p : List Insn) (n : ℕ) (i : Insn) → insn_at p n ≡ Some i → n < slots p
+insn_within_slots p n i h = grind (arith, cases_lt, get_or_past)
 
 -- the jumps of an accepted program go forward
 pub jumps_forward : AcceptedJumpsGoForward
-jumps_forward j ok n i at = forward_at j n i (in_at j.program.insns n) (rw at at (ok n (inside j.program.insns n i at)))
+jumps_forward j ok n i at = forward_at j n i (in_at j.program.insns n) (rw at at (ok n (insn_within_slots j.program.insns n i at)))

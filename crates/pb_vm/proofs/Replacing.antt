@@ -14,6 +14,6 @@ is_absent x [] le = refl
 is_absent x (w ∷ ws) le = grind (arith, is_absent x ws)
 
 -- the write at that place is the one that is replaced
-pub replaced : (x : Cell) (c : Content) (ws : Writes) → place_in x ws < length ws → slice_set ws (place_in x ws) (x, c) ≡ replace_write x c ws
-replaced x c [] lt = absurd (omega (arith, lt))
-replaced x c (w ∷ ws) lt = grind (arith, replaced x c ws)
+pub replaced_at_place : (x : Cell) (c : Content) (ws : Writes) → place_in x ws < length ws → slice_set ws (place_in x ws) (x, c) ≡ replace_write x c ws
+replaced_at_place x c [] lt = absurd (omega (arith, lt))
+replaced_at_place x c (w ∷ ws) lt = grind (arith, replaced_at_place x c ws)

@@ -35,7 +35,7 @@ pub fn kept_writes(end: u64, writes: Vec<(Cell, Content)>) -> Vec<(Cell, Content
     writes
 }
 
-#[tactic(auto, using(crate::proofs::Replacing::is_there, crate::proofs::Replacing::is_absent, crate::proofs::Replacing::replaced, pb_sound::proofs::RunWrites::length_replaced))]
+#[tactic(auto, using(crate::proofs::Replacing::is_there, crate::proofs::Replacing::is_absent, crate::proofs::Replacing::replaced_at_place, pb_sound::proofs::RunWrites::length_replaced))]
 /// Writes to a cell, which keeps its place where it was written before. It tells 0, or 3 for a 17th cell, which is not
 /// taken.
 pub fn write(writes: &mut Vec<(Cell, Content)>, cell: Cell, content: Content) -> u64

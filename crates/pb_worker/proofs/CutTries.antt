@@ -2,7 +2,7 @@
 use Rattle.std.proofs.Common.{arith, ◌≡◌, ◌≢◌, ◌⊎◌, Bool, true, false, ◌||◌, List, [], ◌∷◌, ◌++◌, inl, inr, refl, sym, ap, subst, ◌∙◌}
 use Rattle.pb_worker.specs.Words.{Ts, Cell, Writes, Step, Answer, Work, Declared, CanAnswer, Received, Has, Outcome, PlanPlace, told, IsWhole, AreCleared, committed, conflicted_first, conflicted_later, lost, prewrites, secondaries, ChangeOf, new_change, Converses, is_commit_outcome, is_commit, has_commit}
 use Rattle.pb_txn.specs.Plans.{fresh}
-use Rattle.pb_txn.proofs.ChangeConversation.{HasBegun, begins as has_begun}
+use Rattle.pb_txn.proofs.ChangeConversation.{HasBegun, answered_has_begun as has_begun}
 use Rattle.pb_txn.proofs.Conversation.{SoFar, declaring, prewriting, stamping, committing, finishing, settling, clearing, over, said_all, clears, are_cleared}
 use Rattle.pb_threads.proofs.TryAlong.{or_assoc}
 use Rattle.pb_worker.proofs.Committing.{HasCommitted}
@@ -75,18 +75,18 @@ cleared (x ∷ xs) [] c = absurd c
 cleared (x ∷ xs) (r ∷ rs) c = both_false (is_commit r.answer) (has_commit rs) (clear_answer x r.answer (subst (λ s. CanAnswer s r.answer) c.0 c.1)) (cleared xs rs c.2)
 
 -- a whole conversation that ended otherwise has no commit
-pub uncommitted : (s : Ts) (what : Declared) (cells : List Cell) (said : List Received) (o : Outcome) → is_commit_outcome o ≡ false → IsWhole s what cells said o → has_commit said ≡ false
-uncommitted s what cells said o otherwise (committed x others c) = cc
-uncommitted s what cells said o otherwise (conflicted_first x after) = refl
-uncommitted s what cells said o otherwise (conflicted_later x y before after a cs can c) = grind (arith, none_after, both_false, settle_answer, cleared)
-uncommitted s what cells said o otherwise (lost x others c cs k) = none_after s (x ∷ others) (told (Step.Stamp s) (Answer.At c) ∷ told (Step.CommitPrimary s) Answer.Lost ∷ cs) (cleared others cs k)
+pub ended_uncommitted : (s : Ts) (what : Declared) (cells : List Cell) (said : List Received) (o : Outcome) → is_commit_outcome o ≡ false → IsWhole s what cells said o → has_commit said ≡ false
+ended_uncommitted s what cells said o otherwise (committed x others c) = cc
+ended_uncommitted s what cells said o otherwise (conflicted_first x after) = refl
+ended_uncommitted s what cells said o otherwise (conflicted_later x y before after a cs can c) = grind (arith, none_after, both_false, settle_answer, cleared)
+ended_uncommitted s what cells said o otherwise (lost x others c cs k) = none_after s (x ∷ others) (told (Step.Stamp s) (Answer.At c) ∷ told (Step.CommitPrimary s) Answer.Lost ∷ cs) (cleared others cs k)
 
 -- a whole conversation has no commit, or clears nothing
 by_form : (s : Ts) (what : Declared) (cells : List Cell) (said : List Received) (o : Outcome) → IsWhole s what cells said o → (has_commit said ≡ false) ⊎ (has_clear said ≡ false)
 by_form s what cells said o (committed x others c) = grind (arith, clear_in, both_false, prewrites_clear, secondaries_clear)
 by_form s what cells said o (conflicted_first x after) = inl refl
-by_form s what cells said o (conflicted_later x y before after a cs can c) = inl (uncommitted s what _ _ _ refl (conflicted_later x y before after a cs can c))
-by_form s what cells said o (lost x others c cs k) = inl (uncommitted s what _ _ _ refl (lost x others c cs k))
+by_form s what cells said o (conflicted_later x y before after a cs can c) = inl (ended_uncommitted s what _ _ _ refl (conflicted_later x y before after a cs can c))
+by_form s what cells said o (lost x others c cs k) = inl (ended_uncommitted s what _ _ _ refl (lost x others c cs k))
 
 -- ---- at a place
 
@@ -103,8 +103,8 @@ paid s what xs c more =
 whole_commits : (s : Ts) (what : Declared) (cells : List Cell) (said : List Received) (o : Outcome) → IsWhole s what cells said o → has_commit said ≡ true → Commits s what said
 whole_commits s what cells said o (committed x others c) e = paid s what (x ∷ others) c (secondaries s others)
 whole_commits s what cells said o (conflicted_first x after) e = cc
-whole_commits s what cells said o (conflicted_later x y before after a cs can c) e = absurd (not_both _ e (uncommitted s what _ _ _ refl (conflicted_later x y before after a cs can c)))
-whole_commits s what cells said o (lost x others c cs k) e = absurd (not_both _ e (uncommitted s what _ _ _ refl (lost x others c cs k)))
+whole_commits s what cells said o (conflicted_later x y before after a cs can c) e = absurd (not_both _ e (ended_uncommitted s what _ _ _ refl (conflicted_later x y before after a cs can c)))
+whole_commits s what cells said o (lost x others c cs k) e = absurd (not_both _ e (ended_uncommitted s what _ _ _ refl (lost x others c cs k)))
 
 clears_some : (y : Cell) (left : List Cell) → has_clear (clears (y ∷ left)) ≡ true
 unfolding clears

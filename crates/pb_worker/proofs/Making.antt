@@ -6,7 +6,7 @@ use Rattle.std.proofs.lemmas.Option.{slice_get_within}
 use Rattle.std.proofs.Math.Nat.{mod-add-div', mod-lt}
 use Rattle.pb_worker.specs.Words.{Row, Ts, Refusal, Writes, Step, Answer, Work, ObserverOf, opening, Entry, Received, entries_of, Has, IsEntry, Member, InHistory, TransactionsAreTold, TellsTransactions, SharedOf, SeatOf, AreSeats, AreSeatsFrom, IsLegalTable, told, Gains, OpeningOf, Spare, share_of, IsWork, IsLastDrain, WorkedOn, is_done, undone_below, Agree}
 use Rattle.pb_worker.specs.Laws.{IsMade, IsFinished, ChangesAreMade}
-use Rattle.pb_threads.proofs.Joined.{numbered}
+use Rattle.pb_threads.proofs.Joined.{seats_are_numbered}
 use Rattle.pb_worker.proofs.Committing.{commit_of}
 use Rattle.pb_worker.proofs.RunCommits.{HasBegunRun, of_last_drain}
 use Rattle.pb_worker.proofs.Starts.{HasTwice, twice_right, AreStarts, IsStart, of_work}
@@ -85,7 +85,7 @@ module _ {how : OpeningOf} (observers : List ObserverOf) (batches : List Writes)
       let old = slice_index_or olds k nobody in
       let new = slice_index_or news k nobody in
       let plain : 0 + k ≡ k = omega arith in
-      let number : new.number ≡ k = g.number ∙ (numbered 0 before.journal olds are.each k nobody lt ∙ plain) in
+      let number : new.number ≡ k = g.number ∙ (seats_are_numbered 0 before.journal olds are.each k nobody lt ∙ plain) in
       let its = agree.told k nobody (subst (λ m. k < m) (sym w.seats) lt) in
       let whole : list_of k ≡ old.received ++ g.said = ap list_of (sym number) ∙ its.same ∙ g.received in (
         g.said,

@@ -3,7 +3,7 @@ use Rattle.std.proofs.Common.{arith, ◌≡◌, ◌≢◌, ℕ, inl, inr, List, 
 use Rattle.pb_worker.specs.Words.{Cell, Row, Ts, Refusal, row_of, Work, Step, Answer, ObserverOf, Received, Has, told, watch_of, OpeningOf, IsRun, AreRuns, runs, passes_by, IsWalk, at_beginning, found, IsPass, ArePasses, IsDrain, RunStops, RunsStop, PassStops, at_a_mark, in_runs, DrainStops, Spare, IsDrainTo, IsLastDrain}
 use Rattle.pb_threads.specs.Passes.{before_all, at_first, one_more}
 use Rattle.pb_threads.proofs.Gaining.{append_nil}
-use Rattle.pb_ending.proofs.Walks.{heads}
+use Rattle.pb_ending.proofs.Walks.{same_first_received}
 use Rattle.pb_worker.proofs.Committing.{commit_of}
 use Rattle.pb_worker.proofs.OneTransaction.{IsOneTransaction, of_run}
 use Rattle.pb_history.proofs.Updates.{has_before as has_left, has_right, has_which}
@@ -45,7 +45,7 @@ of_beginning o row s [] rest i = nothing
 of_beginning o row s (r ∷ said) rest i = record {
   each = λ u h.
       let own : u ≡ s = i.own.each (commit_of u) (has_left (r ∷ said) rest (commit_of u) h) u refl in
-      let first : r ≡ told (Step.Begin (Work.Run o row)) (Answer.At s) = heads r (told (Step.Begin (Work.Run o row)) (Answer.At s)) (said ++ rest) i.rest i.said_is in
+      let first : r ≡ told (Step.Begin (Work.Run o row)) (Answer.At s) = same_first_received r (told (Step.Begin (Work.Run o row)) (Answer.At s)) (said ++ rest) i.rest i.said_is in
       record { o = o; row = row; begun = inl (first ∙ ap (λ (z : Ts). told (Step.Begin (Work.Run o row)) (Answer.At z)) (sym own)) };
 }
 

@@ -3,7 +3,7 @@ use Rattle.std.proofs.Common.{◌≡◌, ℕ, zero, suc, ◌+◌, ◌*◌, ◌<�
 use Rattle.std.proofs.lemmas.Bool.{eq-eqb, ne_eqb}
 use Rattle.pb_worker.specs.Words.{Ts, Refusal, Writes, Step, Answer, Work, ObserverOf, Received, Has, told, OpeningOf, AreTried, tried, ChangesStop, share_of, IsWork, IsWorkBegun, in_changes, in_passes, AreFilled}
 use Rattle.pb_threads.specs.Tries.{before_all}
-use Rattle.pb_worker.proofs.Committing.{commit_of, HasCommitted, within}
+use Rattle.pb_worker.proofs.Committing.{commit_of, HasCommitted, committed_within}
 use Rattle.pb_worker.proofs.RunCommits.{HasBegunRun, CommitRuns, run_left, run_right, of_drain, of_drain_stop}
 use Rattle.pb_worker.proofs.TryCommits.{TellsCommit, of_tries, of_cut}
 use Rattle.pb_history.proofs.Updates.{has_before as has_left, has_right, has_which}
@@ -79,7 +79,7 @@ pub record AreStarts (batches : List Writes) (n first : ℕ) (done : List Bool) 
 
 module _ (batches : List Writes) (n first : ℕ) where
   made_left : (j : ℕ) (said more : List Received) (start : Ts) → HasMade batches n first j said start → HasMade batches n first j (said ++ more) start
-  made_left j said more start m = record { batch = m.batch; at = m.at; made = within m.batch start said (said ++ more) (λ r k. has_left said more r k) m.made }
+  made_left j said more start m = record { batch = m.batch; at = m.at; made = committed_within m.batch start said (said ++ more) (λ r k. has_left said more r k) m.made }
 
   abbrev StartsOf : List Bool → List Received → Type 0
   StartsOf done said = (start : ℕ → Ts) × AreStarts batches n first done said start
@@ -114,7 +114,7 @@ module _ (batches : List Writes) (n first : ℕ) where
       | inr h ↦ subst (HasMade batches n first j (said ++ more)) (sym (newest j h.0)) (record {
         batch = batch;
         at = subst (λ k. slice_get batches (first + k * n) ≡ Some batch) (sym h.0) at;
-        made = within batch last more (said ++ more) (λ r k. has_right said more r k) (t.made h.1);
+        made = committed_within batch last more (said ++ more) (λ r k. has_right said more r k) (t.made h.1);
       })
     ]
 

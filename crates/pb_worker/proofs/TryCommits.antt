@@ -2,8 +2,8 @@
 use Rattle.std.proofs.Common.{arith, ◌≡◌, ◌≢◌, ℕ, Bool, true, false, ◌||◌, List, [], ◌∷◌, ◌++◌, inl, inr, refl, sym, ap, subst, ◌∙◌, Option}
 use Rattle.pb_worker.specs.Words.{Cell, Ts, Refusal, Writes, Step, Answer, Declared, Received, Has, Outcome, told, IsWhole, committed, conflicted_first, conflicted_later, lost, prewrites, secondaries, IsWholeChange, OpeningOf, is_commit_outcome, is_commit, has_commit, IsTry, AreVain, IsDone, AreTries, TriesStop}
 use Rattle.pb_threads.specs.Tries.{at_first, one_more}
-use Rattle.pb_worker.proofs.Committing.{commit_of, HasCommitted, within}
-use Rattle.pb_worker.proofs.CutTries.{commit_in, uncommitted, cut_commits}
+use Rattle.pb_worker.proofs.Committing.{commit_of, HasCommitted, committed_within}
+use Rattle.pb_worker.proofs.CutTries.{commit_in, ended_uncommitted, cut_commits}
 use Rattle.pb_worker.proofs.OneTransaction.{of_change}
 use Rattle.pb_history.proofs.Updates.{has_before as has_left, has_right, has_which}
 use Rattle.pb_base.proofs.Logic.{not_both}
@@ -22,7 +22,7 @@ has_none said u none h = not_both (has_commit said) (has_committed said u h) non
 
 -- in a try in vain none was said
 try_in_vain : (batch : Writes) (said : List Received) → IsTry batch false said → has_commit said ≡ false
-try_in_vain batch said t = grind (arith, uncommitted, t.whole.rest, t.start, t.outcome, t.ended, t.whole.whole, t.whole.said_is)
+try_in_vain batch said t = grind (arith, ended_uncommitted, t.whole.rest, t.start, t.outcome, t.ended, t.whole.whole, t.whole.said_is)
 
 -- nor in several
 tries_in_vain : (batch : Writes) (n : ℕ) (said : List Received) → AreVain batch n said → has_commit said ≡ false
@@ -57,7 +57,7 @@ pub record TellsCommit (batch : Writes) (is : Bool) (start : Ts) (said : List Re
 -- after tries in vain, in a last part
 module _ (batch : Writes) (n : ℕ) (vain part said : List Received) (tries : AreVain batch n vain) (is : said ≡ vain ++ part) where
   made_in_part : (start : Ts) → HasCommitted batch start part → HasCommitted batch start said
-  made_in_part start h = subst (HasCommitted batch start) (sym is) (within batch start part (vain ++ part) (λ r k. has_right vain part r k) h)
+  made_in_part start h = subst (HasCommitted batch start) (sym is) (committed_within batch start part (vain ++ part) (λ r k. has_right vain part r k) h)
 
   only_in_part : (u : Ts) → Has said (commit_of u) → Has part (commit_of u)
   only_in_part u h = elim (has_which vain part (commit_of u) (subst (λ l. Has l (commit_of u)) is h)) [ inl k ↦ absurd (has_none vain u (tries_in_vain batch n vain tries) k) | inr k ↦ k ]

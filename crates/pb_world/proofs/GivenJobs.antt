@@ -11,7 +11,7 @@ use Rattle.pb_world.specs.Actors.{Stepped, AnswersJob, RefusesJob, CallSteps, In
 use Rattle.pb_world.specs.Events.{WorldOf, change_of, job_for, actor_of, no_launch, no_launch_by, fault_of, Launches, StepsActor, CrashesActor, OwnAnswers, OwnCalls, Does, RunsTo}
 use Rattle.pb_world.specs.GivenJobs.{Renews, IsLastLaunch, IsJobOf, IsGivenJob, JobsAreGiven, BusyActorsAreLeft, BusyActorsAreTold, RefusedJobsEnd}
 use Rattle.pb_world.proofs.Soundness.{IsAfterSet, changed, unchanged, after_set}
-use Rattle.pb_world.proofs.Opening.{idle}
+use Rattle.pb_world.proofs.Opening.{idle_without_job}
 use Rattle.pb_base.proofs.Logic.{same_some as some_same, none_some}
 
 append_assoc' : (xs ys zs : List Event) → (xs ++ ys) ++ zs ≡ xs ++ (ys ++ zs)
@@ -189,7 +189,7 @@ run_given es w (e ∷ fs) [] v all r = absurd r
 
 -- in an opened world no actor has a job yet
 pub jobs_are_given : JobsAreGiven
-jobs_are_given w es ns v o r = run_given [] w es ns v (λ k a j is holds. absurd (none_some j (sym (idle _ k a (subst (λ xs. slice_get xs k ≡ Some a) o.actors is)) ∙ holds))) r
+jobs_are_given w es ns v o r = run_given [] w es ns v (λ k a j is holds. absurd (none_some j (sym (idle_without_job _ k a (subst (λ xs. slice_get xs k ≡ Some a) o.actors is)) ∙ holds))) r
 
 -- ---- busy actors
 

@@ -23,9 +23,9 @@ runs_on w es ns i m d n v lt r h =
     subst (λ xs. RunsTo w xs (ns ++ n ∷ []) v) (sym one) (runs_more w (take i es) ns m (get_or es i d) n v r h)
 
 -- the events before the one at fault have happened, and nothing since
-pub stops : (w : WorldOf) (es : List Event) (ns : List Note) (i at : ℕ) (fault : EventFault) (code : ℕ) (m : WorldOf) (e : Event) (v : WorldOf) → i < length es → at ≡ i → code ≡ fault_code fault
+pub stops_at_fault : (w : WorldOf) (es : List Event) (ns : List Note) (i at : ℕ) (fault : EventFault) (code : ℕ) (m : WorldOf) (e : Event) (v : WorldOf) → i < length es → at ≡ i → code ≡ fault_code fault
     → RunsTo w (take i es) ns m → v ≡ m → e ≡ get_or es i e → ((fault ≡ memory_fault) × Wants m e) ⊎ (fault_of m e ≡ Some fault) → StopsAtEvent w es at code v
-stops w es ns i at fault code m e v lt at-is code-is r same e-is why =
+stops_at_fault w es ns i at fault code m e v lt at-is code-is r same e-is why =
     let le : i ≤ length es = omega (arith, lt) in
     let s : StopsAtEvent w es i code m = record { notes = ns; within = le; before = r; why = because why } in
     subst (λ k. StopsAtEvent w es k code v) (sym at-is) (subst (λ x. StopsAtEvent w es i code x) (sym same) s)

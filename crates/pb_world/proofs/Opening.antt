@@ -7,11 +7,11 @@ use Rattle.pb_world.specs.Sound.{IsSoundWorld}
 use Rattle.pb_base.proofs.Logic.{same_some as some_same, none_some}
 
 -- an actor of a world that was just opened has no job
-pub idle : (n k : ℕ) (a : Actor) → slice_get (idle_actors n) k ≡ Some a → a.job ≡ None
-idle zero k a e = absurd (none_some a e)
-idle (suc n) zero a e = ap (λ (x : Actor). x.job) (sym (some_same _ a e))
-idle (suc n) (suc k) a e = idle n k a e
+pub idle_without_job : (n k : ℕ) (a : Actor) → slice_get (idle_actors n) k ≡ Some a → a.job ≡ None
+idle_without_job zero k a e = absurd (none_some a e)
+idle_without_job (suc n) zero a e = ap (λ (x : Actor). x.job) (sym (some_same _ a e))
+idle_without_job (suc n) (suc k) a e = idle_without_job n k a e
 
 -- without jobs it is enough that the journal is legal and the seats have their entries
 pub opened_sound : (w : WorldOf) → IsOpened w → IsSoundWorld w
-opened_sound w o = grind (arith, idle, none_some, o.legal, o.seats, w.seats, o.actors)
+opened_sound w o = grind (arith, idle_without_job, none_some, o.legal, o.seats, w.seats, o.actors)

@@ -54,8 +54,8 @@ after from j e (q ∷ qs) zero seat told h is by number list = grind (arith, som
 after from j e (q ∷ qs) (suc k) seat told h is by number list = grind (arith, number_at, other, seat.number, e.seat, after (from + 1) j e qs k seat told h.2 is by number list)
 
 -- the table's seats after a call of the seat at this place
-pub called : (s : SharedOf) (seats : List SeatOf) (k : ℕ) (seat told : SeatOf) (step : Step) (a : Answer) (t : SharedOf) → AreSeats s seats → slice_get seats k ≡ Some seat → Calls s seat step a t told → AreSeats t (slice_set seats k told)
-called s seats k seat told step a t are is calls = grind (arith, after, length-set, seat.number, s.journal, are.each, calls.number, calls.received, are.counted, calls.seats, calls.journal)
+pub seats_after_call : (s : SharedOf) (seats : List SeatOf) (k : ℕ) (seat told : SeatOf) (step : Step) (a : Answer) (t : SharedOf) → AreSeats s seats → slice_get seats k ≡ Some seat → Calls s seat step a t told → AreSeats t (slice_set seats k told)
+seats_after_call s seats k seat told step a t are is calls = grind (arith, after, length-set, seat.number, s.journal, are.each, calls.number, calls.received, are.counted, calls.seats, calls.journal)
 
 -- a seat's list is the journal's entries of its number
 pub seat_list : (s : SharedOf) (seats : List SeatOf) (k : ℕ) (seat : SeatOf) → AreSeats s seats → slice_get seats k ≡ Some seat → (seat.number ≡ k) × (seat.received ≡ entries_of k s.journal)

@@ -13,7 +13,7 @@ use Rattle.pb_world.specs.Jobs.{next_of, is_local, is_local_need, Takes, Compute
 use Rattle.pb_world.specs.Actors.{Stepped, AnswersJob, RefusesJob, CallSteps, Instructs, IsIdle, JobSteps, StepsTo, launched, crashed}
 use Rattle.pb_world.specs.Events.{WorldOf, change_of, job_for, with_actor, actor_of, no_actor, no_launch, fault_of, Launches, StepsActor, CrashesActor, OwnAnswers, OwnCalls, Does}
 use Rattle.pb_world.specs.Sound.{HasObserver, ChangeCame, RunCame, Came, IsTied, IsSoundWorld, EventsKeepSound}
-use Rattle.pb_world.proofs.SeatLists.{called, append-none}
+use Rattle.pb_world.proofs.SeatLists.{seats_after_call, append-none}
 use Rattle.pb_base.proofs.Logic.{same_some as some_same, none_some as some_none}
 use Rattle.pb_history.proofs.JournalParts.{one_more as leads_more}
 
@@ -125,7 +125,7 @@ set_same xs k x y is same =
 -- and its seats have their entries
 moves_seats : (s : SharedOf) (seats : List SeatOf) (k : ℕ) (seat : SeatOf) (t : SharedOf) (told : SeatOf) → Moves s seat t told → slice_get seats k ≡ Some seat → AreSeats s seats → AreSeats t (slice_set seats k told)
 moves_seats s seats k seat t told (stays t-is told-is) is are = subst (λ xs. AreSeats t xs) (sym (set_same seats k seat told is told-is)) (subst (λ x. AreSeats x seats) (sym t-is) are)
-moves_seats s seats k seat t told (calls st a c) is are = called s seats k seat told st a t are is c
+moves_seats s seats k seat t told (calls st a c) is are = seats_after_call s seats k seat told st a t are is c
 
 -- ---- what a step leaves of a job
 
@@ -177,8 +177,8 @@ actor_steps w seat n (Some j) to tie d = job_steps w seat n j to (tie j refl) d
 -- ---- events
 
 -- one actor changed, and its seat
-pub stepped : (w v : WorldOf) (k : ℕ) (n : Note) → 0 < k → IsSoundWorld w → StepsActor w k n v → IsSoundWorld v
-stepped w v k n some s d = subst (λ x. IsSoundWorld x) (sym d.after) here
+pub step_keeps_world : (w v : WorldOf) (k : ℕ) (n : Note) → 0 < k → IsSoundWorld w → StepsActor w k n v → IsSoundWorld v
+step_keeps_world w v k n some s d = subst (λ x. IsSoundWorld x) (sym d.after) here
   where
     u : WorldOf
     u = record w { shared = v.shared; seats = slice_set w.seats k d.told; actors = slice_set w.actors k d.stepped }
@@ -299,7 +299,7 @@ not_own_launch w k made o is h = grind arith
 
 -- so any event keeps a world sound
 does_sound : (w : WorldOf) (e : Event) (n : Note) (v : WorldOf) → IsSoundWorld w → fault_of w e ≡ None → Does w e n v → IsSoundWorld v
-does_sound w e n v s can d = grind (arith, launched_sound, not_own_launch, stepped, not_own, crashed_sound, own_sound)
+does_sound w e n v s can d = grind (arith, launched_sound, not_own_launch, step_keeps_world, not_own, crashed_sound, own_sound)
 
 -- and any list of events
 pub events_keep_sound : EventsKeepSound

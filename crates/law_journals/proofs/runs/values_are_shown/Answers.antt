@@ -1,5 +1,5 @@
-use Rattle.law_journals.proofs.ShownValues.{shown}
+use Rattle.law_journals.proofs.ShownValues.{value_is_shown}
 use Rattle.law_journals.proofs.runs.values_are_shown.Goals as goal
 
 pub returns : goal.returns
-returns c = shown
+returns c = value_is_shown

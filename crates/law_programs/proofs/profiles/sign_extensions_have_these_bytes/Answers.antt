@@ -1,5 +1,5 @@
-use Rattle.law_programs.proofs.EncodedSigns.{encoded}
+use Rattle.law_programs.proofs.EncodedSigns.{signs_encoded}
 use Rattle.law_programs.proofs.profiles.sign_extensions_have_these_bytes.Goals as goal
 
 pub returns : goal.returns
-returns c = encoded c.either_program_or_fault.ensures.one_program c.profiles_read_alike.ensures
+returns c = signs_encoded c.either_program_or_fault.ensures.one_program c.profiles_read_alike.ensures

@@ -1,5 +1,5 @@
-use Rattle.pb_asm.proofs.FirstFault.{first}
+use Rattle.pb_asm.proofs.FirstFault.{first_is_told}
 use Rattle.pb_asm.proofs.text.fault_is_first.Goals as goal
 
 pub returns : goal.returns
-returns c = first
+returns c = first_is_told

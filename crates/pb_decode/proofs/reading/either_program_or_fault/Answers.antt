@@ -1,9 +1,9 @@
 use Rattle.pb_decode.proofs.LowestCode.{insn_clean}
-use Rattle.pb_decode.proofs.OneProgramOrFault.{either, not_both, one_program, one_fault}
+use Rattle.pb_decode.proofs.OneProgramOrFault.{program_or_fault, not_both, one_program, one_fault}
 use Rattle.pb_decode.proofs.reading.either_program_or_fault.Goals as goal
 
 pub returns-clause-either : goal.returns-clause-either
-returns-clause-either c = either
+returns-clause-either c = program_or_fault
 
 pub returns-clause-not_both : goal.returns-clause-not_both
 returns-clause-not_both c = not_both

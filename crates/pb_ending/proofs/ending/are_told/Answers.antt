@@ -2,7 +2,7 @@ use Rattle.std.proofs.Common.{◌≡◌, ◌≢◌, ◌<◌, List, length, lengt
 use Rattle.std.proofs.lemmas.Bool.{false≢true}
 use Rattle.pb_history.specs.declared.entry.Received.{Received}
 use Rattle.pb_ending.specs.Cursors.{told_by}
-use Rattle.pb_ending.proofs.Cursors.{at_first, none_on, off, one_on, all_told}
+use Rattle.pb_ending.proofs.Cursors.{at_first, none_on, off_not_told, one_on, all_told}
 use Rattle.pb_ending.proofs.ending.are_told.Goals as goal
 use Rattle.pb_ending.proofs.ending.are_told.Goals.{in-Some+in-Some-behind, in_default}
 
@@ -14,7 +14,7 @@ returns-in-None c =
     let l = c.loop-e in
     let s = c.index-seats-place.result in
     let other : slice_get s.received (slice_index_or l.cursors c.in-Some.place 0) ≢ Some (told_by c.e-item.result) = subst (λ (rs : List Received). slice_get rs (slice_index_or l.cursors c.in-Some.place 0) ≢ Some (told_by c.e-item.result)) c.received.ensures (c.in-None.ensures.none refl) in
-    (λ t. absurd (false≢true t), λ told. absurd (off c.args.journal.now l.e-index c.e-item.result c.loop-e-test.true c.e-item.is c.args.seats.now l.cursors l.invariant.along c.in-Some.place s c.in-Some.ensures.some c.index-seats-place.is c.args.count other told))
+    (λ t. absurd (false≢true t), λ told. absurd (off_not_told c.args.journal.now l.e-index c.e-item.result c.loop-e-test.true c.e-item.is c.args.seats.now l.cursors l.invariant.along c.in-Some.place s c.in-Some.ensures.some c.index-seats-place.is c.args.count other told))
 
 pub loop-e-preserved : goal.loop-e-preserved
 loop-e-preserved c =

@@ -1,5 +1,5 @@
-use Rattle.pb_history.proofs.ReasonsRise.{rises}
+use Rattle.pb_history.proofs.ReasonsRise.{step_reasons_rise}
 use Rattle.pb_history.proofs.laws.reasons_rise.Goals as goal
 
 pub returns : goal.returns
-returns c = rises
+returns c = step_reasons_rise

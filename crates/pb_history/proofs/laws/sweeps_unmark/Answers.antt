@@ -1,5 +1,5 @@
-use Rattle.pb_history.proofs.Progress.{unmarks}
+use Rattle.pb_history.proofs.Progress.{step_unmarks}
 use Rattle.pb_history.proofs.laws.sweeps_unmark.Goals as goal
 
 pub returns : goal.returns
-returns c = unmarks
+returns c = step_unmarks

@@ -4,19 +4,19 @@ use Rattle.std.specs.FinMap.Entries.{is_sorted-put}
 use Rattle.std.proofs.lemmas.List.Elements.{All-set}
 use Rattle.pb_memtablet.specs.declared.chunks.TheConstants.{CHUNK}
 use Rattle.pb_memtablet.specs.Chunks.{chunk_entries, IsChunk}
-use Rattle.pb_memtablet.proofs.Spots.{holds}
+use Rattle.pb_memtablet.proofs.Spots.{true_holds}
 use Rattle.pb_memtablet.proofs.Pieces.{home_sorted, put-in_home, length-set_in, at_most_one}
 use Rattle.pb_memtablet.proofs.Counted.{block_is_counted, count_is_small, counts_after, byte_of}
 use Rattle.pb_memtablet.proofs.chunks.put_among.Goals as goal
 use Rattle.pb_memtablet.proofs.chunks.put_among.Goals.{After-put_in-is_new}
-use Rattle.pb_base.proofs.Logic.{truth}
+use Rattle.pb_base.proofs.Logic.{test_is_true}
 
 pub put_in-is_new-requires-clause-sorted : goal.put_in-is_new-requires-clause-sorted
 put_in-is_new-requires-clause-sorted g c =
     let R = g.K.Ord.cmp in
     let home = c.roomy_home-home in
-    truth _ (home_sorted R g.met.K.Ord.total home.new.chunks.items c.args.key home.result c.index_mut.result.now home.ensures.home c.index_mut.ensures.value
-    (subst (λ l. T (is_sorted R l)) (sym home.ensures.entries) (holds _ c.requires.chunks.sorted)))
+    test_is_true _ (home_sorted R g.met.K.Ord.total home.new.chunks.items c.args.key home.result c.index_mut.result.now home.ensures.home c.index_mut.ensures.value
+    (subst (λ l. T (is_sorted R l)) (sym home.ensures.entries) (true_holds _ c.requires.chunks.sorted)))
 
 -- all entries after the put, which changed one chunk
 entries_are : (g : _) (c : After-put_in-is_new g) → chunk_entries (set c.roomy_home-home.new.chunks.items c.roomy_home-home.result c.put_in-is_new.new.entries) ≡ put g.K.Ord.cmp c.args.key c.args.value (chunk_entries c.args.chunks.now.items)
@@ -43,7 +43,7 @@ returns-clause-chunks g c =
     let old : IsChunk m = rw c.index_mut.ensures.value (home.ensures.each home.result m home.ensures.home.within) in
     let short : vec_len m < CHUNK = rw c.index_mut.ensures.value (home.ensures.not_full m) in
     record {
-      sorted = truth _ (subst (λ l. T (is_sorted R l)) (sym (entries_are g (goal.at.returns-clause-chunks g c).After-put_in-is_new)) (is_sorted-put R g.met.K.Ord.total c.args.key c.args.value _ (holds _ c.requires.chunks.sorted)));
+      sorted = test_is_true _ (subst (λ l. T (is_sorted R l)) (sym (entries_are g (goal.at.returns-clause-chunks g c).After-put_in-is_new)) (is_sorted-put R g.met.K.Ord.total c.args.key c.args.value _ (true_holds _ c.requires.chunks.sorted)));
       each = All-set IsChunk home.new.chunks.items home.result n (record { filled = omega (arith, old.filled, c.put_in-is_new.ensures.len); fits = omega (arith, short, at_most_one c.put_in-is_new.result, c.put_in-is_new.ensures.len); roomy = omega (arith, old.roomy, c.put_in-is_new.ensures.capacity) }) home.ensures.each;
     }
 

@@ -4,12 +4,12 @@ use Rattle.std.specs.FinMap.Entries.{is_sorted-put}
 use Rattle.std.proofs.lemmas.List.Elements.{All-set}
 use Rattle.pb_memtablet.specs.declared.chunks.TheConstants.{CHUNK}
 use Rattle.pb_memtablet.specs.Chunks.{chunk_entries, IsChunk, IsHome}
-use Rattle.pb_memtablet.proofs.Spots.{holds}
+use Rattle.pb_memtablet.proofs.Spots.{true_holds}
 use Rattle.pb_memtablet.proofs.Pieces.{home_sorted, both-in_home, sorted_if, length-set_in, read_again}
 use Rattle.pb_memtablet.proofs.Counted.{block_is_counted, count_is_small, counts_after, two_of, at_most_two}
 use Rattle.pb_memtablet.proofs.chunks.put_both_among.Goals as goal
 use Rattle.pb_memtablet.proofs.chunks.put_both_among.Goals.{After-index_mut, After-put_both_in-are_put}
-use Rattle.pb_base.proofs.Logic.{truth}
+use Rattle.pb_base.proofs.Logic.{test_is_true}
 
 -- the chunk that was found is the first key's, before anything changed
 home_is : (g : _) (c : After-index_mut g) → IsHome g.K.Ord.cmp c.args.chunks.now.items c.args.key c.noted_home-home.result
@@ -17,8 +17,8 @@ home_is g c = subst (λ l. IsHome g.K.Ord.cmp l c.args.key c.noted_home-home.res
 
 pub put_both_in-are_put-requires-clause-sorted : goal.put_both_in-are_put-requires-clause-sorted
 put_both_in-are_put-requires-clause-sorted g c =
-    truth _ (home_sorted g.K.Ord.cmp g.met.K.Ord.total c.args.chunks.now.items c.args.key c.noted_home-home.result c.index_mut.result.now (home_is g (goal.at.put_both_in-are_put-requires-clause-sorted g c).After-index_mut) c.index_mut.ensures.value
-    (holds _ c.requires.chunks.sorted))
+    test_is_true _ (home_sorted g.K.Ord.cmp g.met.K.Ord.total c.args.chunks.now.items c.args.key c.noted_home-home.result c.index_mut.result.now (home_is g (goal.at.put_both_in-are_put-requires-clause-sorted g c).After-index_mut) c.index_mut.ensures.value
+    (true_holds _ c.requires.chunks.sorted))
 
 -- all entries after the call, whether or not it put the pair
 entries_are : (g : _) (c : After-put_both_in-are_put g) → chunk_entries (set c.args.chunks.now.items c.noted_home-home.result c.put_both_in-are_put.new.entries)
@@ -66,10 +66,10 @@ returns-clause-chunks g c =
     let n = c.put_both_in-are_put.new.entries in
     let old : IsChunk m = rw c.index_mut.ensures.value (c.requires.chunks.each i m lt) in
     let short : vec_len m + 2 ≤ CHUNK = omega (arith, c.if-len.false, c.len.ensures, read_again cs i m c.index.result.now lt c.index_mut.ensures.value c.index.ensures) in
-    let once = is_sorted-put R g.met.K.Ord.total c.args.key c.args.value _ (holds _ c.requires.chunks.sorted) in
+    let once = is_sorted-put R g.met.K.Ord.total c.args.key c.args.value _ (true_holds _ c.requires.chunks.sorted) in
     record {
-      sorted = truth _ (subst (λ l. T (is_sorted R l)) (sym (entries_are g after))
-          (sorted_if R c.put_both_in-are_put.result _ _ (is_sorted-put R g.met.K.Ord.total c.args.next c.args.next_value _ once) (holds _ c.requires.chunks.sorted)));
+      sorted = test_is_true _ (subst (λ l. T (is_sorted R l)) (sym (entries_are g after))
+          (sorted_if R c.put_both_in-are_put.result _ _ (is_sorted-put R g.met.K.Ord.total c.args.next c.args.next_value _ once) (true_holds _ c.requires.chunks.sorted)));
       each = All-set IsChunk cs i n (record { filled = omega (arith, old.filled, c.put_both_in-are_put.ensures.len); fits = omega (arith, short, at_most_two c.put_both_in-are_put.result, c.put_both_in-are_put.ensures.len); roomy = omega (arith, old.roomy, c.put_both_in-are_put.ensures.capacity) }) c.requires.chunks.each;
     }
 

@@ -2,8 +2,8 @@ use Rattle.std.proofs.Common.{◌≡◌, Some, sym, ap, ◌∙◌}
 use Rattle.std.specs.FinMap.{find}
 use Rattle.pb_memtablet.specs.Words.{slot_cmp}
 use Rattle.pb_memtablet.specs.Stored.{seen, HasItem}
-use Rattle.pb_memtablet.proofs.Spots.{holds}
-use Rattle.pb_memtablet.proofs.Kept.{of_found, taken_seen, stored_taken, nothing_gone, seen-where, sorted_without, freed}
+use Rattle.pb_memtablet.proofs.Spots.{true_holds}
+use Rattle.pb_memtablet.proofs.Kept.{of_found, taken_seen, stored_taken, nothing_gone, seen-where, sorted_without, found_no_more}
 use Rattle.pb_memtablet.proofs.slab_tablet.take_entry.Goals as goal
 use Rattle.pb_memtablet.proofs.slab_tablet.take_entry.Goals.{After-remove}
 
@@ -16,7 +16,7 @@ found c = sym c.get.ensures ∙ c.in-Some.is
 pub returns-in-Some-clause-stored : goal.returns-in-Some-clause-stored
 returns-in-Some-clause-stored c =
     stored_taken c.args.items.now.slots c.remove.new.self.slots c.args.keys.now.entries c.take_out.new.self.entries c.args.slot.now c.in-Some.key c.requires.stored (found c)
-    c.remove.ensures.updates.others c.take_out.ensures.entries (holds _ c.requires.sorted) c.remove.ensures.len
+    c.remove.ensures.updates.others c.take_out.ensures.entries (true_holds _ c.requires.sorted) c.remove.ensures.len
 
 pub returns-in-Some-clause-seen : goal.returns-in-Some-clause-seen
 returns-in-Some-clause-seen c =
@@ -24,10 +24,10 @@ returns-in-Some-clause-seen c =
     c.remove.ensures.updates.others c.take_out.ensures.entries
 
 pub returns-in-Some-clause-sorted : goal.returns-in-Some-clause-sorted
-returns-in-Some-clause-sorted c = sorted_without c.args.slot.now c.args.keys.now.entries c.take_out.new.self.entries (holds _ c.requires.sorted) c.take_out.ensures.entries
+returns-in-Some-clause-sorted c = sorted_without c.args.slot.now c.args.keys.now.entries c.take_out.new.self.entries (true_holds _ c.requires.sorted) c.take_out.ensures.entries
 
 pub returns-in-Some-clause-free : goal.returns-in-Some-clause-free
-returns-in-Some-clause-free c = ap (find slot_cmp c.args.slot.now) c.take_out.ensures.entries ∙ freed c.args.slot.now c.args.keys.now.entries
+returns-in-Some-clause-free c = ap (find slot_cmp c.args.slot.now) c.take_out.ensures.entries ∙ found_no_more c.args.slot.now c.args.keys.now.entries
 
 pub returns-in_default-clause-seen : goal.returns-in_default-clause-seen
 returns-in_default-clause-seen c =

@@ -1,7 +1,7 @@
 use Rattle.std.proofs.Common.{rules, ◌≡◌, sym, ap}
 use Rattle.pb_registry.specs.Observers.{observers_of}
 use Rattle.pb_registry.specs.Judging.{fault_at}
-use Rattle.pb_registry.proofs.FirstFault.{no_observers, grown, told_fault}
+use Rattle.pb_registry.proofs.FirstFault.{no_observers, one_more_observer, told_fault}
 use Rattle.pb_registry.proofs.listing.observers_in.Goals as goal
 
 pub loop-place-init : goal.loop-place-init
@@ -16,4 +16,4 @@ returns-in-Err c =
     }
 
 pub loop-place-preserved : goal.loop-place-preserved
-loop-place-preserved c = grown c.args.profile c.args.elements.now c.loop-place.place c.index-elements-place.result c.loop-place-test.true (sym c.index-elements-place.is) (observers_of c.loop-place.observers.entries) c.loop-place.invariant (observers_of c.add_observer.new.observers.entries) c.in_default.ensures.more c.in_default.ensures.apart
+loop-place-preserved c = one_more_observer c.args.profile c.args.elements.now c.loop-place.place c.index-elements-place.result c.loop-place-test.true (sym c.index-elements-place.is) (observers_of c.loop-place.observers.entries) c.loop-place.invariant (observers_of c.add_observer.new.observers.entries) c.in_default.ensures.more c.in_default.ensures.apart

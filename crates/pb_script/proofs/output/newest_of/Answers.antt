@@ -3,7 +3,7 @@ use Rattle.std.proofs.lemmas.List.{take_more, take_all}
 use Rattle.pb_script.specs.Words.{Entry}
 use Rattle.pb_script.specs.Puts.{puts_by}
 use Rattle.pb_script.specs.Reports.{AreNewest}
-use Rattle.pb_script.proofs.Gathering.{all_puts, gathers_on, gathers}
+use Rattle.pb_script.proofs.Gathering.{all_puts, gathers_on, gathers_all_puts}
 use Rattle.pb_script.proofs.output.newest_of.Goals as goal
 
 pub loop-entry-preserved : goal.loop-entry-preserved
@@ -19,4 +19,4 @@ loop-entry-preserved g c =
     (c.in_ok-note_entry.ensures before c.loop-entry.invariant)
 
 pub returns-clause-newest : goal.returns-clause-newest
-returns-clause-newest g c = grind (arith, take_all, all_puts, gathers, c.journal-entry-items.result.now, c.args.shared.now.state, c.loop-entry.entry-index, c.args.shared.now.journal, c.loop-entry-test.false, c.journal-entry-items.ensures.entries, c.journal-entry-items.ensures.history, c.loop-entry.table, c.loop-entry.invariant)
+returns-clause-newest g c = grind (arith, take_all, all_puts, gathers_all_puts, c.journal-entry-items.result.now, c.args.shared.now.state, c.loop-entry.entry-index, c.args.shared.now.journal, c.loop-entry-test.false, c.journal-entry-items.ensures.entries, c.journal-entry-items.ensures.history, c.loop-entry.table, c.loop-entry.invariant)

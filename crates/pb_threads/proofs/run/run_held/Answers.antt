@@ -3,7 +3,7 @@ use Rattle.pb_threads.specs.Words.{Writes, SeatOf, AreSeatsFrom}
 use Rattle.pb_threads.specs.Gains.{OpeningOf, opening_of}
 use Rattle.pb_threads.specs.Swaps.{Spare, spares_of}
 use Rattle.pb_threads.specs.Work.{AllWork, AreFilled, seats_in, refusals_in, flags_in, is_done, undone_below}
-use Rattle.pb_threads.proofs.Joined.{some_olds, joined}
+use Rattle.pb_threads.proofs.Joined.{some_olds, work_is_joined}
 use Rattle.pb_threads.proofs.run.run_held.Goals as goal
 
 pub returns-clause-worked : goal.returns-clause-worked
@@ -22,4 +22,4 @@ returns-clause-worked g c =
     let refusals : c.part.new.refusals.items ≡ refusals_in news = search rules in
     let filled : AreFilled c.args.batches.items = subst (λ (bs : List Writes). AreFilled bs) c.deref.ensures.value c.look_through.ensures in
     let undone : c.note_unfinished.new.unfinished.items ≡ undone_below (is_done (flags_in news) (length news - 1)) (length c.args.batches.items) = search rules in
-    rw (← were, back, refusals, undone) (joined obs c.args.batches.items spares olds news c.args.shared.journal some are all filled)
+    rw (← were, back, refusals, undone) (work_is_joined obs c.args.batches.items spares olds news c.args.shared.journal some are all filled)

@@ -1,7 +1,7 @@
 use Rattle.std.proofs.Common.{◌≡◌, ◌-◌, IfOk, rules, subst, arith}
 use Rattle.pb_notify.specs.Words.{IsAtSlot, Finishes, Position}
 use Rattle.pb_notify.specs.Steps.{ExitsAs}
-use Rattle.pb_notify.proofs.Exits.{at_exit, at_slot, left}
+use Rattle.pb_notify.proofs.Exits.{at_exit, at_slot, exit_leaves}
 use Rattle.pb_notify.proofs.machine.Machine.exit.Goals as goal
 
 pub declare-requires : goal.declare-requires
@@ -13,7 +13,7 @@ declare-requires c =
     let before : c.taken-taken.result - 1 ≡ c.requires.0.taken = omega (arith, did.moves.taken, taken) in
     let slot : IsAtSlot c.args.self c.slot-slot.result = subst (λ w. IsAtSlot w c.slot-slot.result) inner (rw c.in-Running.is at c.slot-slot.ensures.at) in
     record {
-      leaves = left c.requires.0 c.args.self c.requires.1 c.finish-finished.result (c.taken-taken.result - 1) did finishes before c.known.ensures.meant;
+      leaves = exit_leaves c.requires.0 c.args.self c.requires.1 c.finish-finished.result (c.taken-taken.result - 1) did finishes before c.known.ensures.meant;
       at = at_slot c.requires.0 c.args.self c.requires.1 c.finish-finished.result (c.taken-taken.result - 1) did finishes before c.slot-slot.result slot;
     }
 

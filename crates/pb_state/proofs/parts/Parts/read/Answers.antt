@@ -4,7 +4,7 @@ use Rattle.pb_state.specs.Words.{StateOf, TransactionOf, with_read, NoLockUpTo, 
 use Rattle.pb_state.proofs.Outcomes.{err_always}
 use Rattle.pb_state.proofs.Rising.{put_again}
 use Rattle.pb_state.proofs.NewState.{same_marks, new_state}
-use Rattle.pb_state.proofs.ReadsTaken.{found, absent}
+use Rattle.pb_state.proofs.ReadsTaken.{found_is_taken, absent_is_taken}
 use Rattle.pb_state.proofs.parts.Parts.read.Goals as goal
 use Rattle.pb_state.proofs.parts.Parts.read.Goals.{in-Some-version_of, in-None}
 
@@ -24,7 +24,7 @@ returns-clause-taken g c =
     let up_to = c.read_up_to-high.ensures in
     let unlocked = subst (λ n. NoLockUpTo c.args.self.now.entries c.args.cell.now n) up_to (subst (λ m. NoLockUpTo m c.args.cell.now c.read_up_to-high.result.0) e c.in_default.ensures) in
     elim c.match-version_of.branch [
-      | in-Some-version_of w ↦ grind (arith, found, c.args.cell.now, c.args.at, c.match-version_of.answer, c.args.self.now, c.args.self.now.entries, c.args.seat, c.requires.admitted.allowed)
-      | in-None w ↦ absent c.args.self.now _ c.args.seat start c.args.cell.now c.args.at f.0 c.requires.admitted.allowed f.1.own unlocked c.match-version_of.answer put
+      | in-Some-version_of w ↦ grind (arith, found_is_taken, c.args.cell.now, c.args.at, c.match-version_of.answer, c.args.self.now, c.args.self.now.entries, c.args.seat, c.requires.admitted.allowed)
+      | in-None w ↦ absent_is_taken c.args.self.now _ c.args.seat start c.args.cell.now c.args.at f.0 c.requires.admitted.allowed f.1.own unlocked c.match-version_of.answer put
           w.answer-is (subst (λ n. NoVersion c.args.self.now.entries c.args.cell.now n) up_to (subst (λ m. NoVersion m c.args.cell.now c.read_up_to-high.result.0) e w.in-None.ensures))
     ]

@@ -1,8 +1,8 @@
-use Rattle.pb_state.proofs.Rising.{added, added_rises}
+use Rattle.pb_state.proofs.Rising.{last_inserts, added_rises}
 use Rattle.pb_state.proofs.transactions.Transactions.add.Goals as goal
 
 pub invariant_of-self-2 : goal.invariant_of-self-2
 invariant_of-self-2 c = rw c.in_ok-push.ensures.items (added_rises c.self.inside.list.items c.args.self.now c.args.start.0 c.args.transaction c.self.invariant c.self.view_is c.requires)
 
 pub returns-clause-ok : goal.returns-clause-ok
-returns-clause-ok c = rw c.in_ok-push.ensures.items (added c.self.inside.list.items c.args.self.now c.args.start.0 c.args.transaction c.self.invariant c.self.view_is c.requires)
+returns-clause-ok c = rw c.in_ok-push.ensures.items (last_inserts c.self.inside.list.items c.args.self.now c.args.start.0 c.args.transaction c.self.invariant c.self.view_is c.requires)

@@ -1,5 +1,5 @@
 use Rattle.std.proofs.Common.{arith}
-use Rattle.pb_state.proofs.Rising.{found, start_at, changed, set_rises}
+use Rattle.pb_state.proofs.Rising.{found_in_map, start_at, change_inserts, set_rises}
 use Rattle.pb_state.proofs.transactions.Transactions.at_mut.Goals as goal
 
 pub index_mut-requires : goal.index_mut-requires
@@ -11,4 +11,4 @@ invariant_of-self-lent c = λ w.
     set_rises c.self.inside.list.items c.args.at.start.0 c.args.at.place c.index_mut.result.now w c.self.invariant at c.index_mut.ensures.value
 
 pub returns : goal.returns
-returns c = grind (arith, start_at, changed, found, c.self.inside.list.items, c.args.self.now, c.args.at.place, c.self.invariant, c.self.view_is, c.index_mut.ensures.value, c.index_mut.result.now)
+returns c = grind (arith, start_at, change_inserts, found_in_map, c.self.inside.list.items, c.args.self.now, c.args.at.place, c.self.invariant, c.self.view_is, c.index_mut.ensures.value, c.index_mut.result.now)
