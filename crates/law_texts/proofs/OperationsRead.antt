@@ -6,7 +6,7 @@ use Rattle.std.proofs.lemmas.Bool.{le-ltb}
 use Rattle.std.proofs.lemmas.List.{drop-replicate}
 use Rattle.hex.specs.Hex.{decode_of, encode_lower, lower_digits}
 use Rattle.hex.proofs.HexLemmas.{decode_of-encode_lower, length-encode_with}
-use Rattle.law_texts.specs.Words.{Row, Cell, Content, words_of, ScriptCode, padded_value, content_of, cell_at, put_of, del_of, write_of, operation}
+use Rattle.law_texts.specs.Words.{Row, Cell, Content, words_of, ScriptCode, padded_value, value_of_word, cell_at, put_of, del_of, write_of, operation}
 use Rattle.law_texts.specs.OperationTexts.{AreDigitsOf, AreInRange, IsOperationOf}
 use Rattle.law_texts.proofs.LowerHex.{digit_of, digits_hold, none_upper}
 use Rattle.pb_reading.proofs.Parts.{Lacks, AreParts, IsNoDigit, blank_no_digit, decimal_lacks, joined_parts, lacks_joined}
@@ -26,14 +26,14 @@ tested : (a b c : Bool) (r : Result (List ℕ) ScriptCode) → a ≡ false → b
 tested a b c r p q s = rw (p, q, s) refl
 
 -- the digits of a value are read as it, with zeros behind
-digits_back : (value digits : List ℕ) → AreDigitsOf value digits → content_of digits ≡ Ok value
+digits_back : (value digits : List ℕ) → AreDigitsOf value digits → value_of_word digits ≡ Ok value
 digits_back value digits d =
     let twice : length (encode_lower d.bytes) ≡ 2 * length d.bytes = length-encode_with lower_digits d.bytes in
     let some = d.some in
     let few = d.few in
     let full : (length (encode_lower d.bytes) == 0) ≡ false = not_zero _ (omega (arith, twice, some)) in
     let short : nat_lt 64 (length (encode_lower d.bytes)) ≡ false = le-ltb _ _ (omega (arith, twice, few)) in
-    ap content_of d.written
+    ap value_of_word d.written
     ∙ tested (length (encode_lower d.bytes) == 0) (nat_lt 64 (length (encode_lower d.bytes))) (list_any is_ascii_uppercase (encode_lower d.bytes)) (padded_value (decode_of (encode_lower d.bytes))) full short (none_upper d.bytes d.fit)
     ∙ ap padded_value (decode_of-encode_lower d.bytes d.fit)
     ∙ ap (λ (zeros : List ℕ). Ok (d.bytes ++ zeros)) (drop-replicate (length d.bytes) 32 0)

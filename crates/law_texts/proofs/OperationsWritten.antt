@@ -8,7 +8,7 @@ use Rattle.std.proofs.lemmas.List.Splits.{join_with_byte-slice_split}
 use Rattle.hex.specs.Hex.{decode_of}
 use Rattle.hex.specs.declared.error.FromHexError.{FromHexError}
 use Rattle.hex.proofs.HexLemmas.{decode_of-ok}
-use Rattle.law_texts.specs.Words.{Row, Cell, Content, next_word, no_word, words_of, ScriptCode, padded_value, content_of, cell_at, put_of, del_of, write_of, operation}
+use Rattle.law_texts.specs.Words.{Row, Cell, Content, next_word, no_word, words_of, ScriptCode, padded_value, value_of_word, cell_at, put_of, del_of, write_of, operation}
 use Rattle.pb_reading.proofs.NumeralValues.{numeral_is}
 use Rattle.pb_reading.proofs.Readings.{then_ok, ok_is, else_ok, next_is, none_left}
 use Rattle.pb_parse.proofs.NextWords.{same_text}
@@ -40,7 +40,7 @@ all_fail : (a b c : Bool) → (a || (b || c)) ≡ false → (a ≡ false) × (b 
 all_fail a b c h = grind arith
 
 -- what is read as a value is written as digits of it
-digits_are : (word value : List ℕ) → content_of word ≡ Ok value → AreDigitsOf value word
+digits_are : (word value : List ℕ) → value_of_word word ≡ Ok value → AreDigitsOf value word
 digits_are word value h =
     let p = else_ok ((length word == 0) || (nat_lt 64 (length word) || list_any is_ascii_uppercase word)) (padded_value (decode_of word)) ScriptCode.Hex value h in
     let t = all_fail (length word == 0) (nat_lt 64 (length word)) (list_any is_ascii_uppercase word) p.0 in
@@ -73,7 +73,7 @@ unfolding put_of
 put_is words w h =
     let a = then_ok (cell_at words) _ w h in
     let b = then_ok (next_word ScriptCode.Form a.0.1) _ w a.2 in
-    let c = then_ok (content_of b.0.0) _ w b.2 in
+    let c = then_ok (value_of_word b.0.0) _ w b.2 in
     let d = then_ok (no_word ScriptCode.Form b.0.1) _ w c.2 in
     let p = place_is words a.0 a.1 in
     let last : a.0.1 ≡ b.0.0 ∷ [] = next_is ScriptCode.Form a.0.1 b.0 b.1 ∙ ap (λ (ws : List (List ℕ)). b.0.0 ∷ ws) (none_left ScriptCode.Form b.0.1 d.0 d.1) in

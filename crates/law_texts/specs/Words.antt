@@ -19,7 +19,7 @@ pub use Rattle.pb_core.specs.Histories.{IsLegalTable}
 pub use Rattle.pb_texts.specs.CommandLines.{count_number, profile_named, version_of}
 pub use Rattle.pb_parse.specs.Operations.{Say}
 pub use Rattle.pb_parse.specs.ScriptLines.{Batches, batch_of, cut, script_of}
-pub use Rattle.pb_parse.specs.ScriptWords.{content_of, operation, padded_value}
+pub use Rattle.pb_parse.specs.ScriptWords.{operation, padded_value, value_of_word}
 unfoldable pub use Rattle.pb_parse.specs.ScriptWords.{cell_at, del_of, put_of, write_of}
 pub use Rattle.pb_parse.specs.declared.script.code.ScriptCode.{ScriptCode}
 pub use Rattle.pb_script.specs.Committed.{IsSeenAt}

@@ -1,6 +1,6 @@
 -- An event of a sound world has one outcome.
 use Rattle.std.proofs.Common.{arith, ◌≡◌, ℕ, List, slice_set, sym, ◌∙◌, ap, subst, Option, Some, slice_get, MatchOption}
-use Rattle.law_worlds.specs.Words.{Reason, reason_code, EachHasOneMeaning, Step, Received, StepsHaveOneOutcome, JournalsAreSound, IsSoundTable, SeatOf, MachinesAreLed, Event, Job, ActorJob, Note, Stepped, ActorSteps, WorldOf, Launches, StepsActor, CrashesActor, OwnAnswers, OwnCalls, Does, Came, IsSoundWorld}
+use Rattle.law_worlds.specs.Words.{Reason, reason_code, EachHasOneMeaning, Step, Received, StepsHaveOneOutcome, JournalsAreSound, IsSoundTable, SeatOf, MachinesAreLed, Event, Job, ActorJob, Note, Stepped, ActorSteps, WorldOf, Launches, StepsActor, CrashesActor, OwnAnswers, OwnCalls, EventDoes, JobCame, IsSoundWorld}
 use Rattle.law_worlds.specs.Outcomes.{AreOneEvent, EventsHaveOneOutcome}
 use Rattle.law_worlds.proofs.Jobs.{actor_steps_once}
 use Rattle.pb_base.proofs.Logic.{one_value}
@@ -48,7 +48,7 @@ module _ (w : WorldOf) (n : Note) (v : WorldOf) (m : Note) (u : WorldOf) where
         other : ActorSteps w.shared x.seat x.actor m u.shared y.told y.stepped
         other = subst (λ (z : Type 0). z) (λ i. ActorSteps w.shared (seat i) (actor i) m u.shared y.told y.stepped) y.steps
 
-        came : (j : ActorJob) → x.actor.job ≡ Some j → (said : List Received) × Came w j said
+        came : (j : ActorJob) → x.actor.job ≡ Some j → (said : List Received) × JobCame w j said
         came j is = let tied = sound.tied k x.actor x.seat j x.its_actor x.its_seat is in (tied.said, tied.came)
 
         to : Stepped
@@ -63,7 +63,7 @@ module _ (w : WorldOf) (n : Note) (v : WorldOf) (m : Note) (u : WorldOf) where
         launched_is : x.stepped.launched ≡ y.stepped.launched
         launched_is = x.steps.launched ∙ sym other.launched
 
-    does_once : EachHasOneMeaning → MachinesAreLed → (e : Event) → Does w e n v → Does w e m u → AreOneEvent n v m u
+    does_once : EachHasOneMeaning → MachinesAreLed → (e : Event) → EventDoes w e n v → EventDoes w e m u → AreOneEvent n v m u
     does_once meaning led e h y = grind (arith, launches_once, steps_once, crashes_once, own_calls_once)
 
 -- every event, by its kind: a launch, a step, a crash, or a step of the main seat

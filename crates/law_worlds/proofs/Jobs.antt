@@ -1,6 +1,6 @@
 -- A call has one outcome, and so has a job's next instruction, a job's answer and an actor's step.
 use Rattle.std.proofs.Common.{◌≡◌, ℕ, Bool, List, length, refl, sym, ◌∙◌, ap, subst, arith, inr, Option, Some, None, MatchBool, MatchOption}
-use Rattle.law_worlds.specs.Words.{Reason, Cell, MAX_RECORD_BYTES, JudgedOf, Placement, IsPlacement, EachHasOneMeaning, Step, Received, StepsHaveOneOutcome, IsSoundTable, SeatOf, call_reason, RunPlace, ComesFrom, MachineStandsAt, MachinesAreLed, RunOf, ActorJob, next_of, is_local, Computes, RulesAccept, Stepped, AnswersJob, RefusesJob, CallSteps, Instructs, IsIdle, StepsTo, WorldOf, RunCame, Came}
+use Rattle.law_worlds.specs.Words.{Reason, Cell, MAX_RECORD_BYTES, JudgedOf, Placement, IsPlacement, EachHasOneMeaning, Step, Received, StepsHaveOneOutcome, IsSoundTable, SeatOf, call_reason, RunPlace, GoesOnFrom, MachineStandsAt, MachinesAreLed, RunOf, ActorJob, next_of, is_local, Computes, RulesAccept, Stepped, AnswersJob, RefusesJob, CallSteps, Instructs, IsIdle, StepsTo, WorldOf, RunCame, JobCame}
 use Rattle.pb_notify.specs.Runs as runs
 use Rattle.law_worlds.proofs.Machines.{comes_once}
 
@@ -14,7 +14,7 @@ is_placed j size accepted e =
 
 module _ (meaning : EachHasOneMeaning) (led : MachinesAreLed) (w : WorldOf) where
   module _ (r : RunOf) (said : List Received) (came : RunCame w r said) where
-    places_once : (place : RunPlace) → r.place ≡ place → (x y : RunPlace) → ComesFrom r.watch.observer r.watch.judged (Cell.Data r.watch.row r.watch.column) place x → ComesFrom r.watch.observer r.watch.judged (Cell.Data r.watch.row r.watch.column) place y → x ≡ y
+    places_once : (place : RunPlace) → r.place ≡ place → (x y : RunPlace) → GoesOnFrom r.watch.observer r.watch.judged (Cell.Data r.watch.row r.watch.column) place x → GoesOnFrom r.watch.observer r.watch.judged (Cell.Data r.watch.row r.watch.column) place y → x ≡ y
     places_once (RunPlace.Starting s seen) is x y c d =
         let p = is_placed r.watch.judged _ came.accepted c.size in
         comes_once _ p.0 p.1 meaning r.watch.observer s x y c.comes d.comes
@@ -30,7 +30,7 @@ module _ (meaning : EachHasOneMeaning) (led : MachinesAreLed) (w : WorldOf) wher
         let e : k.place ≡ l.place = places_once r.place refl k.place l.place x.comes y.comes in
         x.same ∙ (ap (λ p. record r { place = p }) e ∙ sym y.same)
 
-  pub computes_once : (j : ActorJob) (said : List Received) → Came w j said → (k l : ActorJob) → Computes j k → Computes j l → k ≡ l
+  pub computes_once : (j : ActorJob) (said : List Received) → JobCame w j said → (k l : ActorJob) → Computes j k → Computes j l → k ≡ l
   computes_once (ActorJob.Change c) said came k l x y = absurd x
   computes_once (ActorJob.Run r) said came k l x y = x.1 ∙ (ap ActorJob.Run (run_computes_once r said came x.0 y.0 x.2 y.2) ∙ sym y.1)
 
@@ -45,7 +45,7 @@ module _ (step : StepsHaveOneOutcome) (meaning : EachHasOneMeaning) (led : Machi
   idle_once : IsIdle w.shared seat to → IsIdle w.shared seat at → to ≡ at
   idle_once x y = are_one (x.note ∙ sym y.note) (x.same.table ∙ sym y.same.table) (x.same.list ∙ sym y.same.list) (x.left ∙ sym y.left)
 
-  instructs_once : (j : ActorJob) (said : List Received) → Came w j said → Instructs w.shared seat j to → Instructs w.shared seat j at → to ≡ at
+  instructs_once : (j : ActorJob) (said : List Received) → JobCame w j said → Instructs w.shared seat j to → Instructs w.shared seat j at → to ≡ at
   instructs_once j said came x y =
       are_one (x.note ∙ sym y.note) (x.same.table ∙ sym y.same.table) (x.same.list ∙ sym y.same.list)
       (x.left ∙ (ap Some (computes_once meaning led w j said came x.after y.after x.computes y.computes) ∙ sym y.left))
@@ -61,12 +61,12 @@ module _ (step : StepsHaveOneOutcome) (meaning : EachHasOneMeaning) (led : Machi
   asked_once j None x y = idle_once x y
   asked_once j (Some st) x y = called_once j st (call_reason w.shared seat.number st) x y
 
-  job_steps_by : (j : ActorJob) (said : List Received) → Came w j said → (local : Bool)
+  job_steps_by : (j : ActorJob) (said : List Received) → JobCame w j said → (local : Bool)
       → MatchBool local (Instructs w.shared seat j to) (MatchOption (next_of j) (IsIdle w.shared seat to) (λ st. CallSteps w.shared seat j st to))
       → MatchBool local (Instructs w.shared seat j at) (MatchOption (next_of j) (IsIdle w.shared seat at) (λ st. CallSteps w.shared seat j st at)) → to ≡ at
   job_steps_by j said came local x y = grind (arith, instructs_once, asked_once)
 
   -- what the step of an actor with this job, or none, comes to
-  pub actor_steps_once : (o : Option ActorJob) → ((j : ActorJob) → o ≡ Some j → (said : List Received) × Came w j said) → StepsTo w.shared seat o to → StepsTo w.shared seat o at → to ≡ at
+  pub actor_steps_once : (o : Option ActorJob) → ((j : ActorJob) → o ≡ Some j → (said : List Received) × JobCame w j said) → StepsTo w.shared seat o to → StepsTo w.shared seat o at → to ≡ at
   actor_steps_once None came x y = idle_once x y
   actor_steps_once (Some j) came x y = let c = came j refl in job_steps_by j c.0 c.1 (is_local j) x y

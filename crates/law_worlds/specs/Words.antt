@@ -22,17 +22,17 @@ pub use Rattle.pb_parse.specs.declared.event.Event.{Event}
 pub use Rattle.pb_parse.specs.declared.event.Job.{Job}
 pub use Rattle.pb_txn.specs.Plans.{fresh}
 pub use Rattle.pb_notify.specs.Led.{MachineStandsAt, MachinesAreLed}
-pub use Rattle.pb_notify.specs.Machines.{Leaves}
-pub use Rattle.pb_notify.specs.Places.{Comes, ComesFrom, declares, goes, waits}
+pub use Rattle.pb_notify.specs.Machines.{ExitLeaves}
+pub use Rattle.pb_notify.specs.Places.{ComesTo, GoesOnFrom, declares, goes, waits}
 pub use Rattle.pb_notify.specs.Runs.{RunOf}
 pub use Rattle.pb_notify.specs.declared.look.Look.{Look}
 pub use Rattle.pb_notify.specs.declared.place.RunPlace.{RunPlace}
 pub use Rattle.pb_world.specs.Actors.{ActorSteps, AnswersJob, CallSteps, Instructs, IsIdle, RefusesJob, Stepped, StepsTo}
-pub use Rattle.pb_world.specs.Events.{CrashesActor, Does, Happens, Launches, OwnAnswers, OwnCalls, RunsTo, StepsActor, StopsAtEvent, WorldOf, fault_of}
+pub use Rattle.pb_world.specs.Events.{CrashesActor, EventDoes, Happens, Launches, OwnAnswers, OwnCalls, RunsTo, StepsActor, StopsAtEvent, WorldOf, fault_of}
 pub use Rattle.pb_world.specs.Faults.{fault_code, memory_fault}
 pub use Rattle.pb_world.specs.Headline.{IsOpened}
 pub use Rattle.pb_world.specs.Jobs.{Computes, RulesAccept, is_local, next_of}
-pub use Rattle.pb_world.specs.Sound.{Came, EventsKeepSound, IsSoundWorld, RunCame}
+pub use Rattle.pb_world.specs.Sound.{EventsKeepSound, IsSoundWorld, JobCame, RunCame}
 pub use Rattle.pb_world.specs.declared.fault.EventFault.{EventFault}
 pub use Rattle.pb_world.specs.declared.job.ActorJob.{ActorJob}
 pub use Rattle.pb_world.specs.declared.note.Note.{Note}

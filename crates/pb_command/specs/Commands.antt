@@ -12,7 +12,7 @@ use Rattle.pb_driver.specs.Runs.{RunsTexts}
 use Rattle.pb_driver.specs.Replays.{ReplaysTexts}
 use Rattle.pb_files.specs.declared.answer.Verdict.{Verdict}
 use Rattle.pb_files.specs.declared.fault.FileFault.{FileFault}
-use Rattle.pb_files.specs.Files.{Text, Held, Filing, KeepsFiles, IsKnownAs}
+use Rattle.pb_files.specs.Files.{PathBytes, Held, Filing, KeepsFiles, IsKnownAs}
 use Rattle.pb_files.specs.PathFaults.{IsFileFault}
 use Rattle.pb_files.specs.Programs.{AsmLeaves, AnswerLeaves, TellsProgram, Checks}
 use Rattle.pb_command.specs.declared.fault.Fault.{Fault}
@@ -25,7 +25,7 @@ abbrev pub IsAllDone : Ran → Type 0
 IsAllDone ran = All (λ r. r ≡ None) ran.refusals.items × (ran.unfinished.items ≡ [])
 
 -- on a table of so many tablets so many workers ran texts that the two paths hold so, beside the swaps of these spares, from the clock 0
-pub record RanFrom (places : ℕ) (before : Held) (manifest script : Text) (workers : ℕ) (spares : List Spare) (out : Taking) (result : Result Ran RunFault) : Type 0 where
+pub record RanFrom (places : ℕ) (before : Held) (manifest script : PathBytes) (workers : ℕ) (spares : List Spare) (out : Taking) (result : Result Ran RunFault) : Type 0 where
   pub manifest_text : List ℕ
   pub script_text : List ℕ
   pub manifest_held : IsKnownAs (before manifest) (Ok manifest_text)
@@ -33,19 +33,19 @@ pub record RanFrom (places : ℕ) (before : Held) (manifest script : Text) (work
   pub ran : RunsTexts places manifest_text script_text workers 0 spares out result
 
 -- the texts ran, and nothing was left undone
-pub record RanWhole (places : ℕ) (before : Held) (manifest script : Text) (workers : ℕ) (spares : List Spare) (out : Taking) : Type 0 where
+pub record RanWhole (places : ℕ) (before : Held) (manifest script : PathBytes) (workers : ℕ) (spares : List Spare) (out : Taking) : Type 0 where
   pub left : Ran
   pub all_done : IsAllDone left
   pub ran : RanFrom places before manifest script workers spares out (Ok left)
 
 -- The texts ran, and this was left undone; or they ran to this fault; or there was none to run, and nothing was written.
-abbrev pub RunFails : ℕ → Held → Text → Text → ℕ → List Spare → Taking → Fault → Type 0
+abbrev pub RunFails : ℕ → Held → PathBytes → PathBytes → ℕ → List Spare → Taking → Fault → Type 0
 RunFails places before manifest script workers spares out (Fault.Undone left) = RanFrom places before manifest script workers spares out (Ok left) × (IsAllDone left → ⊥)
 RunFails places before manifest script workers spares out (Fault.Run f) = RanFrom places before manifest script workers spares out (Err f)
 RunFails places before manifest script workers spares out (Fault.File f) = TookNothing out × IsFileFault before (manifest ∷ script ∷ []) f
 
 -- what `run` leaves: the whole report where all is done, or a fault; it refuses nothing that it is given
-abbrev pub RunLeaves : ℕ → Held → Text → Text → ℕ → List Spare → Taking → Result Verdict Fault → Type 0
+abbrev pub RunLeaves : ℕ → Held → PathBytes → PathBytes → ℕ → List Spare → Taking → Result Verdict Fault → Type 0
 RunLeaves places before manifest script workers spares out (Ok Verdict.Accepted) = RanWhole places before manifest script workers spares out
 RunLeaves places before manifest script workers spares out (Ok Verdict.Refused) = ⊥
 RunLeaves places before manifest script workers spares out (Err f) = RunFails places before manifest script workers spares out f

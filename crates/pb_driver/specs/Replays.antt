@@ -1,7 +1,7 @@
 -- Replays: a schedule's events in a world of a manifest's observers and a script's changes, and the report of what
 -- they left. `replay_texts` promises it; where an event is at fault, nothing is reported.
 use Rattle.std.specs.Prelude.{◌≡◌, ◌≢◌, ℕ, List, length, Result, Ok, Err}
-use Rattle.pb_driver.specs.Words.{MAX_SEATS, Writes, ObserverOf, SharedOf, SeatOf, AreSeats, Event, EventFault, WorldFault, Note, fault_code, memory_fault, WorldOf, idle_actors, RunsTo, StopsAtEvent, Taking, TookNothing, Wrote, Began}
+use Rattle.pb_driver.specs.Words.{MAX_SEATS, Writes, ObserverOf, SharedOf, SeatOf, AreSeats, Event, EventFault, WorldFault, Note, fault_code, memory_fault, WorldOf, idle_actors, RunsTo, StopsAtEvent, Taking, TookNothing, WroteTableReport, BeganTableReport}
 use Rattle.pb_driver.specs.declared.fault.RunFault.{RunFault}
 use Rattle.pb_driver.specs.Texts.{IsReplayRead, IsReplayUnread, table_opened}
 
@@ -17,14 +17,14 @@ pub record ReplayReported (w : WorldOf) (events : List Event) (out : Taking) : T
   pub notes : List Note
   pub after : WorldOf
   pub runs : RunsTo w events notes after
-  pub wrote : Wrote after.shared out
+  pub wrote : WroteTableReport after.shared out
 
 -- a beginning of that report was written
 pub record BeganReplayReport (w : WorldOf) (events : List Event) (out : Taking) : Type 0 where
   pub notes : List Note
   pub after : WorldOf
   pub runs : RunsTo w events notes after
-  pub began : Began after.shared out
+  pub began : BeganTableReport after.shared out
 
 -- an event was at fault by itself
 pub record ReplayStopped (w : WorldOf) (events : List Event) (f : WorldFault) : Type 0 where

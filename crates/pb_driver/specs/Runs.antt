@@ -2,7 +2,7 @@
 -- Threads may take their turns in any way, so it is a relation: what they leave is told by their seats and the
 -- journal. `run_texts` cites it.
 use Rattle.std.specs.Prelude.{◌≡◌, ℕ, ◌+◌, ◌-◌, List, length, Option, Result, Ok, Err}
-use Rattle.pb_driver.specs.Words.{Refusal, Writes, ObserverOf, IsLegal, SharedOf, SeatOf, AreSeats, IsLegalTable, Agree, opening_of, MakesChanges, Spare, WorkedOn, KeepsOpening, Taking, TookNothing, Wrote, Began}
+use Rattle.pb_driver.specs.Words.{Refusal, Writes, ObserverOf, IsLegal, SharedOf, SeatOf, AreSeats, IsLegalTable, Agree, opening_of, MakesChanges, Spare, WorkedOn, KeepsOpening, Taking, TookNothing, WroteTableReport, BeganTableReport}
 use Rattle.pb_driver.specs.declared.fault.RunFault.{RunFault}
 use Rattle.pb_driver.specs.declared.run.Ran.{Ran}
 use Rattle.pb_driver.specs.Texts.{IsRunRead, IsRunUnread, table_opened}
@@ -37,36 +37,36 @@ TellsUndone ran left = (ran.refusals.items ≡ left.refusals) × (ran.unfinished
 
 -- how it ended for what was left, and what the sink took
 abbrev pub Concludes : Remains → Taking → Result Ran RunFault → Type 0
-Concludes left out (Ok ran) = IsLegalTable left.table × Agree left.table left.seats × TellsUndone ran left × Wrote left.table out
-Concludes left out (Err RunFault.Output) = IsLegalTable left.table × Agree left.table left.seats × Began left.table out
+Concludes left out (Ok ran) = IsLegalTable left.table × Agree left.table left.seats × TellsUndone ran left × WroteTableReport left.table out
+Concludes left out (Err RunFault.Output) = IsLegalTable left.table × Agree left.table left.seats × BeganTableReport left.table out
 Concludes left out (Err RunFault.SeatsDiffer) = (Agree left.table left.seats → ⊥) × TookNothing out
 Concludes left out (Err (RunFault.NoMemory refused)) = Agree left.table left.seats × TookNothing out
 Concludes left out (Err _) = ⊥
 
 -- the report of what workers left was written, and what they left undone is told
-pub record Reported (before : SharedOf) (olds : List SeatOf) (batches : List Writes) (spares : List Spare) (ran : Ran) (out : Taking) : Type 0 where
+pub record WroteRunReport (before : SharedOf) (olds : List SeatOf) (batches : List Writes) (spares : List Spare) (ran : Ran) (out : Taking) : Type 0 where
   pub left : Remains
   pub accepts : FinishAccepts before olds batches spares left
   pub undone : TellsUndone ran left
-  pub wrote : Wrote left.table out
+  pub wrote : WroteTableReport left.table out
 
 -- a beginning of that report was written
-pub record BeganReport (before : SharedOf) (olds : List SeatOf) (batches : List Writes) (spares : List Spare) (out : Taking) : Type 0 where
+pub record BeganRunReport (before : SharedOf) (olds : List SeatOf) (batches : List Writes) (spares : List Spare) (out : Taking) : Type 0 where
   pub left : Remains
   pub accepts : FinishAccepts before olds batches spares left
-  pub began : Began left.table out
+  pub began : BeganTableReport left.table out
 
 -- workers left seats that aren't what the journal tells of them
-pub record Differ (before : SharedOf) (olds : List SeatOf) (batches : List Writes) (spares : List Spare) : Type 0 where
+pub record SeatsLeftDiffer (before : SharedOf) (olds : List SeatOf) (batches : List Writes) (spares : List Spare) : Type 0 where
   pub left : Remains
   pub leave : WorkersLeave before olds batches spares left
   pub differ : Agree left.table left.seats → ⊥
 
 -- how a run on a table as opened ended, and what the sink took
 abbrev pub RunsOnTable : SharedOf → List SeatOf → List Writes → List Spare → Taking → Result Ran RunFault → Type 0
-RunsOnTable before olds batches spares out (Ok ran) = Reported before olds batches spares ran out
-RunsOnTable before olds batches spares out (Err RunFault.Output) = BeganReport before olds batches spares out
-RunsOnTable before olds batches spares out (Err RunFault.SeatsDiffer) = Differ before olds batches spares × TookNothing out
+RunsOnTable before olds batches spares out (Ok ran) = WroteRunReport before olds batches spares ran out
+RunsOnTable before olds batches spares out (Err RunFault.Output) = BeganRunReport before olds batches spares out
+RunsOnTable before olds batches spares out (Err RunFault.SeatsDiffer) = SeatsLeftDiffer before olds batches spares × TookNothing out
 RunsOnTable before olds batches spares out (Err (RunFault.NoMemory refused)) = TookNothing out
 RunsOnTable before olds batches spares out (Err _) = ⊥
 

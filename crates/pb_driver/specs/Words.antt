@@ -15,7 +15,7 @@ pub use Rattle.pb_core.specs.Histories.{IsLegalTable}
 pub use Rattle.pb_parse.specs.Schedules.{schedule_of}
 pub use Rattle.pb_parse.specs.ScriptLines.{script_of}
 pub use Rattle.pb_parse.specs.declared.event.Event.{Event}
-pub use Rattle.pb_script.specs.TableReports.{Began, Reports, Wrote}
+pub use Rattle.pb_script.specs.TableReports.{BeganTableReport, Reports, WroteTableReport}
 pub use Rattle.pb_script.specs.declared.fault.ReportFault.{ReportFault}
 pub use Rattle.pb_registry.specs.FaultTexts.{fault_text}
 pub use Rattle.pb_registry.specs.Judging.{ReadsManifest}

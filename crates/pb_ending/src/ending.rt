@@ -96,7 +96,7 @@ fn place_of(number: u32, seats: &[Seat], places: &[usize; SEATS]) -> Option<usiz
 }
 
 // Behind this item of the list, if there is one and it is what the entry tells.
-fn behind(e: &Entry, list: &[Received], next: usize) -> Option<usize>
+fn cursor_after(e: &Entry, list: &[Received], next: usize) -> Option<usize>
     ensures some { IfSome result (λ n. (slice_get list.now next ≡ Some (told_by e.now))
         × (n ≡ next + 1)) }
     ensures none { result ≡ None → slice_get list.now next ≢ Some (told_by e.now) }
@@ -133,7 +133,7 @@ fn are_told(count: u32, journal: &[Entry], seats: &[Seat]) -> bool
     let mut cursors = [0; SEATS];
     for e in journal {
         if let Some(place) = place_of(e.seat, seats, &places) {
-            match behind(e, seats[place].received(), cursors[place]) {
+            match cursor_after(e, seats[place].received(), cursors[place]) {
                 Some(next) => cursors[place] = next,
                 None => return false,
             }

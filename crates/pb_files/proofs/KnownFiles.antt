@@ -2,7 +2,7 @@
 use Rattle.std.proofs.Common.{arith, ◌≡◌, subst, ℕ, List, Option, Some, Ok, Err, IsUtf8}
 use Rattle.pb_files.specs.declared.paths.PathFault.{PathFault}
 use Rattle.pb_files.specs.declared.fault.FileFault.{FileFault}
-use Rattle.pb_files.specs.Files.{Text, ReadAnswer, IsKnownAs}
+use Rattle.pb_files.specs.Files.{PathBytes, ReadAnswer, IsKnownAs}
 use Rattle.pb_files.specs.PathFaults.{memory_fault, IsUnreadAt, IsRead, IsText, IsNoText}
 use Rattle.pb_files.specs.FirstFaults.{TellsUnread, TellsNoText}
 
@@ -11,7 +11,7 @@ known_as : (known : Option ReadAnswer) (answer told : ReadAnswer) → known ≡ 
 known_as known answer told e k = subst (λ (x : Option ReadAnswer). IsKnownAs x told) e k
 
 -- a path that is known not to be read is told with its own fault, unless memory ran out
-pub own_fault : (known : Option ReadAnswer) (path : Text) (fault : PathFault) (f : FileFault) → known ≡ Some (Err fault) → IsUnreadAt known path f → TellsUnread path fault f
+pub own_fault : (known : Option ReadAnswer) (path : PathBytes) (fault : PathFault) (f : FileFault) → known ≡ Some (Err fault) → IsUnreadAt known path f → TellsUnread path fault f
 own_fault known path fault f e u = grind arith
 
 -- and bytes are not read of it
@@ -19,7 +19,7 @@ pub not_read : (known : Option ReadAnswer) (fault : PathFault) → known ≡ Som
 not_read known fault e r = let k : Ok r.bytes ≡ Err fault = known_as known (Err fault) (Ok r.bytes) e r.bytes_held in cc
 
 -- a path that is known to be read fails for memory alone
-pub only_memory : (known : Option ReadAnswer) (bytes : List ℕ) (path : Text) (f : FileFault) → known ≡ Some (Ok bytes) → IsUnreadAt known path f → f ≡ memory_fault
+pub only_memory : (known : Option ReadAnswer) (bytes : List ℕ) (path : PathBytes) (f : FileFault) → known ≡ Some (Ok bytes) → IsUnreadAt known path f → f ≡ memory_fault
 only_memory known bytes path f e u = grind arith
 
 -- what is read of it are its bytes
@@ -27,11 +27,11 @@ pub same_bytes : (known : Option ReadAnswer) (bytes told : List ℕ) → known �
 same_bytes known bytes told e k = let same : Ok told ≡ Ok bytes = known_as known (Ok bytes) (Ok told) e k in cc
 
 -- bytes that are no text are told of their own path
-pub own_text : (known : Option ReadAnswer) (path : Text) (f : FileFault) → IsNoText known path f → TellsNoText path f
+pub own_text : (known : Option ReadAnswer) (path : PathBytes) (f : FileFault) → IsNoText known path f → TellsNoText path f
 own_text known path f n = grind arith
 
 -- bytes that are text are not told as none
-pub text_is_text : (known : Option ReadAnswer) (bytes : List ℕ) (path : Text) (f : FileFault) → known ≡ Some (Ok bytes) → IsUtf8 bytes → IsNoText known path f → ⊥
+pub text_is_text : (known : Option ReadAnswer) (bytes : List ℕ) (path : PathBytes) (f : FileFault) → known ≡ Some (Ok bytes) → IsUtf8 bytes → IsNoText known path f → ⊥
 text_is_text known bytes path f e utf8 n = grind arith
 
 pub not_text : (known : Option ReadAnswer) (bytes : List ℕ) → known ≡ Some (Ok bytes) → (IsUtf8 bytes → ⊥) → IsText known → ⊥

@@ -5,8 +5,8 @@ use Rattle.pb_base.specs.Growths.{refused_growth}
 use Rattle.pb_files.specs.declared.paths.PathFault.{PathFault}
 
 -- the bytes of a path, as of any text
-abbrev pub Text : Type 0
-Text = List ℕ
+abbrev pub PathBytes : Type 0
+PathBytes = List ℕ
 
 -- what reading a path answers: the bytes of its file, or why they aren't read
 abbrev pub ReadAnswer : Type 0
@@ -14,7 +14,7 @@ ReadAnswer = Result (List ℕ) PathFault
 
 -- what reading each path answers
 abbrev pub Held : Type 0
-Held = Text → Option ReadAnswer
+Held = PathBytes → Option ReadAnswer
 
 -- this is what reading a path answers, where that is known
 abbrev pub IsKnownAs : Option ReadAnswer → ReadAnswer → Type 0
@@ -26,8 +26,8 @@ abbrev pub IsFaultKnownAs : Option ReadAnswer → PathFault → Type 0
 IsFaultKnownAs known fault = (fault ≡ PathFault.NoMemory refused_growth) ⊎ IsKnownAs known (Err fault)
 
 -- reading each other path answers what it answered
-abbrev pub KeepsOthers : Held → Held → Text → Type 0
-KeepsOthers before after path = (other : Text) → other ≢ path → after other ≡ before other
+abbrev pub KeepsOthers : Held → Held → PathBytes → Type 0
+KeepsOthers before after path = (other : PathBytes) → other ≢ path → after other ≡ before other
 
 -- what the paths held before a command and hold after it, and whether a write to one had failed and has
 pub record Filing : Type 0 where

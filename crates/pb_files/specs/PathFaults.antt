@@ -4,7 +4,7 @@ use Rattle.std.specs.Prelude.{◌≡◌, ◌⊎◌, ℕ, List, [], ◌∷◌, Op
 use Rattle.pb_base.specs.Growths.{refused_growth}
 use Rattle.pb_files.specs.declared.paths.PathFault.{PathFault}
 use Rattle.pb_files.specs.declared.fault.FileFault.{FileFault}
-use Rattle.pb_files.specs.Files.{Text, ReadAnswer, Held, IsKnownAs}
+use Rattle.pb_files.specs.Files.{PathBytes, ReadAnswer, Held, IsKnownAs}
 
 -- the fault for which a growth was refused
 abbrev pub memory_fault : FileFault
@@ -13,7 +13,7 @@ memory_fault = FileFault.NoMemory refused_growth
 -- ---- a file
 
 -- reading the path answers this fault, which is told of it; or memory was refused
-abbrev pub IsUnreadAt : Option ReadAnswer → Text → FileFault → Type 0
+abbrev pub IsUnreadAt : Option ReadAnswer → PathBytes → FileFault → Type 0
 IsUnreadAt known path (FileFault.Unreadable p) = (p.now ≡ path) × IsKnownAs known (Err PathFault.Failed)
 IsUnreadAt known path (FileFault.TooLarge p) = (p.now ≡ path) × IsKnownAs known (Err PathFault.TooLarge)
 IsUnreadAt known path (FileFault.NoMemory refused) = Unit {0}
@@ -36,7 +36,7 @@ pub record IsText (known : Option ReadAnswer) : Type 0 where
   pub text : IsUtf8 bytes
 
 -- reading the path answers bytes that are no text
-pub record IsNoText (known : Option ReadAnswer) (path : Text) (f : FileFault) : Type 0 where
+pub record IsNoText (known : Option ReadAnswer) (path : PathBytes) (f : FileFault) : Type 0 where
   pub bytes : List ℕ
   pub bytes_held : IsKnownAs known (Ok bytes)
   pub no_text : IsNoTextAt path bytes f
@@ -44,22 +44,22 @@ pub record IsNoText (known : Option ReadAnswer) (path : Text) (f : FileFault) : 
 -- ---- files in their order
 
 -- each of the paths is read
-abbrev pub AreRead : Held → List Text → Type 0
+abbrev pub AreRead : Held → List PathBytes → Type 0
 AreRead before [] = Unit {0}
 AreRead before (path ∷ paths) = IsRead (before path) × AreRead before paths
 
 -- the fault of the first path that isn't read
-abbrev pub IsFirstUnread : Held → List Text → FileFault → Type 0
+abbrev pub IsFirstUnread : Held → List PathBytes → FileFault → Type 0
 IsFirstUnread before [] f = ⊥
 IsFirstUnread before (path ∷ paths) f =
     IsUnreadAt (before path) path f ⊎ (IsRead (before path) × IsFirstUnread before paths f)
 
 -- the fault of the first path whose bytes are no text
-abbrev pub IsFirstNoText : Held → List Text → FileFault → Type 0
+abbrev pub IsFirstNoText : Held → List PathBytes → FileFault → Type 0
 IsFirstNoText before [] f = ⊥
 IsFirstNoText before (path ∷ paths) f =
     IsNoText (before path) path f ⊎ (IsText (before path) × IsFirstNoText before paths f)
 
 -- the first fault of files that are all read before any is taken as text
-abbrev pub IsFileFault : Held → List Text → FileFault → Type 0
+abbrev pub IsFileFault : Held → List PathBytes → FileFault → Type 0
 IsFileFault before paths f = IsFirstUnread before paths f ⊎ (AreRead before paths × IsFirstNoText before paths f)

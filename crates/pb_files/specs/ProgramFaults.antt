@@ -8,7 +8,7 @@ use Rattle.pb_asm.specs.Texts.{program_of_text}
 use Rattle.pb_asm.specs.Listing.{listing}
 use Rattle.pb_base.specs.Taking.{Taking}
 use Rattle.pb_files.specs.declared.fault.FileFault.{FileFault}
-use Rattle.pb_files.specs.Files.{Text, Filing}
+use Rattle.pb_files.specs.Files.{PathBytes, Filing}
 use Rattle.pb_files.specs.PathFaults.{memory_fault}
 use Rattle.pb_files.specs.Programs.{AsmFails, AnswerFails, TellsProgram, Checks}
 
@@ -20,13 +20,13 @@ TellsPlace line code _ = ⊥
 
 -- of text that is known and is no program's, it is told where it is at fault
 abbrev pub FaultyTextIsTold : Type 0
-FaultyTextIsTold = (profile : Profile) (files : Filing) (input output text : Text) (line code : ℕ) (f : FileFault) →
+FaultyTextIsTold = (profile : Profile) (files : Filing) (input output text : PathBytes) (line code : ℕ) (f : FileFault) →
     files.before input ≡ Some (Ok text) → IsUtf8 text → program_of_text profile text ≡ Err (line, code) →
     AsmFails profile files input output f → TellsPlace line code f
 
 -- of bytes that are known, nothing but the output or memory fails where they are listed or checked
 abbrev pub KnownBytesAreAnswered : Type 0
-KnownBytesAreAnswered = (profile : Profile) (version : Version) (bytes path : Text) (out : Taking) (f : FileFault) →
+KnownBytesAreAnswered = (profile : Profile) (version : Version) (bytes path : PathBytes) (out : Taking) (f : FileFault) →
     AnswerFails (TellsProgram listing profile) (Some (Ok bytes)) path out f ⊎
     AnswerFails (Checks profile version) (Some (Ok bytes)) path out f →
     (f ≡ FileFault.Output) ⊎ (f ≡ memory_fault)

@@ -17,7 +17,7 @@ use Rattle.pb_base.specs.Refusals.{slot_and_code}
 use Rattle.pb_base.specs.Taking.{Taking, TookAll, TookPart, TookNothing}
 use Rattle.pb_files.specs.declared.answer.Verdict.{Verdict}
 use Rattle.pb_files.specs.declared.fault.FileFault.{FileFault}
-use Rattle.pb_files.specs.Files.{Text, ReadAnswer, Filing, IsKnownAs, KeepsOthers, KeepsFiles}
+use Rattle.pb_files.specs.Files.{PathBytes, ReadAnswer, Filing, IsKnownAs, KeepsOthers, KeepsFiles}
 use Rattle.pb_files.specs.PathFaults.{memory_fault, IsUnreadAt, IsNoText}
 
 -- ---- assembling
@@ -31,14 +31,14 @@ pub record Assembles (profile : Profile) (input : Option ReadAnswer) (bytes : Li
   pub encoded : Encodes bytes program
 
 -- the program's bytes stand at the path for the output
-pub record Assembled (profile : Profile) (files : Filing) (input output : Text) : Type 0 where
+pub record Assembled (profile : Profile) (files : Filing) (input output : PathBytes) : Type 0 where
   pub bytes : List ℕ
   pub assembles : Assembles profile (files.before input) bytes
   pub written : IsKnownAs (files.after output) (Ok bytes)
   pub others : KeepsOthers files.before files.after output
 
 -- the text is a program's, whose bytes could not be written
-pub record Unwritten (profile : Profile) (files : Filing) (input output : Text) : Type 0 where
+pub record Unwritten (profile : Profile) (files : Filing) (input output : PathBytes) : Type 0 where
   pub bytes : List ℕ
   pub assembles : Assembles profile (files.before input) bytes
   pub others : KeepsOthers files.before files.after output
@@ -51,19 +51,19 @@ pub record IsFaultyText (profile : Profile) (held : Option ReadAnswer) (f : Text
   pub fault : IsFaultOf (program_of_text profile text) f
 
 -- the file at the path isn't read, or is no program's text, and this tells it
-abbrev pub IsNoProgramText : Profile → Option ReadAnswer → Text → FileFault → Type 0
+abbrev pub IsNoProgramText : Profile → Option ReadAnswer → PathBytes → FileFault → Type 0
 IsNoProgramText profile held path (FileFault.Text f) = IsFaultyText profile held f
 IsNoProgramText profile held path (FileFault.NotText p) = IsNoText held path (FileFault.NotText p)
 IsNoProgramText profile held path f = IsUnreadAt held path f
 
 -- Why nothing was assembled, and whether a write to a path has failed: only where one did is it told of the output.
-abbrev pub AsmFails : Profile → Filing → Text → Text → FileFault → Type 0
+abbrev pub AsmFails : Profile → Filing → PathBytes → PathBytes → FileFault → Type 0
 AsmFails profile files input output (FileFault.Unwritable p) = (p.now ≡ output) × Unwritten profile files input output
 AsmFails profile files input output (FileFault.NoMemory refused) = KeepsFiles files ⊎ Unwritten profile files input output
 AsmFails profile files input output f = KeepsFiles files × IsNoProgramText profile (files.before input) input f
 
 -- what `asm` leaves: OUT with the bytes, or a fault; a text is refused as a fault and no answer
-abbrev pub AsmLeaves : Profile → Filing → Text → Text → Result Verdict FileFault → Type 0
+abbrev pub AsmLeaves : Profile → Filing → PathBytes → PathBytes → Result Verdict FileFault → Type 0
 AsmLeaves profile files input output (Ok Verdict.Accepted) = Assembled profile files input output × (files.failed ≡ files.was)
 AsmLeaves profile files input output (Ok Verdict.Refused) = ⊥
 AsmLeaves profile files input output (Err f) = AsmFails profile files input output f
@@ -93,7 +93,7 @@ Checks profile version bytes Verdict.Accepted text = (j : JudgedOf) × IsAccepte
 Checks profile version bytes Verdict.Refused text = (slot code : ℕ) × IsRefusedCode profile version bytes all_helpers slot code × (text ≡ refusal_line slot code)
 
 -- the bytes at a path were judged so, and the whole text was written
-pub record Answered (judges : Judges) (held : Option ReadAnswer) (out : Taking) (verdict : Verdict) : Type 0 where
+pub record WroteVerdict (judges : Judges) (held : Option ReadAnswer) (out : Taking) (verdict : Verdict) : Type 0 where
   pub bytes : List ℕ
   pub text : List ℕ
   pub bytes_held : IsKnownAs held (Ok bytes)
@@ -101,7 +101,7 @@ pub record Answered (judges : Judges) (held : Option ReadAnswer) (out : Taking) 
   pub taken : TookAll out text
 
 -- the bytes at a path were judged, and a write failed, with a beginning of the text written
-pub record Cut (judges : Judges) (held : Option ReadAnswer) (out : Taking) : Type 0 where
+pub record BeganVerdict (judges : Judges) (held : Option ReadAnswer) (out : Taking) : Type 0 where
   pub bytes : List ℕ
   pub text : List ℕ
   pub verdict : Verdict
@@ -110,13 +110,13 @@ pub record Cut (judges : Judges) (held : Option ReadAnswer) (out : Taking) : Typ
   pub taken : TookPart out text
 
 -- why no whole answer was written: a write failed, or nothing was read and so nothing written
-abbrev pub AnswerFails : Judges → Option ReadAnswer → Text → Taking → FileFault → Type 0
-AnswerFails judges held path out FileFault.Output = Cut judges held out
+abbrev pub AnswerFails : Judges → Option ReadAnswer → PathBytes → Taking → FileFault → Type 0
+AnswerFails judges held path out FileFault.Output = BeganVerdict judges held out
 AnswerFails judges held path out f = TookNothing out × IsUnreadAt held path f
 
 -- what a command on a program's bytes leaves, whichever way it judges
-abbrev pub AnswerLeaves : Judges → Option ReadAnswer → Text → Taking → Result Verdict FileFault → Type 0
-AnswerLeaves judges held path out (Ok verdict) = Answered judges held out verdict
+abbrev pub AnswerLeaves : Judges → Option ReadAnswer → PathBytes → Taking → Result Verdict FileFault → Type 0
+AnswerLeaves judges held path out (Ok verdict) = WroteVerdict judges held out verdict
 AnswerLeaves judges held path out (Err f) = AnswerFails judges held path out f
 
 -- the fault is one of a text that was read

@@ -8,7 +8,7 @@ use Rattle.pb_notify.specs.declared.look.Look.{Look}
 use Rattle.pb_notify.specs.declared.look.Looked.{Looked}
 use Rattle.pb_notify.specs.declared.place.RunPlace.{RunPlace}
 use Rattle.pb_notify.specs.Looks.{look_after, locked_after}
-use Rattle.pb_notify.specs.Places.{place_after, locked_at, after_begin, after_cell, after_acknowledgment, after_recall, after_ask, by_outcome, Comes, ComesFrom, AtPlace, step_at}
+use Rattle.pb_notify.specs.Places.{place_after, locked_at, after_begin, after_cell, after_acknowledgment, after_recall, after_ask, by_outcome, ComesTo, GoesOnFrom, AtPlace, step_at}
 use Rattle.pb_notify.specs.Runs.{need_at}
 use Rattle.pb_notify.specs.declared.need.Need.{Need}
 use Rattle.pb_notify.proofs.PlansFit.{fits_after, next_is}
@@ -61,11 +61,11 @@ at_after second locked (RunPlace.Over end) a at = tt
 -- ---- instructions
 
 -- what an instruction did tells how the machine stands at the next place
-pub at_come : (locked o : ℕ) (s : Ts) (v : Position) (place : RunPlace) → Comes o s v place → locked < MAX_LOCKED → AtPlace locked place
+pub at_come : (locked o : ℕ) (s : Ts) (v : Position) (place : RunPlace) → ComesTo o s v place → locked < MAX_LOCKED → AtPlace locked place
 at_come locked o s v place x few = grind arith
 
 -- and so after any instruction
-pub at_computed : (locked o : ℕ) (judged : JudgedOf) (x : Cell) (place next : RunPlace) → ComesFrom o judged x place next → AtPlace locked place → AtPlace locked next
+pub at_computed : (locked o : ℕ) (judged : JudgedOf) (x : Cell) (place next : RunPlace) → GoesOnFrom o judged x place next → AtPlace locked place → AtPlace locked next
 at_computed locked o judged x place next comes at = grind arith
 
 -- ---- the whole job

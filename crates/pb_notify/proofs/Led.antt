@@ -4,7 +4,7 @@ use Rattle.pb_notify.specs.Words.{Cell, Ts, JudgedOf, Placement, IsPlacement, As
 use Rattle.pb_txn.specs.Conversations as plan_converses
 use Rattle.pb_txn.specs.Plans as plans
 use Rattle.pb_notify.specs.declared.place.RunPlace.{RunPlace}
-use Rattle.pb_notify.specs.Places.{place_after, ComesFrom, IsToldAt}
+use Rattle.pb_notify.specs.Places.{place_after, GoesOnFrom, IsToldAt}
 use Rattle.pb_notify.specs.Runs.{Watch, RunOf, fresh}
 use Rattle.pb_notify.specs.Conversations.{Reaches, made, took, computed}
 use Rattle.pb_notify.specs.Forms.{IsLooking}
@@ -34,7 +34,7 @@ AtLed place = Unit {0}
 answered_led : (second : Bool) (locked : ℕ) (place : RunPlace) (a : Answer) → AtLed place → IsToldAt locked place a (place_after second locked place a) → AtLed (place_after second locked place a)
 answered_led second locked place a led is = grind arith
 
-computed_led : (o : ℕ) (judged : JudgedOf) (x : Cell) (place next : RunPlace) → AtLed place → ComesFrom o judged x place next → AtLed next
+computed_led : (o : ℕ) (judged : JudgedOf) (x : Cell) (place next : RunPlace) → AtLed place → GoesOnFrom o judged x place next → AtLed next
 computed_led o judged x place next led c = grind arith
 
 -- and so wherever a job has come

@@ -10,7 +10,7 @@ use Rattle.pb_notify.specs.declared.need.JobEnd.{JobEnd}
 use Rattle.pb_notify.specs.declared.need.Need.{Need}
 use Rattle.pb_notify.specs.declared.place.RunPlace.{RunPlace}
 use Rattle.pb_notify.specs.Looks.{look_after, locked_after}
-use Rattle.pb_notify.specs.Places.{place_after, locked_at, after_begin, if_found, after_cell, if_recalled, seen_so_far, after_acknowledgment, after_recall, after_ask, by_outcome, Comes, goes, waits, declares, ComesFrom, AtPlace, step_at}
+use Rattle.pb_notify.specs.Places.{place_after, locked_at, after_begin, if_found, after_cell, if_recalled, seen_so_far, after_acknowledgment, after_recall, after_ask, by_outcome, ComesTo, goes, waits, declares, GoesOnFrom, AtPlace, step_at}
 use Rattle.pb_notify.specs.Runs.{Watch, RunOf, fresh, answered, need_at}
 use Rattle.pb_notify.specs.Conversations.{Reaches, made, took, computed}
 use Rattle.pb_notify.specs.Forms.{AreRounds, one_more, at_first, its_begin, IsObserved, IsAcknowledged, IsRecalled, AreAsked, dirty, asked as asked_more, IsRunOn, LooksFrom, at_cell, at_acknowledgment, at_old, at_ask, IsRunConversation, absent, clean, ran, conflicted, lost, blocked, WasMeant, JobsConverse, JobsEnd}
@@ -218,7 +218,7 @@ module _ (o : Watch) where
     -- ---- one instruction
 
     comes_more : (n : ℕ) (s : Ts) (v : Position) (seen : Seen) (place : RunPlace) (said : List Received) → n < MAX_LOCKED → IsGiven s seen v → AreAsked o s seen v.talk n said
-        → Comes o.observer s v place → SoFar n place said
+        → ComesTo o.observer s v place → SoFar n place said
     comes_more n s v seen place said few given was (goes w st) = grind arith
     comes_more n s v seen place said few given was (waits w q st) = (
       seen,
@@ -230,7 +230,7 @@ module _ (o : Watch) where
     )
     comes_more n s v seen place said few given was (declares r what st) = grind (arith, append-nil, st.leaves, v.talk, st.left, given.program, given.bytes, given.start, st.result, st.declares)
 
-    computed_more : (n : ℕ) (place next : RunPlace) (said : List Received) → AtPlace n place → SoFar n place said → ComesFrom o.observer o.judged cell place next → SoFar n next said
+    computed_more : (n : ℕ) (place next : RunPlace) (said : List Received) → AtPlace n place → SoFar n place said → GoesOnFrom o.observer o.judged cell place next → SoFar n next said
     computed_more n place next said at i c = grind (arith, comes_more)
 
     -- ---- what has been said can be ended
@@ -341,7 +341,7 @@ module _ (o : Watch) where
           (said_more k.locked k.place said r.step r.answer h.at h.so (ap (λ (j : Watch). step_at j.observer j.row j.column k.place) (sym h.watch) ∙ next) can);
     }
 
-    holds_computed : (said : List Received) (k : RunOf) (place : RunPlace) → Holds said k → ComesFrom k.watch.observer k.watch.judged (Cell.Data k.watch.row k.watch.column) k.place place → Holds said (record k { place = place })
+    holds_computed : (said : List Received) (k : RunOf) (place : RunPlace) → Holds said k → GoesOnFrom k.watch.observer k.watch.judged (Cell.Data k.watch.row k.watch.column) k.place place → Holds said (record k { place = place })
     holds_computed said k place h comes = grind (arith, at_computed, computed_more, o.observer, o.judged, k.place, h.watch, k.locked, h.at, h.so)
 
     pub reached_holds : (said : List Received) (k : RunOf) → Reaches (fresh o) said k → Holds said k

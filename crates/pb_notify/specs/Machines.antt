@@ -22,7 +22,7 @@ pub record HearsReply (v : Position) (q : Ask) (a : Answer) (w : Position) : Typ
   pub most : w.taken ≤ slots w.judged.program.insns
 
 -- what it leaves where its next instruction is the exit: the program's meaning of what it was given and told
-pub record Leaves (v : Position) (f : Meant) : Type 0 where
+pub record ExitLeaves (v : Position) (f : Meant) : Type 0 where
   pub judged : f.judged ≡ v.judged
   pub bytes : f.bytes ≡ v.bytes
   pub start : f.start ≡ v.start
@@ -50,4 +50,4 @@ position_in (Standing.Exited f taken slot true) = ended_at f taken
 -- what is kept of an exit is what that exit leaves, with its slot
 abbrev pub IsKept : Standing → Type 0
 IsKept (Standing.Running v) = Unit {0}
-IsKept (Standing.Exited f taken slot again) = Leaves (exit_at f taken) f × IsAtSlot (exit_at f taken) slot
+IsKept (Standing.Exited f taken slot again) = ExitLeaves (exit_at f taken) f × IsAtSlot (exit_at f taken) slot

@@ -126,25 +126,25 @@ locked_at locked _ a = locked
 
 -- one instruction of a run of this observer, begun at this start, leads from the position to the place: the machine goes
 -- on, a cell is read for it, or its run is declared by a plan from the same start
-pub data Comes (o : ℕ) (s : Ts) (v : Position) : RunPlace → Type 0 where
-  goes : (w : Position) → WentOn v w → Comes o s v (RunPlace.Computing s w)
-  waits : (w : Position) (q : Ask) → AskedFor v q w → Comes o s v (RunPlace.Asking s w q Look.Reading)
-  declares : (r : ℕ) (what : Declared) → ExitsAs o v r what → Comes o s v (RunPlace.Planning r (fresh s.0 what))
+pub data ComesTo (o : ℕ) (s : Ts) (v : Position) : RunPlace → Type 0 where
+  goes : (w : Position) → WentOn v w → ComesTo o s v (RunPlace.Computing s w)
+  waits : (w : Position) (q : Ask) → AskedFor v q w → ComesTo o s v (RunPlace.Asking s w q Look.Reading)
+  declares : (r : ℕ) (what : Declared) → ExitsAs o v r what → ComesTo o s v (RunPlace.Planning r (fresh s.0 what))
 
 -- the machine begins on the record of what was seen of the cell
-pub record Starts (o : ℕ) (judged : JudgedOf) (x : Cell) (s : Ts) (seen : Seen) (place : RunPlace) : Type 0 where
+pub record MachineStarts (o : ℕ) (judged : JudgedOf) (x : Cell) (s : Ts) (seen : Seen) (place : RunPlace) : Type 0 where
   pub size : length (record_by (tells_old judged) x seen.version seen.acknowledged.0 seen.old) ≡ judged.record_size
-  pub comes : Comes o s (first_position judged (record_by (tells_old judged) x seen.version seen.acknowledged.0 seen.old) s.0) place
+  pub comes : ComesTo o s (first_position judged (record_by (tells_old judged) x seen.version seen.acknowledged.0 seen.old) s.0) place
 
 -- from a place: the machine begins, or goes on where it stands
-abbrev pub ComesFrom : ℕ → JudgedOf → Cell → RunPlace → RunPlace → Type 0
-ComesFrom o judged x (RunPlace.Starting s seen) place = Starts o judged x s seen place
-ComesFrom o judged x (RunPlace.Computing s v) place = Comes o s v place
-ComesFrom o judged x _ place = ⊥
+abbrev pub GoesOnFrom : ℕ → JudgedOf → Cell → RunPlace → RunPlace → Type 0
+GoesOnFrom o judged x (RunPlace.Starting s seen) place = MachineStarts o judged x s seen place
+GoesOnFrom o judged x (RunPlace.Computing s v) place = ComesTo o s v place
+GoesOnFrom o judged x _ place = ⊥
 
 -- one instruction was done where the machine stands, of a run that was begun at this start
-abbrev pub MovesAt : Ts → Position → Moved → RunPlace → Type 0
-MovesAt s v m place = (w : Position) × (place ≡ RunPlace.Computing s w) × MovesOn v m w
+abbrev pub MovesAlong : Ts → Position → Moved → RunPlace → Type 0
+MovesAlong s v m place = (w : Position) × (place ≡ RunPlace.Computing s w) × MovesOn v m w
 
 -- the next instruction takes memory: the first, for its machine, or the exit, for what it declares
 abbrev pub GrowsAt : RunPlace → Type 0

@@ -5,7 +5,7 @@ use Rattle.pb_notify.specs.Words.{Cell, Row, JudgedOf, tells_old, ObserverOf, St
 use Rattle.pb_txn.specs.Plans as plans
 use Rattle.pb_notify.specs.declared.need.Need.{Need}
 use Rattle.pb_notify.specs.declared.place.RunPlace.{RunPlace}
-use Rattle.pb_notify.specs.Places.{stored_step, step_at, place_after, locked_at, AtPlace, IsSlotAt, IsToldAt, ComesFrom, GrowsAt}
+use Rattle.pb_notify.specs.Places.{stored_step, step_at, place_after, locked_at, AtPlace, IsSlotAt, IsToldAt, GoesOnFrom, GrowsAt}
 
 -- an observer with its program, and the row and column of a cell that it watches
 pub record Watch : Type 0 where
@@ -67,7 +67,7 @@ CanTake j a = plans.CanTake (next_of j) a
 
 -- the machine does one, and all but the place is as before
 pub record Computes (j k : RunOf) : Type 0 where
-  pub comes : ComesFrom j.watch.observer j.watch.judged (Cell.Data j.watch.row j.watch.column) j.place k.place
+  pub comes : GoesOnFrom j.watch.observer j.watch.judged (Cell.Data j.watch.row j.watch.column) j.place k.place
   pub same : k ≡ record j { place = k.place }
 
 -- ---- all instructions up to the next ask or the exit

@@ -1,8 +1,8 @@
 -- What the instructions of a run's machine do: one, which a world tells of each, or all up to the next ask or the
 -- exit, as a worker has them done. The second is said by the first, so that both are one meaning.
 use Rattle.std.specs.Prelude.{◌≡◌, ℕ, ◌≤◌, length}
-use Rattle.pb_notify.specs.Words.{slots, Placement, IsPlacement, Position, Moved, MachinePhase, Went, EndsAt, Moves, IsStop, Meant, Declared}
-use Rattle.pb_notify.specs.Machines.{Leaves}
+use Rattle.pb_notify.specs.Words.{slots, Placement, IsPlacement, Position, Moved, MachinePhase, Went, EndsAt, Moves, IsAskOrEnd, Meant, Declared}
+use Rattle.pb_notify.specs.Machines.{ExitLeaves}
 
 -- no run does more instructions than its program has slots
 pub record WentOn (v w : Position) : Type 0 where
@@ -12,7 +12,7 @@ pub record WentOn (v w : Position) : Type 0 where
 -- the exit, with register 0, and what the run of this observer declares
 pub record ExitsAs (o : ℕ) (v : Position) (r : ℕ) (what : Declared) : Type 0 where
   pub left : Meant
-  pub leaves : Leaves v left
+  pub leaves : ExitLeaves v left
   pub result : r ≡ left.result
   pub declares : what ≡ Declared.Run o left
 
@@ -33,7 +33,7 @@ pub data Proceeds (v : Position) : Position → Type 0 where
 pub record FollowsOn (v : Position) (m : Moved) (w : Position) : Type 0 where
   pub last : Position
   pub proceeds : Proceeds v last
-  pub stops : IsStop m
+  pub stops : IsAskOrEnd m
   pub moves : MovesOn last m w
 
 -- the next instruction is the exit

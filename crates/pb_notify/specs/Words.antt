@@ -15,7 +15,7 @@ pub use Rattle.pb_helpers.specs.declared.ask.Ask.{Ask}
 pub use Rattle.pb_verify.specs.Observers.{ObserverOf, acknowledgment, column_or_zero, observed_cell, observed_column}
 pub use Rattle.pb_finished.specs.Finished.{IsMeant, Meant}
 pub use Rattle.pb_vm.specs.MachineSlot.{IsAtSlot}
-pub use Rattle.pb_vm.specs.Moves.{Advances, AskedFor, AsksAt, EndsAt, Finishes, IsAtState, IsStop, Moves, RepliedWith, Went}
+pub use Rattle.pb_vm.specs.Moves.{Advances, AskedFor, AsksAt, EndsAt, Finishes, IsAskOrEnd, IsAtState, Moves, RepliedWith, Went}
 pub use Rattle.pb_vm.specs.Position.{Position}
 pub use Rattle.pb_vm.specs.declared.moved.MachinePhase.{MachinePhase}
 pub use Rattle.pb_vm.specs.declared.moved.Moved.{Moved}

@@ -1,6 +1,6 @@
 //! Jobs of observers: where a run stands, the step that is next, and how many locks its reads have met.
 use crate::need::Need;
-use crate::place::{RunPlace, begin, keep_step, leave, locked_at, take, tells_old};
+use crate::place::{RunPlace, begin, keep_step, leave_turn, locked_at, take_answer, tells_old};
 use pb_base::{Cell, Column, NoMemory, ObserverNo, Row};
 use pb_steps::{Answer, Step, Work};
 use pb_verify::Accepted;
@@ -117,7 +117,7 @@ impl ObserverJob {
         // Counted before the answer is taken, since that changes the place.
         let locked = locked_at(self.locked, &self.place, &answer);
         let second = tells_old(&self.accepted);
-        if take(second, self.locked, &mut self.place, answer) {
+        if take_answer(second, self.locked, &mut self.place, answer) {
             // Step and count stay, since a plan lends its own step and reads nothing.
             return;
         }
@@ -147,7 +147,7 @@ impl ObserverJob {
             RunPlace::Computing(_, machine) => match machine.local() {
                 // It stands where it stood, and so does the job.
                 Moved::Went => return Ok(()),
-                moved => leave(alloc, self.observer, &mut self.place, moved)?,
+                moved => leave_turn(alloc, self.observer, &mut self.place, moved)?,
             },
             _ => {
                 let cell = Cell::Data(self.row, self.column);
@@ -179,7 +179,7 @@ impl ObserverJob {
         }
         if let RunPlace::Computing(_, machine) = &mut self.place {
             let moved = machine.follow();
-            leave(alloc, self.observer, &mut self.place, moved)?;
+            leave_turn(alloc, self.observer, &mut self.place, moved)?;
             keep_step(
                 &mut self.next,
                 self.observer,

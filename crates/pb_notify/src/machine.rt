@@ -2,7 +2,7 @@
 //! can do its exit again where memory was refused, since what the exit left is kept until it is declared.
 ghost use Rattle.std.specs.Prelude.{◌≡◌, ℕ, length, IfOk, IfErr};
 ghost use Rattle.pb_steps.specs.Reads.{value_in};
-ghost use Rattle.pb_notify.specs.Machines.{first_position, after_reply, HearsReply, exit_at, Leaves};
+ghost use Rattle.pb_notify.specs.Machines.{first_position, after_reply, HearsReply, exit_at, ExitLeaves};
 ghost use Rattle.pb_notify.specs.Steps.{ExitsAs, MovesOn, FollowsOn};
 ghost use Rattle.pb_vm.specs.MachineSlot.{IsAtSlot};
 ghost use Rattle.pb_vm.specs.Position.{Position};
@@ -165,7 +165,7 @@ fn declare(
     taken: u16,
     slot: usize,
 ) -> Result<(u64, Declaration), (Machine, NoMemory)>
-    requires leaves { Leaves (exit_at left taken) left }
+    requires leaves { ExitLeaves (exit_at left taken) left }
     requires at { IsAtSlot (exit_at left taken) slot }
     ensures ok { IfOk result (λ d. ExitsAs observer (exit_at left taken) d.0 d.1) }
     ensures same { IfErr result (λ e. e.0 ≡ exit_at left taken) }

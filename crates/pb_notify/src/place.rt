@@ -5,11 +5,11 @@ ghost use Rattle.pb_helpers.specs.OldRecord as versions;
 ghost use Rattle.pb_txn.specs.Plans.{PlanOf};
 ghost use Rattle.pb_txn.specs.Plans as plans;
 ghost use Rattle.pb_notify.specs.declared.place.RunPlace.TheVariants as places;
-ghost use Rattle.pb_notify.specs.Places.{stored_step, place_after, locked_at, CanTakeAt, AtPlace, IsToldBy, IsToldAt, Comes, ComesFrom, MovesAt, IsStarting, by_outcome, IsPlanning};
+ghost use Rattle.pb_notify.specs.Places.{stored_step, place_after, locked_at, CanTakeAt, AtPlace, IsToldBy, IsToldAt, ComesTo, GoesOnFrom, MovesAlong, IsStarting, by_outcome, IsPlanning};
 ghost use Rattle.pb_notify.specs.Runs.{need_at};
 ghost use Rattle.pb_notify.specs.Steps.{MovesOn, IsAtExit};
 ghost use Rattle.pb_notify.specs.declared.need.Need.TheVariants.{Local};
-ghost use Rattle.pb_vm.specs.Moves.{IsStop};
+ghost use Rattle.pb_vm.specs.Moves.{IsAskOrEnd};
 ghost use Rattle.pb_vm.specs.Position.{Position};
 ghost use Rattle.pb_vm.specs.declared.moved.MachinePhase.TheVariants.{Asking};
 
@@ -185,7 +185,7 @@ fn after_ask(start: Ts, machine: Machine, ask: Ask, looked: Looked) -> RunPlace
 }
 
 // An answer to a plan where it stands, and how it ended, if it is over.
-fn plan_takes(plan: &mut Plan, answer: Answer) -> Option<Outcome>
+fn plan_outcome_after(plan: &mut Plan, answer: Answer) -> Option<Outcome>
     requires { plans.CanTake (plans.next_of plan.old) answer }
     ensures took { plan.new ≡ plans.answered plan.old answer }
     ensures outcome { result ≡ plans.outcome_of (plans.answered plan.old answer) }
@@ -250,7 +250,7 @@ fn look_at(second: bool, locked: u8, place: &mut RunPlace, answer: Answer)
 }
 
 /// Takes the answer of the next step where the place stands, and tells whether it is a plan, which goes on.
-pub fn take(second: bool, locked: u8, place: &mut RunPlace, answer: Answer) -> bool
+pub fn take_answer(second: bool, locked: u8, place: &mut RunPlace, answer: Answer) -> bool
     requires at { AtPlace locked place.old }
     requires can { CanTakeAt place.old answer }
     ensures place { place.new ≡ place_after second locked place.old answer }
@@ -259,7 +259,7 @@ pub fn take(second: bool, locked: u8, place: &mut RunPlace, answer: Answer) -> b
 {
     match place {
         RunPlace::Planning(end, plan) => {
-            match plan_takes(plan, answer) {
+            match plan_outcome_after(plan, answer) {
                 None => true,
                 Some(outcome) => {
                     let end = *end;
@@ -311,7 +311,7 @@ fn record_by(accepted: &Arc<Accepted>, cell: Cell, seen: &Seen) -> Record
 }
 
 // Where an instruction leads that a machine did. Refused, as the exit alone can be, the machine is before it again.
-fn leads(
+fn place_after_insn(
     alloc: Global,
     observer: ObserverNo,
     start: Ts,
@@ -319,8 +319,8 @@ fn leads(
     moved: Moved,
 ) -> Result<RunPlace, (Machine, NoMemory)>
     requires { (v : Position) × MovesOn v moved machine }
-    ensures ok { (v : Position) → MovesOn v moved machine → IfOk result (Comes observer start v) }
-    ensures left { IsStop moved → IfOk result (λ p. need_at p ≢ Local) }
+    ensures ok { (v : Position) → MovesOn v moved machine → IfOk result (ComesTo observer start v) }
+    ensures left { IsAskOrEnd moved → IfOk result (λ p. need_at p ≢ Local) }
     ensures same { (v : Position) → MovesOn v moved machine
         → IfErr result (λ e. (e.0 ≡ v) × IsAtExit v) }
 {
@@ -346,7 +346,7 @@ pub fn begin(
     place: &mut RunPlace,
 ) -> Result<(), NoMemory>
     requires { IsStarting place.old }
-    ensures ok { OnOk result (ComesFrom observer accepted.now.value cell place.old place.new) }
+    ensures ok { OnOk result (GoesOnFrom observer accepted.now.value cell place.old place.new) }
     ensures same { OnErr result (place.new ≡ place.old) }
 {
     let RunPlace::Starting(start, seen) = place else {
@@ -356,7 +356,7 @@ pub fn begin(
     let record = record_by(accepted, cell, &seen);
     let mut machine = Machine::start(alloc, accepted, record, start)?;
     let moved = machine.local();
-    match leads(alloc, observer, start, machine, moved) {
+    match place_after_insn(alloc, observer, start, machine, moved) {
         Ok(next) => {
             *place = next;
             Ok(())
@@ -370,23 +370,23 @@ pub fn begin(
 /// Leaves the machine's turn after an ask or an exit, which was done where the machine stands. Refused for memory, as
 /// an exit alone can be, the machine is before it again. It isn't inlined, as above.
 #[inline(never)]
-pub fn leave(
+pub fn leave_turn(
     alloc: Global,
     observer: ObserverNo,
     place: &mut RunPlace,
     moved: Moved,
 ) -> Result<(), NoMemory>
-    requires { (s : Ts) × (v : Position) × MovesAt s v moved place.old }
-    ensures ok { (s : Ts) (v : Position) → MovesAt s v moved place.old
-        → OnOk result (Comes observer s v place.new) }
-    ensures left { IsStop moved → OnOk result (need_at place.new ≢ Local) }
-    ensures same { (s : Ts) (v : Position) → MovesAt s v moved place.old
+    requires { (s : Ts) × (v : Position) × MovesAlong s v moved place.old }
+    ensures ok { (s : Ts) (v : Position) → MovesAlong s v moved place.old
+        → OnOk result (ComesTo observer s v place.new) }
+    ensures left { IsAskOrEnd moved → OnOk result (need_at place.new ≢ Local) }
+    ensures same { (s : Ts) (v : Position) → MovesAlong s v moved place.old
         → OnErr result ((place.new ≡ places.Computing s v) × IsAtExit v) }
 {
     let RunPlace::Computing(start, machine) = mem::replace(place, RunPlace::Beginning) else {
         unreachable!()
     };
-    match leads(alloc, observer, start, machine, moved) {
+    match place_after_insn(alloc, observer, start, machine, moved) {
         Ok(next) => {
             *place = next;
             Ok(())

@@ -6,7 +6,7 @@ use Rattle.hex.specs.Hex.{decode_of}
 use Rattle.pb_parse.specs.declared.script.code.ScriptCode.{ScriptCode}
 use Rattle.pb_parse.specs.Words.{next_word, no_word, words_of}
 use Rattle.pb_reading.proofs.Readings.{FailsBy, then_fails, if_fails, next_fails, end_fails, numeral_fails}
-use Rattle.pb_parse.specs.ScriptWords.{number_upto, padded_value, content_of, cell_at, put_of, del_of, write_of, operation}
+use Rattle.pb_parse.specs.ScriptWords.{number_upto, padded_value, value_of_word, cell_at, put_of, del_of, write_of, operation}
 
 -- a fault that an operation can have by itself: 70, 71 or 72
 abbrev pub IsOwn : ScriptCode → Type 0
@@ -29,7 +29,7 @@ pads : {E : Type 0} (r : Result (List ℕ) E) → FaultIsOwn (padded_value r)
 pads r = grind arith
 
 -- a value is refused by 72 alone
-content : (word : List ℕ) → FaultIsOwn (content_of word)
+content : (word : List ℕ) → FaultIsOwn (value_of_word word)
 content word = if_fails IsOwn ((length word == 0) || (nat_lt 64 (length word) || list_any is_ascii_uppercase word)) (Err ScriptCode.Hex) (padded_value (decode_of word)) tt (pads (decode_of word))
 
 cell : (words : List (List ℕ)) → FaultIsOwn (cell_at words)
@@ -38,7 +38,7 @@ cell words = then_fails IsOwn (next_word ScriptCode.Form words) _ (next_fails Is
 
 put : (words : List (List ℕ)) → FaultIsOwn (put_of words)
 unfolding put_of
-put words = then_fails IsOwn (cell_at words) _ (cell words) (λ a. then_fails IsOwn (next_word ScriptCode.Form a.1) _ (next_fails IsOwn ScriptCode.Form a.1 tt) (λ b. then_fails IsOwn (content_of b.0) _ (content b.0) (λ v. then_fails IsOwn (no_word ScriptCode.Form b.1) _ (end_fails IsOwn ScriptCode.Form b.1 tt) (λ e. tt))))
+put words = then_fails IsOwn (cell_at words) _ (cell words) (λ a. then_fails IsOwn (next_word ScriptCode.Form a.1) _ (next_fails IsOwn ScriptCode.Form a.1 tt) (λ b. then_fails IsOwn (value_of_word b.0) _ (content b.0) (λ v. then_fails IsOwn (no_word ScriptCode.Form b.1) _ (end_fails IsOwn ScriptCode.Form b.1 tt) (λ e. tt))))
 
 del : (words : List (List ℕ)) → FaultIsOwn (del_of words)
 unfolding del_of

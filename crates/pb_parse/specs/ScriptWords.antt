@@ -17,8 +17,8 @@ padded_value (Ok bytes) = Ok (bytes ++ drop (length bytes) (replicate 32 0))
 padded_value (Err e) = Err ScriptCode.Hex
 
 -- 2 to 64 lower-case hexadecimal digits, two for a byte
-abbrev pub content_of : List ℕ → Result (List ℕ) ScriptCode
-content_of word = if (length word == 0) || (nat_lt 64 (length word) || list_any is_ascii_uppercase word) then Err ScriptCode.Hex else padded_value (decode_of word)
+abbrev pub value_of_word : List ℕ → Result (List ℕ) ScriptCode
+value_of_word word = if (length word == 0) || (nat_lt 64 (length word) || list_any is_ascii_uppercase word) then Err ScriptCode.Hex else padded_value (decode_of word)
 
 -- a row and a column, and the words after them
 unfoldable pub cell_at : List (List ℕ) → Result (Cell × List (List ℕ)) ScriptCode
@@ -34,7 +34,7 @@ unfoldable pub put_of : List (List ℕ) → Result (Cell × Content) ScriptCode
 put_of words = do
   cell ← cell_at words
   word ← next_word ScriptCode.Form cell.1
-  content ← content_of word.0
+  content ← value_of_word word.0
   end ← no_word ScriptCode.Form word.1
   Ok (cell.0, Content.Value content)
 

@@ -16,19 +16,19 @@ pub record IsReportIn (shared : SharedOf) (text : List ℕ) : Type 0 where
   pub reported : IsReportOf (IsSeenAt shared.state.observers shared.journal shared.state.clock) runs (finite.len shared.state.marks) (lock_count shared.state.entries) text
 
 -- the report was written
-pub record Wrote (shared : SharedOf) (out : Taking) : Type 0 where
+pub record WroteTableReport (shared : SharedOf) (out : Taking) : Type 0 where
   pub text : List ℕ
   pub report : IsReportIn shared text
   pub taken : TookAll out text
 
 -- a beginning of the report was written
-pub record Began (shared : SharedOf) (out : Taking) : Type 0 where
+pub record BeganTableReport (shared : SharedOf) (out : Taking) : Type 0 where
   pub text : List ℕ
   pub report : IsReportIn shared text
   pub taken : TookPart out text
 
 -- what the sink took where a report ended so
 abbrev pub Reports : SharedOf → Taking → Result (Unit {0}) ReportFault → Type 0
-Reports shared out (Ok _) = Wrote shared out
-Reports shared out (Err ReportFault.Output) = Began shared out
+Reports shared out (Ok _) = WroteTableReport shared out
+Reports shared out (Err ReportFault.Output) = BeganTableReport shared out
 Reports shared out (Err (ReportFault.NoMemory refused)) = TookNothing out

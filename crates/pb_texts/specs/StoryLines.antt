@@ -26,13 +26,13 @@ abbrev pub story_of : List Text → Option Request
 story_of words = story_in (subcommand_of story_app words)
 
 -- the fault of words that ask for nothing
-abbrev pub unasked : Option Request → Kinds
-unasked None = ErrorKind.ValueValidation ∷ []
-unasked (Some r) = []
+abbrev pub no_request_fault : Option Request → Kinds
+no_request_fault None = ErrorKind.ValueValidation ∷ []
+no_request_fault (Some r) = []
 
 -- the fault that `clap` finds, or that of what it takes and is no number in digits alone
 abbrev pub story_fault : List Text → Kinds
-story_fault words = or_else (fault_of story_app words) (unasked (story_of words))
+story_fault words = or_else (fault_of story_app words) (no_request_fault (story_of words))
 
 abbrev pub story_request : StoryOptions → Request
 story_request (StoryOptions.Frames file) = check_request file

@@ -12,16 +12,16 @@ use Rattle.pb_threads.specs.Stops.{ChangesStop, DrainStops}
 use Rattle.pb_threads.specs.Swaps.{Spare, AreSwapped}
 
 -- of all changes those of one of so many workers: its first at this number, and each later one so many further
-pub record Share : Type 0 where
+pub record ShareOfChanges : Type 0 where
   pub batches : List Writes
   pub workers : ℕ
   pub first : ℕ
 
-abbrev pub share_of : List Writes → ℕ → ℕ → Share
+abbrev pub share_of : List Writes → ℕ → ℕ → ShareOfChanges
 share_of batches workers first = record { batches = batches; workers = workers; first = first }
 
 -- all changes, and then passes up to one without a mark, or so many as may be made
-pub record IsWorkDone (observers : List ObserverOf) (share : Share) (done : List Bool) (said : List Received) : Type 0 where
+pub record IsWorkDone (observers : List ObserverOf) (share : ShareOfChanges) (done : List Bool) (said : List Received) : Type 0 where
   pub changes : List Received
   pub tried : AreAllTried share.batches share.workers share.first done changes
   pub passes : List Received
@@ -29,12 +29,12 @@ pub record IsWorkDone (observers : List ObserverOf) (share : Share) (done : List
   pub said_is : said ≡ changes ++ passes
 
 -- just a beginning of that
-pub data IsWorkBegun (opens : Option OpeningOf) (seat : ℕ) (observers : List ObserverOf) (share : Share) (done : List Bool) (r : Refusal) : List Received → Type 0 where
+pub data IsWorkBegun (opens : Option OpeningOf) (seat : ℕ) (observers : List ObserverOf) (share : ShareOfChanges) (done : List Bool) (r : Refusal) : List Received → Type 0 where
   in_changes : (said : List Received) → ChangesStop opens seat share.batches share.workers share.first done r said → IsWorkBegun opens seat observers share done r said
   in_passes : (said part : List Received) → AreAllTried share.batches share.workers share.first done said → DrainStops opens seat observers r part → IsWorkBegun opens seat observers share done r (said ++ part)
 
 -- what a worker's seat gained: only with a refusal just a beginning
-abbrev pub IsWork : Option OpeningOf → ℕ → List ObserverOf → Share → List Bool → Option Refusal → List Received → Type 0
+abbrev pub IsWork : Option OpeningOf → ℕ → List ObserverOf → ShareOfChanges → List Bool → Option Refusal → List Received → Type 0
 IsWork opens seat observers share done None said = IsWorkDone observers share done said
 IsWork opens seat observers share done (Some r) said = IsWorkBegun opens seat observers share done r said
 

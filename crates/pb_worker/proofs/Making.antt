@@ -5,7 +5,7 @@ use Rattle.std.proofs.lemmas.Nat.{div-mul-add, mod-mul-add}
 use Rattle.std.proofs.lemmas.Option.{slice_get_within}
 use Rattle.std.proofs.Math.Nat.{mod-add-div', mod-lt}
 use Rattle.pb_worker.specs.Words.{Row, Ts, Refusal, Writes, Step, Answer, Work, ObserverOf, opening, Entry, Received, entries_of, Has, IsEntry, Member, InHistory, TransactionsAreTold, TellsTransactions, SharedOf, SeatOf, AreSeats, AreSeatsFrom, IsLegalTable, told, Gains, OpeningOf, Spare, share_of, IsWork, IsLastDrain, WorkedOn, is_done, undone_below, Agree}
-use Rattle.pb_worker.specs.Laws.{IsMade, IsFinished, ChangesAreMade}
+use Rattle.pb_worker.specs.Laws.{IsMadeChange, IsFinished, ChangesAreMade}
 use Rattle.pb_threads.proofs.Joined.{seats_are_numbered}
 use Rattle.pb_worker.proofs.Committing.{commit_of}
 use Rattle.pb_worker.proofs.RunCommits.{HasBegunRun, of_last_drain}
@@ -128,7 +128,7 @@ module _ {how : OpeningOf} (observers : List ObserverOf) (batches : List Writes)
   flagged : (i : ℕ) (batch : Writes) → IsFinished batches unfinished i batch → slice_index_or (w.done (i % n)) (i / n) false ≡ true
   flagged i batch f = flag_of (is_done w.done n) (length batches) i unfinished w.unfinished_are (slice_get_within batches i batch f.there) f.not_named
 
-  made : (i : ℕ) (batch : Writes) → IsFinished batches unfinished i batch → (m : Member) × IsMade table n i batch m × (m.start ≡ (start_of i).0)
+  made : (i : ℕ) (batch : Writes) → IsFinished batches unfinished i batch → (m : Member) × IsMadeChange table n i batch m × (m.start ≡ (start_of i).0)
   made i batch f =
       let wk = i % n in
       let s = (starts wk).2 (small i) in

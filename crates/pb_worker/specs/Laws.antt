@@ -3,7 +3,7 @@ use Rattle.std.specs.Prelude.{◌≡◌, ℕ, ◌+◌, ◌-◌, ◌%◌, ◌<◌
 use Rattle.pb_worker.specs.Words.{Refusal, Writes, Work, ObserverOf, Has, Member, InHistory, SharedOf, SeatOf, AreSeats, IsLegalTable, Agree, OpeningOf, Spare, WorkedOn}
 
 -- the change of this number, of the worker of seat 1 + i mod n, is this committed transaction
-pub record IsMade (table : SharedOf) (n i : ℕ) (batch : Writes) (m : Member) : Type 0 where
+pub record IsMadeChange (table : SharedOf) (n i : ℕ) (batch : Writes) (m : Member) : Type 0 where
   pub there : InHistory table.state.observers table.journal m
   pub seat : m.seat ≡ i % n + 1
   pub work : m.work ≡ Work.Script
@@ -18,7 +18,7 @@ pub record IsFinished (batches : List Writes) (unfinished : List ℕ) (i : ℕ) 
 -- change there is the start of the transaction that made it. Where the journal was empty before, there are no others.
 pub record MakesChanges (before table : SharedOf) (n : ℕ) (batches : List Writes) (unfinished : List ℕ) : Type 0 where
   pub start : ℕ → ℕ
-  pub made : (i : ℕ) (batch : Writes) → IsFinished batches unfinished i batch → (m : Member) × IsMade table n i batch m × (m.start ≡ start i)
+  pub made : (i : ℕ) (batch : Writes) → IsFinished batches unfinished i batch → (m : Member) × IsMadeChange table n i batch m × (m.start ≡ start i)
   pub only : before.journal ≡ [] → (m : Member) → InHistory table.state.observers table.journal m → m.work ≡ Work.Script → (i : ℕ) × (batch : Writes) × IsFinished batches unfinished i batch × (m.start ≡ start i)
   pub once : (i j : ℕ) (a b : Writes) → IsFinished batches unfinished i a → IsFinished batches unfinished j b → start i ≡ start j → i ≡ j
 

@@ -8,8 +8,8 @@ use Rattle.pb_world.specs.declared.job.ActorJob.{ActorJob}
 use Rattle.pb_world.specs.declared.note.Note.{Note}
 use Rattle.pb_world.specs.Jobs.{next_of, is_local, is_over, Computes}
 use Rattle.pb_world.specs.Actors.{Stepped, AnswersJob, RefusesJob, CallSteps, Instructs, IsIdle, StepsTo, launched, crashed}
-use Rattle.pb_world.specs.Events.{WorldOf, change_of, job_for, actor_of, no_launch, no_launch_by, fault_of, Launches, StepsActor, CrashesActor, OwnAnswers, OwnCalls, Does, RunsTo}
-use Rattle.pb_world.specs.GivenJobs.{Renews, IsLastLaunch, IsJobOf, IsGivenJob, JobsAreGiven, BusyActorsAreLeft, BusyActorsAreTold, RefusedJobsEnd}
+use Rattle.pb_world.specs.Events.{WorldOf, change_of, job_for, actor_of, no_launch, no_launch_by, fault_of, Launches, StepsActor, CrashesActor, OwnAnswers, OwnCalls, EventDoes, RunsTo}
+use Rattle.pb_world.specs.GivenJobs.{LaunchesOrCrashes, IsLastLaunch, IsJobOf, IsGivenJob, JobsAreGiven, BusyActorsAreLeft, BusyActorsAreTold, RefusedJobsEnd}
 use Rattle.pb_world.proofs.Soundness.{IsAfterSet, changed, unchanged, after_set}
 use Rattle.pb_world.proofs.Opening.{idle_without_job}
 use Rattle.pb_base.proofs.Logic.{same_some as some_same, none_some}
@@ -20,14 +20,14 @@ append_assoc' (x ∷ xs) ys zs = ap (λ l. x ∷ l) (append_assoc' xs ys zs)
 
 -- ---- one more event
 
-not_in : (k : ℕ) (after : List Event) (d : Event) → ((e : Event) → Has after e → Renews k e → ⊥) → (Renews k d → ⊥) → (e : Event) → Has (after ++ d ∷ []) e → Renews k e → ⊥
-not_in k [] d none isnt e (inl is) r = isnt (subst (Renews k) (sym is) r)
+not_in : (k : ℕ) (after : List Event) (d : Event) → ((e : Event) → Has after e → LaunchesOrCrashes k e → ⊥) → (LaunchesOrCrashes k d → ⊥) → (e : Event) → Has (after ++ d ∷ []) e → LaunchesOrCrashes k e → ⊥
+not_in k [] d none isnt e (inl is) r = isnt (subst (LaunchesOrCrashes k) (sym is) r)
 not_in k [] d none isnt e (inr has) r = absurd has
 not_in k (x ∷ after) d none isnt e (inl is) r = none e (inl is) r
 not_in k (x ∷ after) d none isnt e (inr on) r = not_in k after d (λ f has. none f (inr has)) isnt e on r
 
 -- an event that neither launches nor crashes the actor leaves its last launch the last
-longer : (es : List Event) (k : ℕ) (job : Job) (d : Event) → (Renews k d → ⊥) → IsLastLaunch es k job → IsLastLaunch (es ++ d ∷ []) k job
+longer : (es : List Event) (k : ℕ) (job : Job) (d : Event) → (LaunchesOrCrashes k d → ⊥) → IsLastLaunch es k job → IsLastLaunch (es ++ d ∷ []) k job
 longer es k job d isnt l = record {
   before = l.before;
   after = l.after ++ d ∷ [];
@@ -116,7 +116,7 @@ abbrev AreGiven : List Event → WorldOf → Type 0
 AreGiven es w = (k : ℕ) (a : Actor) (j : ActorJob) → slice_get w.actors k ≡ Some a → a.job ≡ Some j → IsGivenJob es w k j
 
 -- an actor that an event leaves alone holds what it held
-held_on : (es : List Event) (w v : WorldOf) (k : ℕ) (j : ActorJob) (e : Event) → v.shared.state.observers ≡ w.shared.state.observers → v.batches ≡ w.batches → (Renews k e → ⊥) → IsGivenJob es w k j → IsGivenJob (es ++ e ∷ []) v k j
+held_on : (es : List Event) (w v : WorldOf) (k : ℕ) (j : ActorJob) (e : Event) → v.shared.state.observers ≡ w.shared.state.observers → v.batches ≡ w.batches → (LaunchesOrCrashes k e → ⊥) → IsGivenJob es w k j → IsGivenJob (es ++ e ∷ []) v k j
 held_on es w v k j e os bs isnt g = record { job = g.job; launch = longer es k g.job e isnt g.launch; is = of_in w v g.job j os bs g.is; goes_on = g.goes_on }
 
 -- each kind of event keeps that jobs are given, here and below
@@ -163,7 +163,7 @@ crash_given es w v i n all d k a j is holds = by (after_set w.actors i (crashed 
     by (unchanged apart was) =
         held_on es w v k j (Event.Crash i) (ap (λ (x : WorldOf). x.shared.state.observers) d.after) (ap (λ (x : WorldOf). x.batches) d.after) (λ e. apart (sym e)) (all k a j was holds)
 
-own_given : (es : List Event) (w v : WorldOf) (st : Step) (e : Event) (n : Note) → ((k : ℕ) → Renews k e → ⊥) → AreGiven es w → OwnCalls w st n v → AreGiven (es ++ e ∷ []) v
+own_given : (es : List Event) (w v : WorldOf) (st : Step) (e : Event) (n : Note) → ((k : ℕ) → LaunchesOrCrashes k e → ⊥) → AreGiven es w → OwnCalls w st n v → AreGiven (es ++ e ∷ []) v
 own_given es w v st e n isnt all d k a j is holds = by (call_reason w.shared d.seat.number st) d.calls
   where
     by : (r : Option Reason) → MatchOption r (OwnAnswers w d.seat st n v) (λ why. (n ≡ Note.Refused (reason_code why)) × (v ≡ w)) → IsGivenJob (es ++ e ∷ []) v k j
@@ -172,7 +172,7 @@ own_given es w v st e n isnt all d k a j is holds = by (call_reason w.shared d.s
         held_on es w v k j e (ap (λ (x : WorldOf). x.shared.state.observers) c.1) (ap (λ (x : WorldOf). x.batches) c.1) (isnt k) (all k a j (subst (λ (x : WorldOf). slice_get x.actors k ≡ Some a) c.1 is) holds)
 
 -- so any event does
-does_given : (es : List Event) (w : WorldOf) (e : Event) (n : Note) (v : WorldOf) → AreGiven es w → Does w e n v → AreGiven (es ++ e ∷ []) v
+does_given : (es : List Event) (w : WorldOf) (e : Event) (n : Note) (v : WorldOf) → AreGiven es w → EventDoes w e n v → AreGiven (es ++ e ∷ []) v
 does_given es w e n v all d = grind (arith, launch_given, step_given, crash_given, own_given)
 
 -- and any list of events

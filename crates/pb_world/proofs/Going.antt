@@ -6,7 +6,7 @@ use Rattle.pb_world.specs.Words.{Event}
 use Rattle.pb_world.specs.declared.fault.EventFault.{EventFault}
 use Rattle.pb_world.specs.declared.note.Note.{Note}
 use Rattle.pb_world.specs.Faults.{fault_code, memory_fault}
-use Rattle.pb_world.specs.Events.{WorldOf, Happens, RunsTo, StopsAtEvent, Wants, fault_of}
+use Rattle.pb_world.specs.Events.{WorldOf, Happens, RunsTo, StopsAtEvent, EventMayWant, fault_of}
 
 -- a run of events, and one event after it
 pub runs_more : (w : WorldOf) (es : List Event) (ns : List Note) (m : WorldOf) (e : Event) (n : Note) (v : WorldOf) → RunsTo w es ns m → Happens m e n v → RunsTo w (es ++ e ∷ []) (ns ++ n ∷ []) v
@@ -24,7 +24,7 @@ runs_on w es ns i m d n v lt r h =
 
 -- the events before the one at fault have happened, and nothing since
 pub stops_at_fault : (w : WorldOf) (es : List Event) (ns : List Note) (i at : ℕ) (fault : EventFault) (code : ℕ) (m : WorldOf) (e : Event) (v : WorldOf) → i < length es → at ≡ i → code ≡ fault_code fault
-    → RunsTo w (take i es) ns m → v ≡ m → e ≡ get_or es i e → ((fault ≡ memory_fault) × Wants m e) ⊎ (fault_of m e ≡ Some fault) → StopsAtEvent w es at code v
+    → RunsTo w (take i es) ns m → v ≡ m → e ≡ get_or es i e → ((fault ≡ memory_fault) × EventMayWant m e) ⊎ (fault_of m e ≡ Some fault) → StopsAtEvent w es at code v
 stops_at_fault w es ns i at fault code m e v lt at-is code-is r same e-is why =
     let le : i ≤ length es = omega (arith, lt) in
     let s : StopsAtEvent w es i code m = record { notes = ns; within = le; before = r; why = because why } in
@@ -33,6 +33,6 @@ stops_at_fault w es ns i at fault code m e v lt at-is code-is r same e-is why =
     there : slice_get es i ≡ Some e
     there = slice_get-get_or es i e lt ∙ ap (λ x. Some x) (sym e-is)
 
-    because : ((fault ≡ memory_fault) × Wants m e) ⊎ (fault_of m e ≡ Some fault) → ((code ≡ fault_code memory_fault) × ((i ≡ 0) ⊎ ((event : Event) × (slice_get es i ≡ Some event) × Wants m event))) ⊎ ((event : Event) × (f : EventFault) × (slice_get es i ≡ Some event) × (fault_of m event ≡ Some f) × (code ≡ fault_code f))
+    because : ((fault ≡ memory_fault) × EventMayWant m e) ⊎ (fault_of m e ≡ Some fault) → ((code ≡ fault_code memory_fault) × ((i ≡ 0) ⊎ ((event : Event) × (slice_get es i ≡ Some event) × EventMayWant m event))) ⊎ ((event : Event) × (f : EventFault) × (slice_get es i ≡ Some event) × (fault_of m event ≡ Some f) × (code ≡ fault_code f))
     because (inl none) = inl (code-is ∙ ap fault_code none.0, inr (e, there, none.1))
     because (inr f) = inr (e, fault, there, f, code-is)

@@ -4,7 +4,7 @@ use Rattle.pb_world.specs.Words.{MAX_RECORD_BYTES, JudgedOf, Placement, IsPlacem
 use Rattle.pb_world.specs.declared.job.ActorJob.{ActorJob}
 use Rattle.pb_world.specs.Jobs.{RulesAccept}
 use Rattle.pb_world.specs.Events.{WorldOf}
-use Rattle.pb_world.specs.Sound.{ChangeCame, RunCame, Came, IsTied, IsSoundWorld}
+use Rattle.pb_world.specs.Sound.{ChangeCame, RunCame, JobCame, CameSinceLaunch, IsSoundWorld}
 use Rattle.pb_world.specs.Headline.{IsNeverStuck, HoldsOfChange, HoldsOfRun, HoldsOfJob, HoldsOfActor}
 use Rattle.pb_world.proofs.SeatLists.{seat_list}
 
@@ -48,11 +48,11 @@ of_run stuck converses led waits ended w r said m =
       ended = ended r.watch said r m.reaches;
     }
 
-of_job : AcceptedAreNeverStuck → JobsConverse → MachinesAreLed → AsksAreOpen → EndedRunsMean → ChangesConverse → (w : WorldOf) (j : ActorJob) (said : List Received) → Came w j said → HoldsOfJob w j said
+of_job : AcceptedAreNeverStuck → JobsConverse → MachinesAreLed → AsksAreOpen → EndedRunsMean → ChangesConverse → (w : WorldOf) (j : ActorJob) (said : List Received) → JobCame w j said → HoldsOfJob w j said
 of_job stuck converses led waits ended changes w j said m = grind (arith, of_change, of_run)
 
 -- of an actor in a sound world the headline holds
-pub of_actor : AcceptedAreNeverStuck → JobsConverse → MachinesAreLed → AsksAreOpen → EndedRunsMean → ChangesConverse → (w : WorldOf) (k n : ℕ) (seat : SeatOf) (j : ActorJob) → IsSoundWorld w → slice_get w.seats k ≡ Some seat → IsTied w seat n j → HoldsOfActor w k n seat j
+pub of_actor : AcceptedAreNeverStuck → JobsConverse → MachinesAreLed → AsksAreOpen → EndedRunsMean → ChangesConverse → (w : WorldOf) (k n : ℕ) (seat : SeatOf) (j : ActorJob) → IsSoundWorld w → slice_get w.seats k ≡ Some seat → CameSinceLaunch w seat n j → HoldsOfActor w k n seat j
 of_actor stuck converses led waits ended changes w k n seat j s is t =
     let its = seat_list w.shared w.seats k seat s.seats is in
     record { number = its.0; entries = its.1; before = t.before; said = t.said; counted = t.counted; received = t.received; job = of_job stuck converses led waits ended changes w j t.said t.came }

@@ -11,8 +11,8 @@ use Rattle.pb_world.specs.declared.job.ActorJob.{ActorJob}
 use Rattle.pb_world.specs.declared.note.Note.{Note}
 use Rattle.pb_world.specs.Jobs.{next_of, is_local, is_local_need, Takes, Computes, RulesAccept, IsReady}
 use Rattle.pb_world.specs.Actors.{Stepped, AnswersJob, RefusesJob, CallSteps, Instructs, IsIdle, JobSteps, StepsTo, launched, crashed}
-use Rattle.pb_world.specs.Events.{WorldOf, change_of, job_for, with_actor, actor_of, no_actor, no_launch, fault_of, Launches, StepsActor, CrashesActor, OwnAnswers, OwnCalls, Does}
-use Rattle.pb_world.specs.Sound.{HasObserver, ChangeCame, RunCame, Came, IsTied, IsSoundWorld, EventsKeepSound}
+use Rattle.pb_world.specs.Events.{WorldOf, change_of, job_for, with_actor, actor_of, no_actor, no_launch, fault_of, Launches, StepsActor, CrashesActor, OwnAnswers, OwnCalls, EventDoes}
+use Rattle.pb_world.specs.Sound.{HasObserver, ChangeCame, RunCame, JobCame, CameSinceLaunch, IsSoundWorld, EventsKeepSound}
 use Rattle.pb_world.proofs.SeatLists.{seats_after_call, append-none}
 use Rattle.pb_base.proofs.Logic.{same_some as some_same, none_some as some_none}
 use Rattle.pb_history.proofs.JournalParts.{one_more as leads_more}
@@ -72,34 +72,34 @@ run_goes_on w r l said more same m reaches = record {
 }
 
 -- a job that took an answer has come on by it
-came_on : (w : WorldOf) (j k : ActorJob) (said : List Received) (st : Step) (a : Answer) → Came w j said → next_of j ≡ Some st → CanAnswer st a → Takes j a k → Came w k (said ++ record { step = st; answer = a } ∷ [])
+came_on : (w : WorldOf) (j k : ActorJob) (said : List Received) (st : Step) (a : Answer) → JobCame w j said → next_of j ≡ Some st → CanAnswer st a → Takes j a k → JobCame w k (said ++ record { step = st; answer = a } ∷ [])
 came_on w (ActorJob.Change c) k said st a m next can takes =
     let more : ChangeCame w (changes.answered c a) (said ++ record { step = st; answer = a } ∷ []) = record { number = m.number; there = m.there; is = m.is; converses = converses_push (new_change c.batch) said c st a m.converses next can } in
-    subst (λ x. Came w x (said ++ record { step = st; answer = a } ∷ [])) (sym takes) more
+    subst (λ x. JobCame w x (said ++ record { step = st; answer = a } ∷ [])) (sym takes) more
 came_on w (ActorJob.Run r) k said st a m next can takes =
     let l = takes.0 in
     let same : l.watch ≡ r.watch = ap (λ (x : RunOf). x.watch) takes.2 in
     let reaches = took said r (record { step = st; answer = a }) l m.reaches next can takes.2 takes.3 in
-    subst (λ x. Came w x (said ++ record { step = st; answer = a } ∷ [])) (sym takes.1) (run_goes_on w r l said (said ++ record { step = st; answer = a } ∷ []) same m reaches)
+    subst (λ x. JobCame w x (said ++ record { step = st; answer = a } ∷ [])) (sym takes.1) (run_goes_on w r l said (said ++ record { step = st; answer = a } ∷ []) same m reaches)
 
 local_by : (n : Need) → is_local_need n ≡ true → n ≡ Need.Local
 local_by n e = grind arith
 
 -- an instruction leaves what it was told
-came_by : (w : WorldOf) (j k : ActorJob) (said : List Received) → Came w j said → is_local j ≡ true → Computes j k → Came w k said
+came_by : (w : WorldOf) (j k : ActorJob) (said : List Received) → JobCame w j said → is_local j ≡ true → Computes j k → JobCame w k said
 came_by w (ActorJob.Change c) k said m local did = absurd did
 came_by w (ActorJob.Run r) k said m local did =
     let l = did.0 in
     let same : l.watch ≡ r.watch = ap (λ (x : RunOf). x.watch) did.2.same in
     let reaches = computed said r l m.reaches (local_by (need_of r) local) did.2 in
-    subst (λ x. Came w x said) (sym did.1) (run_goes_on w r l said said same m reaches)
+    subst (λ x. JobCame w x said) (sym did.1) (run_goes_on w r l said said same m reaches)
 
 -- what a job came by depends on the observers and the changes alone
-came_in : (w v : WorldOf) (j : ActorJob) (said : List Received) → v.shared.state.observers ≡ w.shared.state.observers → v.batches ≡ w.batches → Came w j said → Came v j said
+came_in : (w v : WorldOf) (j : ActorJob) (said : List Received) → v.shared.state.observers ≡ w.shared.state.observers → v.batches ≡ w.batches → JobCame w j said → JobCame v j said
 came_in w v j said os bs m = grind arith
 
 -- a job stays tied while the observers and the changes stay
-tied_in : (w v : WorldOf) (seat : SeatOf) (n : ℕ) (j : ActorJob) → v.shared.state.observers ≡ w.shared.state.observers → v.batches ≡ w.batches → IsTied w seat n j → IsTied v seat n j
+tied_in : (w v : WorldOf) (seat : SeatOf) (n : ℕ) (j : ActorJob) → v.shared.state.observers ≡ w.shared.state.observers → v.batches ≡ w.batches → CameSinceLaunch w seat n j → CameSinceLaunch v seat n j
 tied_in w v seat n j os bs t = record { before = t.before; said = t.said; counted = t.counted; received = t.received; came = came_in w v j t.said os bs t.came }
 
 -- ---- what a step does to the table and to its seat
@@ -132,12 +132,12 @@ moves_seats s seats k seat t told (calls st a c) is are = seats_after_call s sea
 -- what is left of the job is tied to what its seat was told by then
 record IsSteppedTo (w : WorldOf) (seat : SeatOf) (n : ℕ) (to : Stepped) : Type 0 where
   pub moves : Moves w.shared seat to.table to.seat
-  pub tied : (k : ActorJob) → to.job ≡ Some k → IsTied w to.seat n k
+  pub tied : (k : ActorJob) → to.job ≡ Some k → CameSinceLaunch w to.seat n k
 
-none_left : (w : WorldOf) (told : SeatOf) (n : ℕ) (rest : Option ActorJob) → rest ≡ None → (k : ActorJob) → rest ≡ Some k → IsTied w told n k
+none_left : (w : WorldOf) (told : SeatOf) (n : ℕ) (rest : Option ActorJob) → rest ≡ None → (k : ActorJob) → rest ≡ Some k → CameSinceLaunch w told n k
 none_left w told n rest none k some = absurd (some_none k (sym none ∙ some))
 
-instructed : (w : WorldOf) (seat : SeatOf) (n : ℕ) (j : ActorJob) (to : Stepped) → is_local j ≡ true → IsTied w seat n j → Instructs w.shared seat j to → IsSteppedTo w seat n to
+instructed : (w : WorldOf) (seat : SeatOf) (n : ℕ) (j : ActorJob) (to : Stepped) → is_local j ≡ true → CameSinceLaunch w seat n j → Instructs w.shared seat j to → IsSteppedTo w seat n to
 instructed w seat n j to local tie d = record {
   moves = stays d.same.table d.same.list;
   tied = grind (arith, came_by, d.same.list, tie.came, d.computes, tie.before, tie.counted, tie.received);
@@ -146,31 +146,31 @@ instructed w seat n j to local tie d = record {
 idled : (w : WorldOf) (seat : SeatOf) (n : ℕ) (to : Stepped) → IsIdle w.shared seat to → IsSteppedTo w seat n to
 idled w seat n to d = record { moves = stays d.same.table d.same.list; tied = none_left w to.seat n to.job d.left }
 
-answered : (w : WorldOf) (seat : SeatOf) (n : ℕ) (j : ActorJob) (st : Step) (to : Stepped) → next_of j ≡ Some st → IsTied w seat n j → AnswersJob w.shared seat j st to → IsSteppedTo w seat n to
+answered : (w : WorldOf) (seat : SeatOf) (n : ℕ) (j : ActorJob) (st : Step) (to : Stepped) → next_of j ≡ Some st → CameSinceLaunch w seat n j → AnswersJob w.shared seat j st to → IsSteppedTo w seat n to
 answered w seat n j st to next tie d = record {
   moves = calls st d.answer d.calls;
   tied = grind (arith, came_on, append_assoc', tie.came, d.can, d.takes, tie.before, tie.counted, d.calls.received, tie.received);
 }
 
-called_by : (w : WorldOf) (seat : SeatOf) (n : ℕ) (j : ActorJob) (st : Step) (to : Stepped) (why : Option Reason) → next_of j ≡ Some st → IsTied w seat n j
+called_by : (w : WorldOf) (seat : SeatOf) (n : ℕ) (j : ActorJob) (st : Step) (to : Stepped) (why : Option Reason) → next_of j ≡ Some st → CameSinceLaunch w seat n j
     → MatchOption why (AnswersJob w.shared seat j st to) (λ y. RefusesJob w.shared seat y to) → IsSteppedTo w seat n to
 called_by w seat n j st to None next tie d = answered w seat n j st to next tie d
 called_by w seat n j st to (Some y) next tie d = record { moves = stays d.same.table d.same.list; tied = none_left w to.seat n to.job d.left }
 
-asked : (w : WorldOf) (seat : SeatOf) (n : ℕ) (j : ActorJob) (to : Stepped) (o : Option Step) → next_of j ≡ o → IsTied w seat n j
+asked : (w : WorldOf) (seat : SeatOf) (n : ℕ) (j : ActorJob) (to : Stepped) (o : Option Step) → next_of j ≡ o → CameSinceLaunch w seat n j
     → MatchOption o (IsIdle w.shared seat to) (λ st. CallSteps w.shared seat j st to) → IsSteppedTo w seat n to
 asked w seat n j to None is tie d = idled w seat n to d
 asked w seat n j to (Some st) is tie d = called_by w seat n j st to (call_reason w.shared seat.number st) is tie d
 
 -- whatever a step of a job came to
-job_steps : (w : WorldOf) (seat : SeatOf) (n : ℕ) (j : ActorJob) (to : Stepped) → IsTied w seat n j → JobSteps w.shared seat j to → IsSteppedTo w seat n to
+job_steps : (w : WorldOf) (seat : SeatOf) (n : ℕ) (j : ActorJob) (to : Stepped) → CameSinceLaunch w seat n j → JobSteps w.shared seat j to → IsSteppedTo w seat n to
 job_steps w seat n j to tie d = by (is_local j) refl d
   where
     by : (b : Bool) → is_local j ≡ b → MatchBool b (Instructs w.shared seat j to) (MatchOption (next_of j) (IsIdle w.shared seat to) (λ st. CallSteps w.shared seat j st to)) → IsSteppedTo w seat n to
     by true local d = instructed w seat n j to local tie d
     by false local d = asked w seat n j to (next_of j) refl tie d
 
-actor_steps : (w : WorldOf) (seat : SeatOf) (n : ℕ) (o : Option ActorJob) (to : Stepped) → ((j : ActorJob) → o ≡ Some j → IsTied w seat n j) → StepsTo w.shared seat o to → IsSteppedTo w seat n to
+actor_steps : (w : WorldOf) (seat : SeatOf) (n : ℕ) (o : Option ActorJob) (to : Stepped) → ((j : ActorJob) → o ≡ Some j → CameSinceLaunch w seat n j) → StepsTo w.shared seat o to → IsSteppedTo w seat n to
 actor_steps w seat n None to tie d = idled w seat n to d
 actor_steps w seat n (Some j) to tie d = job_steps w seat n j to (tie j refl) d
 
@@ -192,10 +192,10 @@ step_keeps_world w v k n some s d = subst (λ x. IsSoundWorld x) (sym d.after) h
     observers : v.shared.state.observers ≡ w.shared.state.observers
     observers = moves_observers w.shared d.seat v.shared d.told left.moves
 
-    tie : (i : ℕ) (a : Actor) (seat : SeatOf) (j : ActorJob) → IsAfterSet w.actors k d.stepped i a → IsAfterSet w.seats k d.told i seat → a.job ≡ Some j → IsTied u seat a.launched j
+    tie : (i : ℕ) (a : Actor) (seat : SeatOf) (j : ActorJob) → IsAfterSet w.actors k d.stepped i a → IsAfterSet w.seats k d.told i seat → a.job ≡ Some j → CameSinceLaunch u seat a.launched j
     tie i a seat j (changed e a-is) (changed f seat-is) job =
-        let here : IsTied w d.told d.stepped.launched j = left.tied j (subst (λ (x : Actor). x.job ≡ Some j) a-is job) in
-        tied_in w u seat a.launched j observers refl (subst (λ (x : Actor). IsTied w seat x.launched j) (sym a-is) (subst (λ x. IsTied w x d.stepped.launched j) (sym seat-is) here))
+        let here : CameSinceLaunch w d.told d.stepped.launched j = left.tied j (subst (λ (x : Actor). x.job ≡ Some j) a-is job) in
+        tied_in w u seat a.launched j observers refl (subst (λ (x : Actor). CameSinceLaunch w seat x.launched j) (sym a-is) (subst (λ x. CameSinceLaunch w x d.stepped.launched j) (sym seat-is) here))
     tie i a seat j (changed e a-is) (unchanged apart is) job = absurd (apart e)
     tie i a seat j (unchanged apart is) (changed f seat-is) job = absurd (apart f)
     tie i a seat j (unchanged apart is) (unchanged apart' is') job = tied_in w u seat a.launched j observers refl (s.tied i a seat j is is' job)
@@ -212,7 +212,7 @@ step_keeps_world w v k n some s d = subst (λ x. IsSoundWorld x) (sym d.after) h
     }
 
 -- one actor changed alone
-with_sound : (w : WorldOf) (k : ℕ) (b : Actor) → 0 < k → IsSoundWorld w → ((seat : SeatOf) (j : ActorJob) → slice_get w.seats k ≡ Some seat → b.job ≡ Some j → IsTied w seat b.launched j) → IsSoundWorld (with_actor w k b)
+with_sound : (w : WorldOf) (k : ℕ) (b : Actor) → 0 < k → IsSoundWorld w → ((seat : SeatOf) (j : ActorJob) → slice_get w.seats k ≡ Some seat → b.job ≡ Some j → CameSinceLaunch w seat b.launched j) → IsSoundWorld (with_actor w k b)
 with_sound w k b some s tie = record {
   legal = s.legal;
   seats = s.seats;
@@ -224,10 +224,10 @@ with_sound w k b some s tie = record {
     none a (changed e a-is) = absurd (omega (arith, some, e))
     none a (unchanged apart is) = s.own a is
 
-    at : (i : ℕ) (a : Actor) (seat : SeatOf) (j : ActorJob) → IsAfterSet w.actors k b i a → slice_get w.seats i ≡ Some seat → a.job ≡ Some j → IsTied (with_actor w k b) seat a.launched j
+    at : (i : ℕ) (a : Actor) (seat : SeatOf) (j : ActorJob) → IsAfterSet w.actors k b i a → slice_get w.seats i ≡ Some seat → a.job ≡ Some j → CameSinceLaunch (with_actor w k b) seat a.launched j
     at i a seat j (changed e a-is) is' job =
-        let here : IsTied w seat b.launched j = tie seat j (subst (λ n. slice_get w.seats n ≡ Some seat) e is') (subst (λ (x : Actor). x.job ≡ Some j) a-is job) in
-        tied_in w (with_actor w k b) seat a.launched j refl refl (subst (λ (x : Actor). IsTied w seat x.launched j) (sym a-is) here)
+        let here : CameSinceLaunch w seat b.launched j = tie seat j (subst (λ n. slice_get w.seats n ≡ Some seat) e is') (subst (λ (x : Actor). x.job ≡ Some j) a-is job) in
+        tied_in w (with_actor w k b) seat a.launched j refl refl (subst (λ (x : Actor). CameSinceLaunch w seat x.launched j) (sym a-is) here)
     at i a seat j (unchanged apart is) is' job = tied_in w (with_actor w k b) seat a.launched j refl refl (s.tied i a seat j is is' job)
 
 -- a crash leaves no job to be tied
@@ -235,19 +235,19 @@ crashed_sound : (w v : WorldOf) (k : ℕ) (n : Note) → 0 < k → IsSoundWorld 
 crashed_sound w v k n some s d = subst (λ x. IsSoundWorld x) (sym d.after) (with_sound w k (crashed d.actor) some s (λ seat j is job. absurd (some_none j job)))
 
 -- a job that is made has come there without a word
-change_made : (w : WorldOf) (k : ℕ) (o : Option Writes) (made : ActorJob) → change_of w.batches k ≡ o → option_map (λ batch. ActorJob.Change (new_change batch)) o ≡ Some made → IsReady made → Came w made []
+change_made : (w : WorldOf) (k : ℕ) (o : Option Writes) (made : ActorJob) → change_of w.batches k ≡ o → option_map (λ batch. ActorJob.Change (new_change batch)) o ≡ Some made → IsReady made → JobCame w made []
 change_made w k o made is e ready = grind arith
 
-run_made : (w : WorldOf) (o : ℕ) (row : Row) (found : Option ObserverOf) (made : ActorJob) → slice_get w.shared.state.observers o ≡ found → option_map (λ (x : ObserverOf). ActorJob.Run (fresh (watch_of o x row))) found ≡ Some made → IsReady made → Came w made []
+run_made : (w : WorldOf) (o : ℕ) (row : Row) (found : Option ObserverOf) (made : ActorJob) → slice_get w.shared.state.observers o ≡ found → option_map (λ (x : ObserverOf). ActorJob.Run (fresh (watch_of o x row))) found ≡ Some made → IsReady made → JobCame w made []
 run_made w o row None made is e ready = absurd (some_none made e)
 run_made w o row (Some x) made is e ready =
     let same : ActorJob.Run (fresh (watch_of o x row)) ≡ made = some_same (ActorJob.Run (fresh (watch_of o x row))) made e in
     let fits = subst (λ y. IsReady y) (sym same) ready in
     let here : RunCame w (fresh (watch_of o x row)) [] = record { its = record { observer = x; there = is; program = refl; column = refl }; accepted = fits; reaches = conversations.made } in
-    subst (λ y. Came w y []) same here
+    subst (λ y. JobCame w y []) same here
 
 -- a job that was just made has said nothing
-came_first : (w : WorldOf) (job : Job) (made : ActorJob) → job_for w job ≡ Some made → IsReady made → Came w made []
+came_first : (w : WorldOf) (job : Job) (made : ActorJob) → job_for w job ≡ Some made → IsReady made → JobCame w made []
 came_first w (Job.Change k) made is ready = change_made w k (change_of w.batches k) made refl is ready
 came_first w (Job.Run o row) made is ready = run_made w o row (slice_get w.shared.state.observers o) made refl is ready
 
@@ -255,17 +255,17 @@ came_first w (Job.Run o row) made is ready = run_made w o row (slice_get w.share
 launched_sound : (w v : WorldOf) (k : ℕ) (job : Job) (n : Note) → 0 < k → IsSoundWorld w → Launches w k job n v → IsSoundWorld v
 launched_sound w v k job n some s d = subst (λ x. IsSoundWorld x) (sym d.after) (with_sound w k (launched (length d.seat.received) d.made) some s at)
   where
-    at : (seat : SeatOf) (j : ActorJob) → slice_get w.seats k ≡ Some seat → Some d.made ≡ Some j → IsTied w seat (length d.seat.received) j
+    at : (seat : SeatOf) (j : ActorJob) → slice_get w.seats k ≡ Some seat → Some d.made ≡ Some j → CameSinceLaunch w seat (length d.seat.received) j
     at seat j is e =
         let same : d.seat ≡ seat = some_same d.seat seat (sym d.its_seat ∙ is) in
-        let here : IsTied w seat (length d.seat.received) d.made = record {
+        let here : CameSinceLaunch w seat (length d.seat.received) d.made = record {
           before = seat.received;
           said = [];
           counted = ap (λ (x : SeatOf). length x.received) (sym same);
           received = sym (append-none seat.received);
           came = came_first w job d.made d.made_is d.ready;
         } in
-        subst (λ x. IsTied w seat (length d.seat.received) x) (some_same d.made j e) here
+        subst (λ x. CameSinceLaunch w seat (length d.seat.received) x) (some_same d.made j e) here
 
 -- the world's own step
 own_moved : (w v : WorldOf) (seat told : SeatOf) → IsSoundWorld w → slice_get w.seats 0 ≡ Some seat → Moves w.shared seat v.shared told → v ≡ record w { shared = v.shared; seats = slice_set w.seats 0 told } → IsSoundWorld v
@@ -279,7 +279,7 @@ own_moved w v seat told s its m after = subst (λ x. IsSoundWorld x) (sym after)
     u : WorldOf
     u = record w { shared = v.shared; seats = slice_set w.seats 0 told }
 
-    at : (i : ℕ) (a : Actor) (p : SeatOf) (j : ActorJob) → slice_get w.actors i ≡ Some a → IsAfterSet w.seats 0 told i p → a.job ≡ Some j → IsTied u p a.launched j
+    at : (i : ℕ) (a : Actor) (p : SeatOf) (j : ActorJob) → slice_get w.actors i ≡ Some a → IsAfterSet w.seats 0 told i p → a.job ≡ Some j → CameSinceLaunch u p a.launched j
     at i a p j is (changed e p-is) job = absurd (some_none j (sym (s.own a (subst (λ n. slice_get w.actors n ≡ Some a) e is)) ∙ job))
     at i a p j is (unchanged apart is') job = tied_in w u p a.launched j (moves_observers w.shared seat v.shared told m) refl (s.tied i a p j is is' job)
 
@@ -298,7 +298,7 @@ not_own_launch : (w : WorldOf) (k : ℕ) (made : Option ActorJob) (o : Option Ac
 not_own_launch w k made o is h = grind arith
 
 -- so any event keeps a world sound
-does_sound : (w : WorldOf) (e : Event) (n : Note) (v : WorldOf) → IsSoundWorld w → fault_of w e ≡ None → Does w e n v → IsSoundWorld v
+does_sound : (w : WorldOf) (e : Event) (n : Note) (v : WorldOf) → IsSoundWorld w → fault_of w e ≡ None → EventDoes w e n v → IsSoundWorld v
 does_sound w e n v s can d = grind (arith, launched_sound, not_own_launch, step_keeps_world, not_own, crashed_sound, own_sound)
 
 -- and any list of events

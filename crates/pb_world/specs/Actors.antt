@@ -6,7 +6,7 @@ use Rattle.pb_world.specs.declared.actor.Actor.{Actor}
 use Rattle.pb_world.specs.declared.actor.NotCalled.{NotCalled}
 use Rattle.pb_world.specs.declared.job.ActorJob.{ActorJob}
 use Rattle.pb_world.specs.declared.note.Note.{Note}
-use Rattle.pb_world.specs.Jobs.{next_of, Takes, is_local, Computes, GrowsNext, kept}
+use Rattle.pb_world.specs.Jobs.{next_of, Takes, is_local, Computes, GrowsNext, unless_over}
 
 -- the number is that of the reason for which the step is refused, and want of memory is told where there is none
 abbrev pub IsRefusedBy : SharedOf → ℕ → Step → NotCalled → Type 0
@@ -57,7 +57,7 @@ pub record AnswersJob (s : SharedOf) (seat : SeatOf) (j : ActorJob) (step : Step
   pub can : CanAnswer step answer
   pub calls : Calls s seat step answer to.table to.seat
   pub takes : Takes j answer after
-  pub left : to.job ≡ kept after
+  pub left : to.job ≡ unless_over after
 
 -- the table refuses the step, which ends the job
 pub record RefusesJob (s : SharedOf) (seat : SeatOf) (why : Reason) (to : Stepped) : Type 0 where

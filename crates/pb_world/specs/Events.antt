@@ -128,18 +128,18 @@ pub record OwnCalls (w : WorldOf) (step : Step) (n : Note) (v : WorldOf) : Type 
   pub calls : MatchOption (call_reason w.shared seat.number step) (OwnAnswers w seat step n v) (λ why. (n ≡ Note.Refused (reason_code why)) × (v ≡ w))
 
 -- what each kind of event does, with its note
-abbrev pub Does : WorldOf → Event → Note → WorldOf → Type 0
-Does w (Event.Launch k job) n v = Launches w k job n v
-Does w (Event.Step k) n v = StepsActor w k n v
-Does w (Event.Crash k) n v = CrashesActor w k n v
-Does w (Event.Settle x) n v = OwnCalls w (Step.Settle x) n v
-Does w (Event.Clear x) n v = OwnCalls w (Step.Clear x) n v
-Does w (Event.Sweep x) n v = OwnCalls w (Step.Sweep x) n v
+abbrev pub EventDoes : WorldOf → Event → Note → WorldOf → Type 0
+EventDoes w (Event.Launch k job) n v = Launches w k job n v
+EventDoes w (Event.Step k) n v = StepsActor w k n v
+EventDoes w (Event.Crash k) n v = CrashesActor w k n v
+EventDoes w (Event.Settle x) n v = OwnCalls w (Step.Settle x) n v
+EventDoes w (Event.Clear x) n v = OwnCalls w (Step.Clear x) n v
+EventDoes w (Event.Sweep x) n v = OwnCalls w (Step.Sweep x) n v
 
 -- one event that is not at fault
 pub record Happens (w : WorldOf) (e : Event) (n : Note) (v : WorldOf) : Type 0 where
   pub can : fault_of w e ≡ None
-  pub does : Does w e n v
+  pub does : EventDoes w e n v
 
 -- ---- what may want memory
 
@@ -167,7 +167,7 @@ MayWant w (Event.Clear x) = OwnMayWant w (Step.Clear x)
 MayWant w (Event.Sweep x) = OwnMayWant w (Step.Sweep x)
 
 -- the event isn't at fault, and what it does may want memory
-pub record Wants (w : WorldOf) (e : Event) : Type 0 where
+pub record EventMayWant (w : WorldOf) (e : Event) : Type 0 where
   pub can : fault_of w e ≡ None
   pub wants : MayWant w e
 
@@ -184,4 +184,4 @@ pub record StopsAtEvent (w : WorldOf) (es : List Event) (at code : ℕ) (v : Wor
   pub notes : List Note
   pub within : at ≤ length es
   pub before : RunsTo w (take at es) notes v
-  pub why : ((code ≡ fault_code memory_fault) × ((at ≡ 0) ⊎ ((event : Event) × (slice_get es at ≡ Some event) × Wants v event))) ⊎ ((event : Event) × (fault : EventFault) × (slice_get es at ≡ Some event) × (fault_of v event ≡ Some fault) × (code ≡ fault_code fault))
+  pub why : ((code ≡ fault_code memory_fault) × ((at ≡ 0) ⊎ ((event : Event) × (slice_get es at ≡ Some event) × EventMayWant v event))) ⊎ ((event : Event) × (fault : EventFault) × (slice_get es at ≡ Some event) × (fault_of v event ≡ Some fault) × (code ≡ fault_code fault))

@@ -10,17 +10,17 @@ use Rattle.pb_world.specs.Sound.{HasObserver}
 use Rattle.pb_world.specs.Headline.{IsOpened}
 
 -- the event launches or crashes this actor
-abbrev pub Renews : ℕ → Event → Type 0
-Renews k (Event.Launch i job) = i ≡ k
-Renews k (Event.Crash i) = i ≡ k
-Renews k e = ⊥
+abbrev pub LaunchesOrCrashes : ℕ → Event → Type 0
+LaunchesOrCrashes k (Event.Launch i job) = i ≡ k
+LaunchesOrCrashes k (Event.Crash i) = i ≡ k
+LaunchesOrCrashes k e = ⊥
 
 -- the last of these events that launches or crashes this actor launches it for this
 pub record IsLastLaunch (es : List Event) (k : ℕ) (job : Job) : Type 0 where
   pub before : List Event
   pub after : List Event
   pub es_is : es ≡ before ++ Event.Launch k job ∷ after
-  pub last : (e : Event) → Has after e → Renews k e → ⊥
+  pub last : (e : Event) → Has after e → LaunchesOrCrashes k e → ⊥
 
 -- the change of this number, or a run of this observer on the cell of this row
 abbrev pub IsJobOf : WorldOf → Job → ActorJob → Type 0

@@ -56,8 +56,8 @@ is_over (ActorJob.Change c) = is_some (changes.outcome_of c)
 is_over (ActorJob.Run r) = is_over_need (runs.need_of r)
 
 -- a job that is over is gone
-abbrev pub kept : ActorJob → Option ActorJob
-kept j = if is_over j then None else Some j
+abbrev pub unless_over : ActorJob → Option ActorJob
+unless_over j = if is_over j then None else Some j
 
 -- ---- what a launch gives
 

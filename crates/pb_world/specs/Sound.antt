@@ -29,24 +29,24 @@ pub record RunCame (w : WorldOf) (r : RunOf) (said : List Received) : Type 0 whe
   pub reaches : Reaches (fresh r.watch) said r
 
 -- the job was led to where it stands by what was said
-abbrev pub Came : WorldOf → ActorJob → List Received → Type 0
-Came w (ActorJob.Change c) said = ChangeCame w c said
-Came w (ActorJob.Run r) said = RunCame w r said
+abbrev pub JobCame : WorldOf → ActorJob → List Received → Type 0
+JobCame w (ActorJob.Change c) said = ChangeCame w c said
+JobCame w (ActorJob.Run r) said = RunCame w r said
 
 -- what a seat was told since the launch led the job to where it stands
-pub record IsTied (w : WorldOf) (seat : SeatOf) (launched : ℕ) (j : ActorJob) : Type 0 where
+pub record CameSinceLaunch (w : WorldOf) (seat : SeatOf) (launched : ℕ) (j : ActorJob) : Type 0 where
   pub before : List Received
   pub said : List Received
   pub counted : length before ≡ launched
   pub received : seat.received ≡ before ++ said
-  pub came : Came w j said
+  pub came : JobCame w j said
 
 -- what every event keeps; the world's own seat never has a job, since no launch reaches it
 pub record IsSoundWorld (w : WorldOf) : Type 0 where
   pub legal : IsLegalTable w.shared
   pub seats : AreSeats w.shared w.seats
   pub own : (a : Actor) → slice_get w.actors 0 ≡ Some a → a.job ≡ None
-  pub tied : (k : ℕ) (a : Actor) (seat : SeatOf) (j : ActorJob) → slice_get w.actors k ≡ Some a → slice_get w.seats k ≡ Some seat → a.job ≡ Some j → IsTied w seat a.launched j
+  pub tied : (k : ℕ) (a : Actor) (seat : SeatOf) (j : ActorJob) → slice_get w.actors k ≡ Some a → slice_get w.seats k ≡ Some seat → a.job ≡ Some j → CameSinceLaunch w seat a.launched j
 
 -- ---- laws
 

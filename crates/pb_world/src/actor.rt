@@ -4,7 +4,7 @@ ghost use Rattle.std.specs.Prelude.{◌≡◌, None, Some, MatchOption, MatchRes
 ghost use Rattle.pb_steps.specs.Answers.{CanAnswer};
 ghost use Rattle.pb_core.specs.Calls.{Calls, call_reason};
 ghost use Rattle.pb_world.specs.Actors.{IsRefusedBy, AsksNothing, Answers, IsNotAnswered, JobSteps, ActorSteps, OnNote, JobMayWant, ActorMayWant, launched, crashed, crash_note};
-ghost use Rattle.pb_world.specs.Jobs.{kept};
+ghost use Rattle.pb_world.specs.Jobs.{unless_over};
 ghost use Rattle.pb_world.specs.declared.note.Note.TheVariants.{Called};
 
 use crate::job::ActorJob;
@@ -88,7 +88,7 @@ fn call_note(answer: &Answer) -> Note
 
 // A job that is over is gone, so that its actor can be launched again.
 fn keep_unless_over(job: ActorJob) -> Option<ActorJob>
-    ensures { result ≡ kept job }
+    ensures { result ≡ unless_over job }
 {
     if job.is_over() { None } else { Some(job) }
 }

@@ -83,7 +83,7 @@ impl<T: Tablet> World<T> {
     ghost use Rattle.pb_world.specs.Faults.{fault_code, memory_fault};
     ghost use Rattle.pb_world.specs.Actors.{OnNote};
     ghost use Rattle.pb_world.specs.Jobs.{IsReady};
-    ghost use Rattle.pb_world.specs.Events.{idle_actors, actor_of, held_job, change_of, job_for, no_actor, no_launch, fault_of, Launches, StepsActor, CrashesActor, OwnCalls, Does, StepMayWant, OwnMayWant, MayWant, Wants, Happens, RunsTo, StopsAtEvent};
+    ghost use Rattle.pb_world.specs.Events.{idle_actors, actor_of, held_job, change_of, job_for, no_actor, no_launch, fault_of, Launches, StepsActor, CrashesActor, OwnCalls, EventDoes, StepMayWant, OwnMayWant, MayWant, EventMayWant, Happens, RunsTo, StopsAtEvent};
 
     /// A world over a table with all its seats, in order, where these changes may be launched. Its actors have no job.
     ///
@@ -299,7 +299,7 @@ impl<T: Tablet> World<T> {
     // What an event does that isn't at fault.
     fn does(&mut self, alloc: Global, event: &Event) -> Result<Note, NoMemory>
         requires { fault_of self.old event.now ≡ None }
-        ensures { OnNote result (λ n. Does self.old event.now n self.new)
+        ensures { OnNote result (λ n. EventDoes self.old event.now n self.new)
             ((self.new ≡ self.old) × MayWant self.old event.now) }
     {
         match event {
@@ -316,7 +316,7 @@ impl<T: Tablet> World<T> {
     fn event(&mut self, alloc: Global, event: &Event) -> Result<Note, EventFault>
         ensures { MatchResult result (λ n. Happens self.old event.now n self.new)
             (λ f. (self.new ≡ self.old)
-            × (((f ≡ memory_fault) × Wants self.old event.now)
+            × (((f ≡ memory_fault) × EventMayWant self.old event.now)
             ⊎ (fault_of self.old event.now ≡ Some f))) }
     {
         if let Some(fault) = self.fault(event) {

@@ -77,7 +77,7 @@ fn told_by(alloc: Global, words: &[String]) -> Option<String> {
 }
 
 /// Whether what these words ask for, the crate's own first, was done and printed.
-pub fn is_told(rt: &HostRuntime, words: &[String]) -> Option<bool> {
+pub fn are_words_done(rt: &HostRuntime, words: &[String]) -> Option<bool> {
     if words.get(1)?.as_str() == "--help" {
         return Some(println!(rt; "{WORDS}").is_ok());
     }

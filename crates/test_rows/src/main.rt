@@ -13,23 +13,23 @@ use std::thread::Threads;
 use std::time::Clock;
 
 // Whether what the words ask for was done and printed.
-fn is_done<R: Threads + Wait + Clock + Sync>(threads: &R, rt: &HostRuntime) -> Option<bool> {
+fn are_words_done<R: Threads + Wait + Clock + Sync>(threads: &R, rt: &HostRuntime) -> Option<bool> {
     let args = env::args(rt).ok()?;
     let all: Vec<String> = args.collect(rt.alloc()).ok()?;
     let words = all.get(1..)?;
     match words.first()?.as_str() {
-        "machine" => test_machine::is_told(rt, words),
-        "table" => test_table::is_told(rt, words),
-        "jobs" => test_jobs::is_told(rt, words),
-        "worlds" => test_worlds::is_told(rt, words),
-        "workers" => test_workers::is_done(threads, rt, words),
+        "machine" => test_machine::are_words_done(rt, words),
+        "table" => test_table::are_words_done(rt, words),
+        "jobs" => test_jobs::are_words_done(rt, words),
+        "worlds" => test_worlds::are_words_done(rt, words),
+        "workers" => test_workers::are_words_done(threads, rt, words),
         _ => None,
     }
 }
 
 // The handle goes down twice, as the host and as what may wait, since a `HostRuntime` may wait in `main` alone.
 fn main(rt: HostRuntime) -> ExitCode {
-    if is_done(&rt, &rt) == Some(true) {
+    if are_words_done(&rt, &rt) == Some(true) {
         ExitCode::SUCCESS
     } else {
         ExitCode::FAILURE

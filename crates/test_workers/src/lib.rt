@@ -90,7 +90,7 @@ fn work_is_told<R: Threads + Wait + Clock + Sync>(
 }
 
 /// Whether what these words ask for, the crate's own first, was done and printed.
-pub fn is_done<R: Threads + Wait + Clock + Sync>(
+pub fn are_words_done<R: Threads + Wait + Clock + Sync>(
     threads: &R,
     rt: &HostRuntime,
     words: &[String],

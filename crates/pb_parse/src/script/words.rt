@@ -4,7 +4,7 @@ ghost use Rattle.std.specs.Char.{is_ascii_uppercase};
 ghost use Rattle.std.specs.List.{list_any};
 ghost use Rattle.pb_base.specs.declared.cell.Cell.TheVariants.{Data};
 ghost use Rattle.pb_reading.specs.Reading.{Gives, words_left};
-ghost use Rattle.pb_parse.specs.ScriptWords.{content_of, cell_at, put_of, del_of, write_of, operation};
+ghost use Rattle.pb_parse.specs.ScriptWords.{value_of_word, cell_at, put_of, del_of, write_of, operation};
 
 use crate::script::code::ScriptCode;
 use pb_base::{COLUMNS, Column, Content, Row, Value};
@@ -42,8 +42,8 @@ fn has_upper(digits: &[u8]) -> bool
 
 // Up to 32 bytes in lower-case hexadecimal digits, followed by zeros. Capitals are looked for here, since `hex` reads
 // them too; an odd number of digits it refuses by itself.
-fn content_of(word: &str) -> Result<Value, ScriptCode>
-    ensures { Gives (λ _. false) (λ b. b) result (content_of word.now) }
+fn value_of_word(word: &str) -> Result<Value, ScriptCode>
+    ensures { Gives (λ _. false) (λ b. b) result (value_of_word word.now) }
 {
     let digits = word.as_bytes();
     if digits.is_empty() || digits.len() > 64 || has_upper(digits) {
@@ -85,7 +85,7 @@ fn put_of(words: &mut LineWords) -> Result<Change, ScriptCode>
 {
     let place = cell_at(words)?;
     let word = words.next_word(ScriptCode::Form)?;
-    let content = content_of(word)?;
+    let content = value_of_word(word)?;
     words.no_word(ScriptCode::Form)?;
     Ok(place.with(Content::Value(content)))
 }

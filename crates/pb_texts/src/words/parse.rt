@@ -380,7 +380,7 @@ pub fn plus_told(
 }
 
 // The error of a plus before a number, told of the first option that has one.
-fn plus_refused(alloc: Global, matches: &ArgMatches) -> Result<Error, AllocError>
+fn plus_error(alloc: Global, matches: &ArgMatches) -> Result<Error, AllocError>
     ensures { IfOk result (λ e. kind_of e ≡ ErrorKind.ValueValidation) }
 {
     match matches.subcommand() {
@@ -418,7 +418,7 @@ pub fn options<'a>(alloc: Global, words: &'a [&'a str]) -> Result<Options<'a>, E
     match command_in(&matches) {
         Some(options) => Ok(options),
         // Of what `clap` takes, only a plus before a number other than a clock asks for nothing.
-        None => Err(plus_refused(alloc, &matches)?),
+        None => Err(plus_error(alloc, &matches)?),
     }
 }
 

@@ -27,7 +27,7 @@ fn frames_command<'a>(alloc: Global) -> Result<Command<'a>, AllocError>
 }
 
 // The subcommand of the program's replays, told as what it does here.
-fn replay_told<'a>(alloc: Global) -> Result<Command<'a>, AllocError>
+fn story_replay_command<'a>(alloc: Global) -> Result<Command<'a>, AllocError>
     ensures app { IfOk result (λ c. app_of c ≡ replay_app) }
     ensures local { IfOk result (λ c. (fields_of c).has_globals ≡ false) }
 {
@@ -39,7 +39,7 @@ fn story_program<'a>(alloc: Global) -> Result<Command<'a>, AllocError>
     ensures { IfOk result (λ c. app_of c ≡ story_app) }
 {
     let frames = frames_command(alloc)?;
-    let replay = replay_told(alloc)?;
+    let replay = story_replay_command(alloc)?;
     let bare = Command::new(alloc, "percobpf_story").subcommand_required(true);
     let bare = bare.about(
         "What is known before each slot of a program, and what each event of a replay did",
@@ -68,7 +68,7 @@ fn story_in<'a>(matches: &ArgMatches<'a>) -> Option<StoryOptions<'a>>
 }
 
 // The error of a plus before a number of `frames`, told of the first option that has one.
-fn frames_plus_told(alloc: Global, matches: &ArgMatches) -> Result<Error, AllocError>
+fn frames_plus_error(alloc: Global, matches: &ArgMatches) -> Result<Error, AllocError>
     ensures { IfOk result (λ e. kind_of e ≡ ErrorKind.ValueValidation) }
 {
     let option = match matches.subcommand() {
@@ -93,6 +93,6 @@ pub fn story_options<'a>(alloc: Global, words: &'a [&'a str]) -> Result<StoryOpt
     match story_in(&matches) {
         Some(options) => Ok(options),
         // Of what `clap` takes, only a plus before the number of a profile or of a version asks for nothing.
-        None => Err(frames_plus_told(alloc, &matches)?),
+        None => Err(frames_plus_error(alloc, &matches)?),
     }
 }

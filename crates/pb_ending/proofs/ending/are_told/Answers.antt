@@ -4,7 +4,7 @@ use Rattle.pb_history.specs.declared.entry.Received.{Received}
 use Rattle.pb_ending.specs.Cursors.{told_by}
 use Rattle.pb_ending.proofs.Cursors.{at_first, none_on, off_not_told, one_on, all_told}
 use Rattle.pb_ending.proofs.ending.are_told.Goals as goal
-use Rattle.pb_ending.proofs.ending.are_told.Goals.{in-Some+in-Some-behind, in_default}
+use Rattle.pb_ending.proofs.ending.are_told.Goals.{in-Some+in-Some-cursor_after, in_default}
 
 pub loop-e-init : goal.loop-e-init
 loop-e-init c = record { sized = refl; along = at_first c.args.journal.now c.args.seats.now 64 }
@@ -20,14 +20,14 @@ pub loop-e-preserved : goal.loop-e-preserved
 loop-e-preserved c =
     let l = c.loop-e in
     elim c.match-place_of.branch [
-      | in-Some+in-Some-behind w ↦
+      | in-Some+in-Some-cursor_after w ↦
           let s = w.index-seats-place.result in
           let place = w.in-Some.place in
           let in' : place < length l.cursors = let few = c.requires.few in let counted = c.requires.counted in let within = w.in-Some.ensures.some.within in omega (arith, few, counted, within, l.invariant.sized) in
-          let there : slice_get s.received (slice_index_or l.cursors place 0) ≡ Some (told_by c.e-item.result) = subst (λ (rs : List Received). slice_get rs (slice_index_or l.cursors place 0) ≡ Some (told_by c.e-item.result)) w.received.ensures w.in-Some-behind.ensures.some.0 in
+          let there : slice_get s.received (slice_index_or l.cursors place 0) ≡ Some (told_by c.e-item.result) = subst (λ (rs : List Received). slice_get rs (slice_index_or l.cursors place 0) ≡ Some (told_by c.e-item.result)) w.received.ensures w.in-Some-cursor_after.ensures.some.0 in
           rw w.cursors-is (record {
-            sized = length-set l.cursors place w.in-Some-behind.next ∙ l.invariant.sized;
-            along = one_on c.args.journal.now l.e-index c.e-item.result c.loop-e-test.true c.e-item.is c.args.seats.now l.cursors l.invariant.along place s w.in-Some.ensures.some w.index-seats-place.is c.places_of-places.result w.in-Some-behind.next c.places_of-places.ensures in' there w.in-Some-behind.ensures.some.1;
+            sized = length-set l.cursors place w.in-Some-cursor_after.next ∙ l.invariant.sized;
+            along = one_on c.args.journal.now l.e-index c.e-item.result c.loop-e-test.true c.e-item.is c.args.seats.now l.cursors l.invariant.along place s w.in-Some.ensures.some w.index-seats-place.is c.places_of-places.result w.in-Some-cursor_after.next c.places_of-places.ensures in' there w.in-Some-cursor_after.ensures.some.1;
           })
       | in_default w ↦ grind (arith, none_on, c.e-item.result, c.args.journal.now, c.loop-e-test.true, c.e-item.is, c.args.seats.now)
     ]

@@ -2,7 +2,7 @@ use Rattle.std.proofs.Common.{arith, ◌≡◌, ℕ, refl, sym, subst, rules}
 use Rattle.pb_notify.specs.Words.{Cell, Ts, JudgedOf, Position, Seen}
 use Rattle.pb_notify.specs.declared.need.Need.{Need}
 use Rattle.pb_notify.specs.declared.place.RunPlace.{RunPlace}
-use Rattle.pb_notify.specs.Places.{Comes, goes, ComesFrom, AtPlace}
+use Rattle.pb_notify.specs.Places.{ComesTo, goes, GoesOnFrom, AtPlace}
 use Rattle.pb_notify.specs.Runs.{RunOf, need_at, IsJob, ComputesOn, at_first, one_more}
 use Rattle.pb_notify.specs.Steps.{Proceeds}
 use Rattle.pb_notify.specs.Steps as steps
@@ -29,10 +29,10 @@ goes_on : (k m j : RunOf) (place : RunPlace) (s : Ts) (v w : Position) → Compu
 goes_on k m j place s v w so_far is at p = grind (arith, joined, on_computing)
 
 -- where another instruction is next, a machine was left that goes on
-went_local : (o : ℕ) (s : Ts) (v : Position) (place : RunPlace) → Comes o s v place → need_at place ≡ Need.Local → (t : Ts) × (w : Position) × (place ≡ RunPlace.Computing t w)
+went_local : (o : ℕ) (s : Ts) (v : Position) (place : RunPlace) → ComesTo o s v place → need_at place ≡ Need.Local → (t : Ts) × (w : Position) × (place ≡ RunPlace.Computing t w)
 went_local o s v place x e = grind arith
 
-came_local : (o : ℕ) (judged : JudgedOf) (x : Cell) (before after : RunPlace) → ComesFrom o judged x before after → need_at after ≡ Need.Local → (t : Ts) × (w : Position) × (after ≡ RunPlace.Computing t w)
+came_local : (o : ℕ) (judged : JudgedOf) (x : Cell) (before after : RunPlace) → GoesOnFrom o judged x before after → need_at after ≡ Need.Local → (t : Ts) × (w : Position) × (after ≡ RunPlace.Computing t w)
 came_local o judged x before after c e = grind arith
 
 -- and where it is started
@@ -46,13 +46,13 @@ pub invariant_of-self : goal.invariant_of-self
 invariant_of-self c =
     let i = c.self-2.inside in
     let f = c.follow-moved.ensures in
-    let back = c.in_err-leave.ensures.same c.in-Computing.field-0 f.last (c.follow-moved.new.self, refl, f.moves) in
+    let back = c.in_err-leave_turn.ensures.same c.in-Computing.field-0 f.last (c.follow-moved.new.self, refl, f.moves) in
     let kept : IsJob i.observer i.row i.column i.locked (RunPlace.Computing c.in-Computing.field-0 c.in-Computing.machine) i.next = subst (λ p. IsJob i.observer i.row i.column i.locked p i.next) c.in-Computing.is c.self-2.invariant in
     let here : IsJob i.observer i.row i.column i.locked (RunPlace.Computing c.in-Computing.field-0 f.last) i.next = record { stored = kept.stored; at = (kept.at.0, f.moves.going) } in
     subst (λ p. IsJob i.observer i.row i.column i.locked p i.next) (sym back.0) here
 
-pub returns-in_err-leave-clause-on : goal.returns-in_err-leave-clause-on
-returns-in_err-leave-clause-on c =
+pub returns-in_err-leave_turn-clause-on : goal.returns-in_err-leave_turn-clause-on
+returns-in_err-leave_turn-clause-on c =
     let i = c.self-2.inside in
     let f = c.follow-moved.ensures in
     let so_far : ComputesOn c.args.self.now c.match-self.self = elim c.match-self.branch [
@@ -61,13 +61,13 @@ returns-in_err-leave-clause-on c =
     ] in
     let j : RunOf = record { watch = record { observer = i.observer; judged = i.accepted.value; row = i.row; column = i.column }; locked = i.locked; place = i.place } in
     let here = goes_on c.args.self.now _ j i.place c.in-Computing.field-0 c.in-Computing.machine f.last so_far c.self-2.view_is c.in-Computing.is f.proceeds in
-    let back = c.in_err-leave.ensures.same c.in-Computing.field-0 f.last (c.follow-moved.new.self, refl, f.moves) in
+    let back = c.in_err-leave_turn.ensures.same c.in-Computing.field-0 f.last (c.follow-moved.new.self, refl, f.moves) in
     subst (λ p. ComputesOn c.args.self.now (job_at j p)) (sym back.0) here
 
-pub returns-in_err-leave-clause-err : goal.returns-in_err-leave-clause-err
-returns-in_err-leave-clause-err c =
+pub returns-in_err-leave_turn-clause-err : goal.returns-in_err-leave_turn-clause-err
+returns-in_err-leave_turn-clause-err c =
     let f = c.follow-moved.ensures in
-    let back = c.in_err-leave.ensures.same c.in-Computing.field-0 f.last (c.follow-moved.new.self, refl, f.moves) in
+    let back = c.in_err-leave_turn.ensures.same c.in-Computing.field-0 f.last (c.follow-moved.new.self, refl, f.moves) in
     search rules
 
 pub invariant_of-self-in-Computing : goal.invariant_of-self-in-Computing
@@ -75,11 +75,11 @@ invariant_of-self-in-Computing c =
     let i = c.self-2.inside in
     let f = c.follow-moved.ensures in
     let few = (subst (AtPlace i.locked) c.in-Computing.is c.self-2.invariant.at).0 in
-    let comes = c.in_ok-leave.ensures.ok c.in-Computing.field-0 f.last (c.follow-moved.new.self, refl, f.moves) in
-    record { stored = c.keep_step.ensures; at = at_come i.locked i.observer c.in-Computing.field-0 f.last c.leave.new.place comes few }
+    let comes = c.in_ok-leave_turn.ensures.ok c.in-Computing.field-0 f.last (c.follow-moved.new.self, refl, f.moves) in
+    record { stored = c.keep_step.ensures; at = at_come i.locked i.observer c.in-Computing.field-0 f.last c.leave_turn.new.place comes few }
 
-pub returns-in_ok-leave-clause-on : goal.returns-in_ok-leave-clause-on
-returns-in_ok-leave-clause-on c =
+pub returns-in_ok-leave_turn-clause-on : goal.returns-in_ok-leave_turn-clause-on
+returns-in_ok-leave_turn-clause-on c =
     let i = c.self-2.inside in
     let f = c.follow-moved.ensures in
     let so_far : ComputesOn c.args.self.now c.match-self.self = elim c.match-self.branch [
@@ -88,8 +88,8 @@ returns-in_ok-leave-clause-on c =
     ] in
     let j : RunOf = record { watch = record { observer = i.observer; judged = i.accepted.value; row = i.row; column = i.column }; locked = i.locked; place = i.place } in
     let here = goes_on c.args.self.now _ j i.place c.in-Computing.field-0 c.in-Computing.machine f.last so_far c.self-2.view_is c.in-Computing.is f.proceeds in
-    let comes = c.in_ok-leave.ensures.ok c.in-Computing.field-0 f.last (c.follow-moved.new.self, refl, f.moves) in
-    one_more (job_at j (RunPlace.Computing c.in-Computing.field-0 f.last)) (job_at j c.leave.new.place) here refl (record { comes = comes; same = refl })
+    let comes = c.in_ok-leave_turn.ensures.ok c.in-Computing.field-0 f.last (c.follow-moved.new.self, refl, f.moves) in
+    one_more (job_at j (RunPlace.Computing c.in-Computing.field-0 f.last)) (job_at j c.leave_turn.new.place) here refl (record { comes = comes; same = refl })
 
 pub returns-in_default-place : goal.returns-in_default-place
 returns-in_default-place c =

@@ -1,5 +1,5 @@
 use Rattle.std.proofs.Common.{◌≡◌, inl, inr, ℕ, zero, suc, ◌≤◌, refl, sym, ap, subst, arith, rules}
-use Rattle.pb_notify.specs.Words.{JudgedOf, slots, Position, Moves, IsStop, Advances, Moved, MachinePhase}
+use Rattle.pb_notify.specs.Words.{JudgedOf, slots, Position, Moves, IsAskOrEnd, Advances, Moved, MachinePhase}
 use Rattle.pb_notify.specs.Steps.{WentOn, Proceeds, at_first, one_more, FollowsOn}
 use Rattle.pb_notify.proofs.machine.Machine.follow.Goals as goal
 use Rattle.pb_notify.proofs.machine.Machine.follow.Goals.{in-Running, in-Exited}
@@ -17,7 +17,7 @@ record IsLater (v w : Position) : Type 0 where
   same : slots_of w ≡ slots_of v
 
 -- an ask or the exit takes no instruction back
-stop_later : (v : Position) (m : Moved) (w : Position) → IsStop m → Moves v m w → IsLater v w
+stop_later : (v : Position) (m : Moved) (w : Position) → IsAskOrEnd m → Moves v m w → IsLater v w
 stop_later v m w stop h = grind arith
 
 -- nor do all that lead there
@@ -27,8 +27,8 @@ later (suc n) v m w (inl stop) = stop_later v m w stop.0 stop.1
 later (suc n) v m w (inr on) = grind (arith, same_slots, on.1.taken, on.1.given.judged, later n on.0 m w on.2)
 
 -- all that lead to an ask or the exit
-follows : (n : ℕ) (v u : Position) (m : Moved) (w : Position) → Proceeds v u → u.phase ≡ MachinePhase.Going → IsStop m → Advances n u m w → w.taken ≤ slots_of w → FollowsOn v m w
-follows zero v u m w on going stops h most = absurd (subst IsStop h.0 stops)
+follows : (n : ℕ) (v u : Position) (m : Moved) (w : Position) → Proceeds v u → u.phase ≡ MachinePhase.Going → IsAskOrEnd m → Advances n u m w → w.taken ≤ slots_of w → FollowsOn v m w
+follows zero v u m w on going stops h most = absurd (subst IsAskOrEnd h.0 stops)
 follows (suc n) v u m w on going stops (inl stop) most = record { last = u; proceeds = on; stops = stop.0; moves = record { going = going; moves = stop.1; most = most } }
 follows (suc n) v u m w on going stops (inr more) most =
     let rest = later n more.0 m w more.2 in

@@ -15,4 +15,4 @@ pub returns-in-Some-clause-range : goal.returns-in-Some-clause-range
 returns-in-Some-clause-range c = asked_in_range (texts_of c.args.words.now) c.in-Some.options (ap command_in (sym c.in_ok-matches.ensures.subcommand) ∙ sym c.in-Some.ensures)
 
 pub returns-clause-kinds : goal.returns-clause-kinds
-returns-clause-kinds c = grind (arith, unasked_fault, c.args.words.now, c.in_ok-plus_refused-in-None.ensures, c.in_ok-matches.ensures.kinds, c.in_ok-matches.ensures.subcommand, c.in-None.ensures)
+returns-clause-kinds c = grind (arith, unasked_fault, c.args.words.now, c.in_ok-plus_error-in-None.ensures, c.in_ok-matches.ensures.kinds, c.in_ok-matches.ensures.subcommand, c.in-None.ensures)

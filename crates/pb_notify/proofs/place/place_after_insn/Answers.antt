@@ -1,9 +1,9 @@
 use Rattle.std.proofs.Common.{rules, sym, subst}
 use Rattle.pb_notify.specs.Words.{PlanOf}
 use Rattle.pb_notify.specs.declared.place.RunPlace.{RunPlace}
-use Rattle.pb_notify.specs.Places.{Comes, goes, waits, declares}
+use Rattle.pb_notify.specs.Places.{ComesTo, goes, waits, declares}
 use Rattle.pb_notify.specs.Steps.{MovesOn}
-use Rattle.pb_notify.proofs.place.leads.Goals as goal
+use Rattle.pb_notify.proofs.place.place_after_insn.Goals as goal
 
 pub returns-in-Went-clause-ok : goal.returns-in-Went-clause-ok
 returns-in-Went-clause-ok c v m =
@@ -19,7 +19,7 @@ pub returns-in_ok-end-in-Ended-clause-ok : goal.returns-in_ok-end-in-Ended-claus
 returns-in_ok-end-in-Ended-clause-ok c v m =
     let did = subst (λ x. MovesOn v x c.args.machine) c.in-Ended.is m in
     let end = c.in_ok-end-in-Ended in
-    subst (λ (p : PlanOf). Comes c.args.observer c.args.start v (RunPlace.Planning end.end p)) (sym c.new.ensures) (declares end.end end.what (end.ensures.ok v c.in-Ended.field-0 did))
+    subst (λ (p : PlanOf). ComesTo c.args.observer c.args.start v (RunPlace.Planning end.end p)) (sym c.new.ensures) (declares end.end end.what (end.ensures.ok v c.in-Ended.field-0 did))
 
 pub returns-in_err-end-in-Ended-clause-same : goal.returns-in_err-end-in-Ended-clause-same
 returns-in_err-end-in-Ended-clause-same c v m =
