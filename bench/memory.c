@@ -56,7 +56,7 @@ static void count(size_t size, long by) {
 
 static struct head *head_of(void *room) { return (struct head *)((char *)room - HEAD); }
 
-// The room behind the head that stands `before` bytes into what the library gave.
+// The room after the head that stands `before` bytes into what the library gave.
 static void *hand_out(char *given, size_t before, size_t size) {
     if (given == NULL) {
         return NULL;

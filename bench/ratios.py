@@ -1,4 +1,5 @@
-"""Draws the ratios of bench/RESULTS.tsv over commits, as an SVG: a point a figure, a line a bench that compares with others.
+"""Draws the ratios of bench/RESULTS.tsv over commits, as an SVG: one point per figure, and one line per bench that compares with
+others.
 
 Commits stand in the order of their first lines. The ratios stand on a logarithmic scale, and 1 is where both take as long.
 Several figures of a bench and commit are drawn as their median."""

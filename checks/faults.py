@@ -1,4 +1,4 @@
-"""A plain reader of manifests, scripts, schedules and assembler text that says where one is refused, and by which code.
+"""A plain reader of manifests, scripts, schedules and assembler text that returns where one is refused, and by which code.
 
 It is written from docs/FORMATS.md, docs/CODES.md and docs/MACHINE.md alone, so that the program and it have nothing in common but
 these pages. `checks/turned-texts` compares the two. Of an observer whose program isn't accepted it knows the place alone.
@@ -191,7 +191,7 @@ OPERANDS = {
     "offset": (rf"({OFFSET})", -(2**15), 2**15 - 1),
     "place": (rf"\[{REGISTER}({OFFSET})\]", -(2**15), 2**15 - 1),
 }
-# The operands behind each first word of profile 1.
+# The operands after each first word of profile 1.
 WORDS = {
     **{f"{name}{width}": ("register", "either") for name in ARITHMETIC_CODES for width in ARITHMETIC_CLASSES},
     **{f"neg{width}": ("register",) for width in ARITHMETIC_CLASSES},

@@ -16,7 +16,7 @@ TOP = Path(__file__).resolve().parent.parent
 # of the change record, by its version
 RECORD_BYTES = {1: 80, 2: 120}
 
-# keeps an index of a column in this one; and programs that write what their record tells of before
+# keeps an index of a column in this one; and programs that write what their record has of before
 INDEX = (TOP / "examples/c/indexer.v3.bin").read_bytes().hex()
 INDEX_COLUMN = 12
 TELLING = (KEEP, FLAG, INDEX)
@@ -132,7 +132,8 @@ def manifest_from(pick, field):
 def manifest_for_one(pick):
     """Observers for a run by one worker, none of which is due for ever, since that takes the model long.
 
-    Half of these runs have one that is told a value of before: the cells of column 1 are written by `copy` once it has run there.
+    Half of these runs have one whose record has a value of before: the cells of column 1 are written by `copy` once it has run
+    there.
     """
     if pick.random() < 0.5:
         return manifest_of(observer("o0", pick.choice((0, 2, 15)), "1,2,3,4", pick.choice((WATCH, COPY, START))))
@@ -141,7 +142,7 @@ def manifest_for_one(pick):
 
 
 def manifest_for_more(pick):
-    """Observers for a run by more workers, whose outcome the laws tell: `copy`, and in profile 2 maybe `index` too."""
+    """Observers for a run by more workers, whose outcome the laws define: `copy`, and in profile 2 maybe `index` too."""
     if pick.random() < 0.4:
         return manifest_of(observer("copy", 0, "2", COPY))
     both = [recorded_from(pick, pick.choice((1, 2)), "copy", 0, COPY), recorded(2, name="index", column=0, helpers="2,3", digits=INDEX)]

@@ -1,15 +1,16 @@
-"""The words by which code could say that memory is wanted where no growth was refused: what `checks/reads` tells of them.
+"""The words by which code could report that memory is wanted where no growth was refused: what `checks/reads` reports of them.
 
 That a growth was refused is shown by a value of `NoMemory`, whose private field only `pb_base/src/refusal.rt` writes, and which is
 made of the standard library's `AllocError` and `AllocFailed`. These two are public, so that the compiler lets any code write them,
 and what else leads to one. So, in the code of every crate:
 - `AllocError` and `AllocFailed` stand as types of what is returned or converted alone, and under no other name;
 - a library's own case of want of memory stands before `=>` or in a comparison, and makes a receipt at a door, of which each crate
-  has just as many as DOORS says;
+  has just as many as DOORS states;
 - no formatting is refused by hand, no growth is asked for that none can meet, nothing is `unsafe`, and no number is written into a
   fault that is there;
 - a receipt is kept beyond no call: no `static` has one, and of types only those of HOLDERS have a member with one;
-- `no memory` stands as a text where TEXTS says, in functions that are given a receipt, or in the arm of a variant that holds one.
+- `no memory` stands as a text where TEXTS has it, in functions that are given a receipt, or in the arm of a variant that holds
+  one.
 Tests are held to all of it but the last two; they take theirs from the one growth of `refused` in `test_fixtures`.
 """
 from __future__ import annotations
@@ -40,7 +41,7 @@ ARM = re.compile(r"\bNoMemory\(\w+\)\s*=>[^;]*$")
 # The one function that asks for what none can meet, so that tests have a receipt.
 ASKS_FOR_ALL = "test_fixtures", "refused"
 
-# The types with a member that holds a receipt, or a type that does: what a call returns, which is taken apart by who called it.
+# The types with a member that holds a receipt, or a type that does: what a call returns, which the caller takes apart.
 HOLDERS = {
     "pb_reading": {"LineFault", "TextFault"},
     "pb_isa": {"NoProgram"},
@@ -77,7 +78,7 @@ WORDS = {
     "a number is written into a fault": re.compile(r"\.code\s*(?:[-+*/%|&^]|<<|>>)?=(?![=>])|&mut\s+[\w.]+\.code\b"),
     "a receipt outlives its call": re.compile(r"(?<!')\bstatic\b[^;]*\b(?:NoMemory|Refusal|\w*Fault)\b"),
 }
-# Another name for one of the words: by `as`, by a glob, by a part of a path that says no longer what it is, or by a macro.
+# Another name for one of the words: by `as`, by a glob, by a part of a path that no longer shows what it is, or by a macro.
 USE = re.compile(r"^[ \t]*(?:pub(?:\(\w+\))? )?use [^;]*;", re.M)
 OTHER_NAME = re.compile(
     r"\b(?:Alloc(?:Error|Failed)|NoMemory|Refusal) as\b|\bOutOfMemory\b|\b(?:alloc|fmt|ErrorKind|Category|FromHexError)::\*"
@@ -122,8 +123,8 @@ def constants_unmet(codes):
 
 
 def told_of(text, constants=()):
-    """What the rule says of a file's text: the number of each line, and what is wrong there. And how many doors, and how many types
-    of refused growths, the file has."""
+    """What the rule refuses in a file's text: the number of each line, and what is wrong there. And how many doors, and how many
+    types of refused growths, the file has."""
     without = without_comments(text)
     told = [(line, "a word has another name") for use in USE.finditer(without) if OTHER_NAME.search(use[0])
             for line in [without.count("\n", 0, use.start()) + 1]]
@@ -234,7 +235,7 @@ def tell_of_texts(texts, tell):
 
 
 def read(texts, tell):
-    """What the rule says of these texts, by crate and path below crates/. Answers how much it met."""
+    """Reports what the rule refuses in these texts, by crate and path below crates/. Returns how much it met."""
     try_rule(tell)
     maker = texts.get(("pb_base", MAKER), "")
     for said, count in MADE.items():
@@ -245,7 +246,7 @@ def read(texts, tell):
     return met
 
 
-# Lines that make a want of memory up, each of which the rule has to tell, and lines that are right.
+# Lines that make a want of memory up, each of which the rule has to report, and lines that are right.
 MADE_UP = """
 return Err(DecodeFault::from(std::alloc::AllocFailed { value: () }));
 return Err(NoMemory::from(AllocError));
@@ -301,7 +302,7 @@ def lines_of(said):
 
 
 def try_rule(tell):
-    """Holds the rule to lines that it must tell, and to lines that it must not."""
+    """Holds the rule to lines that it must report, and to lines that it must not."""
     for is_made_up, said in [(True, MADE_UP), (False, RIGHT)]:
         for line in lines_of(said):
             if bool(told_of(line, constants_unmet([line]))[0]) != is_made_up:

@@ -1,8 +1,8 @@
 """What checks/refused-growths runs: texts, words and programs, with how that ends; and how many runs of each must end otherwise
 where a request is refused, and which calls of the program crate `test_refusals` must be refused how often.
 
-Where a number isn't told by the call itself it is about half of what was met when this was written, so that a hook that meets
-less is noticed.
+Where a number doesn't follow from the call itself it is about half of what was met when this was written, so that a hook that
+meets less is noticed.
 """
 from __future__ import annotations
 
@@ -90,7 +90,7 @@ COPY = (
     "b7000000000000009500000000000000"
 )
 
-# the replays whose story is told too
+# the replays whose story is printed too
 TOLD = ("rivals", "crashed-late", "cleared", "settled", "clock", "copy-26", "event-61", "event-63", "code-91")
 
 # loads the flag of a change record of version 2
@@ -105,11 +105,11 @@ class Case:
     end, None for no file. With the words `then`, it must end with status 0 too where all requests are refused that come
     after as many as it made itself.
 
-    At least as many of its runs as `ends`, where that is told, end otherwise than with ample memory. One of `test_refusals` has
+    At least as many of its runs as `ends`, where that is set, end otherwise than with ample memory. One of `test_refusals` has
     `calls`, with the least number of times that each is refused.
 
     A run of workers that reports has `cells`, with all that the script gives to each, and the number of changes. Where it
-    `derives`, what observers make of other changes isn't told here.
+    `derives`, what observers make of other changes isn't listed here.
     """
 
     name: str
@@ -202,7 +202,7 @@ def observer(name="watch", column=0, helpers="[]", code="b7000000000000009500000
 
 
 def manifests():
-    """Manifests by the name of their case, with what is told of the fault."""
+    """Manifests by the name of their case, with how the fault is reported."""
     return {
         "code-50": ('{"profile":1,"observers":[', "code 50"),
         "code-50-deep": ("[" * 200, "code 50"),
@@ -227,7 +227,7 @@ def manifests():
 
 
 def file_cases(room):
-    """Cases of files that can't be read, with the first fault told. Reading comes before any parsing."""
+    """Cases of files that can't be read, with the first fault reported. Reading comes before any parsing."""
     (room / "not-text").write_bytes(b"put 7 0 \xff")
     (room / "too-large").write_bytes(b"#" * (LARGEST_FILE + 1))
     (room / "folder").mkdir()
@@ -296,7 +296,7 @@ def word_cases():
     lines += [["check", "f", "--record", "+2"], ["dis", "f", "--record", "2"]]
     for number, words in enumerate(lines, 1):
         yield Case(f"words-{number}", words, 2, b"", None)
-    # it is told before the words are read
+    # it is reported before the words are read
     yield Case("words-not-text", ["run", b"\xff", "s"], 2, b"", b"error: a word of the command line is not UTF-8\n", ends=2)
     yield Case("help", ["--help"], 0, None, b"")
     yield Case("help-run", ["run", "--help"], 0, None, b"")
@@ -304,7 +304,7 @@ def word_cases():
 
 
 def replays():
-    """Replays by the name of their case: observer, script, schedule, clock, and what is left or told."""
+    """Replays by the name of their case: observer, script, schedule, clock, and what is left or reported."""
     one, both = "put 7 0 2a\n", "put 7 1 aa; put 7 0 2a\n"
     changed, pair = "cell 7 0 commit 2 value 2a\n", "cell 7 0 commit 2 value 2a\ncell 7 1 commit 2 value aa\n"
     copied = "cell 7 0 commit 2 value 2a\ncell 7 1 commit 4 value 2a\nruns copy 1\n"
@@ -351,7 +351,8 @@ def replay_cases(room):
 
 
 def story_cases(room):
-    """Cases of the story of some of these replays, as checks/model.py tells it, and of what is known before the slots of a program."""
+    """Cases of the story of some of these replays, as checks/model.py prints it, and of what is known before the slots of a
+    program."""
     for name, manifest, script, schedule, clock, told in replays():
         if name not in TOLD:
             continue
@@ -391,7 +392,7 @@ def machine_cases(room):
 
 
 def content_of(verb, digits):
-    """What a report tells of a cell that was changed so."""
+    """What a report has for a cell that was changed so."""
     if verb == "del":
         return b"deleted"
     return f"value {(bytes.fromhex(digits[0]).rstrip(bytes(1)) or bytes(1)).hex()}".encode()
@@ -411,7 +412,7 @@ def reports(room, name, manifest, script, out, workers=1, derives=False, swaps=0
 
 
 def worker_cases(room):
-    """Cases of more workers than one. Each cell is changed once, so that a report tells the same contents whoever comes first."""
+    """Cases of more workers than one. Each cell is changed once, so that a report has the same contents whoever comes first."""
     copied = b"cell 7 0 commit 2 value 2a\ncell 7 1 commit 4 value 2a\nruns copy 1\nquiet\n"
     yield reports(room, "copy-by-4", "copy.json", "first.txt", copied, 4)
     (room / "apart.txt").write_text("".join(f"put {row} 0 {row:02x}\n" for row in range(1, 9)))

@@ -1,6 +1,6 @@
 """The tables that checks/rows runs, each a list of rows under its name in `TABLES` of a module here; and what rows are made of.
 
-A row says what a program is run on, and how that ends. The files of a row have short names: m is a manifest, s a script,
+A row states what a program is run on, and how that ends. The files of a row have short names: m is a manifest, s a script,
 e a schedule, i what `asm`, `dis` and `check` read, and o what `asm` writes.
 """
 from __future__ import annotations
@@ -43,12 +43,12 @@ TRIED_BY = {ROWS: ["machine", "--help"], TIMED: ["tablets", "list", "build", "1"
 
 @dataclass(frozen=True)
 class Row:
-    """The words behind a program's name, the files of the folder that it is started in, and how that ends.
+    """The words after a program's name, the files of the folder that it is started in, and how that ends.
 
     An output of None is any but the empty one. In the end the folder holds the files and what is `written`, and nothing
     else. Where a `memory` is named, the program has so many bytes of addresses, and where `seconds` are, so many of a processor,
     however busy the machine is. An output that differs from time to time has a
-    `judge`, which says what of it isn't as it has to be.
+    `judge`, which returns what of it isn't as it has to be.
     """
 
     words: list[str]
@@ -111,7 +111,7 @@ def run(manifest: str, script: str, report: str, *more: str) -> Row:
 
 
 def run_fails(manifest: str, script: str, fault: str) -> Row:
-    """A run that tells this fault, and no report."""
+    """A run that prints this fault, and no report."""
     return Row(["run", "m", "s"], files_of(m=manifest, s=script), 1, err=f"{fault}\n".encode())
 
 
@@ -121,7 +121,7 @@ def replay(manifest: str, script: str, schedule: str, report: str, *more: str) -
 
 
 def replay_fails(manifest: str, script: str, schedule: str, fault: str) -> Row:
-    """A replay that tells this fault, and no report."""
+    """A replay that prints this fault, and no report."""
     return Row(["replay", "m", "s", "e"], files_of(m=manifest, s=script, e=schedule), 1, err=f"{fault}\n".encode())
 
 
@@ -156,7 +156,7 @@ def refused(code: bytes, slot: int, number: int) -> Row:
 
 
 def in_profile(profile: int, row: Row) -> Row:
-    """The same words, with this profile named behind them."""
+    """The same words, with this profile named after them."""
     return replace(row, words=[*row.words, "--profile", str(profile)])
 
 
@@ -174,7 +174,7 @@ SIZE_BITS = {"w": 0x00, "h": 0x08, "b": 0x10, "dw": 0x18}
 MEM = 0x60
 MEMSX = 0x80
 
-# the forms of MACHINE.md, "Assembler text", by what is behind the first word
+# the forms of MACHINE.md, "Assembler text", by what stands after the first word
 FORMS = {
     "place to register": r"r(?P<dst>\d+), \[r(?P<src>\d+)(?P<offset>[+-]\d+)\]",
     "register to place": r"\[r(?P<dst>\d+)(?P<offset>[+-]\d+)\], r(?P<src>\d+)",
@@ -214,7 +214,7 @@ def opcode(word: str, has_register: bool) -> int:
 
 @cache
 def instruction(text: str) -> bytes:
-    """The bytes of an instruction that is written as docs/MACHINE.md says."""
+    """The bytes of an instruction that is written as docs/MACHINE.md defines."""
     word, _, behind = text.partition(" ")
     if word == "call":
         return slot(opcode(word, False), imm=int(behind))

@@ -206,7 +206,7 @@ LINES = [
     asm_fails("# one\n\n# two\n", 0, 84),
 ]
 
-# what is written before and behind the digits
+# what is written before and after the digits
 AROUND = [
     ("mov64 r0, ", ""),
     ("mov64 r0, -", ""),

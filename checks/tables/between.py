@@ -1,6 +1,6 @@
 """What stands between the smallest and the largest: faults in late lines and events, numbers, clocks and files of many sizes.
 
-A contract lets a body say that memory is wanted, whatever it is given; these rows don't. Worked out by hand from docs/FORMATS.md and
+A contract lets a body report that memory is wanted for any input; these rows don't. Worked out by hand from docs/FORMATS.md and
 docs/TABLE.md, as those of sizes.py, where the largest stand.
 """
 from __future__ import annotations

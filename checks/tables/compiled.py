@@ -30,7 +30,7 @@ def value_of(*words: int) -> str:
 def adds_one(manifest: str, before: tuple[int, ...], after: tuple[int, ...], content: str, shown: str) -> list[Row]:
     """What column 15 of the row has, if anything, and what it has then.
 
-    A run takes 29 steps: three before its 18 instructions, one for the cell that it asks for, and seven behind, of which
+    A run takes 29 steps: three before its 18 instructions, one for the cell that it asks for, and seven after, of which
     the last is the sweep.
     """
     put = f"; put 7 15 {value_of(*before)}" if before else ""

@@ -11,8 +11,8 @@ COUNT = 10_000
 
 
 def copies() -> Row:
-    """As many changes as there may be, of a row each, and a copy of each: the changes have the first timestamps, two each, and the
-    runs the next."""
+    """As many changes as there may be, each of its own row, and a copy of each: the changes have the first timestamps, two each,
+    and the runs the next."""
     script = "".join(f"put {row} 0 2a\n" for row in range(COUNT))
     cells = "".join(
         f"cell {row} 0 commit {2 * row + 2} value 2a\ncell {row} 1 commit {2 * (COUNT + row) + 2} value 2a\n" for row in range(COUNT)

@@ -132,7 +132,7 @@ class Writer:
         return self.committed + len(self.rows) + 1
 
     def report(self, commit: int | None, marks: int, locks: int) -> str:
-        """What is told where a run of it is committed then, or none is, and so much is left."""
+        """The report if a run of it is committed then, or none is, and so much is left."""
         lines = {(7, 0): CHANGED}
         if commit is not None:
             lines |= {(row, 1): f"cell {row} 1 commit {commit} {self.content}\n" for row in self.rows}
@@ -159,7 +159,7 @@ DELETER = Writer("delete", manifest_of(observer("delete", 0, "3", SIXTEEN_DELETI
 
 
 def run_crash(writer: Writer, steps: int, more: str, report: str) -> Row:
-    """A run behind the one change that crashes after so many events, and more."""
+    """A run after the one change that crashes after so many events, and more."""
     made = f"step 2 {steps}\n" if steps else ""
     schedule = f"launch 1 change 1\nstep 1 5\nlaunch 2 run {writer.name} 7\n{made}crash 2\n{more}"
     return replay(writer.manifest, ONE, schedule, report)
@@ -173,12 +173,12 @@ def locks_at(writer: Writer, steps: int) -> int:
 
 
 def commit_at(writer: Writer, steps: int) -> int | None:
-    """When the run is committed that does so many events: it begins at 3, behind the change."""
+    """When the run is committed that does so many events: it begins at 3, after the change."""
     return 4 if steps >= writer.committed else None
 
 
 def commit_behind(writer: Writer, steps: int) -> int:
-    """When the run is committed, or else that of another behind it, which begins with the next timestamp."""
+    """When the run is committed, or else that of another after it, which begins with the next timestamp."""
     if steps == 0 or steps >= writer.committed:
         return 4
     return 6 if steps == writer.stamped else 5
@@ -198,26 +198,26 @@ def crashed_and_waiting(writer: Writer, steps: int) -> Row:
 
 
 def crashed_and_cleared(writer: Writer, steps: int) -> Row:
-    """The mark stays, whatever became of the run, as long as nobody sweeps."""
+    """The mark stays, whether the run is committed or not, as long as nobody sweeps."""
     marks = 0 if steps == writer.swept else 1
     return run_crash(writer, steps, writer.clean_up(), writer.report(commit_at(writer, steps), marks, 0))
 
 
 def crashed_and_swept(writer: Writer, steps: int) -> Row:
-    """The mark goes where the run is committed, and stays where the observer is behind."""
+    """The mark goes where the run is committed, and stays where the observer has not run on the change."""
     commit = commit_at(writer, steps)
     return run_crash(writer, steps, f"{writer.clean_up()}sweep 7 0\n", writer.report(commit, 1 if commit is None else 0, 0))
 
 
 def crashed_cleared_and_run(writer: Writer, steps: int) -> Row:
-    """A run behind makes it up, or finds nothing newer; both sweep."""
+    """A run after it makes it up, or finds nothing newer; both sweep."""
     more = writer.clean_up() + writer.run_behind()
     return run_crash(writer, steps, more, writer.report(commit_behind(writer, steps), 0, 0))
 
 
 def crashed_and_run(writer: Writer, steps: int) -> Row:
-    """Without a clean-up the run behind settles the acknowledgment that it reads. The cells that it writes it doesn't read: where
-    one is locked, it is in conflict, and the mark stays; and where it finds nothing newer, it leaves their locks."""
+    """Without a clean-up the run after it settles the acknowledgment that it reads. It doesn't read the cells that it writes:
+    where one is locked, it is in conflict, and the mark stays; and where it finds nothing newer, it leaves their locks."""
     locks = locks_at(writer, steps) - 1 if steps < writer.committed else locks_at(writer, steps)
     if steps < writer.committed and locks > 0:
         return run_crash(writer, steps, writer.run_behind(), writer.report(None, 1, locks))

@@ -1,5 +1,5 @@
-"""Bytes that are listed, and bytes that are no program's, with the slot and the code that `dis` tells; and of each beginning of a
-program what `check` tells too.
+"""Bytes that are listed, and bytes that are no program's, with the slot and the code that `dis` prints; and for each beginning of
+a program what `check` prints too.
 
 Worked out from RFC 9669, sections 3 to 5, and docs/MACHINE.md, "Encoding". The slots stand as their bytes in hexadecimal.
 """
@@ -77,7 +77,7 @@ if COPY_CODE.hex() != COPY:
 
 
 def beginning(length: int) -> list[Row]:
-    """What is told of so many first bytes of `copy` by `dis` and by `check`."""
+    """What `dis` and `check` print for so many first bytes of `copy`."""
     code, slots = COPY_CODE[:length], length // 8
     if length == 0 or length % 8:
         return [dis_refused(code, 0, 10), refused(code, 0, 10)]

@@ -10,7 +10,7 @@ from tables import Row, Tables, asm, dis, encoded, in_profile
 
 
 def both(text: str, digits: str) -> list[Row]:
-    """The text is assembled, without a newline behind it and with one, and its bytes are listed.
+    """The text is assembled, without a newline after it and with one, and its bytes are listed.
 
     The tables' own encoder has to make the same bytes.
     """
@@ -185,7 +185,7 @@ ENDS_OF_RANGES = [
     *both("call -1", "85000000ffffffff"),
 ]
 
-# those that profile 2 has besides, worked out from RFC 9669, sections 4.1 and 5.2; beside each stands how LLVM spells it
+# those that profile 2 adds, worked out from RFC 9669, sections 4.1 and 5.2; beside each stands how LLVM spells it
 IN_PROFILE_2 = [
     in_profile(2, row)
     for text, digits in (

@@ -1,4 +1,4 @@
-"""Files that can't be read or written, with the first fault told: all are read before any is taken as text or parsed.
+"""Files that can't be read or written, with the first fault reported: all are read before any is taken as text or parsed.
 
 Worked out by hand from docs/FORMATS.md, "Faults".
 """
@@ -66,7 +66,7 @@ OF_ASM = [
     fails(ASM, "cannot read i"),
     fails(ASM, "too large i", i=TOO_LARGE),
     fails(ASM, "not text i", i=b"exit\n\xff"),
-    # the first fault is told
+    # the first fault is reported
     fails(UNWRITABLE, "cannot read i"),
     fails(UNWRITABLE, "too large i", i=TOO_LARGE),
     fails(UNWRITABLE, "not text i", i=b"exit\n\xff"),
@@ -79,7 +79,7 @@ def unwritable(path: str, text: str = "exit\n") -> Row:
     return fails(["asm", "i", path], f"cannot write {path}", i=text)
 
 
-# whatever it is that can't be written: a folder, what has no room, a path of a file's, one that is too long, and none at all
+# any path that can't be written: a folder, what has no room, a path below a file, one that is too long, and none at all
 UNWRITABLE_PATHS = [
     unwritable("."),
     unwritable("/dev/full"),
@@ -89,7 +89,7 @@ UNWRITABLE_PATHS = [
     unwritable("o" * 256),
     unwritable("o/" * 2_048 + "o"),
     unwritable(""),
-    # what comes before is told, though nothing can be written either
+    # what comes before is reported, though nothing can be written either
     fails(["asm", "i", "/dev/full"], "line 1 code 80", i="x"),
     fails(["asm", "i", "/dev/full"], "cannot read i"),
 ]

@@ -1,4 +1,4 @@
-"""What `percobpf_story frames` tells of programs, worked out by hand from docs/MACHINE.md, "Verification"."""
+"""What `percobpf_story frames` prints for programs, worked out by hand from docs/MACHINE.md, "Verification"."""
 from __future__ import annotations
 
 from tables import COPY, WATCH, Row, Tables, encoded
@@ -9,12 +9,12 @@ ENTRY = "r1=record+0 r10=stack+0"
 
 
 def frames(code: bytes, out: str, *more: str) -> Row:
-    """The bytes of a program, of which this is told, with more words."""
+    """The bytes of a program, for which this is printed, with more words."""
     return Row(["frames", "i", *more], {"i": code}, out=out.encode(), program=STORY)
 
 
 def known(text: str, *told: str) -> Row:
-    """A program, of which this is told."""
+    """A program, for which this is printed."""
     return frames(encoded(text), "".join(f"{line}\n" for line in told))
 
 
@@ -59,7 +59,7 @@ REGISTERS = [
         "3 r1=record-1 r2=stack+8 r10=stack+0",
         "4 r1=record-1 r2=stack+8 r9=record-1 r10=stack+0",
     ),
-    # arithmetic makes a number, whatever was known
+    # arithmetic makes a number, from anything that was known
     known("add64 r1, r10; mov32 r10, r1; exit", f"0 {ENTRY}", "1 r1=number r10=stack+0", "2 r1=number r10=number"),
     # a call leaves registers 1 to 5 unset, and a read fills its 32 bytes
     known(
@@ -111,7 +111,7 @@ WAYS = [
 
 
 def straight(slots: int, *more: str) -> Row:
-    """A program of so many slots, each line of which but the first says the same."""
+    """A program of so many slots, each line of which but the first is the same."""
     code = encoded("mov64 r0, 0") * (slots - 1) + encoded("exit")
     return frames(code, f"0 {ENTRY}\n" + "".join(f"{slot} r0=number {ENTRY}\n" for slot in range(1, slots)), *more)
 

@@ -1,5 +1,5 @@
-"""Jobs of several seats, which take turns over one shared table: what `test_jobs` tells of what each does, and of what stands in the
-table at the end.
+"""Jobs of several seats, which take turns over one shared table: what `test_jobs` prints for what each does, and what stands in
+the table at the end.
 
 The turns are written as the program takes them. All is worked out by hand from docs/TABLE.md.
 """
@@ -60,7 +60,7 @@ WATCHED = """\
 marks 0 locks 0
 """
 
-# a run that writes a cell besides
+# a run that also writes a cell
 COPIED = """\
 1 begin run watch 7 -> at 3
 1 read 3 7 0 -> found 1 2 value 2a
@@ -193,7 +193,7 @@ ASK_TWICE = encoded(
     "mov64 r2, 2; call 1; ldxdw r0, [r6+80]; exit"
 )
 
-# a run after the first change, which is told of no value, and one after the second, which is told of the first
+# a run after the first change, whose record has no value of before, and one after the second, whose record has the first
 TOLD_OF_BEFORE = """\
 1 begin run watch 7 -> at 3
 1 read 3 7 0 -> found 1 2 value 2a
@@ -485,7 +485,7 @@ DECLARES = "{0}:3 {0}/5 {0}:1 {0}/1 {0}:1"
 @dataclass
 class Story:
     """A change of cell 7 0 at 2, then jobs that have begun and will lock a cell, and a run by seat 2 that begins after them and
-    meets their locks: the turns, and what the run is told. The run's job is the first, the change's the second. Each of the
+    meets their locks: the turns, and what the run receives. The run's job is the first, the change's the second. Each of the
     others begins one above its place.
     """
 
@@ -502,7 +502,7 @@ class Story:
         self.asks(f"begin run watch 7 -> at {self.start}")
 
     def asks(self, line: str) -> None:
-        """The run's next step, and what it is told."""
+        """The run's next step, and the answer to it."""
         self.turns.append("0:1")
         self.lines.append(f"2 {line}\n")
 

@@ -1,6 +1,6 @@
 """Programs of profile 2 at the sizes that they may have, and as many of them as a manifest may name.
 
-A contract lets a body say that memory is wanted, whatever it is given; these rows don't. Worked out by hand from docs/MACHINE.md,
+A contract lets a body report that memory is wanted for any input; these rows don't. Worked out by hand from docs/MACHINE.md,
 docs/FORMATS.md and docs/TABLE.md, as those of sizes.py; bytes are those of the tables' encoder.
 """
 from __future__ import annotations
@@ -21,7 +21,7 @@ SLOTS = 4_096
 
 SIGNED_LOADS = [f"ldxs{size} r0, [r{place}]" for size, at in (("b", 79), ("h", 78), ("w", 76)) for place in (f"1+{at}", "10-512")]
 
-# each kind of instruction in every slot that may have it, and those that profile 2 has besides
+# each kind of instruction in every slot that may have it, and those that profile 2 adds
 KINDS = {
     **kinds_of(SLOTS),
     "moves that extend the sign": filled(
@@ -134,7 +134,7 @@ LATE_BYTES = [
     in_profile(2, refused(bytes(LARGEST), 0, 11)),
 ]
 
-# behind many numbers of good slots or lines: nothing, bytes that are no slot's, and a line that is no instruction
+# after many numbers of good slots or lines: nothing, bytes that are no slot's, and a line that is no instruction
 LENGTHS = range(513, SLOTS, 71)
 
 EACH_FAULT = [
@@ -171,17 +171,17 @@ def of_all(codes: list[bytes], helpers: str, report: str) -> Row:
     return within(128, run(manifest_of(*as_many(codes, helpers), profile=2), ONE, f"{report}{runs_of(1)}quiet\n"))
 
 
-# `keep` behind good slots
+# `keep` after good slots
 LATE_KEEP = MOV * (SLOTS - 16) + bytes.fromhex(KEEP)
 
-# two changes, each with a run of every observer behind it, of 4,106 events and one more where it has run before
+# two changes, each with a run of every observer after it, of 4,106 events and one more where it has run before
 EACH_TWICE = "".join(
     f"launch 1 change {change}\nstep 1 5\n" + "".join(f"launch 1 run w{n} 7\nstep 1 {events}\n" for n in range(32))
     for change, events in ((1, 4_106), (2, 4_107))
 )
 
-# the first runs of `keep` begin at 3 to 65, and the second ones commit at 70 to 132, behind a change of 67 that commits at 68:
-# each is told of what stood there at its first. Of writers each writes the cells of the one before
+# the first runs of `keep` begin at 3 to 65, and the second ones commit at 70 to 132, after a change of 67 that commits at 68:
+# the record of each has what stood there at its first. Of writers each writes the cells of the one before
 OBSERVERS = [
     of_all([MOV * (SLOTS - 1) + EXIT], "", CHANGED),
     of_all([MOV * (slots - 1) + EXIT for slots in range(624, SLOTS + 1, 112)], "", CHANGED),

@@ -105,7 +105,7 @@ REPLIES = [
 ]
 
 
-# What helpers write, and what they tell: the result of the last is that of the run, whose writes are kept where it is 0.
+# What helpers write, and what they return: the result of the last is that of the run, whose writes are kept where it is 0.
 
 def deletions(count: int) -> bytes:
     """Deletes the cells of column 0 in the rows from 0 on, so many."""
@@ -207,7 +207,7 @@ MOVED = {
 
 LOADED = {"ldxsb": MOVED["movsx64 r0, r1, 8"], "ldxsh": MOVED["movsx64 r0, r1, 16"], "ldxsw": MOVED["movsx64 r0, r1, 32"]}
 
-# whatever stands above these bits, and in the destination before
+# with anything above these bits, and in the destination before
 ABOVE = (0, 0x5555_5555_0000_0000, 0xFFFF_FFFF_0000_0000)
 
 EACH_WIDTH = [

@@ -163,7 +163,7 @@ COUNTS = [
 
 
 def ending(members: str) -> str:
-    """A manifest of one observer without a column, and with these members behind the others."""
+    """A manifest of one observer without a column, and with these members after the others."""
     return manifest_of(f'{{"name":"watch","helpers":[],"code":"{WATCH}",{members}}}')
 
 
@@ -201,7 +201,7 @@ ORDERED = [
 
 LONG = "del 0 0\n" * 10_001
 
-# what is told where texts are too long
+# what is reported if texts are too long
 TOO_LONG = [
     whole(manifest_of(*[observer(digits="")] * 33), 52),
     run_fails(NOBODY, LONG, "script: line 10001 code 75"),

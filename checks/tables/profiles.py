@@ -79,7 +79,7 @@ def first_refused(digits: str, number: int) -> Row:
 
 
 def in_first(digits: str, number: int) -> int:
-    """The same number in profile 1, but where the opcode alone is of profile 2, which is told first."""
+    """The same number in profile 1, but where the opcode alone is of profile 2, which is reported first."""
     return 12 if digits[:2] in ("81", "89", "91") else number
 
 
@@ -156,7 +156,7 @@ CHECKED = [
     *(told(f"movsx32 r0, r{register}, {bits}; exit", 0, 23) for register in (1, 10) for bits in (8, 16)),
     in_profile(1, refused(encoded("movsx64 r0, r1, 32; exit"), 0, 14)),
     told("mov64 r2, 0; movsx64 r10, r2, 8; exit", 1, 22),
-    # both are lower than what the source is told
+    # both are lower than the code of the source
     told("movsx64 r10, r7, 8; exit", 0, 21),
     told("movsx64 r10, r1, 8; exit", 0, 22),
     # the destination is a number afterwards

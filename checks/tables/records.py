@@ -1,4 +1,4 @@
-"""Change records of version 2, which tell the value at the observer's last acknowledgment.
+"""Change records of version 2, which have the value at the observer's last acknowledgment.
 
 Worked out by hand from docs/MACHINE.md, "The change record", docs/FORMATS.md, "Manifest", and docs/TABLE.md.
 """
@@ -40,7 +40,7 @@ def keeping(record: int | str | None = 2, profile: int = 2) -> str:
 
 
 def on_record(record: int | str, row: Row) -> Row:
-    """The same words, with this version of the record named behind them."""
+    """The same words, with this version of the record named after them."""
     return Row([*row.words, "--record", str(record)], row.files, row.status, row.out, row.err, row.written)
 
 
@@ -90,7 +90,7 @@ REPLAYED = [
     # one run after both changes is a first one: it has no value of before
     replay(keeping(), TWO, "launch 1 change 1\nstep 1 100\nlaunch 1 change 2\nstep 1 100\nlaunch 1 run keep 7\nstep 1 26\n",
            "cell 7 0 commit 4 value 2b\ncell 7 2 commit 6 value 00\nruns keep 1\nquiet\n"),
-    # three changes, each with a run: the third run is told of the value of the second, and not of the first
+    # three changes, each with a run: the third run's record has the value of the second, and not of the first
     replay(keeping(), THREE, TURNS.format(26, 27) + "launch 1 change 3\nstep 1 100\nlaunch 1 run keep 7\nstep 1 27\n",
            "cell 7 0 commit 10 value 2c\ncell 7 2 commit 12 value 2b\nruns keep 3\nquiet\n"),
 ]
@@ -104,7 +104,7 @@ def at_once(script: str, schedule: str, report: str) -> Row:
     return replay(keeping(), script, "".join(f"{event}\n" for event in schedule.split("; ")), report)
 
 
-# what is told is the value as of the start of the last committed run, and not as of another timestamp near it
+# what the record has is the value as of the start of the last committed run, and not as of another timestamp near it
 ACKNOWLEDGED = [
     # a lock of 7 comes on the cell after the second run, of 8, has read 6 there: it isn't in the way of what stood there at 3
     at_once(
@@ -136,7 +136,7 @@ ACKNOWLEDGED = [
 
 
 def flagged(script: str, schedule: str, report: str) -> Row:
-    """A replay with the observer that tells the flag."""
+    """A replay with the observer that writes the flag."""
     return replay(manifest_of(recorded(2, name="flag", helpers="2", digits=FLAG), profile=2), script, schedule, report)
 
 
@@ -146,7 +146,7 @@ def turns(*changes: int) -> str:
 
 
 FLAGS = [
-    # a first run has none; the second is told of the value as of the start of the first, 3, the third of that of 7
+    # a first run has none; the second has the value as of the start of the first, 3, and the third that of 7
     flagged(ONE, turns(1), "cell 7 0 commit 2 value 2a\ncell 7 3 commit 4 value 00\nruns flag 1\nquiet\n"),
     flagged(TWO, turns(1, 2),
             "cell 7 0 commit 6 value 2b\ncell 7 3 commit 8 value 010000000000000003\nruns flag 2\nquiet\n"),
@@ -166,7 +166,7 @@ RUN = [
     run(manifest_of(recorded(None, name="copy", helpers="2", digits=COPY), recorded(2, name="keep", helpers="2", digits=KEEP),
                     profile=2), ONE,
         "cell 7 0 commit 2 value 2a\ncell 7 1 commit 4 value 2a\ncell 7 2 commit 6 value 00\nruns copy 1\nruns keep 1\nquiet\n"),
-    # `keep` runs on column 1 before `copy` writes there what column 15 has: its second run, of 7, is told what its first saw
+    # `keep` runs on column 1 before `copy` writes there what column 15 has: its second run, of 7, has what its first saw
     run(manifest_of(recorded(2, name="keep", column=1, helpers="2", digits=KEEP),
                     recorded(None, name="copy", column=15, helpers="2", digits=COPY), profile=2), "put 7 1 2a; put 7 15 2b\n",
         "cell 7 1 commit 6 value 2b\ncell 7 2 commit 8 value 2a\ncell 7 15 commit 2 value 2b\n"

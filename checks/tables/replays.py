@@ -111,7 +111,7 @@ TEXTS = [
 ]
 
 REPORTS = [
-    # the newest write of a cell is told
+    # the newest write of a cell is reported
     replay(
         manifest_of(),
         "put 7 0 2a\ndel 7 0\n",

@@ -1,4 +1,4 @@
-"""What programs end with, told by a run: each opcode of the profile once at least, and both ends of stack and record.
+"""What programs end with, shown by a run: each opcode of the profile once at least, and both ends of stack and record.
 
 Worked out by hand from RFC 9669, sections 4.1, 4.3 and 5, and docs/MACHINE.md, "The change record".
 """
@@ -214,7 +214,7 @@ RECORD = [
 
 
 def stored(size: str, at: int, wanted: int) -> list[Row]:
-    """What a load tells after a store of -2 at the same place."""
+    """What a load returns after a store of -2 at the same place."""
     moved = f"mov64 r3, -2; mov64 r2, r10; add64 r2, -600; mov64 r4, r2; sub64 r4, {at}; stx{size} [r4+600], r3"
     return [
         result(f"st{size} [r10-{at}], -2; ldx{size} r0, [r10-{at}]", wanted),
@@ -257,7 +257,7 @@ READS = [
 def takes_steps(text: str, instructions: int) -> list[Row]:
     """A program that does so many instructions, and neither asks nor writes, on a deleted cell: a step of the run for each.
 
-    Three steps of the table come before, and five behind, of which the last is the sweep.
+    Three steps of the table come before, and five after, of which the last is the sweep.
     """
     manifest = manifest_of(observer(column=9, helpers="1,2,3,4", digits=encoded(text).hex()))
     first = "launch 1 change 1\nstep 1 5\nlaunch 1 run watch 7\n"

@@ -1,5 +1,5 @@
-"""What `test_rows` hands on: a call of each crate behind it, but of `jobs`, whose first row is one; the words that each names; and
-words that it hasn't.
+"""What `test_rows` hands on: a call of each crate that it links, but of `jobs`, whose first row is one; the words that each
+names; and words that it hasn't.
 
 The outputs are worked out by hand from docs/TABLE.md and docs/MACHINE.md.
 """

@@ -1,7 +1,7 @@
-"""Runs of observers after the changes of a script, told by whole reports.
+"""Runs of observers after the changes of a script, shown by whole reports.
 
 Worked out by hand from docs/TABLE.md, "Passes" and "Workers": by one worker each change takes two timestamps, then passes go by
-rows and columns, and each run takes two. Of more workers no row tells a commit that isn't the same whoever comes first.
+rows and columns, and each run takes two. For more workers no row has a commit that differs by whoever comes first.
 """
 from __future__ import annotations
 
@@ -120,7 +120,7 @@ OTHER_RESULTS = [
     run(manifest_of(observer("many", 0, "3", SEVENTEEN)), ONE, f"{CHANGED}runs many 1\nquiet\n"),
 ]
 
-# a change takes the first two timestamps, whoever else is there; who runs the observer isn't told
+# a change takes the first two timestamps, whoever else is there; who runs the observer isn't reported
 BY_MORE_WORKERS = [
     run(WATCHED, ONE, f"{CHANGED}runs watch 1\nquiet\n", "--workers", workers) for workers in ("2", "4", "63")
 ] + [

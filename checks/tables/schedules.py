@@ -1,4 +1,4 @@
-"""Schedules that are read, told by what their events leave, and schedules that are refused, with their line and code.
+"""Schedules that are read, shown by what their events leave, and schedules that are refused, with their line and code.
 
 Worked out by hand from docs/FORMATS.md, "Schedule", and docs/TABLE.md. A change of one cell takes five steps: begin, declare,
 prewrite, stamp and commit. A run of `watch` takes ten: begin, two reads, two instructions, declare, prewrite, stamp, commit
@@ -31,7 +31,7 @@ def idle(schedule: str) -> Row:
 
 
 def counted(schedule: str, count: int) -> Row:
-    """A schedule of so many events that do nothing, told by one behind them that can't happen."""
+    """A schedule of so many events that do nothing, shown by one after them that can't happen."""
     return replay_fails(THREE, "", f"{schedule}\nlaunch 63 change 1", f"event {count} code 63")
 
 

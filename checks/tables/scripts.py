@@ -50,7 +50,7 @@ OPERATIONS = [
     ),
     made("del 7 0; del 7 1\n\ndel 7 0; del 7 1\n", "7 0 commit 4 deleted", "7 1 commit 4 deleted"),
     made("# del 7 0; x"),
-    # the first fault, wherever it is, and whatever stands behind it
+    # the first fault, wherever it is, with anything after it
     script_fails("put 7 16 2a; put 7 1 2a", 71),
     script_fails("put 7 0 2a; x", 70),
     script_fails("put 7 0 2a; put 07 1 2a", 70),
@@ -168,8 +168,8 @@ def three_cells_crash(steps: int, more: str, last: str) -> Row:
     return replay(NOBODY, ORDER, f"launch 1 change 1\nstep 1 {steps}\ncrash 1\n{more}", f"{cells}{last}\n")
 
 
-# begin, declare, a prewrite of each cell, stamp, and a commit of each cell: which cell's turn it was is told by whoever
-# clears one, once the primary is settled or committed
+# begin, declare, a prewrite of each cell, stamp, and a commit of each cell: which cell's turn it was shows
+# when one is cleared, once the primary is settled or committed
 KEPT_IN_ORDER = [
     made(ORDER, "0 3 commit 2 value 00ff", "7 0 commit 4 deleted", "7 15 commit 2 deleted"),
     three_cells_crash(3, "settle 7 15\nsettle 0 3\n", "marks 0 locks 1"),

@@ -1,6 +1,6 @@
 """Texts, programs, manifests and reports at the sizes that they may have.
 
-A contract lets a body say that memory is wanted, whatever it is given; these rows don't. Worked out by hand from
+A contract lets a body report that memory is wanted for any input; these rows don't. Worked out by hand from
 docs/MACHINE.md, docs/FORMATS.md and docs/TABLE.md: a change takes two timestamps, and each run two more.
 """
 from __future__ import annotations
@@ -205,7 +205,7 @@ LATE_BYTES = [
     refused(bytes(LARGEST), 0, 11),
 ]
 
-# behind each number of good slots or lines: nothing, bytes that are no slot's, and a line that is no instruction. What is
+# after each number of good slots or lines: nothing, bytes that are no slot's, and a line that is no instruction. What is
 # refused so at the first and the last slot stands in verdicts.py and decoder.py, as do the listings of all these lengths
 EACH_FAULT = [
     *(refused(MOV * slots, slots - 1, 36) for slots in range(2, SLOTS)),
@@ -367,7 +367,7 @@ def behind_remark(text: str) -> str:
 
 
 def behind_lines(text: str) -> str:
-    """The same, behind as many empty lines."""
+    """The same, after as many empty lines."""
     return "\n" * (LARGEST - len(text)) + text
 
 

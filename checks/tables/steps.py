@@ -1,6 +1,6 @@
-"""Steps of a shared table, each with the seat that asks: what `test_table` tells of each, and of what stands in the table then.
+"""Steps of a shared table, each with the seat that asks: what `test_table` prints for each, and what stands in the table then.
 
-A step is written as the program takes it, with its answer behind it, so that a row is the whole story. All is worked out by hand
+A step is written as the program takes it, with its answer after it, so that a row is the whole story. All is worked out by hand
 from docs/TABLE.md.
 """
 from __future__ import annotations
@@ -135,7 +135,7 @@ SNAPSHOTS = f"""\
 marks 0 locks 1
 """
 
-# a full journal is told before a later timestamp
+# a full journal is reported before a later timestamp
 FULL = f"""\
 {change(1)}{change(3)}2 begin script -> at 5
 2 read 5 7 0 at 5 -> refused 44
@@ -226,7 +226,7 @@ MARKS = [
 ]
 
 
-# Numbers: the lowest that applies is told.
+# Numbers: the lowest that applies is reported.
 
 # no such transaction; not declared; not prewritten; the primary isn't; not declared among the cells; prewritten before
 REFUSED = """\
@@ -262,7 +262,7 @@ NUMBERS = [
 
 # Tables of several tablets.
 
-# each of three tablets takes what is of its rows, and marks are told in the order of rows
+# each of three tablets takes what is of its rows, and marks are reported in the order of rows
 ORDER = """\
 0 begin script -> at 1
 0 declare 1 script; 25 0 value 01; 5 0 value 02; 15 0 value 03 -> done
@@ -374,8 +374,8 @@ DECLARATIONS = [
 ]
 
 
-# What a run may declare that is told what its cell held when its observer acknowledged it last. Cell 7 0 changes at 1 and has its
-# first run at 3; it changes again at 5, so that the runs from 7 on are to be told of 3.
+# What a run may declare whose record has what its cell held when its observer acknowledged it last. Cell 7 0 changes at 1 and has
+# its first run at 3; it changes again at 5, so that the records of the runs from 7 on are to have what stood there at 3.
 
 FIRST, SECOND = "1 2 value 01", "5 6 value 02"
 
@@ -391,7 +391,7 @@ def two_versions(version: int) -> str:
 
 
 def run_at(start: int, found: str, acknowledgment: str, reads: list[str], given: str, answer: str) -> str:
-    """A run by seat 2 up to its declaration, which besides its cell and its acknowledgment reads these cells."""
+    """A run by seat 2 up to its declaration, which reads its cell, its acknowledgment and these cells."""
     lines = [f"read {start} {read}" for read in (f"7 0 -> found {found}", f"ack watch 7 0 -> {acknowledgment}", *reads)]
     lines = [f"begin run watch 7 -> at {start}", *lines, f"declare {start} run watch {given} result 1 -> {answer}"]
     return "".join(f"2 {line}\n" for line in lines)
@@ -423,7 +423,7 @@ def later_runs() -> Iterator[Row]:
     # that read is missing
     yield later(2, "refused 43", "value 01", ASKED)
     yield later(2, "refused 43", "deleted", ASKED)
-    # it is one timestamp before, one behind, at the start, or at none
+    # it is one timestamp before, one after, at the start, or at none
     yield later(2, "refused 43", "value 01", f"7 0 at 2 -> found {FIRST}", ASKED)
     yield later(2, "refused 43", "value 01", f"7 0 at 4 -> found {FIRST}", ASKED)
     yield later(2, "refused 43", "value 02", f"7 0 at 7 -> found {SECOND}", ASKED)

@@ -14,12 +14,12 @@ THREE_CELLS = "put 7 1 aa; put 7 0 2a; put 1000 0 2b\n"
 # how many entries that change has up to its commit, and all that the worker does; the main seat has one more
 COMMITTED, WHOLE = 7, 33
 
-# what is told of it before the last line: where it isn't committed; where no run is
+# the report up to its last line, if the change isn't committed; `report` has it for a change without a run
 UNMADE = "runs copy 0\n"
 
 
 def report(made: int = 2, copy: int = 0, other: int = 0) -> str:
-    """What is told of the change of three cells before the last line: its commit, and those of its runs on 7 0 and 1000 0, or 0."""
+    """The report on the change of three cells up to its last line, by its commit and those of its runs on 7 0 and 1000 0 or 0."""
     first = f"cell 7 1 commit {copy} value 2a\n" if copy else f"cell 7 1 commit {made} value aa\n"
     second = f"cell 1000 1 commit {other} value 2b\n" if other else ""
     runs = (copy > 0) + (other > 0)
@@ -30,7 +30,7 @@ MADE, COPIED_FIRST, BOTH = report(), report(copy=4), report(copy=4, other=6)
 
 
 def cleared(code: int) -> str:
-    """What is told of seven calls of the main seat, each of them refused with this number, or answered."""
+    """What is printed for seven calls of the main seat, each of them refused with this number, or answered."""
     return f"cleared {' '.join([str(code)] * 7)}\n"
 
 
@@ -44,7 +44,7 @@ def ended_at(script: str, limit: int, committed: int, whole: int, before: str) -
 
 
 def ended(script: str, committed: int, whole: int, reports: list[tuple[int, str, str]]) -> list[Row]:
-    """The same for each number of entries, with what is told from so many entries on."""
+    """The same for each number of entries, with what is reported from so many entries on."""
     rows = []
     for limit in range(whole + 2):
         first, last = [told[1:] for told in reports if told[0] <= limit][-1]
@@ -110,7 +110,7 @@ CLOCK = [
     out_of_time(6, WHOLE, [0, 0], "quiet", "quiet"),
 ]
 
-# what is told where the main seat makes a run or both: that on 7 0 begins above the worker's timestamps, and that on 1000 0
+# the report if the main seat makes a run or both: that on 7 0 begins above the worker's timestamps, and that on 1000 0
 # above these
 BOTH_MADE_UP, SECOND_MADE_UP, SECOND_ALONE = report(copy=5, other=7), report(copy=4, other=7), report(other=7)
 

@@ -1,7 +1,7 @@
-"""Stories: what `percobpf_story replay` tells of events, and what it refuses.
+"""Stories: what `percobpf_story replay` prints for events, and what it refuses.
 
 Those written out are worked out by hand from docs/TABLE.md and docs/FORMATS.md, "The story of a replay". Of the examples'
-schedules, and of every replay that stands in another table, the plain model of checks/model.py tells the story. What is
+schedules, and of every replay that stands in another table, the plain model of checks/model.py prints the story. What is
 refused before the first event is refused as by `percobpf`.
 """
 from __future__ import annotations
@@ -18,7 +18,7 @@ EXAMPLES = Path(__file__).resolve().parent.parent.parent / "examples"
 
 STORY = "percobpf_story"
 
-# the model tells no more events than this, which is as many as it tells in a second
+# the model prints the story of no more events than this, which is as many as it does in a second
 MOST_EVENTS = 20_000
 
 # the modules of tables with replays
@@ -32,7 +32,7 @@ def story(manifest: str, script: str, schedule: str, out: str, *more: str) -> Ro
 
 
 def story_stops(manifest: str, script: str, schedule: str, out: str, fault: str) -> Row:
-    """A replay that tells these lines, and then the fault of an event."""
+    """A replay that prints these lines, and then the fault of an event."""
     return replace(story(manifest, script, schedule, out), status=1, err=f"{fault}\n".encode())
 
 
@@ -94,7 +94,7 @@ HAND_MADE = [
         "launch 1 change 1\nstep 1 5\nlaunch 2 run watch 7\nstep 2 11\n",
         f"{MADE}{WATCHED_RUN}{CHANGED}runs watch 1\nquiet\n",
     ),
-    # a column that is written is told with the run's declaration, and committed behind the acknowledgment
+    # a column that is written is printed with the run's declaration, and committed after the acknowledgment
     story(
         COPIED,
         ONE,
@@ -121,7 +121,7 @@ HAND_MADE = [
 """)
         + "quiet\n",
     ),
-    # a crash between the primary's commit and the other's: who clears it commits it, and settles no other's primary
+    # a crash between the primary's commit and the other's: whoever clears it commits it, and settles no other's primary
     story(
         NOBODY,
         TWO_CELLS,
@@ -162,7 +162,7 @@ HAND_MADE = [
 """)
         + "quiet\n",
     ),
-    # an observer that is behind: its cell keeps the mark, and its acknowledgment has no lock
+    # an observer that has not run on the change: its cell keeps the mark, and its acknowledgment has no lock
     story(
         WATCHED,
         ONE,
@@ -367,7 +367,7 @@ MILLION = [
     story(WATCHED, ONE, "step 63 1000000\n", "".join(f"{number} 63 step -> idle\n" for number in range(1_000_000)) + "runs watch 0\nquiet\n"),
 ]
 
-# the lines of the events before the one at fault are told, and no report
+# the lines of the events before the one at fault are printed, and no report
 STOPPED = [
     story_stops(
         WATCHED,
@@ -387,14 +387,14 @@ def files_and_clock(row: Row) -> tuple[list[str], int]:
 
 
 def told_by_model(row: Row) -> Row:
-    """The story of the events of a replay, as the model tells it."""
+    """The story of the events of a replay, as the model prints it."""
     files, clock = files_and_clock(row)
     out, err, status = model.story(*(row.files[file].decode() for file in files), clock)
     return replace(row, out=out.encode(), err=err.encode(), status=status, program=STORY)
 
 
 def story_of(row: Row) -> Row:
-    """The row of a replay, told: what is refused before its events is refused in the same way."""
+    """The row of a replay, as its story: what is refused before its events is refused in the same way."""
     comes_to_events = row.status == 0 or (row.err or b"").startswith(b"event")
     has_files = all(file in row.files for file in files_and_clock(row)[0])
     return told_by_model(row) if comes_to_events and has_files else replace(row, program=STORY)

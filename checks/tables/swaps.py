@@ -1,6 +1,6 @@
-"""Tables whose tablets are swapped between steps: what `test_table` tells of each swap, and of what is seen of it, which is nothing.
+"""Tables whose tablets are swapped between steps: what `test_table` prints for each swap, of which steps show nothing.
 
-What comes back from a swap is told by its sort: `l`, a list, or `s`, a slab. All is worked out by hand from docs/TABLE.md.
+What comes back from a swap is named by its sort: `l`, a list, or `s`, a slab. All is worked out by hand from docs/TABLE.md.
 """
 from __future__ import annotations
 
@@ -60,7 +60,7 @@ SWAPPED = [
 ]
 
 
-# a spare for no place; one that isn't empty, for one and for none, which is told first; and one that is taken after all
+# a spare for no place; one that isn't empty, for one and for none, which is reported first; and one that is taken after all
 REFUSED_SWAPS = [
     steps(
         f"{CHANGE}swap 2 {first} -> refused 5 {first}\nswap 18446744073709551615 {first} -> refused 5 {first}\n"

@@ -1,4 +1,4 @@
-"""What `time_bench` hands on, which the scripts of bench/ time: calls of each crate behind it, and words that it hasn't.
+"""What `time_bench` hands on, which the scripts of bench/ time: calls of each crate that it links, and words that it hasn't.
 
 The outputs are worked out by hand: a listing of `exit` has five bytes, and a change leaves data and a write record.
 """

@@ -73,7 +73,7 @@ JUMPS_OF_EVERY_CLASS = [
     told(around_pair("ja -2"), 1, 32),
     taken(around_pair("ja +0")),
     told(around_pair("ja +1"), 1, 34),
-    # nothing else leads behind a jump
+    # nothing else leads past a jump
     told(around_pair("ja +2"), 2, 35),
     told(around_pair("ja +3"), 1, 33),
 ]

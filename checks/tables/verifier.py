@@ -70,7 +70,7 @@ POINTER_ARITHMETIC = [
 
 POINTER_STORED = [
     *(first(f"stx{size} [r10-8], r{source}", 24) for size in SIZES for source in (1, 10)),
-    # it is lower than what the place is told
+    # it is lower than the code of the place
     *(first(f"stx{size} [r1+0], r{source}", 24) for size in SIZES for source in (1, 10)),
 ]
 

@@ -1,7 +1,8 @@
-"""Command lines: what each asks for, told by what the program does then, and those that are refused, each with what `clap` prints.
+"""Command lines: what each asks for, shown by what the program does, and those that are refused, each with what `clap` prints.
 
-Worked out by hand from docs/FORMATS.md, "Words". The texts are those that `clap` has for each kind of fault, and behind a number that
-isn't read the text that Rust's `ParseIntError` has; the one of a plus is the program's own. What helps print stands in helps.py.
+Worked out by hand from docs/FORMATS.md, "Words". The texts are those that `clap` has for each kind of fault, and after a number
+that isn't read the text that Rust's `ParseIntError` has; the one of a plus is the program's own. What helps print stands in
+helps.py.
 """
 from __future__ import annotations
 
@@ -117,7 +118,7 @@ SUBCOMMANDS = [
 
 
 def clocked(last: str, *words: str) -> Row:
-    """A replay of one change, which ends with this line, or tells this cell and is quiet."""
+    """A replay of one change, which ends with this line, or reports this cell and is quiet."""
     files = files_of(m=NOBODY, s=ONE, e="launch 1 change 1\nstep 1 5\n")
     return Row(["replay", *words], files, out=f"{last}\n".encode())
 
@@ -126,7 +127,7 @@ def committed(commit: int) -> str:
     return f"cell 7 0 commit {commit} value 2a\nquiet"
 
 
-# the option may stand before, between and behind the operands; with one timestamp left the change puts its lock and isn't
+# the option may stand before, between and after the operands; with one timestamp left the change puts its lock and isn't
 # stamped, and with none it doesn't begin
 CLOCKS = [
     clocked("marks 0 locks 1", "m", "s", "e", "--clock", "18446744073709551614"),
@@ -154,7 +155,7 @@ def manned(*words: str, report: str = f"{CHANGED}quiet\n", script: str = ONE) ->
     return Row(["run", *words], files_of(m=NOBODY, s=script), out=report.encode())
 
 
-# the option may stand before, between and behind the operands; there may be more workers than changes, and zeros before the
+# the option may stand before, between and after the operands; there may be more workers than changes, and zeros before the
 # digits
 WORKERS = [
     *(manned("m", "s", "--workers", str(workers)) for workers in range(1, 64)),
@@ -225,14 +226,14 @@ OTHER_SWAPS = [
     bad_value([*RUN, "--workers", "1", "--swaps", "1001"], M_SWAPS, "1001", "1001 is not in 0..=1000"),
     plus([*RUN, "--workers", "+1", "--swaps", "1"], N_WORKERS),
     plus([*RUN, "--workers", "1", "--swaps", "+1"], M_SWAPS),
-    # of two the first option is told
+    # of two the first option is reported
     plus([*RUN, "--swaps", "+1", "--workers", "+1"], N_WORKERS),
     others([*REPLAY, "--swaps", "1"], "--swaps"),
     others(["check", "i", "--swaps", "1"], "--swaps"),
     too_early(["--swaps", "1", *RUN], "run"),
 ]
 
-# each operand that isn't there is told, and the first word that is too many
+# each operand that isn't there is reported, and the first word that is too many
 COMMAND_LINES = [
     wrong(
         [],
@@ -256,7 +257,7 @@ COMMAND_LINES = [
     one_more(["dis", "f", "x"], "x"),
     missing(["check"], "<FILE>"),
     one_more(["check", "f", "x"], "x"),
-    # as many words as any command line has, and more behind them
+    # as many words as any command line has, and more after them
     one_more([*RUN, "--workers", "2", "--swaps", "3", "x"], "x"),
     one_more([*RUN, "--workers", "2", "--swaps", "3", "x", "y"], "x"),
     one_more([*RUN, "--workers", "2", "--swaps", "3", *["x"] * 1_000], "x"),
@@ -273,7 +274,7 @@ COMMAND_LINES = [
 ]
 
 
-# of `asm`, `dis` and `check`, before, between and behind the operands
+# of `asm`, `dis` and `check`, before, between and after the operands
 PROFILES = [
     *(Row(["check", *words], {"i": PROGRAM}, out=b"accepted 2 slots\n") for words in (
         ["i", "--profile", "1"], ["i", "--profile", "2"], ["--profile", "2", "i"], ["--profile=2", "i"], ["i", "--profile", "02"])),

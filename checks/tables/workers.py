@@ -1,4 +1,4 @@
-"""Workers: what `test_workers` tells of those that take turns, that come to the end of the journal or of the clock, that are
+"""Workers: what `test_workers` prints for those that take turns, that come to the end of the journal or of the clock, that are
 stopped at each of their steps, and whose tablets are swapped meanwhile; and which seats `finish` accepts.
 
 All is worked out by hand from docs/TABLE.md. What several workers leave differs from time to time, and so does how often a
@@ -32,7 +32,7 @@ def numbers(word: str, items: list[int]) -> str:
 
 
 def left(refusals: list[int], seats: list, unfinished: list[int]) -> str:
-    """What is told of seats that were refused with these numbers, or with 0, and received so many entries."""
+    """What is printed for seats that were refused with these numbers, or with 0, and received so many entries."""
     lines = "".join(f"seat {number} received {count}\n" for number, count in enumerate(seats))
     total = "*" if "*" in seats else sum(seats)
     return f"{numbers('refusals', refusals)}{lines}{numbers('unfinished', unfinished)}entries {total} theirs\n"
@@ -42,15 +42,15 @@ SEAT = re.compile(r"seat (\d+) received (\d+|\*)\n")
 
 
 def ended_as(text: str) -> str:
-    """What is told of workers, with the end of it where no spare is swapped in: each seat passes the gate with each of its steps,
-    also with the one that it is refused."""
+    """What is printed for workers, with the end of it where no spare is swapped in: each seat passes the gate with each of its
+    steps, also with the one that it is refused."""
     refusals = text.partition("\n")[0].split()[1:]
     passed = [count if count == "*" else str(int(count) + (code != "0")) for code, (_, count) in zip(refusals, SEAT.findall(text))]
     return f"{text}turns kept\npassed {' '.join(passed)}\nchanged\n"
 
 
 def told(words: list[str], text: str) -> Row:
-    """Workers of whom this is told, where no spare is swapped in."""
+    """Workers for which this is printed, where no spare is swapped in."""
     return Row(["workers", *words], out=ended_as(text).encode(), program=ROWS)
 
 
@@ -68,8 +68,8 @@ class Entry:
 
 @dataclass(frozen=True)
 class Account:
-    """What is told of workers: refusals by seat, how much each received, the changes that are left, the journal where it is listed,
-    the report, and how often each spare was changed."""
+    """What is printed for workers: refusals by seat, how much each received, the changes that are left, the journal where it is
+    listed, the report, and how often each spare was changed."""
 
     refusals: list[int]
     seats: list[int]
@@ -150,7 +150,7 @@ def judged(words: list[str], facts: Callable[[Account], dict[str, bool]]) -> Row
 
 
 def starred(words: list[str], text: str) -> Row:
-    """Workers of whom this is told, where a star stands for any number."""
+    """Workers for which this is printed, where a star stands for any number."""
     pattern = re.compile(re.escape(ended_as(text)).replace(r"\*", r"\d+"))
     return Row(["workers", *words], out=None, judge=lambda out: [] if pattern.fullmatch(out.decode()) else [f"wanted {text}"], program=ROWS)
 
@@ -187,7 +187,7 @@ BY_NUMBER = [
     told(words_of("told", NOBODY, "", limit=0), left([44, 44], [0, 0], []) + "accepted\nquiet\n"),
     told(words_of("told", NOBODY, "", limit=1), left([44, 0], [0, 1], []) + "accepted\nquiet\n"),
     told(words_of("told", NOBODY, "", limit=2), left([0, 0], [1, 1], []) + "accepted\nquiet\n"),
-    # the number that is lower is told
+    # the number that is lower is reported
     told(words_of("told", NOBODY, ONE, last=LAST, limit=0), left([44, 40], [0, 0], [0]) + "accepted\nquiet\n"),
 ]
 
@@ -227,7 +227,7 @@ def one_cell(account: Account) -> dict[str, bool]:
     }
 
 
-# a pass has a mark, a run of ten, and no mark behind it; the change has five
+# a pass has a mark, a run of ten, and no mark after it; the change has five
 def thousand_passes(account: Account) -> dict[str, bool]:
     return {
         "all is made": account.is_whole(),
@@ -303,7 +303,7 @@ DELETES = "b701000005000000b70200000f0000008500000003000000"
 EXIT = "9500000000000000"
 DELETED = "cell 5 15 commit 4 deleted\n"
 
-# it asks, which is a read more; it writes a cell, which is prewritten and committed besides; both; what it writes isn't kept,
+# it asks, which is a read more; it writes a cell, which is prewritten and committed too; both; what it writes isn't kept,
 # since it ends with 1; it ends with its start; no helper is called; none may be called
 RUNS = [
     of_run("1,2,3,4", ASKS + EXIT, asks=1),
@@ -381,12 +381,12 @@ EACH_NUMBER = [
 
 
 def copied(code: int, *changed: range, row: int = 7) -> Callable[[Account], dict[str, bool]]:
-    """What is left of a change and its copy beside spares, the first refusal of which is told so, or none by 0, and of each of
-    which it is known how often it is changed."""
+    """What is left of a change and its copy beside spares, the first refusal of which has this number, or 0 for none, and of each
+    of which it is known how often it is changed."""
     report = [*COPIED_ONE.replace("cell 7", f"cell {row}").splitlines(), "quiet"]
     return lambda account: {
         "the change is made and copied": account.report == report and not account.unfinished,
-        f"main is told {code}": account.refusals == [code, 0],
+        f"main's refusal is {code}": account.refusals == [code, 0],
         "the worker made all passes": [entry.answer for entry in account.steps(0, "first-mark")] == ["no-mark"]
         and account.seats == [1, 18],
         "the spares are changed as often": all(count in at for count, at in zip(account.changed, changed, strict=True)),
@@ -402,8 +402,9 @@ def beside(code: int, spares: str, *changed: range, row: int = 7, **words: str) 
     return judged(words_of("listed", COPIED, script, spares=tuple(spares.split()), **words), copied(code, *changed, row=row))
 
 
-# swapped in after the last step a spare is changed once too, when the entries are copied into it; the first refusal is told, for a
-# place that there isn't, and not the second, for what is in it, into which only the mark was put before; and the other way round
+# swapped in after the last step a spare is changed once too, when the entries are copied into it; the first refusal is reported,
+# for a place that there isn't, and not the second, for what is in it, into which only the mark was put before; and the other way
+# round
 SPARES = [
     beside(0, "0l", SOME),
     beside(0, ""),
@@ -421,8 +422,8 @@ SPARES = [
 MORE = range(4, 100)
 
 # the first spare takes the first tablet's place before the worker has its stamp, and the second before it goes on, so that the
-# lock is copied into it, and the commit comes to it; where it refuses the copy, that is told of main, and all else is as without
-# it; in the last rows the second spare takes the second tablet's place, where the lock is
+# lock is copied into it, and the commit comes to it; where it refuses the copy, that is main's refusal, and all else is as
+# without it; in the last rows the second spare takes the second tablet's place, where the lock is
 MEANWHILE = [
     *(beside(0, spares, SOME, MORE, turns="swapping", sorts=sorts) for sorts in CHOICES for spares in ("0l 0s", "0s 0l")),
     *(beside(1, f"0l 0{sort}r", MORE, ONCE, turns="swapping") for sort in "ls"),

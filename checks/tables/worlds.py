@@ -1,5 +1,5 @@
-"""Worlds: what `test_worlds` tells of lists of events that no schedule names, or of more seats and entries than a replay leaves to
-choose; and of as many actors as there may be.
+"""Worlds: what `test_worlds` prints for lists of events that no schedule names, or of more seats and entries than a replay leaves
+to choose; and of as many actors as there may be.
 
 All is worked out by hand from docs/FORMATS.md, docs/CODES.md and docs/TABLE.md.
 """

@@ -18,7 +18,7 @@ REMEDY_IN_C = ("what to write instead",)
 
 @dataclass(frozen=True)
 class Rule:
-    """What a code means and what to do about it, and the same of C. What no document says is None."""
+    """What a code means and what to do about it, and the same of C. What no document has is None."""
 
     meaning: str | None
     remedy: str | None
@@ -55,7 +55,7 @@ def rows() -> list[dict[str, str]]:
 
 
 def cell_of(code: int, heads: tuple[str, ...]) -> str | None:
-    """What the first row of this code says that has one of these columns."""
+    """The cell of the first row of this code that has one of these columns."""
     found = [row[head] for row in rows() if row["code"] == str(code) for head in heads if row.get(head)]
     return found[0] if found else None
 

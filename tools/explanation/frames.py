@@ -1,4 +1,4 @@
-"""What is known before a slot, as `percobpf_story frames` tells it, in words."""
+"""What is known before a slot, as `percobpf_story frames` prints it, in words."""
 from __future__ import annotations
 
 import re

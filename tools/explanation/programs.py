@@ -1,4 +1,4 @@
-"""What the programs tell of the bytes of a program, or of its text."""
+"""What the programs print for the bytes of a program, or for its text."""
 from __future__ import annotations
 
 import functools
@@ -12,12 +12,12 @@ from explanation import frames
 
 TOP = Path(__file__).resolve().parent.parent.parent
 
-# codes that are told of all bytes together
+# codes of faults of all bytes together
 OF_ALL_BYTES = (10, 11)
 
 
 class NotTold(Exception):
-    """Why nothing is told of a file."""
+    """Why nothing is printed for a file."""
 
 
 class TextRefused(Exception):
@@ -50,7 +50,7 @@ class Refused:
 
 @functools.cache
 def words_of(name: str, is_unproved: bool) -> tuple[str, ...]:
-    """The words that run a program, which is built first where it isn't yet, and says so on standard error."""
+    """The words that run a program, which is built first where it isn't yet; that is reported on standard error."""
     build = [TOP / "tools/unproved", "--words", name] if is_unproved else [TOP / "checks/build", name, "--help"]
     building = subprocess.Popen(build, stdin=subprocess.DEVNULL, stdout=subprocess.PIPE, text=True)
     try:

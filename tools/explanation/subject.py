@@ -36,8 +36,8 @@ class Place:
 
 @dataclass
 class Subject:
-    """A program's bytes, where the instruction at a slot comes from, and what is to be told in words: `first`, of what the
-    bytes don't show, and `last`, of what would tell more. `is_object` where it comes from an object file."""
+    """A program's bytes, where the instruction at a slot comes from, and what is to be printed in words: `first`, of what the
+    bytes don't show, and `last`, of what would show more. `is_object` where it comes from an object file."""
 
     code: bytes
     places: dict[int, Place] = field(default_factory=dict)
@@ -123,7 +123,7 @@ def of_relocations(read: elf.Object, section: elf.Section) -> list[str]:
 
 @functools.cache
 def objdump() -> str | None:
-    """LLVM's tool that lists an object: by its plain name, or else with the highest version behind it."""
+    """LLVM's tool that lists an object: by its plain name, or else with the highest version after it."""
     folders = [Path(folder) for folder in os.get_exec_path() if Path(folder).is_dir()]
     versions = [re.fullmatch(r"llvm-objdump-(\d+)", it.name) for folder in folders for it in folder.glob("llvm-objdump-*")]
     numbers = sorted({int(version[1]) for version in versions if version}, reverse=True)

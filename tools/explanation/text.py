@@ -1,4 +1,4 @@
-"""What is said of a program: in words what its bytes don't show, its listing, and then the verdict and what explains it."""
+"""What is printed for a program: in words what its bytes don't show, its listing, and then the verdict and what explains it."""
 from __future__ import annotations
 
 import re
@@ -20,7 +20,7 @@ Listing = list[tuple[int, str]]
 
 
 def explained(path: Path, options: Options) -> tuple[str, int]:
-    """What is said of a file, and the status: 0 where it holds a program that is accepted and has all that its source has."""
+    """What is printed for a file, and the status: 0 where it holds a program that is accepted and has all that its source has."""
     try:
         its = subject.subject_of(path, options)
     except TextRefused as refused:
@@ -41,7 +41,7 @@ def explained(path: Path, options: Options) -> tuple[str, int]:
 
 
 def told_of_text(path: Path, refused: TextRefused) -> str:
-    """What is said of a text that isn't a program's."""
+    """What is printed for a text that isn't a program's."""
     lines, rule = path.read_text(errors="replace").split("\n"), codes.rule_of(refused.code)
     said = [f"> {lines[refused.line - 1]}"] if refused.line else []
     said.append(f"{path}: line {refused.line} code {refused.code}: {rule.meaning}")
@@ -66,7 +66,7 @@ def with_target(slot: int, text: str) -> str:
 
 def lines_of_listing(its: Subject, listing: Listing, refused: Refused | None) -> list[str]:
     """A line for each instruction, with its slot, and with a mark where it is refused; above it the line of C that it comes
-    from, where that is another than above. A slot that isn't read as an instruction is told by its bytes."""
+    from, where that is another than above. A slot that isn't read as an instruction is shown by its bytes."""
     marked = refused.slot if refused else None
     is_unread = refused is not None and refused.code not in programs.OF_ALL_BYTES and marked not in dict(listing)
     listed = [*listing, (marked, its.code[8 * marked : 8 * marked + 8].hex(" "))] if is_unread else listing
@@ -86,7 +86,7 @@ def lines_of_listing(its: Subject, listing: Listing, refused: Refused | None) ->
 
 
 def jump_back_to(slot: int, listing: Listing) -> int | None:
-    """The first instruction behind a slot that jumps back to it."""
+    """The first instruction after a slot that jumps back to it."""
     return next((at for at, text in listing if at > slot and target_of(at, text) == slot), None)
 
 

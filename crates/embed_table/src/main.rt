@@ -1,5 +1,6 @@
-//! Opens a shared table with one observer, commits a change, runs the observer on each cell that this marked, and prints what
-//! a snapshot and the report tell of the cells: all by calls of the crates, in an event loop of its own.
+//! Opens a shared table with one observer, commits a change, runs the observer on each cell that
+//! this marked, and prints what a snapshot and the report show of the cells: all by calls of the
+//! crates, in an event loop of its own.
 #![tactic(auto)]
 
 ghost use Rattle.std.specs.Prelude.{◌≤◌, length, IfOk};
@@ -62,7 +63,7 @@ fn change(alloc: Global) -> Result<Batch> {
     Batch::new(writes).ok().context("no batch")
 }
 
-// Makes a change, a call of the table for each step that the job tells.
+// Makes a change: calls the table for each step that the job gives.
 fn commit(
     alloc: Global,
     shared: &mut Shared<ListTablet>,

@@ -1,4 +1,4 @@
--- At which timestamp a committed run read a cell besides its start.
+-- The timestamp, other than its start, at which a committed run read a cell.
 use Rattle.std.specs.Prelude.{◌≡◌, ℕ, List, Some, slice_get}
 use Rattle.law_journals.specs.Words.{Cell, Content, Row, Ts, ObserverOf, observed_cell, acknowledgment, Answer, Step, Work, StateOf, Entry, IsEntry, Member, InHistory, IsSnapshot, IsLegal}
 

@@ -43,14 +43,14 @@ parts x found a rest fits = record {
 abbrev old_bytes : Reply → List ℕ
 old_bytes old = word_bytes (is_value old) ++ reply_bytes old
 
--- what stands so far behind the first 80 bytes
+-- what stands n bytes after the first 80
 behind_first : (x : Cell) (found : Revision) (a n : ℕ) (rest : List ℕ) → FitsRecord x found a → drop (32 + n) (value_bytes found.content ++ rest) ≡ drop n rest
 behind_first x found a n rest fits = subst (λ m. drop (m + n) (value_bytes found.content ++ rest) ≡ drop n rest) (length-value found.content fits.content) (drop-append-add (value_bytes found.content) rest n)
 
 whole : (v : List ℕ) → length v ≡ 32 → take 32 v ≡ v
 whole v e = ap (take 32) (sym (append-nil v)) ∙ front v [] e
 
--- the value of before, behind the first 80 bytes
+-- the old value, after the first 80 bytes
 old_in : (x : Cell) (found : Revision) (a : ℕ) (old : Reply) → FitsRecord x found a → IfSome old (λ v. length v ≡ 32) → HasOld (record_of x found a ++ old_bytes old) old
 old_in x found a (Some v) fits h = (
   ap (λ bs. from_le_bytes w64 (take 8 bs)) (behind_first x found a 0 (old_bytes (Some v)) fits) ∙ from_le_bytes-to_le_bytes_8 1 (omega arith),

@@ -1,4 +1,4 @@
--- What is told of a program, in the words of the codes.
+-- The verdict on a program, in the words of the codes.
 use Rattle.std.proofs.Common.{◌≡◌, ℕ, ◌-◌, ◌≤◌, List, [], ◌∷◌, Option, Some, None, get_or, refl, sym, ap, subst, ◌∙◌, arith, All, Contains}
 use Rattle.std.proofs.lemmas.List.Elements.{All-nil, All-cons, All-contains, All-weaker}
 use Rattle.law_programs.specs.Words.{Insn, JudgedOf, insn_at, Frame, RuleCode, code_number, lowest_code, CodesRiseWithin, CodesRise, in_at, codes_at, faults}
@@ -53,7 +53,7 @@ empty_or (x ∷ xs) h = absurd (h x (0, omega arith, refl))
 none_of : (cs : List RuleCode) (c : RuleCode) → cs ≡ [] → ¬ (Contains cs c)
 none_of cs c e k = none_in c (subst (λ ds. Contains ds c) e k)
 
--- the codes at a slot rise, also where it is told as unreachable alone
+-- the codes at a slot rise, also where the only one reports it as unreachable
 faults_rise : CodesRise → (j : JudgedOf) (n : ℕ) → CodesRiseWithin 21 38 (faults j n)
 faults_rise rise j n = by (insn_at j.program.insns n) (in_at j.program.insns n)
   where
@@ -62,7 +62,7 @@ faults_rise rise j n = by (insn_at j.program.insns n) (in_at j.program.insns n)
     by (Some i) None = (omega arith, omega arith)
     by (Some i) (Some f) = rise j n f i
 
--- acceptance and refusal, from what is told at each slot
+-- acceptance and refusal, from the codes at each slot
 pub verdicts_are_told : CodesRise → FaultsAreTold → VerdictsAreTold
 verdicts_are_told rise told j = record {
   accepts = (

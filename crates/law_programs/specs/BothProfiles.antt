@@ -1,5 +1,5 @@
--- Bytes of a program of profile 1, read in profile 2. `pb_decode` tells which program they are there, and `pb_sound` how
--- programs of the same instructions are judged and what they mean; here it is one sentence of bytes.
+-- Bytes of a program of profile 1, read in profile 2. `pb_decode` proves which program they are there, and `pb_sound` how
+-- programs of the same instructions are judged and what they mean. Here it is one sentence about bytes.
 use Rattle.std.specs.Prelude.{◌≡◌, ◌↔◌, ℕ, List}
 use Rattle.law_programs.specs.Words.{Writes, Profile, HelperSet, Talk, Means, ProgramOf, JudgedOf, RuleCode, Accepts, Refuses, Encodes}
 

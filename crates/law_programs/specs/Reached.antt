@@ -1,5 +1,5 @@
--- Which slots are reached: by steps from the first slot, where the verifier goes over all earlier slots in order; and
--- which codes are told at a slot by that.
+-- Which slots are reached: here by steps from the first slot, while the verifier goes over all earlier slots in order. By that,
+-- which codes are reported at a slot.
 use Rattle.std.specs.Prelude.{◌≡◌, ◌≢◌, ◌⊎◌, ◌↔◌, ℕ, ◌<◌, List, Some, None, Contains}
 use Rattle.law_programs.specs.Words.{Insn, insn_at, JudgedOf, Frame, RuleCode, in_at, faults}
 use Rattle.law_programs.specs.Breaks.{Breaks}
@@ -31,18 +31,18 @@ pub record TellsReached (p : List Insn) : Type 0 where
 abbrev pub ReachedAreTold : Type 0
 ReachedAreTold = (p : List Insn) → TellsReached p
 
--- the code is told at a slot: as unreachable, or as the instruction breaks it with the frame before it. A second slot has no
--- rules
+-- the code is reported at a slot: as unreachable, or because the instruction breaks it with the frame before it. A second slot
+-- has no rules
 abbrev pub IsCodeTold : RuleCode → JudgedOf → ℕ → Type 0
 IsCodeTold c j n =
     (i : Insn) × (insn_at j.program.insns n ≡ Some i) × (((c ≡ RuleCode.Unreachable) × ¬ (IsReachable j.program.insns n)) ⊎
     ((f : Frame) × (in_at j.program.insns n ≡ Some f) × Breaks c j n f i))
 
--- the codes at a slot are those that are told there, of every program with any helpers
+-- the codes at a slot are those reported there, for every program with any helpers
 abbrev pub FaultsAreTold : Type 0
 FaultsAreTold = (c : RuleCode) (j : JudgedOf) (n : ℕ) → Contains (faults j n) c ↔ IsCodeTold c j n
 
--- an instruction is told as unreachable exactly where its slot isn't reached
+-- an instruction is reported as unreachable exactly where its slot isn't reached
 abbrev pub UnreachableIsTold : Type 0
 UnreachableIsTold =
     (j : JudgedOf) (n : ℕ) (i : Insn) → insn_at j.program.insns n ≡ Some i →

@@ -1,5 +1,5 @@
--- What stands where in a change record: the table of docs/MACHINE.md, by which observers are written. The record itself
--- is defined as its parts one behind the other, so that a part of another length would move all that follow.
+-- What stands where in a change record: the table of docs/MACHINE.md, by which observers are written. The record itself is
+-- defined as its parts one after the other, so that a part of another length would move all that follow.
 use Rattle.std.specs.Prelude.{◌≡◌, ℕ, ◌<◌, ◌^◌, List, replicate, take, drop, length, Some, None, IfSome}
 use Rattle.law_programs.specs.Words.{Cell, Content, Revision, row_of, column_of, Reply, record_of, word_at, record_with_old}
 
@@ -17,7 +17,7 @@ HasContent bytes (Content.Value v) = (word_at bytes 32 ≡ 1) × (value_at bytes
 HasContent bytes Content.Deleted = HasNoValue bytes 32 48
 HasContent bytes (Content.Stamp t) = HasNoValue bytes 32 48
 
--- the value of before, or that there was none, behind the first 80 bytes
+-- the old value, or that there was none, after the first 80 bytes
 abbrev pub HasOld : List ℕ → Reply → Type 0
 HasOld bytes (Some v) = (word_at bytes 80 ≡ 1) × (value_at bytes 88 ≡ v)
 HasOld bytes None = HasNoValue bytes 80 88

@@ -1,5 +1,5 @@
--- Which bytes of memory an instruction touches: from which register on, how far, how many, and whether they are read or
--- written. The rules of 25 to 29 are told by them.
+-- Which bytes of memory an instruction touches: from which register on, how far, how many, and whether they are read or written.
+-- They define the rules of 25 to 29.
 use Rattle.std.specs.Prelude.{◌≡◌, ◌⊎◌, ℕ, ◌+◌, ◌<◌, ℤ, pos, neg_ℤ, ◌+ℤ◌, ◌≤ℤ◌, false, IsSomeAnd}
 use Rattle.law_programs.specs.Words.{Insn, Size, number, JudgedOf, Helper, Read, Write, declared_helper, Frame, has_byte, from_low}
 

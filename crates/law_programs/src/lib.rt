@@ -1,12 +1,13 @@
-//! What holds of the definitions by which programs are read, judged and told of changes: laws, on which nothing is
-//! built, so that they make no crate wait for them.
+//! What holds of the definitions by which programs are read, judged and given records of changes:
+//! laws, on which nothing is built, so that they make no crate wait for them.
 //!
-//! A contract of the verifier holds of a definition, and that can be wrong in the same way as its code. These laws say
-//! the same in other words, those of docs/CODES.md and docs/MACHINE.md: when each code is told, which slots are
-//! reached, what is known after an instruction, and what stands where in a change record. So of `stb [r10-513], 0` the
-//! verifier's lists have 25, and here it is told that one byte from 513 below the stack's end on isn't among the 512
-//! before it. The promise is that both say the same, of every instruction and every frame. What a profile has is said in
-//! figures: slots, bytes, and what an extended sign leaves.
+//! A contract of the verifier holds of a definition, and that can be wrong in the same way as its
+//! code. These laws state the same in other words, those of docs/CODES.md and docs/MACHINE.md: when
+//! each code is reported, which slots are reached, what is known after an instruction, and what
+//! stands where in a change record. So of `stb [r10-513], 0` the verifier's lists have 25, and here
+//! a law states that one byte from 513 below the stack's end on isn't among the 512 before it. The
+//! promise is that both state the same, of every instruction and every frame. What a profile has is
+//! given in figures: slots, bytes, and what an extended sign leaves.
 #![tactic(auto)]
 
 ghost use Rattle.law_programs.specs.Breaks.{RulesAreByCode};
@@ -45,8 +46,8 @@ pub fn reached_are_told()
     jumps_lead_on();
 }
 
-/// The codes at a slot are those that its instruction breaks with the frame before it. An instruction is told as unreachable
-/// exactly where its slot isn't reached.
+/// The codes at a slot are those that its instruction breaks with the frame before it. An
+/// instruction is reported as unreachable exactly where its slot isn't reached.
 pub fn faults_are_told()
     ensures each { FaultsAreTold }
     ensures unreachable { UnreachableIsTold }
@@ -65,8 +66,8 @@ pub fn frames_after_are_told()
     rules_are_by_code();
 }
 
-/// A program is accepted exactly where no code is told at any of its slots, and refused with the first slot at which one is,
-/// and the lowest there.
+/// A program is accepted exactly if no code is reported at any of its slots. It is refused with the
+/// first slot at which one is, and the lowest code there.
 pub fn verdicts_are_told()
     ensures { VerdictsAreTold }
 {

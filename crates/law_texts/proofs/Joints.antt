@@ -22,7 +22,7 @@ joined_cut (b ∷ c ∷ bs) = chosen_joined ((b == 59) && (c == 32)) b c bs refl
 
 -- ---- and what has no semicolon, cut again
 
--- a text without a semicolon is cut off at the joint behind it
+-- a text without a semicolon is cut off at the joint after it
 cut_there : (text rest : List ℕ) → Lacks 59 text → cut (text ++ 59 ∷ 32 ∷ rest) ≡ text ∷ cut rest
 cut_there [] rest h = refl
 cut_there (b ∷ []) rest h = rw h.0 refl

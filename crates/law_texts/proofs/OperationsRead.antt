@@ -25,7 +25,7 @@ not_zero n h = grind arith
 tested : (a b c : Bool) (r : Result (List ℕ) ScriptCode) → a ≡ false → b ≡ false → c ≡ false → cond (a || (b || c)) (Err ScriptCode.Hex) r ≡ r
 tested a b c r p q s = rw (p, q, s) refl
 
--- the digits of a value are read as it, with zeros behind
+-- the digits of a value are read as that value, with zeros after them
 digits_back : (value digits : List ℕ) → AreDigitsOf value digits → value_of_word digits ≡ Ok value
 digits_back value digits d =
     let twice : length (encode_lower d.bytes) ≡ 2 * length d.bytes = length-encode_with lower_digits d.bytes in

@@ -1,5 +1,5 @@
--- The report of a table, by the timestamp that it is of. `pb_script` says it by the table's clock, which no reader of a
--- journal sees; here it is said by the journal alone, given how the table was opened.
+-- The report of a table, by the timestamp that it is of. `pb_script` defines it by the table's clock, which no reader of a
+-- journal sees; here it is defined by the journal alone, given how the table was opened.
 use Rattle.std.specs.Prelude.{◌↔◌, ℕ, List}
 use Rattle.std.specs.FinMap as finite
 use Rattle.law_texts.specs.Words.{lock_count, timestamps, IsLastGiven, SharedOf, IsLegalTable, Tallies, IsReportOf, IsSeenAt, AreTallies, IsReportIn}

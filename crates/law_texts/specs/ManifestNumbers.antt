@@ -8,7 +8,7 @@ use Rattle.law_texts.specs.Words.{Profile, ObserverOf, ManifestCode, number_of, 
 abbrev pub manifest : ℕ → Items → Data
 manifest n observers = object (member (codes "observers") (array observers) (member (codes "profile") (number (unsigned n)) no_members))
 
--- what such a manifest is read as in a profile
+-- the result of reading such a manifest in a profile
 abbrev pub read_in : Profile → Items → Option ManifestOf
 read_in profile observers = Some (record { profile = profile; elements = elements observers })
 

@@ -5,7 +5,7 @@ use Rattle.std.specs.List.{join_with_byte}
 use Rattle.hex.specs.Hex.{IsBytes, encode_lower}
 use Rattle.law_texts.specs.Words.{COLUMNS, Row, Cell, Content}
 
--- Some of the first bytes of a value of 32, in lower-case hexadecimal, two digits for a byte; those behind are zero.
+-- Some of the first bytes of a value of 32, in lower-case hexadecimal, two digits for a byte; the bytes after them are zero.
 pub record AreDigitsOf (value digits : List ℕ) : Type 0 where
   pub bytes : List ℕ
   pub fit : IsBytes bytes

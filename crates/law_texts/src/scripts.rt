@@ -11,9 +11,10 @@ ghost use Rattle.law_texts.specs.ScriptTexts.{IsScriptOf};
 
 use pb_parse::reads_operations;
 
-/// An operation is read as a write exactly where its text is the write's, character for character: `put`, row, column
-/// and 1 to 32 bytes in lower-case hexadecimal, with zeros behind them in the value; or `del`, row and column. Rows
-/// have 64 bits, columns are below 16, both are in decimal, and one blank stands between two words.
+/// An operation is read as a write exactly where its text is the write's, character for character:
+/// `put`, row, column and 1 to 32 bytes in lower-case hexadecimal, with zeros after them in the
+/// value; or `del`, row and column. Rows have 64 bits, columns are below 16, both are in decimal,
+/// and one blank stands between two words.
 pub fn operations_are_read_as_written()
     ensures { (text : List ℕ) (x : Cell) (content : Content)
         → (operation text ≡ Ok (x, content)) ↔ IsOperationOf x content text }

@@ -1,10 +1,10 @@
 //! What happens in a world has one outcome: laws, on which nothing is built, so that they make no crate wait for them.
 //!
-//! `pb_world` says by a relation what an event may come to, so that its contracts need not say how. That could allow
-//! two outcomes, and then a replay would tell one of several. These laws say that it doesn't: from a sound world an
-//! event has one note and leaves one world, and so has a list of events, up to its fault. So the schedule of
-//! `examples/crash.schedule` leaves one world, as often as it is replayed. Memory alone is outside: any event may be
-//! refused it.
+//! `pb_world` says by a relation what an event may come to, so that its contracts need not say how.
+//! That could allow two outcomes, and then a replay would report one of several. These laws say
+//! that it doesn't: from a sound world an event has one note and leaves one world, and so has a
+//! list of events, up to its fault. So the schedule of `examples/crash.schedule` leaves one world,
+//! as often as it is replayed. Memory alone is outside: any event may be refused it.
 #![tactic(auto)]
 
 ghost use Rattle.law_worlds.specs.Outcomes.{OpenedWorldsAreSound, EventsHaveOneOutcome, RunsHaveOneOutcome};
@@ -39,9 +39,9 @@ pub fn runs_have_one_outcome()
     worlds_stay_sound();
 }
 
-/// Whether a list of events of a sound world happens to the last, and else at which event it stops and with which number,
-/// follows from the world and the list, but for memory: two stops for another reason are one, and none is of a list that
-/// happens to the last.
+/// Whether a list of events of a sound world happens to the last, and else at which event it stops
+/// and with which number, follows from the world and the list, but for memory. Two stops for
+/// another reason are one, and none is of a list that happens to the last.
 pub fn faults_have_one_place()
     ensures one { FaultsHaveOnePlace }
     ensures none { WholeRunsHaveNoFault }

@@ -1,4 +1,4 @@
--- Of which lines and texts the codes of the first word, of the slots and of no instruction are told.
+-- Which lines and texts are refused with the codes of the first word, of the slots and of no instruction.
 use Rattle.std.proofs.Common.{◌≡◌, ◌≢◌, ℕ, suc, ◌+◌, ◌-◌, ◌^◌, ◌<◌, ◌⊎◌, ◌↔◌, ℤ, pos, neg_ℤ, Bool, true, false, cond, List, [], ◌∷◌, ◌++◌, take, Option, None, Result, Ok, Err, refl, sym, ap, ◌∙◌, arith, inl, inr, ◌==◌, nat_lt, slice_index, ok_or}
 use Rattle.std.specs.List.{slice_split, before_first, position_or_len}
 use Rattle.std.proofs.lemmas.Bool.{ltb-true, lt-ltb}
@@ -18,7 +18,7 @@ use Rattle.pb_reading.proofs.Readings.{err_is, FailsBy, then_fails, if_fails, th
 use Rattle.pb_asm.specs.Codes.{asm_code}
 use Rattle.pb_asm.proofs.OneSpelling.{named_is, word_among, line_spelled}
 
--- operands are told as of another form or out of range
+-- operands are refused as of another form or out of range
 abbrev IsOperandFault : AsmCode → Type 0
 IsOperandFault AsmCode.Word = ⊥
 IsOperandFault AsmCode.Form = Unit {0}
@@ -117,7 +117,7 @@ jump_if_tells : (make : Reg → Operand → ℤ → Insn) (texts : List (List �
 unfolding jump_if_operands
 jump_if_tells make texts = then_fails IsOperandFault (comma texts) _ (comma_tells texts) (λ first. then_fails IsOperandFault (reg_of_text first.0) _ (reg_tells first.0) (λ r. then_fails IsOperandFault (comma first.1) _ (comma_tells first.1) (λ second. then_fails IsOperandFault (operand_of_text second.0) _ (operand_tells second.0) (λ a. then_fails IsOperandFault (last offset_of_text second.1) _ (last_tells offset_of_text second.1 offset_tells) (λ o. tt)))))
 
--- so the operands of any word are told as of another form or out of range, and never as an unknown word
+-- so the operands of any word are refused as of another form or out of range, and never as an unknown word
 operands_tell : (w : Word) (texts : List (List ℕ)) → Tells (operands w texts)
 operands_tell w texts = grind (arith, alu_tells, mov_sx_tells, then_fails, last_tells, reg_tells, wide_tells, load_tells, store_imm_tells, store_tells, offset_tells, jump_if_tells, imm_tells, end_fails)
 
@@ -142,7 +142,7 @@ first_word (b ∷ bs) = let h = first_word bs in first_step b bs h.0 (blank b) r
 abbrev Unnamed : Profile → List ℕ → Type 0
 Unnamed q text = (w : Word) → IsWordOf q w → text ≢ name w
 
--- where 80 is told, the first word is no name of the profile's, since operands don't tell 80
+-- if a line is refused with 80, its first word is no name of the profile's, since operands never return 80
 named_cases : (q : Profile) (text : List ℕ) (texts : List (List ℕ)) (o : Option Word) → word_named q text ≡ o → (ok_or o AsmCode.Word >>= λ w. operands w texts) ≡ Err AsmCode.Word → Unnamed q text
 named_cases q text texts o is h w has same = grind (arith, word_back, operands_tell)
 
@@ -150,12 +150,12 @@ named_cases q text texts o is h w has same = grind (arith, word_back, operands_t
 unnamed : (q : Profile) (text : List ℕ) (o : Option Word) → word_named q text ≡ o → Unnamed q text → word_named q text ≡ None
 unnamed q text o is none = grind (arith, named_is, word_among)
 
--- 80 is told of a line's words exactly where the first is no name of the profile's
+-- a line's words are refused with 80 exactly if the first is no name of the profile's
 words_word : (q : Profile) (text : List ℕ) (texts : List (List ℕ)) → (insn_of_words q (text ∷ texts) ≡ Err AsmCode.Word) ↔ Unnamed q text
 unfolding insn_of_words
 words_word q text texts = (named_cases q text texts (word_named q text) refl, λ none. ap (λ (o : Option Word). ok_or o AsmCode.Word >>= λ w. operands w texts) (unnamed q text (word_named q text) refl none))
 
--- 80 is told of a line exactly where what stands before its first blank is no name
+-- a line is refused with 80 exactly if what stands before its first blank is no name
 pub word_told : (q : Profile) (line : List ℕ) → (line_of q line ≡ Err AsmCode.Word) ↔ ((w : Word) → IsWordOf q w → before_first (λ b. b == 32) line ≢ name w)
 word_told q line =
     let f = first_word line in
@@ -164,7 +164,7 @@ word_told q line =
 
 -- ---- the slots
 
--- operands don't tell 83
+-- operands never return 83
 words_short : (texts : List (List ℕ)) (o : Option Word) → (ok_or o AsmCode.Word >>= λ w. operands w texts) ≡ Err AsmCode.TooLong → ⊥
 words_short texts o h = grind (arith, operands_tell)
 
@@ -198,12 +198,12 @@ read_past q front line (Ok i) is h =
 shown_past : (q : Profile) (front : List Insn) (line : List ℕ) (b : Bool) → cond b (Ok front) (line_of q line >>= λ i. cond (nat_lt (max_slots q) (slots (front ++ i ∷ []))) (Err AsmCode.TooLong) (Ok (front ++ i ∷ []))) ≡ Err AsmCode.TooLong → PastEnd q front line
 shown_past q front line b h = grind (arith, read_past)
 
--- a line that is such an instruction's is told as 83
+-- a line that is such an instruction's is refused with 83
 past_told : (q : Profile) (front : List Insn) (line : List ℕ) → PastEnd q front line → with_insn_line q front line ≡ Err AsmCode.TooLong
 unfolding with_insn_line
 past_told q front line h = ap (with_insn_line q front) h.1 ∙ rw (insn_shown h.0, line_back q h.0 h.2 h.3, lt-ltb _ _ h.4) refl
 
--- and 83 is told of no other line
+-- and no other line is refused with 83
 pub too_long_told : (q : Profile) (front : List Insn) (line : List ℕ) → (with_insn_line q front line ≡ Err AsmCode.TooLong) ↔ ((i : Insn) × (line ≡ insn_text i) × Fits i × IsOf q i × (max_slots q < slots (front ++ i ∷ [])))
 unfolding with_insn_line
 too_long_told q front line = (shown_past q front line (is_skipped line), past_told q front line)
@@ -213,12 +213,12 @@ too_long_told q front line = (shown_past q front line (is_skipped line), past_to
 shown_own : (q : Profile) (front : List Insn) (line : List ℕ) (c : AsmCode) (b : Bool) → cond b (Ok front) (line_of q line >>= λ i. cond (nat_lt (max_slots q) (slots (front ++ i ∷ []))) (Err AsmCode.TooLong) (Ok (front ++ i ∷ []))) ≡ Err c → (c ≡ AsmCode.TooLong) ⊎ (line_of q line ≡ Err c)
 shown_own q front line c b h = grind arith
 
--- after lines before it a line tells its own fault, or 83
+-- a line after others is refused with its own fault, or with 83
 pub own_told : (q : Profile) (front : List Insn) (line : List ℕ) (c : AsmCode) → with_insn_line q front line ≡ Err c → (c ≡ AsmCode.TooLong) ⊎ (line_of q line ≡ Err c)
 unfolding with_insn_line
 own_told q front line c h = shown_own q front line c (is_skipped line) h
 
--- what operands tell is 81 or 82
+-- the fault that operands return is 81 or 82
 told_so : (c : AsmCode) → Tells (failed Insn c) → (c ≡ AsmCode.Word) ⊎ (c ≡ AsmCode.Form) ⊎ (c ≡ AsmCode.Range)
 told_so c h = grind arith
 
@@ -230,21 +230,21 @@ unfolding insn_of_words
 fields_told q [] c h = inr (inl (sym (err_is {A = Insn} AsmCode.Form c h)))
 fields_told q (text ∷ texts) c h = words_told texts (word_named q text) c h
 
--- a line by itself tells 80, 81 or 82
+-- a line by itself is refused with 80, 81 or 82
 pub line_told : (q : Profile) (line : List ℕ) (c : AsmCode) → line_of q line ≡ Err c → (c ≡ AsmCode.Word) ⊎ (c ≡ AsmCode.Form) ⊎ (c ≡ AsmCode.Range)
 line_told q line c h = fields_told q (slice_split blank line) c h
 
 -- ---- no instruction
 
--- where 84 is told, no line has an instruction, since a line's fault has a number from 1
+-- if a text is refused with 84, no line has an instruction, since a line's fault has a number from 1
 has_none : (q : Profile) (text : List ℕ) → StopsAt asm_code (with_insn_line q) [] text 0 84 ⊎ HasNone q text 0 84 → shown_lines text ≡ []
 has_none q text (inl f) = let k = f.number in let no : ⊥ = omega (arith, k) in absurd no
 has_none q text (inr f) = (lines_are q text [] f.read).lines
 
--- where no line has one, 84 is told
+-- if no line has one, the text is refused with 84
 none_told : (q : Profile) (text : List ℕ) → shown_lines text ≡ [] → program_of_text q text ≡ Err (0, 84)
 none_told q text h = ap (λ (r : Result (List Insn) (ℕ × ℕ)). r >>= some_of q) (lines_back q text [] (record { lines = h; fits = tt; of_profile = tt; most = omega arith }))
 
--- 84 is told exactly where each line is empty or a remark
+-- a text is refused with 84 exactly if each line is empty or a remark
 pub nothing_told : (q : Profile) (text : List ℕ) → (program_of_text q text ≡ Err (0, 84)) ↔ (shown_lines text ≡ [])
 nothing_told q text = (λ h. has_none q text (first_is_told q text 0 84 h), none_told q text)

@@ -10,6 +10,6 @@ use Rattle.pb_reading.proofs.Readings.{err_is}
 whole : (q : Profile) (text : List ℕ) (line told : ℕ) (r : Result (List Insn) (ℕ × ℕ)) → insns_of_lines q 0 [] (lines_of text) ≡ r → (r >>= some_of q) ≡ Err (line, told) → StopsAt asm_code (with_insn_line q) [] text line told ⊎ HasNone q text line told
 whole q text line told r is h = grind (arith, stops_at, err_is)
 
--- the fault that is told is that of the first line at fault, or there is no instruction
+-- the fault that is reported is that of the first line at fault, or there is no instruction
 pub first_is_told : (q : Profile) (text : List ℕ) (line told : ℕ) → program_of_text q text ≡ Err (line, told) → StopsAt asm_code (with_insn_line q) [] text line told ⊎ HasNone q text line told
 first_is_told q text line told h = whole q text line told (insns_of_lines q 0 [] (lines_of text)) refl h

@@ -159,13 +159,13 @@ place_line b o fits = above_append 33 (reg_name b) (offset_text o ++ 93 ∷ []) 
 abbrev pub blanks : List ℕ → List (List ℕ)
 blanks text = slice_split (λ b. b == 32) text
 
--- a line of operands is cut behind the first comma
+-- a line of operands is cut after the first comma
 pub comma_cut : (x y : List ℕ) → above 33 x ≡ true → blanks (x ++ (codes ", " ++ y)) ≡ (x ++ 44 ∷ []) ∷ blanks y
 comma_cut x y h =
     let grouped : x ++ (codes ", " ++ y) ≡ (x ++ 44 ∷ []) ++ 32 ∷ y = sym (append_assoc x (44 ∷ []) (32 ∷ y)) in
     ap blanks grouped ∙ cut_there 32 33 (x ++ 44 ∷ []) y (omega arith) (above_append 33 x (44 ∷ []) h refl)
 
--- and behind the first word
+-- and after the first word
 pub name_cut : (w : Word) (y : List ℕ) → blanks (name w ++ (codes " " ++ y)) ≡ name w ∷ blanks y
 name_cut w y = cut_there 32 48 (name w) y (omega arith) (name_above w)
 
@@ -345,7 +345,7 @@ insn_above Insn.Exit fits = above_less 32 48 (name Word.Exit) (omega arith) (nam
 abbrev pub newlines : List ℕ → List (List ℕ)
 newlines text = slice_split (λ b. b == 10) text
 
--- the lines of a listing are those of its instructions, and an empty one behind the last newline
+-- the lines of a listing are those of its instructions, and an empty one after the last newline
 pub lines_cut : (p : List Insn) → AllByRecursion Fits p → newlines (listing p) ≡ map insn_text p ++ [] ∷ []
 lines_cut [] fits = refl
 lines_cut (i ∷ p) fits =

@@ -51,7 +51,7 @@ cut_none c n (x ∷ xs) lt h =
     let p = both (nat_le n x) (above n xs) h in
     rw (not_this c n x lt p.0, cut_none c n xs lt p.1) refl
 
--- the first such byte is the one behind a text without it
+-- the first such byte is the one after a text without it
 place_there : (c n : ℕ) (xs ys : List ℕ) → c < n → above n xs ≡ true → position_or_len (λ b. b == c) (xs ++ c ∷ ys) ≡ length xs
 place_there c n [] ys lt h = rw (same_number c) refl
 place_there c n (x ∷ xs) ys lt h =

@@ -1,4 +1,4 @@
--- A number beyond its field is told as out of range.
+-- A number beyond its field is refused as out of range.
 use Rattle.std.proofs.Common.{◌≡◌, ◌≢◌, ℕ, ◌+◌, ◌-◌, ◌^◌, ℤ, Bool, true, false, cond, List, [], ◌∷◌, ◌++◌, Option, Some, None, Result, Ok, Err, refl, sym, ap, ◌∙◌, append_assoc, append-nil, arith, inl, inr, ◌==◌, nat_le, codes, slice_index, ok_or}
 use Rattle.std.specs.Char.{is_ascii_digit}
 use Rattle.std.specs.List.{list_all}
@@ -129,14 +129,14 @@ word_cut : (x rest : List ℕ) → above 33 x ≡ true → EndsWord rest → (ot
 word_cut x rest h (inl e) = ([], ap (λ (t : List ℕ). blanks (x ++ t)) e ∙ ap blanks (append-nil x) ∙ last_cut x h)
 word_cut x rest h (inr e) = (blanks e.0, ap (λ (t : List ℕ). blanks (x ++ t)) e.1 ∙ cut_there 32 33 x e.0 (omega arith) h)
 
--- a line is told as its operands are
+-- a line returns what its operands return
 after_name : (q : Profile) (w : Word) (y : List ℕ) (ys : List (List ℕ)) → IsWordOf q w → blanks y ≡ ys → line_of q (name w ++ (codes " " ++ y)) ≡ operands w ys
 after_name q w y ys has e = ap (insn_of_words q) (name_cut w y ∙ ap (λ (ws : List (List ℕ)). name w ∷ ws) e) ∙ first_read q w ys has
 
 then_cut : (x y : List ℕ) (ys : List (List ℕ)) → above 33 x ≡ true → blanks y ≡ ys → blanks (x ++ (codes ", " ++ y)) ≡ (x ++ 44 ∷ []) ∷ ys
 then_cut x y ys h e = comma_cut x y h ∙ ap (λ (ws : List (List ℕ)). (x ++ 44 ∷ []) ∷ ws) e
 
--- a last word out of range is told before a word too many
+-- a last word out of range is reported before a word too many
 last_over : {A : Type 0} (read : List ℕ → Result A AsmCode) (x : List ℕ) (others : List (List ℕ)) → read x ≡ Err AsmCode.Range → last read (x ∷ others) ≡ Err AsmCode.Range
 unfolding last
 last_over read x others h = rw h refl
@@ -192,7 +192,7 @@ range_told q CallImm number rest has fits beyond ends =
 line_shown : (f : NumberPlace) (number rest : List ℕ) → is_skipped (line_with f number rest) ≡ false
 line_shown f number rest = name_shown (place_word f) (codes " " ++ operands_with f number rest)
 
--- so 82 is told of it at its number, after whatever lines
+-- so the line is refused with 82 at its number, whatever lines stand before it
 pub line_told : (q : Profile) (n : ℕ) (before : List Insn) (f : NumberPlace) (number rest : List ℕ) → IsWordOf q (place_word f) → FitsBefore f → IsBeyond f number → EndsWord rest → numbered asm_code n (with_insn_line q before (line_with f number rest)) ≡ Err (n + 1, 82)
 unfolding with_insn_line
 line_told q n before f number rest has fits beyond ends = rw (line_shown f number rest, range_told q f number rest has fits beyond ends) refl

@@ -28,7 +28,7 @@ if_some b x y h = grind arith
 
 -- ---- cuts
 
--- a text that was cut behind its first character begins with it
+-- a text that was cut after its first character begins with it
 pub behind_whole : (c : ℕ) (text rest : List ℕ) → strip_prefix c text ≡ Some rest → text ≡ c ∷ rest
 behind_whole c text rest h = grind arith
 
@@ -47,7 +47,7 @@ around_whole c text sides h =
 
 -- ---- numbers
 
--- what is read behind a minus is a negative number's digits, and zero isn't
+-- what is read after a minus is a negative number's digits, and zero isn't
 minus_is : (greatest : ℕ) (text : List ℕ) (z : ℤ) → greatest < 2 ^ 64 → minus greatest text ≡ Ok z → (n : ℕ) × (z ≡ negsuc n) × (text ≡ decimal (suc n)) × (n < greatest)
 unfolding minus
 minus_is greatest text z lt h = grind (arith, then_ok, numeral_is, else_ok, ok_is)
@@ -202,7 +202,7 @@ pub comma_is : (texts : List (List ℕ)) (p : List ℕ × List (List ℕ)) → c
 unfolding comma
 comma_is texts p h = grind (arith, then_ok, before_whole, there_ok, ok_is)
 
--- where a last word was read, no word stood behind it
+-- if a last word was read, no word stood after it
 last_is : {A : Type 0} (read : List ℕ → Result A AsmCode) (texts : List (List ℕ)) (x : A) → last read texts ≡ Ok x → (text : List ℕ) × (texts ≡ text ∷ []) × (read text ≡ Ok x)
 unfolding last
 last_is read texts x h = grind arith
@@ -236,7 +236,7 @@ of_any w i one two x is = grind arith
 abbrev Written : Word → List (List ℕ) → Insn → Type 0
 Written w texts i = (join_with_byte 32 (name w ∷ texts) ≡ insn_text i) × Fits i × OfWord w i
 
--- operands that are read are written so, behind each first word: this one and those below
+-- operands that are read are written so, after each first word: this one and those below
 alu_is : (op : AluOp) (w : Width) (texts : List (List ℕ)) (i : Insn) → alu_operands (Insn.Alu op w) texts ≡ Ok i → Written (Word.Alu op w) texts i
 unfolding alu_operands
 alu_is op w texts i h =

@@ -115,7 +115,7 @@ read_back text p lines is fits = grind (arith, lines_back, some_there, p.profile
 pub text_is : (k : Profile) (text : List ℕ) (p : ProgramOf) → (program_of_text k text ≡ Ok p) ↔ Whole k text p
 text_is k text p = (read_whole k text p (insns_of_lines k 0 [] (lines_of text)) refl, λ h. subst (λ (q : Profile). program_of_text q text ≡ Ok p) h.1 (read_back text p h.0 h.2 h.3))
 
--- a listing's lines are all instructions', but for the empty one behind the last newline
+-- a listing's lines are all instructions', except the empty one after the last newline
 kept_listing : (p : List Insn) → kept (map insn_text p ++ [] ∷ []) ≡ map insn_text p
 kept_listing [] = refl
 kept_listing (i ∷ p) = kept_one (insn_text i) (map insn_text p ++ [] ∷ []) (insn_shown i) ∙ ap (λ (ls : List (List ℕ)). insn_text i ∷ ls) (kept_listing p)

@@ -1,4 +1,4 @@
--- A line that is told as out of range is an instruction's up to a number beyond its field.
+-- A line that is refused as out of range is an instruction's up to a number beyond its field.
 use Rattle.std.proofs.Common.{◌≡◌, ◌≢◌, ◌⊎◌, ℕ, ◌+◌, ◌-◌, ◌^◌, ◌<◌, ◌↔◌, ℤ, Bool, true, cond, List, [], ◌∷◌, ◌++◌, Option, Some, None, Result, Ok, Err, refl, sym, ap, subst, ◌∙◌, append_assoc, append-nil, arith, inl, inr, ◌==◌, codes, slice_index, ok_or}
 use Rattle.std.specs.List.{slice_split, join_with_byte}
 use Rattle.std.specs.Str.Parse.{digits_value}
@@ -49,7 +49,7 @@ number_beyond most text h = grind arith
 not_zero_never : {P : Type 0} (b : Bool) (z : ℤ) → IsOver (cond b (Err AsmCode.Form) (Ok z)) → P
 not_zero_never b z h = grind arith
 
--- so is one behind a minus, and one without
+-- so is one after a minus, and one without
 minus_beyond : (most : ℕ) (digits : List ℕ) → IsOver (minus most digits) → IsAbove most digits
 unfolding minus
 minus_beyond most digits h = then_over (numeral_upto AsmCode.Form AsmCode.Range most digits) _ h (number_beyond most digits) (λ n is over. not_zero_never (n == 0) _ over)
@@ -108,7 +108,7 @@ bits_beyond w text h = then_over (numeral_upto AsmCode.Form AsmCode.Range (2 ^ 6
 
 -- ---- places
 
--- a register, and behind it an offset beyond its field
+-- a register, and after it an offset beyond its field
 abbrev Inside : List ℕ → Type 0
 Inside text = (base : Reg) × (number : List ℕ) × (text ≡ reg_name base ++ number) × IsOffsetBeyond number
 
@@ -154,7 +154,7 @@ ended_never texts h = grind arith
 abbrev Next : {A : Type 0} → (List ℕ → Result A AsmCode) → List (List ℕ) → Type 0
 Next read texts = (text : List ℕ) × (others : List (List ℕ)) × (texts ≡ text ∷ others) × IsOver (read text)
 
--- a last word out of range is the next one, whatever stands behind it
+-- a last word out of range is the next one, whatever stands after it
 last_beyond : {A : Type 0} (read : List ℕ → Result A AsmCode) (texts : List (List ℕ)) → IsOver (last read texts) → Next read texts
 unfolding last
 last_beyond read [] h = absurd cc
@@ -163,17 +163,17 @@ last_beyond read (text ∷ others) h = then_over (read text) _ h (λ over. (text
 last_reg_never : {P : Type 0} (texts : List (List ℕ)) → IsOver (last reg_of_text texts) → P
 last_reg_never texts h = let n = last_beyond reg_of_text texts h in reg_never n.0 n.3
 
--- what stands behind a word
+-- what stands after a word
 abbrev rest_of : List (List ℕ) → List ℕ
 rest_of [] = []
 rest_of (text ∷ texts) = 32 ∷ join_with_byte 32 (text ∷ texts)
 
--- behind a word the line ends, or a blank comes
+-- after a word the line ends, or a blank comes
 rest_ends : (texts : List (List ℕ)) → EndsWord (rest_of texts)
 rest_ends [] = inl refl
 rest_ends (text ∷ texts) = inr (join_with_byte 32 (text ∷ texts), refl)
 
--- words joined are the first one and what stands behind it
+-- words joined are the first one and what stands after it
 joined : (text : List ℕ) (texts : List (List ℕ)) → join_with_byte 32 (text ∷ texts) ≡ text ++ rest_of texts
 joined text [] = sym (append-nil text)
 joined text (next ∷ texts) = refl
@@ -208,7 +208,7 @@ Beyond w texts = (q : Profile) → IsWordOf q w → IsOutOfRange q (join_with_by
 beyond_there : (w : Word) (texts : List (List ℕ)) (f : NumberPlace) (number : List ℕ) (others : List (List ℕ)) → place_word f ≡ w → FitsBefore f → IsBeyond f number → join_with_byte 32 (name w ∷ texts) ≡ line_with f number (rest_of others) → Beyond w texts
 beyond_there w texts f number others of fits beyond is q has = record { place = f; number = number; rest = rest_of others; of_profile = subst (IsWordOf q) (sym of) has; fits = fits; beyond = beyond; ends = rest_ends others; parts = is }
 
--- operands out of range make such a line, behind each first word: this one and those below
+-- operands out of range make such a line, after each first word: this one and those below
 alu_beyond : (op : AluOp) (w : Width) (texts : List (List ℕ)) → IsOver (alu_operands (Insn.Alu op w) texts) → Beyond (Word.Alu op w) texts
 unfolding alu_operands
 alu_beyond op w texts h =
@@ -345,13 +345,13 @@ words_beyond q (text ∷ texts) h =
 line_beyond : (q : Profile) (line : List ℕ) → IsOver (line_of q line) → IsOutOfRange q line
 line_beyond q line h = subst (IsOutOfRange q) (join_with_byte-slice_split 32 line) (words_beyond q (slice_split (λ b. b == 32) line) h)
 
--- 82 is told of a line exactly where it is out of range
+-- a line is refused with 82 exactly if it is out of range
 pub range_is : (q : Profile) (line : List ℕ) → (line_of q line ≡ Err AsmCode.Range) ↔ IsOutOfRange q line
 range_is q line = (line_beyond q line, λ h. ap (line_of q) h.parts ∙ range_told q h.place h.number h.rest h.of_profile h.fits h.beyond h.ends)
 
--- ---- the code as it is told
+-- ---- the code as it is reported
 
--- where 82 is told at a number, its line ended out of range
+-- if 82 is reported at a number, its line ended out of range
 told_range : (n : ℕ) (r : Result (List Insn) AsmCode) → numbered asm_code n r ≡ Err (n + 1, 82) → IsOver r
 told_range n r h = grind arith
 
@@ -359,6 +359,6 @@ told_range n r h = grind arith
 own_beyond : (q : Profile) (line : List ℕ) → (AsmCode.Range ≡ AsmCode.TooLong) ⊎ IsOver (line_of q line) → IsOutOfRange q line
 own_beyond q line w = grind (arith, line_beyond)
 
--- so 82 is told of no other line
+-- so no other line is refused with 82
 pub told_only : (q : Profile) (n : ℕ) (before : List Insn) (line : List ℕ) → numbered asm_code n (with_insn_line q before line) ≡ Err (n + 1, 82) → IsOutOfRange q line
 told_only q n before line h = own_beyond q line (own_told q before line AsmCode.Range (told_range n (with_insn_line q before line) h))

@@ -5,7 +5,7 @@ use Rattle.std.proofs.lemmas.List.{length-append}
 use Rattle.pb_asm.specs.Words.{Insn, Fits, places_of, layout, slots, Profile, max_slots, IsOf}
 use Rattle.pb_isa.proofs.Instructions.{some_place}
 
--- one more instruction takes its own slots besides
+-- one more instruction adds its own slots
 pub slots_push : (p : List Insn) (i : Insn) → slots (p ++ i ∷ []) ≡ slots p + slots (i ∷ [])
 slots_push [] i = omega arith
 slots_push (j ∷ p) i = grind (arith, length-append, slots_push p i)

@@ -1,8 +1,8 @@
--- What is wrong with a line or a text, as it is told.
+-- What is wrong with a line or a text, as it is reported.
 use Rattle.std.specs.Prelude.{ℕ}
 use Rattle.pb_asm.specs.declared.fault.AsmCode.{AsmCode}
 
--- the numbers by which the faults are told
+-- the numbers by which the faults are reported
 abbrev pub asm_code : AsmCode → ℕ
 asm_code AsmCode.Word = 80
 asm_code AsmCode.Form = 81

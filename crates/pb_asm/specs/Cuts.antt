@@ -1,8 +1,8 @@
--- Texts cut at one character, as functions of bytes. The readers of operands are said by them.
+-- Texts cut at one character, as functions of bytes. The readers of operands are defined by them.
 use Rattle.std.specs.Prelude.{ℕ, ◌-◌, ◌==◌, nat_lt, if◌then◌else◌, List, [], ◌∷◌, length, take, slice_index, Option, Some, None}
 use Rattle.std.specs.List.{before_first, after_first, position_or_len}
 
--- what stands behind this character, if the text begins with it
+-- what stands after this character, if the text begins with it
 abbrev pub strip_prefix : ℕ → List ℕ → Option (List ℕ)
 strip_prefix c [] = None
 strip_prefix c (b ∷ bs) = if b == c then Some bs else None

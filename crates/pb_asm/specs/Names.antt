@@ -107,7 +107,7 @@ if_word_of p (Some w) = if is_word_of p w then Some w else None
 abbrev pub word_named : Profile → List ℕ → Option Word
 word_named p text = if_word_of p (word_in text words)
 
--- the name of a register, its number behind an r
+-- the name of a register, its number after an r
 abbrev pub reg_name : Reg → List ℕ
 reg_name Reg.R0 = codes "r0"
 reg_name Reg.R1 = codes "r1"

@@ -1,5 +1,5 @@
--- The operands of a line, read from left to right. It is a function and no relation, since which fault is told depends
--- on the order; what is read is said without it, by the listing alone (`one_spelling`).
+-- The operands of a line, read from left to right. It is a function and no relation, since which fault is reported depends on the
+-- order. What is read is defined without it, by the listing alone (`one_spelling`).
 use Rattle.std.specs.Prelude.{ℕ, ◌-◌, ◌^◌, ℤ, pos, neg_ℤ, ◌==◌, ◌&&◌, if◌then◌else◌, List, [], ◌∷◌, slice_index, Option, Some, None, ok_or, Result, Ok, Err}
 use Rattle.pb_asm.specs.Words.{Insn, Operand, Reg, Width, Size, Profile, is_narrower, ◌>>=◌, words_of, next_word, no_word, numeral_upto}
 use Rattle.pb_asm.specs.declared.names.Word.{Word}
@@ -7,7 +7,7 @@ use Rattle.pb_asm.specs.declared.fault.AsmCode.{AsmCode}
 use Rattle.pb_asm.specs.Names.{sizes, size_bits, word_named, reg_named}
 use Rattle.pb_asm.specs.Cuts.{strip_prefix, strip_suffix, split_once}
 
--- the digits behind a minus: at most this, and not zero, so that 0 has one spelling
+-- the digits after a minus: at most this, and not zero, so that 0 has one spelling
 unfoldable pub minus : ℕ → List ℕ → Result ℤ AsmCode
 minus greatest text = do
   n ← numeral_upto AsmCode.Form AsmCode.Range greatest text
@@ -19,7 +19,7 @@ plus limit text = do
   n ← numeral_upto AsmCode.Form AsmCode.Range (limit - 1) text
   Ok (pos n)
 
--- behind a minus the digits of a negative number, and else what was read without one
+-- after a minus the digits of a negative number, and else what was read without one
 abbrev pub signed_or : Result ℤ AsmCode → ℕ → Option (List ℕ) → Result ℤ AsmCode
 signed_or unsigned limit (Some digits) = minus limit digits
 signed_or unsigned limit None = unsigned
@@ -28,7 +28,7 @@ signed_or unsigned limit None = unsigned
 abbrev pub imm_of_text : List ℕ → Result ℤ AsmCode
 imm_of_text text = signed_or (plus (2 ^ 31) text) (2 ^ 31) (strip_prefix 45 text)
 
--- behind a plus the digits of an offset; without one it has no sign, and is of another form
+-- after a plus the digits of an offset; without one it has no sign, and is of another form
 abbrev pub plus_or_fault : Option (List ℕ) → Result ℤ AsmCode
 plus_or_fault (Some digits) = plus (2 ^ 15) digits
 plus_or_fault None = Err AsmCode.Form
@@ -45,7 +45,7 @@ reg_of_text text = ok_or (reg_named text) AsmCode.Form
 unfoldable pub operand_of_text : List ℕ → Result Operand AsmCode
 operand_of_text text = if slice_index text 0 == 114 then (reg_of_text text >>= λ r. Ok (Operand.Reg r)) else (imm_of_text text >>= λ k. Ok (Operand.Imm k))
 
--- a register and the offset behind it
+-- a register and the offset after it
 unfoldable pub base_and_offset : List ℕ → Result ℤ AsmCode → Result (Reg × ℤ) AsmCode
 base_and_offset register offset = do
   r ← reg_of_text register
@@ -88,7 +88,7 @@ comma texts = do
   text ← ok_or (strip_suffix 44 first.0) AsmCode.Form
   Ok (text, first.1)
 
--- the last word: it is read before a word too many is told
+-- the last word: it is read before a word too many is reported
 unfoldable pub last : {A : Type 0} → (List ℕ → Result A AsmCode) → List (List ℕ) → Result A AsmCode
 last read texts = do
   first ← next_word AsmCode.Form texts

@@ -1,6 +1,5 @@
--- Lines that are an instruction's, but that one number goes beyond its field or isn't in its list. Code 82 is told of
--- these and of no others: they are said by the listing with a number in it, and not by a reader, which would let a
--- looseness pass.
+-- Lines that are an instruction's, but that one number goes beyond its field or isn't in its list. Exactly these are refused with
+-- code 82. They are defined by the listing with a number in it, and not by a reader, which would let a looseness pass.
 use Rattle.std.specs.Prelude.{◌≡◌, ◌≢◌, ◌⊎◌, ◌<◌, ℕ, ◌-◌, ◌^◌, ℤ, List, [], ◌∷◌, ◌++◌, codes, true, IsTrue, FitsSigned}
 use Rattle.std.specs.Int.{w16}
 use Rattle.std.specs.Str.Parse.{digits_value}
@@ -14,7 +13,7 @@ pub record IsAbove (most : ℕ) (digits : List ℕ) : Type 0 where
   pub numeral : is_numeral digits ≡ true
   pub above : most < digits_value 10 digits
 
--- this sign, and behind it such digits
+-- this sign, and after it such digits
 abbrev pub IsSignedAbove : ℕ → ℕ → List ℕ → Type 0
 IsSignedAbove sign most text = (digits : List ℕ) × (text ≡ sign ∷ digits) × IsAbove most digits
 
@@ -101,7 +100,7 @@ IsBeyond (JumpIfImm c w dst) number = IsImmBeyond number
 IsBeyond (JumpIfOffset c w dst src) number = IsOffsetBeyond number
 IsBeyond CallImm number = IsImmBeyond number
 
--- the line ends here, or a blank comes and then anything, since what stands behind the fault isn't looked at
+-- the line ends here, or a blank comes and then anything, since what stands after the fault isn't looked at
 abbrev pub EndsWord : List ℕ → Type 0
 EndsWord rest = (rest ≡ []) ⊎ ((more : List ℕ) × (rest ≡ 32 ∷ more))
 

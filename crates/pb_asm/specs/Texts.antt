@@ -6,8 +6,8 @@ use Rattle.pb_asm.specs.declared.fault.AsmCode.{AsmCode}
 use Rattle.pb_asm.specs.Codes.{asm_code}
 use Rattle.pb_asm.specs.Operands.{line_of}
 
--- The instructions so far, with the one of one more line. That it ends past the profile's last slot is told
--- last of its line's faults.
+-- The instructions so far, with the one of one more line. That it ends past the profile's last slot is reported last of its
+-- line's faults.
 unfoldable pub with_insn_line : Profile → List Insn → List ℕ → Result (List Insn) AsmCode
 with_insn_line p before line = if is_skipped line then Ok before else do
   i ← line_of p line

@@ -3,8 +3,8 @@
 ghost use Rattle.std.specs.Prelude.{◌≡◌, ◌<◌, MatchOption, Some, None};
 ghost use Rattle.pb_asm.specs.Cuts.{strip_prefix, strip_suffix, split_once};
 
-/// What stands behind this character, if the text begins with it. It has to be ASCII, since a character beyond is
-/// several bytes of the text; so in all three.
+/// What stands after this character, if the text begins with it. It has to be ASCII, since a
+/// character beyond is several bytes of the text; so in all three.
 pub fn strip_prefix(text: &str, c: char) -> Option<&str>
     requires some { 0 < c }
     requires ascii { c < 128 }
@@ -14,8 +14,8 @@ pub fn strip_prefix(text: &str, c: char) -> Option<&str>
     text.strip_prefix(c)
 }
 
-/// What stands before this character, if the text ends with it. It isn't 0, since the definition reads a 0 behind the
-/// end.
+/// What stands before this character, if the text ends with it. It isn't 0, since the definition
+/// reads a 0 after the end.
 pub fn strip_suffix(text: &str, c: char) -> Option<&str>
     requires some { 0 < c }
     requires ascii { c < 128 }

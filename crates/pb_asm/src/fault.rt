@@ -18,7 +18,7 @@ pub enum AsmCode {
 }
 
 impl AsmCode {
-    /// The number by which a code is told.
+    /// The number by which a code is reported.
     pub fn code(self) -> u8
         ensures { result ≡ asm_code self }
     {

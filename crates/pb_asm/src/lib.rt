@@ -1,8 +1,10 @@
-//! Programs as text, and back: the assembler that `asm` calls, and the listing that `dis` prints. It stands apart,
-//! since no run needs a text: a manifest has bytes. `mov64 r0, 1` and `exit`, each on a line of its own, are the text
-//! of a program of two instructions; with a second blank before the `1` they are refused at line 1 with 81. Its
-//! contracts promise that a text is read, in a profile, exactly where its lines but for empty ones and remarks are the
-//! listing of a program of that profile, and that of any other the first line at fault is told, with its code.
+//! Programs as text, and back: the assembler that `asm` calls, and the listing that `dis` prints.
+//! It stands apart, since no run needs a text: a manifest has bytes. `mov64 r0, 1` and `exit`, each
+//! on a line of its own, are the text of a program of two instructions; with a second blank before
+//! the `1` they are refused at line 1 with 81. Its contracts promise that a text is read, in a
+//! profile, exactly if its lines but for empty ones and remarks are the listing of a program of
+//! that profile. They also promise that any other text is refused at its first line at fault, with
+//! the code of that fault.
 #![tactic(auto)]
 
 mod cuts;

@@ -13,7 +13,7 @@ use pb_isa::{AluOp, Cmp, Extension, Insn, Profile, Reg, Size, Width};
 use pb_reading::{LineWords, numeral_upto};
 
 // The next word, which has a comma at its end. The comma is cut off before the word is read, so
-// that a word without one is told as 81 whatever it says.
+// that a word without one is refused with 81, whatever the word says.
 #[tactic(auto, unfolding(crate::specs::Operands::comma))]
 fn comma<'a>(words: &mut LineWords<'a>) -> Result<&'a str, AsmCode>
     ensures { Gives (λ _. false) (λ x. (x.now, words_left words.new.rest)) result
@@ -160,7 +160,7 @@ fn jump_if(words: &mut LineWords, cmp: Cmp, width: Width) -> Result<Insn, AsmCod
     })
 }
 
-// One register and nothing behind it, as `neg64` has it.
+// One register and nothing after it, as `neg64` has it.
 #[tactic(auto, unfolding(crate::specs::Operands::last))]
 fn last_reg(words: &mut LineWords) -> Result<Reg, AsmCode>
     ensures { Gives (λ _. false) (λ r. r) result
@@ -172,7 +172,7 @@ fn last_reg(words: &mut LineWords) -> Result<Reg, AsmCode>
     Ok(reg)
 }
 
-// One offset and nothing behind it, as `ja` has it.
+// One offset and nothing after it, as `ja` has it.
 #[tactic(auto, unfolding(crate::specs::Operands::last))]
 fn last_offset(words: &mut LineWords) -> Result<i16, AsmCode>
     ensures { Gives (λ _. false) (λ o. o) result
@@ -184,7 +184,7 @@ fn last_offset(words: &mut LineWords) -> Result<i16, AsmCode>
     Ok(offset)
 }
 
-// One immediate and nothing behind it, as `call` has it.
+// One immediate and nothing after it, as `call` has it.
 #[tactic(auto, unfolding(crate::specs::Operands::last))]
 fn last_imm(words: &mut LineWords) -> Result<i32, AsmCode>
     ensures { Gives (λ _. false) (λ k. k) result
@@ -226,8 +226,8 @@ fn operands(words: &mut LineWords, word: Word) -> Result<Insn, AsmCode>
     }
 }
 
-// One instruction of a profile. The first word is looked at first, so that an unknown one is told whatever comes
-// behind it.
+// One instruction of a profile. The first word is looked at first, so that an unknown one is
+// reported whatever comes after it.
 #[tactic(auto, unfolding(crate::specs::Operands::insn_of_words))]
 fn insn_of(words: &mut LineWords, profile: Profile) -> Result<Insn, AsmCode>
     ensures { Gives (λ _. false) (λ i. i) result

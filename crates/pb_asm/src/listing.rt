@@ -8,7 +8,8 @@ use pb_base::NoMemory;
 use pb_isa::{Insn, Operand, Program, Reg};
 use std::alloc::{AllocError, Global};
 
-// An immediate begins with a digit or a minus and a register with an r, so that the first letter tells them apart.
+// An immediate begins with a digit or a minus and a register with an r, so the first letter shows
+// which it is.
 fn operand_text(alloc: Global, operand: Operand) -> Result<String, AllocError>
     ensures { IfOk result (λ s. string_bytes s ≡ operand_text operand) }
 {
@@ -18,7 +19,8 @@ fn operand_text(alloc: Global, operand: Operand) -> Result<String, AllocError>
     }
 }
 
-// An offset has its sign always, so that in a place it can be told from the register's number: `[r1+8]`.
+// An offset always has its sign, so that in a place it is distinct from the register's number:
+// `[r1+8]`.
 fn offset_text(alloc: Global, offset: i16) -> Result<String, AllocError>
     ensures { IfOk result (λ s. string_bytes s ≡ offset_text offset) }
 {

@@ -10,7 +10,8 @@ use crate::names::reg_named;
 use pb_isa::{Operand, Reg, Size, Width};
 use pb_reading::numeral_upto;
 
-// The digits behind a minus: at most this, and not zero, since `-0` would be a second spelling of `0`.
+// The digits after a minus: at most this, and not zero, since `-0` would be a second spelling of
+// `0`.
 #[tactic(auto, unfolding(crate::specs::Operands::minus))]
 fn minus(greatest: u32, text: &str) -> Result<i64, AsmCode>
     ensures value { Gives (λ _. false) (λ z. z) result (minus greatest text.now) }
@@ -71,8 +72,8 @@ pub fn reg_of(text: &str) -> Result<Reg, AsmCode>
     }
 }
 
-/// An operand that may be a register or an immediate. Its first letter says which, so that what begins with an `r` is
-/// told as no register and not as no number.
+/// An operand that may be a register or an immediate. Its first letter shows which, so that what
+/// begins with an `r` is reported as no register and not as no number.
 #[tactic(auto, unfolding(crate::specs::Operands::operand_of_text))]
 pub fn operand_of(text: &str) -> Result<Operand, AsmCode>
     ensures { Gives (λ _. false) (λ a. a) result (operand_of_text text.now) }
@@ -97,8 +98,8 @@ fn narrower_size(width: Width, bits: u64) -> Option<Size>
     }
 }
 
-/// How many bits a sign-extending move of this width takes from its source: 8 or 16, and to 64 bits also 32. Any other
-/// number, of any length, is told as 82, since it has the form.
+/// How many bits a sign-extending move of this width takes from its source: 8 or 16, and to 64 bits
+/// also 32. Any other number, of any length, is refused with 82, since it has the form.
 #[tactic(auto, unfolding(crate::specs::Operands::bits_of_text))]
 pub fn bits_of(width: Width, text: &str) -> Result<Size, AsmCode>
     ensures { Gives (λ _. false) (λ z. z) result (bits_of_text width text.now) }

@@ -1,4 +1,4 @@
-//! Texts to programs, and the laws of what is read and which faults are told.
+//! Texts to programs, and the laws of what is read and which faults are reported.
 ghost use Rattle.std.specs.Prelude.{◌≡◌, ◌≢◌, ◌⊎◌, ◌↔◌, ℕ, ◌+◌, ◌==◌, ◌<◌, ◌≤◌, IfOk, Ok, Err, List, [], ◌∷◌, ◌++◌, map};
 ghost use Rattle.std.specs.List.{slice_split, before_first, AllByRecursion};
 ghost use Rattle.pb_isa.specs.Bounds.{Fits};
@@ -28,8 +28,8 @@ use pb_reading::{LineFault, TextFault as AsmFault, first_line, is_skipped};
 use std::alloc::Global;
 
 impl Lines {
-    // Adds what one line says in a profile. That it ends past the last slot is told last, since 83 is told where a line
-    // has no other fault.
+    // Adds what one line says in a profile. That it ends past the last slot is reported last, since
+    // 83 is reported only if a line has no other fault.
     #[tactic(auto, using(crate::proofs::SlotCounts::slots_push, crate::proofs::SlotCounts::fit_push, crate::proofs::SlotCounts::of_push), unfolding(crate::specs::Texts::with_insn_line))]
     fn add(&mut self, profile: Profile, line: &str) -> Result<(), LineFault<AsmCode>>
         requires most { self.old.taken ≤ max_slots profile }
@@ -57,8 +57,8 @@ impl Lines {
     }
 }
 
-// How many slots an instruction takes. It also says that its numbers fit, which they do by their types, so that this
-// can be said of all lines together.
+// How many slots an instruction takes. It also promises that its numbers fit, which they do by
+// their types, so that this holds of all lines together.
 fn slots_of(insn: Insn) -> usize
     ensures slots { result ≡ slots (insn ∷ []) }
     ensures fits { Fits insn }
@@ -69,7 +69,8 @@ fn slots_of(insn: Insn) -> usize
     }
 }
 
-// The instructions of all lines, up to the first fault. Later lines aren't looked at, since the first is told.
+// The instructions of all lines, up to the first fault. Later lines aren't looked at, since the
+// first fault is reported.
 fn lines_in(alloc: Global, profile: Profile, text: &str) -> Result<Lines, AsmFault>
     ensures read { ReadsText (λ l. l.insns.items) result
         (insns_of_lines profile 0 [] (lines_of text.now)) }
@@ -106,11 +107,13 @@ pub fn assemble(alloc: Global, text: &str) -> Result<Program, AsmFault>
     assemble_in(alloc, Profile::One, text)
 }
 
-/// The program of a text, one instruction of the profile a line. Empty lines and lines that begin with `#` are skipped.
-/// Of another text the first line at fault is told: 80 a first word that is none of the profile's instructions', 81
-/// operands that are not of the form, 82 a number out of range or none of those that may stand there, 83 an instruction
-/// that ends past the last slot that a program of the profile may have; or 84 no instruction at all, which has line 0,
-/// since it is no line's. Where memory ran out it is line 0 with code 1, whichever line was read.
+/// The program of a text, one instruction of the profile per line. Empty lines and lines that begin
+/// with `#` are skipped. Any other text is refused at its first line at fault. The code is 80 for a
+/// first word that is none of the profile's instructions', and 81 for operands that are not of the
+/// form. It is 82 for a number out of range or none of those that may stand there, and 83 for an
+/// instruction that ends past the last slot that a program of the profile may have. A text with no
+/// instruction at all is refused with 84 at line 0, since that is no line's fault. If memory ran
+/// out it is line 0 with code 1, whichever line was read.
 pub fn assemble_in(alloc: Global, profile: Profile, text: &str) -> Result<Program, AsmFault>
     ensures read { ReadsText (λ p. p) result (program_of_text profile text.now) }
     ensures profile { IfOk result (λ p. p.profile ≡ profile) }
@@ -152,18 +155,21 @@ pub fn only_listings_are_read()
         × AllByRecursion Fits p.insns) }
 {}
 
-/// The fault that is told is that of the first line at fault, after lines that are read; or no line has an instruction.
+/// The fault that is reported is that of the first line at fault, after lines that are read; or no
+/// line has an instruction.
 pub fn fault_is_first()
     ensures { (p : Profile) (text : List ℕ) (line told : ℕ)
         → program_of_text p text ≡ Err (line, told)
         → StopsAt asm_code (with_insn_line p) [] text line told ⊎ HasNone p text line told }
 {}
 
-/// An unknown word is told exactly where what stands before the first blank, or the whole line where there is none, is
-/// the name of none of the profile's instructions; too many slots exactly where the line is the listing's of one of the
-/// profile's instructions, which ends past the last slot that a program of the profile may have; and no instruction at all
-/// exactly where each line is empty or a remark. Of a line by itself an unknown word, operands that are not of the form
-/// and a number out of range are told, and nothing else; of a line after others the same, but for too many slots.
+/// An unknown word is reported exactly if what stands before the first blank, or the whole line if
+/// there is none, is the name of none of the profile's instructions. Too many slots are reported
+/// exactly if the line is the listing's of one of the profile's instructions, which ends past the
+/// last slot that a program of the profile may have. No instruction at all is reported exactly if
+/// each line is empty or a remark. A line by itself is refused for an unknown word, operands that
+/// are not of the form or a number out of range, and for nothing else; a line after others for the
+/// same, or for too many slots.
 pub fn faults_are_told_where_they_are()
     ensures word { (p : Profile) (line : List ℕ) → (line_of p line ≡ Err code.Word)
         ↔ ((w : Word) → IsWordOf p w → before_first (λ b. b == 32) line ≢ name w) }
@@ -180,9 +186,9 @@ pub fn faults_are_told_where_they_are()
         → (c ≡ code.TooLong) ⊎ (line_of p line ≡ Err c) }
 {}
 
-/// A line is out of range exactly where it is that of one of the profile's instructions up to a number that has its form
-/// and goes beyond its field or isn't in its list, whatever comes behind the number's word; code 82 is told of it, and of
-/// no other line.
+/// A line is out of range exactly if it is that of one of the profile's instructions up to a number
+/// that has its form and goes beyond its field or isn't in its list. What comes after the number's
+/// word doesn't matter. Exactly such lines are refused with 82.
 pub fn numbers_out_of_range_are_told()
     ensures read { (p : Profile) (line : List ℕ)
         → (line_of p line ≡ Err code.Range) ↔ IsOutOfRange p line }

@@ -1,10 +1,9 @@
--- The numbers by which refusals are told. The table's definitions name reasons, and only contracts at the edge come
--- here.
+-- The numbers by which refusals are reported. The table's definitions name reasons, and only contracts at the edge come here.
 use Rattle.std.specs.Prelude.{◌≡◌, ℕ, Option, Some, None}
 use Rattle.pb_base.specs.declared.refusal.Reason.{Reason}
 use Rattle.pb_base.specs.declared.refusal.Refusal.{Refusal}
 
--- the number of want of memory, which is no reason's: it is told of a refused growth alone
+-- the number of want of memory, which is no reason's: it is reported for a refused growth alone
 abbrev pub memory_code : ℕ
 memory_code = 1
 
@@ -32,7 +31,7 @@ refusal_by r = record { 0 = reason_code r }
 abbrev pub memory_refusal : Refusal
 memory_refusal = record { 0 = memory_code }
 
--- this refusal tells that reason, which there is
+-- this refusal has the number of that reason, and there is a reason
 abbrev pub TellsReason : Option Reason → Refusal → Type 0
 TellsReason None r = ⊥
 TellsReason (Some why) r = r ≡ refusal_by why

@@ -1,4 +1,4 @@
--- How the refusal of a program is told. `Display` of `Refused` cites it, and so does what is written of one.
+-- How the refusal of a program is reported. `Display` of `Refused` cites it, and so does what is written about one.
 use Rattle.std.specs.Prelude.{ℕ, List, ◌++◌, codes, decimal}
 
 -- the slot, from 0, and the code, without a newline

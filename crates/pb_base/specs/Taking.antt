@@ -9,7 +9,7 @@ pub record Taking : Type 0 where
   pub after : Option (List ℕ)
   pub failed : Bool
 
--- that of a sink, by what each sink tells of itself
+-- that of a sink, by what each sink states about itself
 abbrev pub taking : {S : Type 0} → (S → Option (List ℕ)) → (S → Bool) → S → S → Taking
 taking taken failed old new = record { before = taken old; after = taken new; failed = failed new }
 

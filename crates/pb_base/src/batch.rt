@@ -67,7 +67,7 @@ fn are_plain(writes: &[(Row, Column, Content)]) -> bool
     true
 }
 
-// Whether no cell is named twice: each is looked for among those behind it, which takes no memory.
+// Whether no cell is named twice: each is looked for among those after it, which takes no memory.
 fn are_distinct(writes: &[(Row, Column, Content)]) -> bool
     ensures { result ≡ are_distinct (writes_of writes.now) }
 {
@@ -89,8 +89,8 @@ impl Batch {
         ensures ok { IfOk result (λ b. b ≡ writes_of writes.items) }
         ensures handed_back { IfErr result (λ ws. ws ≡ writes) }
     {
-        // The number is tested before the cells are compared, since each is compared with all behind it, by a call for
-        // each.
+        // The number is tested before the cells are compared, since each is compared with all after
+        // it, by a call for each.
         let is_batch = !writes.is_empty()
             && writes.len() <= MAX_CELLS
             && are_plain(&writes)

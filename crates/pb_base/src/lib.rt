@@ -1,8 +1,9 @@
-//! What tables, programs and texts all speak of: names of cells and what cells hold, the batch of a script, the reasons
-//! of refusals with their numbers, the limits, and sinks of bytes. It stands below all else, so that each of these is
-//! said once: whoever parses `put 7 0 2a` makes the same `Cell::Data(Row(7), ..)` that a tablet sorts by and a journal
-//! keeps. Its types make sure of what they say where a value is made, since a value that can't be wrong is tested
-//! nowhere else: a `Column` is below 16, an `ObserverNo` below 32, and a `Batch` has 1 to 16 distinct data cells.
+//! What tables, programs and texts all speak of: names of cells and what cells hold, the batch of a
+//! script, the reasons of refusals with their numbers, the limits, and sinks of bytes. It stands
+//! below all else, so that each of these is defined once: a reader of `put 7 0 2a` makes the same
+//! `Cell::Data(Row(7), ..)` that a tablet sorts by and a journal keeps. Its types ensure what they
+//! promise where a value is made, since a value that can't be wrong is tested nowhere else. A
+//! `Column` is below 16, an `ObserverNo` below 32, and a `Batch` has 1 to 16 distinct data cells.
 #![tactic(auto)]
 
 mod batch;

@@ -16,8 +16,8 @@ pub struct NoMemory {
     refused: (),
 }
 
-// A refused growth has nothing else to tell, so that `?` makes it this refusal. There are two, since a call that was
-// given a value, as `push`, hands it back with its error.
+// A refused growth carries nothing else, so that `?` makes it this refusal. There are two, since a
+// call that was given a value, such as `push`, hands it back with its error.
 impl From<AllocError> for NoMemory {
     ghost from_gives = { λ _ e. e ≡ refused_growth };
 
@@ -77,8 +77,8 @@ pub enum Reason {
 }
 
 impl Reason {
-    /// The number that it is told by. 48 is no reason's, since it is told of a whole run, whose seats differ from its
-    /// journal.
+    /// The number by which it is reported. 48 is no reason's, since it is reported for a whole run,
+    /// whose seats differ from its journal.
     pub fn code(self) -> u8
         ensures { result ≡ reason_code self }
     {
@@ -99,7 +99,7 @@ impl Reason {
         }
     }
 
-    /// The refusal that tells it.
+    /// The refusal with its number.
     pub fn refusal(self) -> Refusal
         ensures { result ≡ refusal_by self }
     {

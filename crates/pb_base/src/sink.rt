@@ -11,9 +11,10 @@ use thiserror::Error;
 #[error("the write failed")]
 pub struct SinkFault;
 
-/// Takes bytes, and tells which it has taken so far, where that is known, and whether a write of a piece that isn't
-/// empty has failed or taken no byte so far. The bytes may be unknown, since no contract of the standard library says
-/// what is behind standard output; whether a write failed is known of each.
+/// Takes bytes. Its contracts state which bytes it has taken so far, if that is known, and whether
+/// a write of a piece that isn't empty has failed or taken no byte so far. The bytes may be
+/// unknown, since no contract of the standard library states what standard output leads to; whether
+/// a write failed is known of each.
 pub trait Sink {
     ghost taken: { Self → Option (List ℕ) };
 
@@ -49,7 +50,7 @@ pub trait Sink {
     }
 }
 
-/// The sink over a writer. It tells what the writer tells.
+/// The sink over a writer. It promises what the writer's contracts promise.
 #[derive(Drop)]
 pub struct Out<W: Write> {
     writer: W,

@@ -106,13 +106,13 @@ LeavesBehind (Options.Dis file profile) places spares files out outcome =
 LeavesBehind (Options.Check program) places spares files out outcome =
     KeepsFiles files × FilesLeave (AnswerLeaves (Checks program.profile program.version) (files.before program.file.now) program.file.now out) outcome
 
--- an outcome as a status, with what was told
+-- the status of an outcome, and what standard error took
 abbrev pub IsToldAs : Result Verdict Fault → Taking → ℕ → Type 0
 IsToldAs (Ok Verdict.Accepted) err status = (status ≡ 0) × TookNothing err
 IsToldAs (Ok Verdict.Refused) err status = (status ≡ 1) × TookNothing err
 IsToldAs (Err f) err status = (status ≡ 1) × Tells f err
 
--- how a command ended, as its status and the lines of its fault tell it
+-- how a command ended, as its status and the lines of its fault show it
 pub record Commands (options : Options) (places : ℕ) (spares : List Spare) (files : Filing) (out err : Taking) (status : ℕ) : Type 0 where
   pub outcome : Result Verdict Fault
   pub leaves : LeavesBehind options places spares files out outcome

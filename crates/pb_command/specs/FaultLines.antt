@@ -1,4 +1,4 @@
--- How a fault is told, byte by byte, on standard error. The functions of src/fault.rt cite these.
+-- How a fault is printed, byte by byte, on standard error. The functions of src/fault.rt cite these.
 use Rattle.std.specs.Prelude.{ℕ, ◌+◌, ◌⊎◌, List, [], ◌++◌, codes, Option, Some, None, decimal}
 use Rattle.std.specs.List.{enumerate_from, flat_map}
 use Rattle.pb_base.specs.declared.refusal.Refusal.{Refusal}
@@ -29,7 +29,7 @@ change_lines unfinished = flat_map (λ i. change_line (i + 1)) unfinished
 abbrev pub undone_lines : Ran → List ℕ
 undone_lines ran = worker_lines ran.refusals.items ++ change_lines ran.unfinished.items
 
--- each fault has one line, but what a run left undone as many as there are seats and changes to tell
+-- each fault has one line, but what a run left undone has as many as there are seats and changes to report
 abbrev pub fault_lines : Fault → List ℕ
 fault_lines (Fault.File f) = file_fault_text f ++ codes "\n"
 fault_lines (Fault.Run f) = run_fault_text f ++ codes "\n"
@@ -39,6 +39,6 @@ fault_lines (Fault.Undone ran) = undone_lines ran
 abbrev pub SaysLines : List ℕ → Taking → Type 0
 SaysLines text err = TookAll err text ⊎ TookPart err text
 
--- the fault's lines were told, or that there is no memory for them
+-- the fault's lines were written, or that there is no memory for them
 abbrev pub Tells : Fault → Taking → Type 0
 Tells f err = SaysLines (fault_lines f) err ⊎ SaysLines (codes "no memory\n") err

@@ -1,4 +1,4 @@
-//! A command carried out: its files read, its work done, and its outcome told as a status.
+//! A command carried out: its files read, its work done, and its outcome returned as a status.
 ghost use Rattle.std.specs.Prelude.{◌≡◌, ◌≤◌, ◌<◌, ◌↔◌, false, length, vec_len, IsTrue};
 ghost use Rattle.pb_base.specs.declared.limits.TheConstants.{MAX_SEATS};
 ghost use Rattle.pb_store.specs.Contents.{nothing};
@@ -71,7 +71,7 @@ fn run_files<'a, R: Threads + Wait + Sync, T: Tablet + Send, P: Paths, O: Sink>(
         Ts(0),
         out,
     )?;
-    // The report is written whatever was left undone, so that this is told behind it.
+    // The report is written whatever was left undone, so this is reported after it.
     if is_all_done(&ran) {
         Ok(Verdict::Accepted)
     } else {
@@ -115,7 +115,7 @@ pub fn of_files<'a>(left: Result<Verdict, FileFault<'a>>) -> Result<Verdict, Fau
     }
 }
 
-/// The status of an outcome. Its fault, if it is one, is told.
+/// The status of an outcome. Its fault, if it is one, is printed.
 pub fn status_of<'a, E: Sink>(
     alloc: Global,
     outcome: &Result<Verdict, Fault<'a>>,
@@ -134,17 +134,19 @@ pub fn status_of<'a, E: Sink>(
     }
 }
 
-/// Does what a command line asked for, on an empty table, and answers the status: 0, or 1 where what it was given is
-/// refused or a fault was told. It ends the table on every path, and the spares, which only `run` puts in. It waits
-/// for nothing and starts no thread: `run` is for [`command`], since a call that may wait meets any contract by never
-/// returning.
+/// Does what a command line asked for, on an empty table, and answers the status: 0, or 1 if what
+/// it was given is refused or a fault was reported. It ends the table on every path, and the
+/// spares, which only `run` puts in. It waits for nothing and starts no thread: `run` is for
+/// [`command`], since a call that may wait meets any contract by never returning.
 ///
-/// All files are read first, in the order given, and then taken as text, parsed and replayed. Results go to `out`, and the
-/// line of the first fault to `err`. A program's bytes that are refused are a result. Where `replay` answers 0, its three
-/// texts were replayed from its clock, and the whole report was written; where `asm` does, OUT holds the encoding of the
-/// program whose text IN holds; where `dis` does, its bytes are a program's, and the whole listing was written; where
-/// `check` does, the rules accept them with all helpers, and the line with the number of slots was written. Where a write
-/// failed, a beginning was written. That OUT can't be written is told only where a write failed.
+/// All files are read first, in the order given, and then taken as text, parsed and replayed.
+/// Results go to `out`, and the line of the first fault to `err`. A program's bytes that are
+/// refused are a result. Where `replay` answers 0, its three texts were replayed from its clock,
+/// and the whole report was written. Where `asm` does, OUT holds the encoding of the program whose
+/// text IN holds. Where `dis` does, its bytes are a program's, and the whole listing was written.
+/// Where `check` does, the rules accept them with all helpers, and the line with the number of
+/// slots was written. Where a write failed, a beginning was written. It reports that OUT can't be
+/// written only if a write failed.
 pub fn sequential_command<T: Tablet, P: Paths, O: Sink, E: Sink>(
     alloc: Global,
     options: &Options,
@@ -191,11 +193,13 @@ pub fn sequential_command<T: Tablet, P: Paths, O: Sink, E: Sink>(
 /// their own, as far as these can be started, swaps the spares in beside them, each at its place, and waits for the workers
 /// and for their table's lock. There is a spare for each swap that is asked for.
 ///
-/// Where the report of a run was written, but a worker was refused or a change is unfinished, the lines that tell each go
-/// to `err`, and the status is 1. Where `run` answers 0, the texts that its two paths hold ran so from the clock 0, the
-/// whole report was written, no seat was refused, and no change is unfinished. That a file can't be read, or is too large,
-/// is told of a path only where reading it answers just that, and all paths before it are read; that one isn't text, only
-/// where all are read, and then of the first. A fault is told in one line; where memory is refused for that, `no memory`.
+/// Where the report of a run was written, but a worker was refused or a change is unfinished, a
+/// line for each goes to `err`, and the status is 1. Where `run` answers 0, the texts that its two
+/// paths hold ran so from the clock 0, the whole report was written, no seat was refused, and no
+/// change is unfinished. It reports that a file can't be read, or is too large, only if reading its
+/// path answers just that, and all paths before it are read. It reports that a file isn't text only
+/// if all are read, and then names the first such path. A fault has one line; if memory is refused
+/// for that, the line is `no memory`.
 pub fn command<R: Threads + Wait + Sync, T: Tablet + Send, P: Paths, O: Sink, E: Sink>(
     rt: &R,
     alloc: Global,

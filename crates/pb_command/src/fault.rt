@@ -1,4 +1,4 @@
-//! Why a command failed, and the lines that tell it, each made whole before it is written.
+//! Why a command failed, and the lines that report it, each made whole before it is written.
 ghost use Rattle.std.specs.Prelude.{◌≡◌, ◌+◌, false, IfOk, codes, string_bytes};
 ghost use Rattle.pb_base.specs.Taking.{taking};
 ghost use Rattle.pb_command.specs.FaultLines.{worker_line, worker_lines, change_line, change_lines, undone_lines, fault_lines, SaysLines, Tells};
@@ -26,7 +26,7 @@ impl<'a> From<RunFault> for Fault<'a> {
     }
 }
 
-// The line that tells how a seat was refused, or none where it wasn't.
+// The line that reports how a seat was refused, or none if it wasn't.
 fn worker_line(alloc: Global, seat: usize, refusal: &Option<Refusal>) -> Result<String, AllocError>
     ensures { IfOk result (λ s. string_bytes s ≡ worker_line seat refusal.now) }
 {
@@ -51,7 +51,8 @@ fn worker_lines(alloc: Global, refusals: &[Option<Refusal>]) -> Result<String, A
     Ok(text)
 }
 
-// The line that tells that no try of a change committed. A script's first change is told as 1, as a schedule names it.
+// The line that reports that no try of a change committed. It names a script's first change 1, as a
+// schedule does.
 fn change_line(alloc: Global, number: usize) -> Result<String, AllocError>
     ensures { IfOk result (λ s. string_bytes s ≡ change_line (number + 1)) }
 {
@@ -72,7 +73,7 @@ fn change_lines(alloc: Global, unfinished: &[usize]) -> Result<String, AllocErro
     Ok(text)
 }
 
-// The lines that tell what a run left undone.
+// The lines that report what a run left undone.
 fn undone_lines(alloc: Global, ran: &Ran) -> Result<String, AllocError>
     ensures { IfOk result (λ s. string_bytes s ≡ undone_lines ran.now) }
 {
@@ -82,7 +83,7 @@ fn undone_lines(alloc: Global, ran: &Ran) -> Result<String, AllocError>
     Ok(text)
 }
 
-// The lines that tell a fault.
+// The lines that report a fault.
 fn lines_of(alloc: Global, fault: &Fault) -> Result<String, AllocError>
     ensures { IfOk result (λ s. string_bytes s ≡ fault_lines fault.now) }
 {
@@ -102,8 +103,8 @@ fn tell_refused_growth<E: Sink>(_refused: NoMemory, err: &mut E)
     let _ = err.write_all(b"no memory\n");
 }
 
-/// Tells a fault, or that there is no memory for its lines, which takes none itself. Where even that can't be written,
-/// the status says it alone.
+/// Prints a fault, or that there is no memory for its lines, which takes none itself. If even that
+/// can't be written, only the status shows it.
 pub fn tell<E: Sink>(alloc: Global, fault: &Fault, err: &mut E)
     requires unfailed { E.failed err.old ≡ false }
     ensures { Tells fault.now (taking E.taken E.failed err.old err.new) }

@@ -1,4 +1,5 @@
-//! What every table with a legal journal tells, in one law for who has such a table, from the laws of journals in `pb_history`.
+//! What holds of every table with a legal journal, in one law for those who have such a table. It
+//! follows from the laws of journals in `pb_history`.
 ghost use Rattle.pb_core.specs.Calls.{SharedOf};
 ghost use Rattle.pb_core.specs.Histories.{IsLegalTable, IsSnapshotHistory, HandlesOnce};
 ghost use Rattle.pb_history.specs.RecordsTold.{TellsRecords};

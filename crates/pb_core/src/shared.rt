@@ -202,7 +202,8 @@ impl<T: Tablet> Shared<T> {
         ensures memory { is_nothing table.contents ≡ true
             → IfErr result (λ e. e.refusal ≡ memory_refusal) }
     {
-        // Before any growth, since 4 is told of every table that has something, also where there is no memory.
+        // Before any growth, since every table that has something is refused with 4, also where
+        // there is no memory.
         if !table.is_empty() {
             return Err(OpenRefused {
                 table,
@@ -286,7 +287,7 @@ impl<T: Tablet> Shared<T> {
         ensures records { TellsRecords self.now.journal self.now.state }
         ensures once { HandlesOnce self.now }
     {
-        // For the proof: what legal journals tell.
+        // For the proof: what holds of legal journals.
         journals_tell();
         legal_tables_tell();
         &self.journal
@@ -376,7 +377,7 @@ impl<T: Tablet> Shared<T> {
         ensures step { IfOk result (λ a. step_admitted a ≡ step.now) }
         ensures admitted { IfOk result (λ a. Admits self.now.state seat a) }
     {
-        // 44 lies between the state's own numbers, so that it is told before those above it.
+        // 44 lies between the state's own numbers, so that it is returned before those above it.
         let is_full = self.journal.len() == self.limit;
         match self.state.admit(seat, step) {
             Ok(admitted) => {
@@ -421,9 +422,9 @@ impl<T: Tablet> Shared<T> {
         }
     }
 
-    // All growths come before the first change, so that a refused one leaves table and seat as they were, and what was
-    // admitted holds when the step is taken. The step is copied for each of both lists, since one copy behind a shared
-    // pointer would take more memory than two.
+    // All growths come before the first change, so that a refused one leaves table and seat as they
+    // were, and what was admitted holds when the step is taken. The step is copied for each of both
+    // lists, since one copy shared through a pointer would take more memory than two.
     fn keep(
         &mut self,
         seat: &mut Seat,

@@ -17,7 +17,7 @@ use Rattle.pb_decode.proofs.SlotBytes.{IsSlot, front_slot, is_slot, rest_bytes, 
 use Rattle.pb_decode.proofs.OpcodeTable.{form_front, form_back, reg_back, reg_front}
 use Rattle.pb_decode.proofs.Extending.{IsExtending, alu_offset, zero_offset, extending_offset, size_back, some_bits, is_plain, plain_form, load_form}
 
--- an instruction, and the bytes behind it
+-- an instruction, and the bytes after it
 abbrev Read : Type 0
 Read = Insn × List ℕ
 
@@ -42,7 +42,7 @@ clean_ok p f g s false is e = absurd cc
 is_zero : (n : ℕ) → (n == 0) ≡ true → 0 ≡ n
 is_zero n h = sym (eqb-true n 0 h)
 
--- what was read from a slot and the bytes behind it
+-- what was read from a slot and the bytes after it
 abbrev Takes : Profile → SlotFields → List ℕ → Read → Type 0
 Takes p s rest x = (slot_bytes s ++ rest ≡ insn_bytes x.0 ++ x.1) × Fits x.0 × IsOf p x.0
 
@@ -105,7 +105,7 @@ form_takes profile (Form.JumpIf c w Source.X) d r s rest x o of p q is fits clea
 form_takes profile Form.Call d r s rest x o of p q is fits clean e = grind arith
 form_takes profile Form.Exit d r s rest x o of p q is fits clean e = grind arith
 
--- what is read of a slot and the bytes behind it is spelt so, and is of the profile
+-- what is read of a slot and the bytes after it is spelt so, and is of the profile
 with_takes : (p : Profile) (s : SlotFields) (rest : List ℕ) (x : Read) → IsSlot s → AreBytes rest → first_with p s rest ≡ Ok x → Takes p s rest x
 unfolding first_with
 with_takes p s rest x is fits e =
@@ -165,7 +165,7 @@ with_again p (Insn.JumpIf c w d (Operand.Reg s) o) rest fits of = rw (form_back 
 with_again p (Insn.Call k) rest fits of = rw (form_back p Form.Call (plain_form p Form.Call tt), imm_again k fits) refl
 with_again p Insn.Exit rest fits of = rw (form_back p Form.Exit (plain_form p Form.Exit tt)) refl
 
--- what is spelt so is read, whatever stands behind it
+-- what is spelt so is read, whatever stands after it
 pub first_again : (p : Profile) (i : Insn) (rest : List ℕ) → Fits i → IsOf p i → first_of p (insn_bytes i ++ rest) ≡ Ok (i, rest)
 first_again p i rest fits of =
     let low = slot_is_low i fits in

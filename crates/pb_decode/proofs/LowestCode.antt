@@ -36,7 +36,7 @@ has_pair profile = grind arith
 least_opcode : (profile : Profile) (bytes : List ℕ) (other : DecodeCode) → Applies profile bytes other → 12 ≤ decode_code other
 least_opcode profile bytes other h = grind arith
 
--- an opcode that no form has is told as 12
+-- an opcode that no form has is refused with 12
 no_opcode : (profile : Profile) (bytes : List ℕ) → form_of profile (slot_of_bytes bytes).opcode ≡ None → IsLowest profile bytes DecodeCode.Opcode
 no_opcode profile bytes none = grind (arith, no_none, form_back, least_opcode)
 
@@ -66,7 +66,7 @@ clean_fields profile bytes f is clean h =
     let same = same_form profile f h.0 (slot_of_bytes bytes).opcode is h.1 h.2 in
     not_false (is_clean profile f (slot_of_bytes bytes)) clean (subst (λ (g : Form). is_clean profile g (slot_of_bytes bytes) ≡ false) same h.3)
 
--- behind the first three tests only the two codes of a pair are left
+-- after the first three tests only the two codes of a pair are left
 only_pair : (profile : Profile) (bytes : List ℕ) (f : Form) → Passed profile bytes f → (Applies profile bytes DecodeCode.CutOff → ⊥) → (Applies profile bytes DecodeCode.SecondSlot → ⊥) → (code : DecodeCode) → Applies profile bytes code → ⊥
 only_pair profile bytes f p a b code h = grind (arith, known_opcode, low_registers, clean_fields)
 
@@ -83,7 +83,7 @@ not_short profile bytes long h = let lt = h.1 in omega (arith, long, lt)
 least_second : (profile : Profile) (bytes : List ℕ) → Passed profile bytes Form.LoadImm → 8 ≤ length (drop 8 bytes) → (other : DecodeCode) → Applies profile bytes other → 16 ≤ decode_code other
 least_second profile bytes p long other h = grind (arith, known_opcode, low_registers, clean_fields, not_short)
 
--- of a pair the end is told before the second slot
+-- for a pair, a cut at the end is reported before the second slot
 pair_told : (profile : Profile) (bytes : List ℕ) (x : Read) → Passed profile bytes Form.LoadImm → (short second : Bool) → nat_lt (length (drop 8 bytes)) 8 ≡ short → is_second_slot (slot_of_bytes (drop 8 bytes)) ≡ second → Told profile bytes (cond short (Err DecodeCode.CutOff) (cond second (Ok x) (Err DecodeCode.SecondSlot)))
 pair_told profile bytes x p true second a b = record { applies = ((form_front profile (slot_of_bytes bytes).opcode Form.LoadImm p.is).0, ltb-true (length (drop 8 bytes)) 8 a); least = least_cut profile bytes p }
 pair_told profile bytes x p false true a b = only_pair profile bytes Form.LoadImm p (not_short profile bytes (ltb-false (length (drop 8 bytes)) 8 a)) (λ h. not_false (is_second_slot (slot_of_bytes (drop 8 bytes))) b h.2)
@@ -91,7 +91,7 @@ pair_told profile bytes x p false false a b =
     let long = ltb-false (length (drop 8 bytes)) 8 a in
     record { applies = ((form_front profile (slot_of_bytes bytes).opcode Form.LoadImm p.is).0, long, b); least = least_second profile bytes p long }
 
--- an instruction of each form is read with no code, or told with its lowest
+-- an instruction of each form is read with no code, or refused with its lowest
 insn_told : (profile : Profile) (bytes : List ℕ) (f : Form) (d r : Reg) → Passed profile bytes f → Told profile bytes (insn_of_form f d r (slot_of_bytes bytes) (drop 8 bytes))
 insn_told profile bytes f d r p = grind (arith, none_applies, pair_told)
 
@@ -118,14 +118,14 @@ form_told : (profile : Profile) (bytes : List ℕ) (o : Option Form) → form_of
     → Told profile bytes (ok_or o DecodeCode.Opcode >>= (λ f. ok_or (reg_of (slot_of_bytes bytes).dst) DecodeCode.Register >>= (λ d. ok_or (reg_of (slot_of_bytes bytes).src) DecodeCode.Register >>= with_registers profile bytes f d)))
 form_told profile bytes o h = grind (arith, dst_told, no_opcode)
 
--- so what is read, step by step, has no code that applies, or is told with the lowest
+-- so what is read, step by step, has no code that applies, or is refused with the lowest
 told : (profile : Profile) (bytes : List ℕ) → Told profile bytes (first_of profile bytes)
 unfolding first_with
 told profile bytes = form_told profile bytes (form_of profile (slot_of_bytes bytes).opcode) refl
 
 -- ---- both ways
 
--- the code that is told at the front is the lowest that applies
+-- the code that is reported at the front is the lowest that applies
 pub lowest_at_front : (profile : Profile) (bytes : List ℕ) (code : DecodeCode) → first_of profile bytes ≡ Err code → IsLowest profile bytes code
 lowest_at_front profile bytes code e = subst (Told profile bytes) e (told profile bytes)
 
@@ -154,6 +154,6 @@ read_lowest profile bytes code h (Err other) e =
     let o = lowest_at_front profile bytes other e in
     ap Err (same_code other code (o.least code h.applies) (h.least other o.applies))
 
--- and the lowest that applies is the one that is told, since there is but one
+-- and the lowest that applies is the one that is reported, since there is but one
 pub lowest_read : (profile : Profile) (bytes : List ℕ) (code : DecodeCode) → IsLowest profile bytes code → first_of profile bytes ≡ Err code
 lowest_read profile bytes code h = read_lowest profile bytes code h (first_of profile bytes) refl

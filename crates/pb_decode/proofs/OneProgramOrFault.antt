@@ -47,7 +47,7 @@ no_error r x c p q = absurd cc
 err_is : {A B : Type 0} (r : Result A B) (c d : B) → r ≡ Err c → r ≡ Err d → c ≡ d
 err_is r c d p q = cc
 
--- an instruction in front is read again, whatever stands behind it
+-- an instruction in front is read again, whatever stands after it
 again : (profile : Profile) (i : Insn) (rest : List ℕ) → Each profile i → first_of profile (insn_bytes i ++ rest) ≡ Ok (i, rest)
 again profile i rest of = first_again profile i rest of.0 of.1
 
@@ -75,7 +75,7 @@ all_push profile p i all one = (list_push Fits p i all.0 one.0, list_push (IsOf 
 not_nil : (i : Insn) (x : List ℕ) → [] ≡ insn_bytes i ++ x → ⊥
 not_nil i x e = grind arith
 
--- no fault behind the beginning of a program
+-- no fault after the beginning of a program
 pub none_inside : (profile : Profile) (p g : List Insn) (y : List ℕ) (d : DecodeCode) → All profile p → All profile g → encoding p ≡ encoding g ++ y → 0 < length y → first_of profile y ≡ Err d → ⊥
 none_inside profile [] [] y d p-all g-all e some q = let z : 0 ≡ length y = ap length e in omega (arith, z, some)
 none_inside profile [] (j ∷ g) y d p-all g-all e some q = not_nil j (encoding g ++ y) (e ∙ append_assoc (insn_bytes j) (encoding g) y)
@@ -214,7 +214,7 @@ only_program profile (Ok q) bytes a p is h = (one_program bytes q p (a.1 ∙ sym
 only_program profile (Err (DecodeFault.NoMemory refused)) bytes a p is h = (tt, tt)
 only_program profile (Err (DecodeFault.Refused f)) bytes a p is h = absurd (no_fault profile bytes p f.slot a.2.0 is h a.2.2)
 
--- for bytes with a fault nothing but it is told, unless memory is refused
+-- for bytes with a fault nothing but that fault is reported, unless memory is refused
 pub only_fault : (profile : Profile) (r : Result ProgramOf DecodeFault) (bytes : List ℕ) → IsAnswer profile bytes r → (slot told : ℕ) → AreRefusedAs profile bytes slot told → IfOk r (λ _. ⊥) × IfErr r (IsNoMemoryOr slot told)
 only_fault profile (Ok q) bytes a slot told h = absurd (no_fault profile bytes q slot h.0 a.1 a.0 h.2)
 only_fault profile (Err (DecodeFault.NoMemory refused)) bytes a slot told h = (tt, tt)
@@ -238,7 +238,7 @@ one_more profile bytes rest after p i fits parts all even some is =
     let spelt : encoding (p ++ i ∷ []) ≡ encoding p ++ insn_bytes i = flat_map-append insn_bytes p (i ∷ []) ∙ ap (λ (b : List ℕ). encoding p ++ b) (append-nil (insn_bytes i)) in
     (parts ∙ ap (λ (b : List ℕ). encoding p ++ b) t.0 ∙ sym (append_assoc (encoding p) (insn_bytes i) after) ∙ ap (λ (b : List ℕ). b ++ after) (sym spelt), all_push profile p i all (t.1, t.2), e.0, e.1)
 
--- the loop tells a fault: the slot is that of the rest
+-- the loop reports a fault: the slot is that of the rest
 pub fault_at : (profile : Profile) (bytes rest : List ℕ) (p : List Insn) (code : DecodeCode) (slot : ℕ) → bytes ≡ encoding p ++ rest → All profile p → 0 < length rest → first_of profile rest ≡ Err code → slot ≡ (length bytes - length rest) / 8 → IsFaultAt profile bytes slot code
 fault_at profile bytes rest p code slot parts all some is at =
     let l : length bytes ≡ length (encoding p) + length rest = ap length parts ∙ length-append (encoding p) rest in

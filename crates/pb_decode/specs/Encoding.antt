@@ -1,6 +1,6 @@
--- The encoding of programs (RFC 9669, section 3): the slots of the instructions in order. A field that an instruction
--- doesn't use is zero. It is the same in every profile. Contracts of `encode` and `decode_in` say `Encodes`, which is
--- this direction alone: what decoding has to find is said by it, and not by a reader.
+-- The encoding of programs (RFC 9669, section 3): the slots of the instructions in order. A field that an instruction doesn't use
+-- is zero. It is the same in every profile. Contracts of `encode` and `decode_in` say `Encodes`, which is this direction alone:
+-- it defines what decoding has to find, and no reader does.
 use Rattle.std.specs.Prelude.{◌≡◌, ℕ, ◌/◌, ◌%◌, ◌^◌, ◌++◌, List, []}
 use Rattle.std.specs.Int.{w16, w32, cast_unsigned}
 use Rattle.std.specs.List.{flat_map, AllByRecursion}
@@ -42,7 +42,7 @@ first_slot Insn.Exit = slot Form.Exit 0 0 0 0
 abbrev pub second_slot : ℕ → SlotFields
 second_slot imm = record { opcode = 0; dst = 0; src = 0; offset = 0; imm = imm }
 
--- the bytes behind the first slot: the 64-bit immediate has its high half in a second one (section 5.4)
+-- the bytes after the first slot: the 64-bit immediate has its high half in a second one (section 5.4)
 abbrev pub second_bytes : Insn → List ℕ
 second_bytes (Insn.LoadImm dst imm) = slot_bytes (second_slot (imm / 2 ^ 32))
 second_bytes i = []

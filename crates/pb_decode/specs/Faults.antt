@@ -1,6 +1,5 @@
--- The fault of a list of bytes that is no program's. When a code applies is said by the fields alone, and not by a
--- reader that goes from left to right, since such a definition lets through a looseness that is written into both
--- alike.
+-- The fault of a list of bytes that is no program's. When a code applies is defined by the fields alone, and not by a reader that
+-- goes from left to right, since such a definition lets through a looseness that is written into both alike.
 use Rattle.std.specs.Prelude.{◌≡◌, ◌≢◌, ◌<◌, ◌≤◌, ◌⊎◌, ℕ, ◌*◌, ◌%◌, ◌==◌, false, nat_lt, not, ◌||◌, if◌then◌else◌, List, ◌++◌, length, drop, get_or, Option, Some, None}
 use Rattle.std.specs.List.{AllByRecursion}
 use Rattle.pb_decode.specs.Words.{Insn, Fits, Profile, IsOf, max_slots, slots, ProgramOf}
@@ -12,7 +11,7 @@ use Rattle.pb_decode.specs.Fields.{slot_of_bytes}
 use Rattle.pb_decode.specs.Encoding.{encoding, Encodes}
 use Rattle.pb_decode.specs.Reading.{is_clean, is_second_slot}
 
--- the numbers by which the faults are told
+-- the numbers by which the faults are reported
 abbrev pub decode_code : DecodeCode → ℕ
 decode_code DecodeCode.Length = 10
 decode_code DecodeCode.TooLong = 11
@@ -22,9 +21,9 @@ decode_code DecodeCode.Unused = 14
 decode_code DecodeCode.CutOff = 15
 decode_code DecodeCode.SecondSlot = 16
 
--- When a code applies to the bytes at the front, told by their first slot and the bytes behind it: no form of the profile
--- has the opcode; a register is over 10, in either half; the form doesn't use a field that is not zero; the opcode is the
--- pair's, and no slot stands behind, or one with more than an immediate. The codes of the whole apply to no slot.
+-- When a code applies to the bytes at the front, given by their first slot and the bytes after it. In the order of the codes: no
+-- form of the profile has the opcode; a register is over 10, in either half; the form doesn't use a field that is not zero; the
+-- opcode is the pair's, and no slot follows, or one with more than an immediate. The codes of the whole apply to no slot.
 abbrev pub Applies : Profile → List ℕ → DecodeCode → Type 0
 Applies p bytes DecodeCode.Length = ⊥
 Applies p bytes DecodeCode.TooLong = ⊥
@@ -39,19 +38,19 @@ pub record IsLowest (p : Profile) (bytes : List ℕ) (code : DecodeCode) : Type 
   pub applies : Applies p bytes code
   pub least : (other : DecodeCode) → Applies p bytes other → decode_code code ≤ decode_code other
 
--- a fault, told
+-- a fault, as it is reported
 abbrev pub told_as : ℕ → DecodeCode → DecodeFault
 told_as slot code = DecodeFault.Refused (record { slot = slot; code = decode_code code })
 
--- the fault of the whole, which is told before all others: no slots at all, or more than the profile has
+-- the fault of the whole, which is reported before all others: no slots at all, or more than the profile has
 abbrev pub whole_fault : Profile → List ℕ → Option DecodeCode
 whole_fault p bytes =
     if (length bytes == 0) || not (length bytes % 8 == 0) then Some DecodeCode.Length
     else if nat_lt (8 * max_slots p) (length bytes) then Some DecodeCode.TooLong
     else None
 
--- The instructions in front are of the profile and spelt as they have to be, and a code applies to what stands behind
--- them. Where it is a pair, its first slot is told.
+-- The instructions in front are of the profile and spelt as they have to be, and a code applies to what stands after them. If
+-- that is a pair, its first slot is reported.
 pub record IsFaultAt (p : Profile) (bytes : List ℕ) (slot : ℕ) (code : DecodeCode) : Type 0 where
   pub front : List Insn
   pub rest : List ℕ
@@ -66,7 +65,7 @@ pub record IsFaultAt (p : Profile) (bytes : List ℕ) (slot : ℕ) (code : Decod
 abbrev pub IsDecodeFault : Profile → List ℕ → ℕ → DecodeCode → Type 0
 IsDecodeFault p bytes slot code = (whole_fault p bytes ≡ Some code × (slot ≡ 0)) ⊎ ((whole_fault p bytes ≡ None) × IsFaultAt p bytes slot code)
 
--- the first slot at fault with its lowest code, by the numbers that are told
+-- the first slot at fault with its lowest code, by the numbers that are reported
 abbrev pub AreRefusedAs : Profile → List ℕ → ℕ → ℕ → Type 0
 AreRefusedAs p bytes slot told = (code : DecodeCode) × (told ≡ decode_code code) × IsDecodeFault p bytes slot code
 
@@ -92,7 +91,7 @@ HasProgram profile bytes = (p : ProgramOf) × (p.profile ≡ profile) × Encodes
 abbrev pub HasFault : Profile → List ℕ → Type 0
 HasFault p bytes = (slot : ℕ) × (code : DecodeCode) × IsDecodeFault p bytes slot code
 
--- memory was refused, or what is told is that fault
+-- memory was refused, or what is reported is that fault
 abbrev pub IsNoMemoryOr : ℕ → ℕ → DecodeFault → Type 0
 IsNoMemoryOr slot told (DecodeFault.NoMemory refused) = Unit {0}
 IsNoMemoryOr slot told (DecodeFault.Refused r) = (r.slot ≡ slot) × (r.code ≡ told)

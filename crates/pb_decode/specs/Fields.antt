@@ -1,5 +1,5 @@
--- The fields of a slot (RFC 9669, section 3.1): eight bytes, the numbers with their lowest byte first. Both directions
--- are defined, since the encoding is said by the one and faults by the other.
+-- The fields of a slot (RFC 9669, section 3.1): eight bytes, the numbers with their lowest byte first. Both directions are
+-- defined, since the encoding is defined by the one and faults by the other.
 use Rattle.std.specs.Prelude.{ℕ, ◌+◌, ◌*◌, ◌/◌, ◌%◌, List, ◌∷◌, ◌++◌, drop, slice_index}
 use Rattle.byteorder.specs.Endian.{little_bytes, little_number}
 use Rattle.pb_decode.specs.declared.fields.SlotFields.{SlotFields}

@@ -1,5 +1,5 @@
--- What stands at the front of a list of bytes: an instruction, or the lowest code of a fault. The code's readers are
--- said by it; that it finds what Encoding and Faults say is proved.
+-- What stands at the front of a list of bytes: an instruction, or the lowest code of a fault. The contracts of the code's readers
+-- cite it; that it finds what Encoding and Faults say is proved.
 use Rattle.std.specs.Prelude.{ℕ, ℤ, ◌+◌, ◌*◌, ◌^◌, Bool, ◌&&◌, ◌||◌, ◌==◌, nat_lt, if◌then◌else◌, List, length, drop, ok_or, Result, Ok, Err}
 use Rattle.std.specs.Int.{w16, w32, cast_signed}
 use Rattle.pb_decode.specs.Words.{◌>>=◌, Insn, AluOp, Operand, Reg, Size, Width, Profile, reg_of}
@@ -35,7 +35,7 @@ is_clean p Form.Exit s = (s.dst == 0) && ((s.src == 0) && ((s.offset == 0) && (s
 abbrev pub is_second_slot : SlotFields → Bool
 is_second_slot s = (s.opcode == 0) && ((s.dst == 0) && ((s.src == 0) && (s.offset == 0)))
 
--- the 64-bit immediate of this low half, whose high half stands in the slot behind
+-- the 64-bit immediate of this low half, whose high half stands in the next slot
 abbrev pub pair_of : Reg → ℕ → List ℕ → Result (Insn × List ℕ) DecodeCode
 pair_of dst low rest =
     if nat_lt (length rest) 8 then Err DecodeCode.CutOff
@@ -57,7 +57,7 @@ alu_of op w x dst src s =
     if s.offset == 0 then Insn.Alu op w dst (operand_of_source x src (cast_signed w32 s.imm))
     else Insn.MovSx w (size_of_bits s.offset) dst src
 
--- the instruction of a form with these fields, and the bytes behind it
+-- the instruction of a form with these fields, and the bytes after it
 abbrev pub insn_of_form : Form → Reg → Reg → SlotFields → List ℕ → Result (Insn × List ℕ) DecodeCode
 insn_of_form (Form.Alu op w x) dst src s rest = Ok (alu_of op w x dst src s, rest)
 insn_of_form (Form.Neg w) dst src s rest = Ok (Insn.Neg w dst, rest)
@@ -83,6 +83,6 @@ first_with p s rest = do
   clean ← clean_or_code p known s
   insn_of_form clean dst src s rest
 
--- of the slot in front, and the bytes behind it
+-- of the slot in front, and the bytes after it
 abbrev pub first_of : Profile → List ℕ → Result (Insn × List ℕ) DecodeCode
 first_of p bytes = first_with p (slot_of_bytes bytes) (drop 8 bytes)

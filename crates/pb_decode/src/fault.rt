@@ -29,7 +29,7 @@ pub enum DecodeCode {
 }
 
 impl DecodeCode {
-    /// The number by which a code is told.
+    /// The number by which a code is reported.
     pub fn code(self) -> u8
         ensures { result ≡ decode_code self }
     {
@@ -45,10 +45,11 @@ impl DecodeCode {
     }
 }
 
-/// Why bytes were not decoded: memory was refused, or they are at fault, at a slot (from 0) and with a code: 10 no bytes,
-/// or no multiple of 8, 11 more slots than the profile has, 12 an opcode outside the profile, 13 a register number over 10,
-/// 14 an unused field that is not zero, 15 a pair cut off by the end, 16 a pair's second slot that has more than an
-/// immediate. For 10 and 11 the slot is 0, and for 15 and 16 it is the pair's first.
+/// Why bytes were not decoded: memory was refused, or they are at fault, at a slot (from 0) and
+/// with a code. Of the whole, 10 is no bytes, or no multiple of 8, and 11 more slots than the
+/// profile has; both are at slot 0. Of one slot, 12 is an opcode outside the profile, 13 a register
+/// number over 10, and 14 an unused field that is not zero. Of a pair, 15 is one cut off by the
+/// end, and 16 a second slot that has more than an immediate; both are at the pair's first slot.
 #[derive(Debug, Drop, Error)]
 pub enum DecodeFault {
     #[error("{0}")]

@@ -1,9 +1,10 @@
-//! Programs as bytes, by the instruction encoding of RFC 9669, and back. It stands apart from the instructions, since
-//! only what takes or shows bytes needs it: the registry, for a manifest's digits, and the commands `check`, `dis` and
-//! `asm`. The bytes `b7 00 00 00 01 00 00 00` and `95` with seven zeros are `mov64 r0, 1` and `exit`; with the opcode
-//! `ff` in place of `95` they are refused at slot 1 with 12. Its contracts promise that in a profile a list of bytes is
-//! one program's, which comes back, or has one fault, which is told as the first slot with its lowest code, and never
-//! both.
+//! Programs as bytes, by the instruction encoding of RFC 9669, and back. It stands apart from the
+//! instructions, since only what takes or shows bytes needs it: the registry, for a manifest's
+//! digits, and the commands `check`, `dis` and `asm`. The bytes `b7 00 00 00 01 00 00 00` and `95`
+//! with seven zeros are `mov64 r0, 1` and `exit`; with the opcode `ff` in place of `95` they are
+//! refused at slot 1 with 12. Its contracts promise that in a profile a list of bytes is one
+//! program's, which comes back, or has one fault, which is reported as the first slot with its
+//! lowest code, and never both.
 #![tactic(auto)]
 
 mod fault;

@@ -39,8 +39,8 @@ fn is_second_slot(slot: SlotFields) -> bool
     slot.opcode == 0 && slot.dst == 0 && slot.src == 0 && slot.offset == 0
 }
 
-// The 64-bit immediate of this low half, whose high half stands in the slot behind. A pair that is cut off is told
-// before one whose second slot is wrong, since there is no such slot.
+// The 64-bit immediate of this low half, whose high half stands in the next slot. A pair that is
+// cut off is reported before one whose second slot is wrong, since there is no such slot.
 fn pair_of(dst: Reg, low: u32, bytes: &[u8]) -> Result<(Insn, &[u8]), DecodeCode>
     ensures { Gives (λ _. false) (λ x. (x.0, x.1.now)) result (pair_of dst low bytes.now) }
 {
@@ -99,7 +99,8 @@ fn alu_of(op: AluOp, width: Width, source: Source, dst: Reg, src: Reg, slot: Slo
     }
 }
 
-// The instruction of a form with these fields, and the bytes behind it. Only a pair takes more than its slot.
+// The instruction of a form with these fields, and the bytes after it. Only a pair takes more than
+// its slot.
 fn insn_of(
     form: Form,
     dst: Reg,
@@ -149,8 +150,8 @@ fn insn_of(
     Ok((insn, bytes))
 }
 
-// The instruction at the front, and the bytes behind it; or the lowest code that applies. The tests stand in the order
-// of the codes, so that the first that fails tells it.
+// The instruction at the front, and the bytes after it; or the lowest code that applies. The tests
+// stand in the order of the codes, so that the first that fails returns it.
 #[tactic(auto, unfolding(crate::specs::Reading::first_with))]
 fn first_of(profile: Profile, bytes: &[u8]) -> Result<(Insn, &[u8]), DecodeCode>
     requires { 8 ≤ length bytes.now }
@@ -168,7 +169,7 @@ fn first_of(profile: Profile, bytes: &[u8]) -> Result<(Insn, &[u8]), DecodeCode>
     insn_of(form, dst, src, slot, &bytes[8..])
 }
 
-// The fault of the whole, told at slot 0 before that of any slot.
+// The fault of the whole, reported at slot 0 before that of any slot.
 fn whole_fault(profile: Profile, bytes: &[u8]) -> Option<DecodeCode>
     ensures { result ≡ whole_fault profile bytes.now }
 {
@@ -262,8 +263,9 @@ pub fn decode_in(alloc: Global, profile: Profile, bytes: &[u8]) -> Result<Progra
     program_of(alloc, profile, bytes)
 }
 
-/// In each profile a list of bytes is one program's, or has one fault, and not both. No code applies where an
-/// instruction of the profile stands. So what is told depends on the bytes alone, and on no order of reading.
+/// In each profile a list of bytes is one program's, or has one fault, and not both. No code
+/// applies where an instruction of the profile stands. So what is reported depends on the bytes
+/// alone, and on no order of reading.
 pub fn either_program_or_fault()
     ensures either { (profile : Profile) (bytes : List ℕ) → AreBytes bytes
         → HasProgram profile bytes ⊎ HasFault profile bytes }

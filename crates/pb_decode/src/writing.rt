@@ -10,7 +10,8 @@ use pb_base::NoMemory;
 use pb_isa::{AluOp, Cmp, Insn, Operand, Program, Reg, Size, Width};
 use std::alloc::{AllocError, Global};
 
-// A register's number. That it is below 11 is told with it, so that it fits its half of a byte.
+// A register's number. It also promises that the number is below 11, so that it fits its half of a
+// byte.
 fn number(reg: Reg) -> u8
     ensures number { result ≡ number reg }
     ensures below { result < 11 }

@@ -1,4 +1,4 @@
--- How a run or a replay that ended early is told. `Display` of `RunFault` cites it.
+-- How a run or a replay that ended early is reported. `Display` of `RunFault` cites it.
 use Rattle.std.specs.Prelude.{ℕ, List, ◌++◌, codes}
 use Rattle.pb_driver.specs.Words.{line_told, code_told, line_and_code, fault_text, fault_code, event_and_code}
 use Rattle.pb_driver.specs.declared.fault.RunFault.{RunFault}

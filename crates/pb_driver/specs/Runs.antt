@@ -1,6 +1,6 @@
 -- Runs: workers make a script's changes and run a manifest's observers on them, and the report is of what they left.
--- Threads may take their turns in any way, so it is a relation: what they leave is told by their seats and the
--- journal. `run_texts` cites it.
+-- Threads may take their turns in any way, so it is a relation: what they leave is given by their seats and the journal.
+-- `run_texts` cites it.
 use Rattle.std.specs.Prelude.{◌≡◌, ℕ, ◌+◌, ◌-◌, List, length, Option, Result, Ok, Err}
 use Rattle.pb_driver.specs.Words.{Refusal, Writes, ObserverOf, IsLegal, SharedOf, SeatOf, AreSeats, IsLegalTable, Agree, opening_of, MakesChanges, Spare, WorkedOn, KeepsOpening, Taking, TookNothing, WroteTableReport, BeganTableReport}
 use Rattle.pb_driver.specs.declared.fault.RunFault.{RunFault}
@@ -31,7 +31,7 @@ pub record FinishAccepts (before : SharedOf) (olds : List SeatOf) (batches : Lis
 
 -- ---- the report
 
--- this tells what is left undone
+-- this names what is left undone
 abbrev pub TellsUndone : Ran → Remains → Type 0
 TellsUndone ran left = (ran.refusals.items ≡ left.refusals) × (ran.unfinished.items ≡ left.unfinished)
 
@@ -43,7 +43,7 @@ Concludes left out (Err RunFault.SeatsDiffer) = (Agree left.table left.seats →
 Concludes left out (Err (RunFault.NoMemory refused)) = Agree left.table left.seats × TookNothing out
 Concludes left out (Err _) = ⊥
 
--- the report of what workers left was written, and what they left undone is told
+-- the report of what workers left was written, and what they left undone is reported
 pub record WroteRunReport (before : SharedOf) (olds : List SeatOf) (batches : List Writes) (spares : List Spare) (ran : Ran) (out : Taking) : Type 0 where
   pub left : Remains
   pub accepts : FinishAccepts before olds batches spares left
@@ -56,7 +56,7 @@ pub record BeganRunReport (before : SharedOf) (olds : List SeatOf) (batches : Li
   pub accepts : FinishAccepts before olds batches spares left
   pub began : BeganTableReport left.table out
 
--- workers left seats that aren't what the journal tells of them
+-- workers left seats that aren't what the journal records of them
 pub record SeatsLeftDiffer (before : SharedOf) (olds : List SeatOf) (batches : List Writes) (spares : List Spare) : Type 0 where
   pub left : Remains
   pub leave : WorkersLeave before olds batches spares left

@@ -1,4 +1,4 @@
--- What the texts of a run and of a replay are read as, and which fault is told of them. Each text's reading is defined
+-- What the texts of a run and of a replay are read as, and which fault is reported for them. Each text's reading is defined
 -- where it is read; here stands that they are read in turn, and only so far as they are read. Both drivers cite it,
 -- and the story program.
 use Rattle.std.specs.Prelude.{◌≡◌, ℕ, List, [], Result, Ok, Err}
@@ -41,7 +41,7 @@ pub record IsRunRead (manifest script : List ℕ) (observers : List ObserverOf) 
   pub manifest_read : ReadsManifest manifest (Ok observers)
   pub script_read : script_of script ≡ Ok batches
 
--- the first text that isn't read tells its fault
+-- the fault is that of the first text that isn't read
 abbrev pub IsRunUnread : List ℕ → List ℕ → RunFault → Type 0
 IsRunUnread manifest script (RunFault.Manifest f) = ReadsManifest manifest (Err f)
 IsRunUnread manifest script (RunFault.Script f) = (observers : List ObserverOf) × ReadsManifest manifest (Ok observers) × IsFaultOf (script_of script) f
@@ -55,7 +55,7 @@ pub record IsReplayRead (manifest script schedule : List ℕ) (observers : List 
   pub run_read : IsRunRead manifest script observers batches
   pub schedule_read : schedule_of observers schedule ≡ Ok events
 
--- the first text that isn't read tells its fault
+-- the fault is that of the first text that isn't read
 abbrev pub IsReplayUnread : List ℕ → List ℕ → List ℕ → RunFault → Type 0
 IsReplayUnread manifest script schedule (RunFault.Schedule f) = (observers : List ObserverOf) × (batches : List Writes) × IsRunRead manifest script observers batches × IsFaultOf (schedule_of observers schedule) f
 IsReplayUnread manifest script schedule f = IsRunUnread manifest script f

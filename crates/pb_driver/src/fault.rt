@@ -1,4 +1,4 @@
-//! Why a run or a replay ended early: one type for both, so that they are told by the same lines.
+//! Why a run or a replay ended early: one type for both, so that the same lines report them.
 ghost use Rattle.std.specs.Prelude.{◌≡◌};
 ghost use Rattle.pb_driver.specs.Texts.{of_report};
 
@@ -21,7 +21,8 @@ pub enum RunFault {
     Schedule(ScriptFault),
     /// An event was at fault.
     Event(WorldFault),
-    /// What the workers' seats were told isn't what the journal has of them: refusal 48 of [`pb_ending::finish`].
+    /// What the workers' seats received isn't what the journal has of them: refusal 48 of
+    /// [`pb_ending::finish`].
     SeatsDiffer,
     /// A write of the report failed, or took no byte.
     Output,

@@ -16,7 +16,8 @@ use pb_store::{Table, Tablet};
 use pb_world::{EventFault, World, WorldFault};
 use std::alloc::Global;
 
-// The fault of an event as one of the replay. Want of memory is no event's own, so that it is told without a number.
+// The fault of an event as one of the replay. Want of memory is no event's own, so it is reported
+// without a number.
 fn fault_of(fault: WorldFault) -> RunFault
     ensures { result ≡ Rattle.pb_driver.specs.Replays.of_event fault.event fault.fault }
 {
@@ -66,7 +67,8 @@ fn run<T: Tablet, S: Sink>(
 /// The world of a manifest's observers and a script's changes, over an empty table with [`MAX_SEATS`] seats and `last` the
 /// last timestamp given out, and a schedule's events for it.
 ///
-/// The first fault is told: the manifest's, the script's, the schedule's, or want of memory. The table is ended then.
+/// Returns the first fault: the manifest's, the script's, the schedule's, or want of memory. The
+/// table is ended then.
 pub fn open_replay<T: Tablet>(
     alloc: Global,
     manifest: &str,
@@ -104,8 +106,8 @@ pub fn open_replay<T: Tablet>(
 /// Lets a schedule's events happen in a world of a manifest's observers and a script's changes, over an empty table with
 /// [`MAX_SEATS`] seats and `last` the last timestamp given out, and writes the report of what they left.
 ///
-/// The first fault is told: the manifest's, the script's, the schedule's, an event's, a failed write, or want of memory. It
-/// ends the table on every path.
+/// Returns the first fault: the manifest's, the script's, the schedule's, an event's, a failed
+/// write, or want of memory. It ends the table on every path.
 pub fn replay_texts<T: Tablet, S: Sink>(
     alloc: Global,
     manifest: &str,

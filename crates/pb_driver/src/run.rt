@@ -114,10 +114,11 @@ fn run_on<R: Threads + Wait + Sync, T: Tablet + Send, S: Sink>(
 /// each worker and the main one and `last` the last timestamp given out, and writes the report of what they left. While they
 /// run, the spares are swapped in, each at its place.
 ///
-/// The first fault is told: the manifest's, the script's, seats that differ from the journal, a failed write, or want of
-/// memory. A worker that was refused, and a change that no try committed, are no fault of the run: they are told in
-/// [`Ran`], and the report is written all the same. It ends the table and the spares on every path. The journal is legal,
-/// its entries of each seat are that seat's list, and its committed script transactions are exactly the changes that aren't
+/// Returns the first fault: the manifest's, the script's, seats that differ from the journal, a
+/// failed write, or want of memory. A worker that was refused, and a change that no try committed,
+/// are no fault of the run: they are returned in [`Ran`], and the report is written all the same.
+/// It ends the table and the spares on every path. The journal is legal, its entries of each seat
+/// are that seat's list, and its committed script transactions are exactly the changes that aren't
 /// named as unfinished, each once. But for a report or its beginning nothing is written.
 pub fn run_texts<R: Threads + Wait + Sync, T: Tablet + Send, S: Sink>(
     rt: &R,

@@ -1,5 +1,6 @@
-//! The texts of a run and of a replay, read in the order in which their files are named. Each reader tells want of
-//! memory by a type of its own; here it becomes one fault, so that it is told alike wherever it comes.
+//! The texts of a run and of a replay, read in the order in which their files are named. Each
+//! reader returns want of memory in a type of its own; here it becomes one fault, so that it is
+//! reported alike wherever it comes.
 ghost use Rattle.std.specs.Prelude.{◌≡◌, ◌≤◌, length, Ok, IfOk, IfErr};
 ghost use Rattle.pb_base.specs.declared.limits.TheConstants.{MAX_OBSERVERS};
 ghost use Rattle.pb_registry.specs.Judging.{ReadsManifest};
@@ -57,7 +58,8 @@ fn events_in(alloc: Global, schedule: &str, observers: &[Observer]) -> Result<Ve
     }
 }
 
-/// What the texts of a run are read as, each in turn: where both are at fault, the manifest's fault is told.
+/// What the texts of a run are read as, each in turn: if both are at fault, the manifest's fault is
+/// returned.
 pub fn read_run(
     alloc: Global,
     manifest: &str,

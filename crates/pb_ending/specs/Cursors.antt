@@ -4,7 +4,7 @@ use Rattle.pb_history.specs.declared.entry.Entry.{Entry}
 use Rattle.pb_history.specs.declared.entry.Received.{Received}
 use Rattle.pb_core.specs.Calls.{SeatOf}
 
--- what a seat was told by an entry
+-- what a seat received by an entry
 abbrev pub told_by : Entry → Received
 told_by e = record { step = e.step; answer = e.answer }
 

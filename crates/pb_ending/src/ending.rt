@@ -1,5 +1,5 @@
-//! The end of a run: each seat's list is compared with the journal, since nothing else tells that the table which
-//! comes out of the lock is the one that the seats called.
+//! The end of a run: each seat's list is compared with the journal, since nothing else shows that
+//! the table which comes out of the lock is the one that the seats called.
 ghost use Rattle.std.specs.Prelude.{◌≡◌, ◌≢◌, ◌<◌, ◌≤◌, ◌+◌, ◌↔◌, ◌==◌, IsTrue, IsOk, IfOk, IfErr, IfSome, Some, None, length, slice_get};
 ghost use Rattle.std.specs.List.{list_any};
 ghost use Rattle.pb_base.specs.declared.limits.TheConstants.{MAX_SEATS};
@@ -95,7 +95,7 @@ fn place_of(number: u32, seats: &[Seat], places: &[usize; SEATS]) -> Option<usiz
     None
 }
 
-// Behind this item of the list, if there is one and it is what the entry tells.
+// The place after this item of the list, if there is one and it is what the entry records.
 fn cursor_after(e: &Entry, list: &[Received], next: usize) -> Option<usize>
     ensures some { IfSome result (λ n. (slice_get list.now next ≡ Some (told_by e.now))
         × (n ≡ next + 1)) }
@@ -142,8 +142,8 @@ fn are_told(count: u32, journal: &[Entry], seats: &[Seat]) -> bool
     are_at_end(seats, &cursors)
 }
 
-// Each seat of the table is there once, and was told what the journal has. Numbers are looked at first, since the
-// pass takes them for places.
+// Each seat of the table is there once, and received what the journal has. Numbers are looked at
+// first, since the pass takes them for places.
 fn do_agree<T: Tablet>(shared: &Shared<T>, seats: &[Seat]) -> bool
     ensures { IsTrue result ↔ Agree shared.now seats.now }
 {

@@ -1,10 +1,10 @@
-//! Whether a seat was told what the journal has.
+//! Whether a seat received what the journal has.
 ghost use Rattle.std.specs.Prelude.{◌≡◌, ◌↔◌, IsTrue};
 ghost use Rattle.pb_ending.specs.Cursors.{told_by};
 
 use pb_history::{Entry, Received};
 
-/// Whether a seat was told what the journal's entry says.
+/// Whether a seat received what the journal's entry records.
 pub(crate) fn is_same(entry: &Entry, told: &Received) -> bool
     ensures { IsTrue result ↔ (told.now ≡ told_by entry.now) }
 {

@@ -1,4 +1,4 @@
--- The first of known files that is at fault is told.
+-- The first of known files that is at fault is reported.
 use Rattle.std.proofs.Common.{arith, ◌≡◌, sym, subst, ℕ, List, [], ◌∷◌, ◌++◌, Some, Ok, Err, inl, inr, IsUtf8, All}
 use Rattle.std.proofs.lemmas.List.Elements.{All-head, All-tail}
 use Rattle.pb_files.specs.declared.paths.PathFault.{PathFault}
@@ -13,14 +13,14 @@ not_all_read : (before : Held) (front back : List PathBytes) (path : PathBytes) 
 not_all_read before [] back path fault e r = not_read (before path) fault e r.0
 not_all_read before (q ∷ front) back path fault e r = not_all_read before front back path fault e r.1
 
--- behind paths that are read, the first that isn't is told with its own fault
+-- after paths that are read, the first that isn't is reported with its own fault
 first_unread : (before : Held) (front back : List PathBytes) (path : PathBytes) (fault : PathFault) (f : FileFault) → All (IsKnownRead before) front → before path ≡ Some (Err fault) → IsFirstUnread before (front ++ (path ∷ back)) f → TellsUnread path fault f
 first_unread before [] back path fault f all e (inl u) = own_fault (before path) path fault f e u
 first_unread before [] back path fault f all e (inr more) = absurd (not_read (before path) fault e more.0)
 first_unread before (q ∷ front) back path fault f all e (inl u) = grind (arith, All-head, only_memory)
 first_unread before (q ∷ front) back path fault f all e (inr more) = grind (arith, All-tail, first_unread before front back path fault f (All-tail (IsKnownRead before) q front all) e more.1)
 
--- whatever stands behind it, as files are read in order
+-- whatever stands after it, since files are read in order
 pub first_unread_is_told : FirstUnreadIsTold
 first_unread_is_told before front back path fault f all e (inl unread) = first_unread before front back path fault f all e unread
 first_unread_is_told before front back path fault f all e (inr read) = absurd (not_all_read before front back path fault e read.0)
@@ -37,7 +37,7 @@ memory_among before [] back path bytes f all e rest (inr more) = read_memory bef
 memory_among before (q ∷ front) back path bytes f all e rest (inl u) = let k = All-head (IsKnownText before) q front all in only_memory (before q) k.0 q f k.1 u
 memory_among before (q ∷ front) back path bytes f all e rest (inr more) = grind (arith, All-tail, memory_among before front back path bytes f (All-tail (IsKnownText before) q front all) e rest more.1)
 
--- behind paths that are text, the first that isn't is told
+-- after paths that are text, the first that isn't is reported
 first_no_text : (before : Held) (front back : List PathBytes) (path : PathBytes) (bytes : List ℕ) (f : FileFault) → All (IsKnownText before) front → before path ≡ Some (Ok bytes) → (IsUtf8 bytes → ⊥) → IsFirstNoText before (front ++ (path ∷ back)) f → TellsNoText path f
 first_no_text before [] back path bytes f all e bad (inl n) = own_text (before path) path f n
 first_no_text before [] back path bytes f all e bad (inr more) = absurd (not_text (before path) bytes e bad more.0)
@@ -45,7 +45,7 @@ first_no_text before (q ∷ front) back path bytes f all e bad (inl n) =
     let k = All-head (IsKnownText before) q front all in absurd (text_is_text (before q) k.0 q f k.1 k.2 n)
 first_no_text before (q ∷ front) back path bytes f all e bad (inr more) = grind (arith, All-tail, first_no_text before front back path bytes f (All-tail (IsKnownText before) q front all) e bad more.1)
 
--- where all are read, since reading comes first
+-- if all are read, since reading comes first
 pub first_no_text_is_told : FirstNoTextIsTold
 first_no_text_is_told before front back path bytes f all e bad rest (inl unread) =
     subst (λ (g : FileFault). TellsNoText path g) (sym (memory_among before front back path bytes f all e rest unread)) tt

@@ -1,4 +1,4 @@
--- What is told of one file, where it is known what reading it answers.
+-- What is reported of one file, if it is known what reading it answers.
 use Rattle.std.proofs.Common.{arith, ◌≡◌, subst, ℕ, List, Option, Some, Ok, Err, IsUtf8}
 use Rattle.pb_files.specs.declared.paths.PathFault.{PathFault}
 use Rattle.pb_files.specs.declared.fault.FileFault.{FileFault}
@@ -6,11 +6,11 @@ use Rattle.pb_files.specs.Files.{PathBytes, ReadAnswer, IsKnownAs}
 use Rattle.pb_files.specs.PathFaults.{memory_fault, IsUnreadAt, IsRead, IsText, IsNoText}
 use Rattle.pb_files.specs.FirstFaults.{TellsUnread, TellsNoText}
 
--- where it is known what a reading answers, it answers that
+-- if it is known what a reading answers, it answers that
 known_as : (known : Option ReadAnswer) (answer told : ReadAnswer) → known ≡ Some answer → IsKnownAs known told → told ≡ answer
 known_as known answer told e k = subst (λ (x : Option ReadAnswer). IsKnownAs x told) e k
 
--- a path that is known not to be read is told with its own fault, unless memory ran out
+-- a path that is known not to be read is reported with its own fault, unless memory ran out
 pub own_fault : (known : Option ReadAnswer) (path : PathBytes) (fault : PathFault) (f : FileFault) → known ≡ Some (Err fault) → IsUnreadAt known path f → TellsUnread path fault f
 own_fault known path fault f e u = grind arith
 
@@ -26,11 +26,11 @@ only_memory known bytes path f e u = grind arith
 pub same_bytes : (known : Option ReadAnswer) (bytes told : List ℕ) → known ≡ Some (Ok bytes) → IsKnownAs known (Ok told) → told ≡ bytes
 same_bytes known bytes told e k = let same : Ok told ≡ Ok bytes = known_as known (Ok bytes) (Ok told) e k in cc
 
--- bytes that are no text are told of their own path
+-- bytes that are no text are reported with their own path
 pub own_text : (known : Option ReadAnswer) (path : PathBytes) (f : FileFault) → IsNoText known path f → TellsNoText path f
 own_text known path f n = grind arith
 
--- bytes that are text are not told as none
+-- bytes that are text are not reported as no text
 pub text_is_text : (known : Option ReadAnswer) (bytes : List ℕ) (path : PathBytes) (f : FileFault) → known ≡ Some (Ok bytes) → IsUtf8 bytes → IsNoText known path f → ⊥
 text_is_text known bytes path f e utf8 n = grind arith
 

@@ -1,8 +1,8 @@
--- The fault of a known program's file is told.
+-- The fault of a known program's file is reported.
 use Rattle.std.proofs.Common.{arith}
 use Rattle.pb_files.specs.ProgramFaults.{FaultyTextIsTold, KnownBytesAreAnswered}
 
--- so of a refused text its place is told, or that memory was refused
+-- so for a refused text its place is reported, or that memory was refused
 pub faulty_text_is_told : FaultyTextIsTold
 faulty_text_is_told profile files input output text line code x e utf8 bad fails = grind arith
 

@@ -1,4 +1,4 @@
--- The text of a fault of files, without a newline. `pb_command` tells it in a line.
+-- The text of a fault of files, without a newline. `pb_command` prints it as a line.
 use Rattle.std.specs.Prelude.{ℕ, List, ◌++◌, codes}
 use Rattle.pb_reading.specs.Faults.{line_told, code_told, line_and_code}
 use Rattle.pb_files.specs.declared.fault.FileFault.{FileFault}

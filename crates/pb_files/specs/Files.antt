@@ -1,10 +1,10 @@
--- What reading the paths of files answers, where that is known. Of a system's file it isn't, as another program may
--- change it between two readings; of files in memory it is. All contracts of commands speak of this.
+-- What reading the paths of files answers, if that is known. For a system's file it isn't, since another program may
+-- change it between two readings; for files in memory it is. All contracts of commands speak of this.
 use Rattle.std.specs.Prelude.{◌≡◌, ◌≢◌, ◌⊎◌, ℕ, Bool, List, Option, Some, None, Result, Err}
 use Rattle.pb_base.specs.Growths.{refused_growth}
 use Rattle.pb_files.specs.declared.paths.PathFault.{PathFault}
 
--- the bytes of a path, as of any text
+-- the bytes of a path, which are listed like those of any text
 abbrev pub PathBytes : Type 0
 PathBytes = List ℕ
 
@@ -36,10 +36,10 @@ pub record Filing : Type 0 where
   pub was : Bool
   pub failed : Bool
 
--- that of paths, by what they tell of themselves
+-- that of paths, by what their `held` and `failed` give
 abbrev pub filing : {P : Type 0} → (P → Held) → (P → Bool) → P → P → Filing
 filing held failed old new = record { before = held old; after = held new; was = failed old; failed = failed new }
 
--- nothing was written to a path, nor failed to be
+-- nothing was written to a path, and no write failed
 abbrev pub KeepsFiles : Filing → Type 0
 KeepsFiles files = (files.after ≡ files.before) × (files.failed ≡ files.was)

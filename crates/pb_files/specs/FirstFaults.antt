@@ -1,4 +1,4 @@
--- Where it is known of files what reading them answers, the first that is at fault is told: the statements of the law
+-- If it is known of files what reading them answers, the first that is at fault is reported: the statements of the law
 -- `first_file_fault_is_told`, for any number of files.
 use Rattle.std.specs.Prelude.{◌≡◌, ℕ, List, ◌∷◌, ◌++◌, Some, Ok, Err, IsUtf8, All}
 use Rattle.pb_files.specs.declared.paths.PathFault.{PathFault}
@@ -14,26 +14,26 @@ IsKnownRead before path = (bytes : List ℕ) × (before path ≡ Some (Ok bytes)
 abbrev pub IsKnownText : Held → PathBytes → Type 0
 IsKnownText before path = (bytes : List ℕ) × (before path ≡ Some (Ok bytes)) × IsUtf8 bytes
 
--- this tells why the path isn't read, or that memory was refused
+-- this fault states why the path isn't read, or that memory was refused
 abbrev pub TellsUnread : PathBytes → PathFault → FileFault → Type 0
 TellsUnread path fault (FileFault.Unreadable p) = (p.now ≡ path) × (fault ≡ PathFault.Failed)
 TellsUnread path fault (FileFault.TooLarge p) = (p.now ≡ path) × (fault ≡ PathFault.TooLarge)
 TellsUnread path fault (FileFault.NoMemory refused) = Unit {0}
 TellsUnread path fault _ = ⊥
 
--- this tells that the path is no text, or that memory was refused
+-- this fault states that the path is no text, or that memory was refused
 abbrev pub TellsNoText : PathBytes → FileFault → Type 0
 TellsNoText path (FileFault.NotText p) = p.now ≡ path
 TellsNoText path (FileFault.NoMemory refused) = Unit {0}
 TellsNoText path _ = ⊥
 
--- a path behind those that are read, with its own fault, whatever comes after it
+-- the first path that isn't read is reported with its own fault, whatever comes after it
 abbrev pub FirstUnreadIsTold : Type 0
 FirstUnreadIsTold = (before : Held) (front back : List PathBytes) (path : PathBytes) (fault : PathFault) (f : FileFault) →
     All (IsKnownRead before) front → before path ≡ Some (Err fault) →
     IsFileFault before (front ++ (path ∷ back)) f → TellsUnread path fault f
 
--- a path that is no text, behind those that are, where those after it are read
+-- the first path that is no text is reported, if those after it are read
 abbrev pub FirstNoTextIsTold : Type 0
 FirstNoTextIsTold = (before : Held) (front back : List PathBytes) (path : PathBytes) (bytes : List ℕ) (f : FileFault) →
     All (IsKnownText before) front → before path ≡ Some (Ok bytes) → (IsUtf8 bytes → ⊥) →

@@ -1,4 +1,4 @@
--- What is told of the first file that can't be read, or isn't text. Every file is read before any is taken as text, so
+-- The fault of the first file that can't be read, or isn't text. Every file is read before any is taken as text, so
 -- there are two ways to be first. Each command cites it for its own files.
 use Rattle.std.specs.Prelude.{◌≡◌, ◌⊎◌, ℕ, List, [], ◌∷◌, Option, Ok, Err, IsUtf8}
 use Rattle.pb_base.specs.Growths.{refused_growth}
@@ -12,7 +12,7 @@ memory_fault = FileFault.NoMemory refused_growth
 
 -- ---- a file
 
--- reading the path answers this fault, which is told of it; or memory was refused
+-- reading the path answers this fault, which names the path; or memory was refused
 abbrev pub IsUnreadAt : Option ReadAnswer → PathBytes → FileFault → Type 0
 IsUnreadAt known path (FileFault.Unreadable p) = (p.now ≡ path) × IsKnownAs known (Err PathFault.Failed)
 IsUnreadAt known path (FileFault.TooLarge p) = (p.now ≡ path) × IsKnownAs known (Err PathFault.TooLarge)

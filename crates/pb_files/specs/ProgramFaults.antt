@@ -1,4 +1,4 @@
--- Where it is known what reading a program's file answers, its own fault is told: the statements of the law
+-- If it is known what reading a program's file answers, its own fault is reported: the statements of the law
 -- `known_programs_are_judged`.
 use Rattle.std.specs.Prelude.{◌≡◌, ◌⊎◌, ℕ, Some, Ok, Err, IsUtf8}
 use Rattle.pb_isa.specs.declared.profile.Profile.{Profile}
@@ -12,19 +12,19 @@ use Rattle.pb_files.specs.Files.{PathBytes, Filing}
 use Rattle.pb_files.specs.PathFaults.{memory_fault}
 use Rattle.pb_files.specs.Programs.{AsmFails, AnswerFails, TellsProgram, Checks}
 
--- this tells the place of a text's fault, or that memory was refused
+-- this fault states the place of a text's fault, or that memory was refused
 abbrev pub TellsPlace : ℕ → ℕ → FileFault → Type 0
 TellsPlace line code (FileFault.Text f) = f ≡ TextFault.At line code
 TellsPlace line code (FileFault.NoMemory refused) = Unit {0}
 TellsPlace line code _ = ⊥
 
--- of text that is known and is no program's, it is told where it is at fault
+-- if a text is known and is no program's, the place where it is at fault is reported
 abbrev pub FaultyTextIsTold : Type 0
 FaultyTextIsTold = (profile : Profile) (files : Filing) (input output text : PathBytes) (line code : ℕ) (f : FileFault) →
     files.before input ≡ Some (Ok text) → IsUtf8 text → program_of_text profile text ≡ Err (line, code) →
     AsmFails profile files input output f → TellsPlace line code f
 
--- of bytes that are known, nothing but the output or memory fails where they are listed or checked
+-- if bytes are known, nothing but the output or memory fails when they are listed or checked
 abbrev pub KnownBytesAreAnswered : Type 0
 KnownBytesAreAnswered = (profile : Profile) (version : Version) (bytes path : PathBytes) (out : Taking) (f : FileFault) →
     AnswerFails (TellsProgram listing profile) (Some (Ok bytes)) path out f ⊎

@@ -50,13 +50,13 @@ pub record IsFaultyText (profile : Profile) (held : Option ReadAnswer) (f : Text
   pub text_held : IsKnownAs held (Ok text)
   pub fault : IsFaultOf (program_of_text profile text) f
 
--- the file at the path isn't read, or is no program's text, and this tells it
+-- the file at the path isn't read, or is no program's text, and this is its fault
 abbrev pub IsNoProgramText : Profile → Option ReadAnswer → PathBytes → FileFault → Type 0
 IsNoProgramText profile held path (FileFault.Text f) = IsFaultyText profile held f
 IsNoProgramText profile held path (FileFault.NotText p) = IsNoText held path (FileFault.NotText p)
 IsNoProgramText profile held path f = IsUnreadAt held path f
 
--- Why nothing was assembled, and whether a write to a path has failed: only where one did is it told of the output.
+-- Why nothing was assembled, and whether a write to a path has failed: only if one did does the fault name the output.
 abbrev pub AsmFails : Profile → Filing → PathBytes → PathBytes → FileFault → Type 0
 AsmFails profile files input output (FileFault.Unwritable p) = (p.now ≡ output) × Unwritten profile files input output
 AsmFails profile files input output (FileFault.NoMemory refused) = KeepsFiles files ⊎ Unwritten profile files input output
@@ -70,11 +70,11 @@ AsmLeaves profile files input output (Err f) = AsmFails profile files input outp
 
 -- ---- answers on bytes
 
--- the line that tells where bytes are refused
+-- the line that reports where bytes are refused
 abbrev pub refusal_line : ℕ → ℕ → List ℕ
 refusal_line slot code = slot_and_code slot code ++ codes "\n"
 
--- how bytes are judged, and the text that tells it
+-- how bytes are judged, and the text that states it
 abbrev pub Judges : Type 1
 Judges = List ℕ → Verdict → List ℕ → Type 0
 
@@ -83,11 +83,12 @@ abbrev pub TellsProgram : (List Insn → List ℕ) → Profile → Judges
 TellsProgram text_of profile bytes Verdict.Accepted text = (p : ProgramOf) × (p.profile ≡ profile) × Encodes bytes p × (text ≡ text_of p.insns)
 TellsProgram text_of profile bytes Verdict.Refused text = (slot code : ℕ) × AreRefusedAs profile bytes slot code × (text ≡ refusal_line slot code)
 
--- the line that tells that a program is accepted
+-- the line that reports that a program is accepted
 abbrev pub acceptance_line : ℕ → List ℕ
 acceptance_line n = codes "accepted " ++ (decimal n ++ codes " slots\n")
 
--- whether the rules accept the program of the profile that the bytes encode, for records of this version, where it may call all helpers; else the first slot at fault
+-- whether the rules accept the program of the profile that the bytes encode, for records of this version, if it may call
+-- all helpers; else the first slot at fault
 abbrev pub Checks : Profile → Version → Judges
 Checks profile version bytes Verdict.Accepted text = (j : JudgedOf) × IsAcceptedCode profile version bytes all_helpers j × (text ≡ acceptance_line (slots j.program.insns))
 Checks profile version bytes Verdict.Refused text = (slot code : ℕ) × IsRefusedCode profile version bytes all_helpers slot code × (text ≡ refusal_line slot code)

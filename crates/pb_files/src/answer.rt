@@ -1,4 +1,5 @@
-//! What a command tells of what it was given. A refusal is an answer and no fault, so that it goes to standard output.
+//! What a command answers on what it was given. A refusal is an answer and no fault, so it goes to
+//! standard output.
 
 /// Whether what a command was given is accepted.
 #[derive(Clone, Copy, Debug, PartialEq, Eq, Drop)]
@@ -7,7 +8,7 @@ pub enum Verdict {
     Refused,
 }
 
-/// A verdict on a file's bytes, and the text that tells it.
+/// A verdict on a file's bytes, and the text that states it.
 #[derive(Drop)]
 pub struct VerdictText {
     pub verdict: Verdict,

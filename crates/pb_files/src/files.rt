@@ -1,4 +1,5 @@
-//! The real files: nothing is known of what they hold, since no contract of the standard library says it.
+//! The real files: nothing is known of what they hold, since no contract of the standard library
+//! states it.
 ghost use Rattle.std.specs.Prelude.{None};
 
 use crate::paths::{PathFault, Paths};
@@ -10,9 +11,10 @@ use std::io::{self, ErrorKind, Read};
 /// The most bytes that a file may have: 16 MiB.
 const LIMIT: u64 = 16_777_216;
 
-/// The files of the system. No contract says what they hold, and they may change between two readings: so of none is it
-/// known what reading it answers (`held` is `None` at each path), and the clauses of `Paths` on known answers say
-/// nothing here. `command` is proved over any paths, also where all is known, and can't tell which it is given.
+/// The files of the system. No contract states what they hold, and they may change between two
+/// readings. So of none is it known what reading it answers (`held` is `None` at each path), and
+/// the clauses of `Paths` on known answers promise nothing here. `command` is proved over any
+/// paths, also over those of which all is known, and can't distinguish one kind from the other.
 #[derive(Drop)]
 pub struct Files<'a> {
     rt: &'a HostRuntime,
@@ -24,7 +26,8 @@ impl<'a> Files<'a> {
         Files { rt, failed: false }
     }
 
-    // The bytes of a file, as far as one more than it may have: by the one more it is known that there are too many.
+    // The bytes of a file, up to one more than it may have: the one more shows that there are too
+    // many.
     fn bytes(&self, path: &str) -> io::Result<Vec<u8>> {
         let mut bytes = Vec::new(self.rt.alloc());
         let file = fs::open(self.rt, path)?;

@@ -1,4 +1,5 @@
-//! Where files are read and written: the one thing that commands ask of a system, so that all else is proved over any.
+//! Where files are read and written: the one thing that commands ask of a system, so that all else
+//! is proved over any system.
 ghost use Rattle.std.specs.Prelude.{◌≡◌, true, Bool, IfOk, IfErr, OnOk, OnErr};
 ghost use Rattle.pb_files.specs.Files.{Held, IsKnownAs, IsFaultKnownAs, KeepsOthers};
 
@@ -9,14 +10,14 @@ use pb_base::NoMemory;
 pub enum PathFault {
     /// It isn't there or can't be made, or a read or a write failed.
     Failed,
-    /// It has more than 16,777,216 bytes. Of a write it says no more than `Failed`.
+    /// It has more than 16,777,216 bytes. For a write it means no more than `Failed`.
     TooLarge,
     /// A growth was refused.
     NoMemory(NoMemory),
 }
 
-/// Reads and writes files by their paths, and tells what reading a path answers, where that is known, and whether a
-/// write has failed.
+/// Reads and writes files by their paths. `held` gives what reading a path answers, if that is
+/// known, and `failed` whether a write has failed.
 pub trait Paths {
     ghost held: { Self → Held };
 
@@ -29,7 +30,7 @@ pub trait Paths {
         ensures same { held self.new ≡ held self.old }
         ensures quiet { failed self.new ≡ failed self.old };
 
-    /// Makes the bytes the whole file at a path. Where that fails, the path may hold anything.
+    /// Makes the bytes the whole file at a path. If that fails, the path may hold anything.
     fn write(&mut self, path: &str, bytes: &[u8]) -> Result<(), PathFault>
         ensures bytes { OnOk result (IsKnownAs (held self.new path.now) (Ok bytes.now)) }
         ensures others { KeepsOthers (held self.old) (held self.new) path.now }

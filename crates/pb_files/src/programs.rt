@@ -1,4 +1,5 @@
-//! Programs assembled, listed and checked. A file's bytes are judged, and the text made, before any of it is written.
+//! Programs assembled, listed and checked. A file's bytes are judged, and the text made, before any
+//! of it is written.
 ghost use Rattle.std.specs.Prelude.{◌≡◌, ℕ, List, false, IfOk, IfErr, string_bytes};
 ghost use Rattle.pb_isa.specs.declared.insn.Insn.{Insn};
 ghost use Rattle.pb_asm.specs.Listing.{listing};
@@ -24,7 +25,7 @@ use pb_texts::ProgramFile;
 use pb_verify::VerifyFault;
 use std::alloc::Global;
 
-// The fault of a text. Want of memory has no line, so that it is told as such.
+// The fault of a text. Want of memory has no line, so it is a fault of its own.
 fn text_fault<'a>(fault: AsmFault) -> FileFault<'a>
     ensures { IsTextFault fault result }
 {
@@ -34,7 +35,7 @@ fn text_fault<'a>(fault: AsmFault) -> FileFault<'a>
     }
 }
 
-// The bytes of the program of this profile whose text a file is.
+// The bytes of the program of this profile whose text a file holds.
 fn bytes_of_text<'a, P: Paths>(
     alloc: Global,
     profile: Profile,
@@ -54,7 +55,7 @@ fn bytes_of_text<'a, P: Paths>(
     }
 }
 
-/// Writes the bytes of the program of this profile whose text a file is.
+/// Writes the bytes of the program of this profile whose text a file holds.
 pub fn assemble_file<'a, P: Paths>(
     alloc: Global,
     profile: Profile,
@@ -73,7 +74,7 @@ pub fn assemble_file<'a, P: Paths>(
     }
 }
 
-// A refusal, and the line that tells it.
+// A refusal, and the line that reports it.
 fn refusal_of<'a>(alloc: Global, refused: Refused) -> Result<VerdictText, FileFault<'a>>
     ensures told { IfOk result
         (λ a. (a.verdict ≡ verdicts.Refused)
@@ -87,11 +88,11 @@ fn refusal_of<'a>(alloc: Global, refused: Refused) -> Result<VerdictText, FileFa
     })
 }
 
-/// What is told of a program.
+/// Which text is written for a program.
 pub trait ProgramText {
     ghost text_of: { List Insn → List ℕ };
 
-    /// The text that is told of this one.
+    /// The text for this one.
     fn text(alloc: Global, program: &Program) -> Result<String, NoMemory>
         ensures { IfOk result (λ s. string_bytes s ≡ text_of program.now.insns) };
 }
@@ -107,7 +108,7 @@ impl ProgramText for Listing {
     }
 }
 
-// What is told of the program of these bytes, read in this profile, or where they are refused.
+// The text for the program of these bytes, read in this profile, or where they are refused.
 fn told_of<'a, V: ProgramText>(
     alloc: Global,
     profile: Profile,
@@ -130,7 +131,7 @@ fn told_of<'a, V: ProgramText>(
     }
 }
 
-// That a program is accepted, and the line that tells it.
+// That a program is accepted, and the line that reports it.
 fn acceptance_of<'a>(alloc: Global, slots: usize) -> Result<VerdictText, FileFault<'a>>
     ensures told { IfOk result (λ a. (a.verdict ≡ verdicts.Accepted)
         × (string_bytes a.text ≡ acceptance_line slots)) }
@@ -143,8 +144,8 @@ fn acceptance_of<'a>(alloc: Global, slots: usize) -> Result<VerdictText, FileFau
     })
 }
 
-// Whether the program of these bytes, read in this profile, is accepted with all helpers for change records of this version,
-// or where bytes or program are refused.
+// Whether the program of these bytes, read in this profile, is accepted with all helpers for change
+// records of this version, or where bytes or program are refused.
 fn verdict_of<'a>(
     alloc: Global,
     profile: Profile,
@@ -177,7 +178,8 @@ fn write_answer<'a, O: Sink>(answer: &VerdictText, out: &mut O) -> Result<Verdic
     }
 }
 
-/// Writes what is told of the program of this profile whose bytes a file is, or where they are refused.
+/// Writes the text for the program of this profile whose bytes a file holds, or where they are
+/// refused.
 pub fn tell_file<'a, V: ProgramText, P: Paths, O: Sink>(
     alloc: Global,
     profile: Profile,

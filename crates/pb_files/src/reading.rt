@@ -1,5 +1,5 @@
-//! Files as bytes and as text. All files of a command are read before one is taken as text, so that a missing file is
-//! told before a malformed one.
+//! Files as bytes and as text. All files of a command are read before one is taken as text, so that
+//! a missing file is reported before a malformed one.
 ghost use Rattle.std.specs.Prelude.{◌≡◌, ◌∷◌, [], IfOk, IfErr, IsUtf8, string_bytes};
 ghost use Rattle.pb_files.specs.Files.{IsKnownAs};
 ghost use Rattle.pb_files.specs.PathFaults.{IsUnreadAt, IsNoTextAt, IsFileFault};
@@ -35,7 +35,8 @@ pub fn text_of<'a>(bytes: Vec<u8>, path: &'a str) -> Result<String, FileFault<'a
     }
 }
 
-/// Two files as text. Both are read before the first is taken as text; of both at fault the first is told.
+/// Two files as text. Both are read before the first is taken as text. If neither is read, or if
+/// neither is text, the first is reported.
 pub fn texts_at<'a, P: Paths>(
     paths: &mut P,
     manifest: &'a str,

@@ -118,7 +118,7 @@ impl Finished {
         self.start
     }
 
-    /// The cells that it asked for, and what it was told, in order.
+    /// The cells that it asked for, and the replies, in order.
     pub fn talk(&self) -> &[(Ask, Reply)]
         ensures { talk_of result.now ≡ self.now.talk }
     {
@@ -145,8 +145,8 @@ impl Finished {
     {
         self.talk.is_empty() && self.writes.is_empty()
     }
-    /// Whether it is a run of the same program with the same helpers, on the same record, that began, asked and was told,
-    /// ended and wrote the same.
+    /// Whether it is a run of the same program with the same helpers, on the same record, with the
+    /// same start, asks, replies, result and writes.
     pub fn is_same(&self, other: &Finished) -> bool
         ensures { IsTrue result ↔ (self.now ≡ other.now) }
     {

@@ -1,4 +1,4 @@
--- A record tells its version by its size.
+-- A record's size shows its version.
 use Rattle.std.proofs.Common.{arith, ◌≡◌, ap, sym, ◌∙◌, nat_eq}
 use Rattle.pb_isa.specs.declared.limits.TheConstants.{MAX_RECORD_BYTES}
 use Rattle.pb_helpers.specs.declared.change.Version.{Version}

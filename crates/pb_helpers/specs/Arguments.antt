@@ -44,7 +44,7 @@ is_place _ = false
 abbrev pub read_rules : Frame → List RuleCode
 read_rules f = unset f 1 ++ unset f 2 ++ unset f 3 ++ filled_bytes (kind_of f 3) ++ when (not (is_cell f && is_place (kind_of f 3))) RuleCode.WrongArgument
 
--- those of a read, and the bytes are written besides
+-- those of a read, and the bytes are also written
 abbrev pub write_rules : Frame → List RuleCode
 write_rules f = unset f 1 ++ unset f 2 ++ unset f 3 ++ taken_bytes f (kind_of f 3) ++ when (not (is_cell f && is_place (kind_of f 3))) RuleCode.WrongArgument
 

@@ -20,7 +20,7 @@ abbrev pub size_of : Version → ℕ
 size_of Version.First = RECORD_BYTES
 size_of Version.Second = MAX_RECORD_BYTES
 
--- whether it tells what the cell held at the acknowledged timestamp
+-- whether it shows what the cell held at the acknowledged timestamp
 abbrev pub is_second : Version → Bool
 is_second Version.First = false
 is_second Version.Second = true

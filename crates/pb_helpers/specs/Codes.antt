@@ -3,7 +3,7 @@
 use Rattle.std.specs.Prelude.{ℕ, ◌≤◌, Bool, true, false, List, [], ◌∷◌, map, Option, Some, None}
 use Rattle.pb_helpers.specs.declared.code.RuleCode.{RuleCode}
 
--- the number by which a code is told
+-- the number by which a code is reported
 abbrev pub code_number : RuleCode → ℕ
 code_number RuleCode.ReadsUnset = 21
 code_number RuleCode.WritesR10 = 22

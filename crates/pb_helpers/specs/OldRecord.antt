@@ -17,7 +17,7 @@ is_value None = 0
 abbrev pub record_with_old : Cell → Revision → ℕ → Reply → List ℕ
 record_with_old x found acknowledged old = record_of x found acknowledged ++ (word_bytes (is_value old) ++ reply_bytes old)
 
--- whether a program is judged for records of version 2, which only their size tells
+-- whether a program is judged for records of version 2, which only their size shows
 abbrev pub tells_old : JudgedOf → Bool
 tells_old j = nat_eq j.record_size MAX_RECORD_BYTES
 

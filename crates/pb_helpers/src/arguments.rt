@@ -1,5 +1,5 @@
-//! Which arguments a helper accepts. The codes of registers and stack bytes are found here for loads and stores too, so
-//! that each rule is said once.
+//! Which arguments a helper accepts. The codes of registers and stack bytes are found here for
+//! loads and stores too, so that each rule is written once.
 ghost use Rattle.std.specs.Prelude.{◌≡◌, ◌<◌, is_some, IsTrue};
 ghost use Rattle.pb_isa.specs.Helpers.{declared_helper};
 ghost use Rattle.pb_helpers.specs.Codes.{lowest_code};
@@ -9,8 +9,8 @@ use crate::code::RuleCode;
 use crate::table::HelperTable;
 use pb_kinds::{Frame, Kind, in_stack};
 
-/// The code of a read of the register with this number. Where it breaks another rule too, this one is told, since it is
-/// the lowest.
+/// The code of a read of the register with this number. If it breaks another rule too, this one is
+/// reported, since it is the lowest.
 pub fn unset_code(frame: &Frame, register: usize) -> Option<RuleCode>
     requires { register < 11 }
     ensures { result ≡ lowest_code (unset frame.now register) }
@@ -37,8 +37,8 @@ pub fn stack_write_code(at: i64, bytes: u8) -> Option<RuleCode>
     RuleCode::OutsideStack.when(!in_stack(at, bytes))
 }
 
-// The 32 bytes that a read of a cell fills. What isn't a stack pointer has no bytes to judge, since it is told as a
-// wrong argument.
+// The 32 bytes that a read of a cell fills. What isn't a stack pointer has no bytes to judge, since
+// it is reported as a wrong argument.
 fn filled_bytes(place: Kind) -> Option<RuleCode>
     ensures { result ≡ lowest_code (filled_bytes place) }
 {
@@ -87,7 +87,7 @@ fn read_code(frame: &Frame) -> Option<RuleCode>
         .or(RuleCode::WrongArgument.when(!(is_cell(frame) && is_place(frame.kinds[3]))))
 }
 
-// Those of helper 2. Its 32 bytes are read, so that they have to be written besides.
+// Those of helper 2. Its 32 bytes are read, so that they also have to be written.
 #[tactic(auto, using(crate::proofs::LowestCode::lowest_append))]
 fn write_code(frame: &Frame) -> Option<RuleCode>
     ensures { result ≡ lowest_code (write_rules frame.now) }

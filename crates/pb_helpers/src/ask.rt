@@ -1,4 +1,5 @@
-//! What a program asks, and what it is told: both are kept in order with a run, and compared where it is declared.
+//! What a program asks, and what it is answered: both are kept in order with a run, and compared
+//! where it is declared.
 ghost use Rattle.std.specs.Prelude.{◌≡◌, ◌↔◌, IsTrue};
 ghost use Rattle.pb_isa.specs.Machine.{IsReply};
 ghost use Rattle.pb_helpers.specs.Replies.{ask_of, reply_of};
@@ -13,12 +14,12 @@ pub struct Ask {
     pub column: Column,
 }
 
-/// What the program is told of the cell.
+/// What the program is answered about the cell.
 #[derive(Clone, Copy)]
 pub enum Reply {
     /// Its value.
     Found(Value),
-    /// It is absent, or deleted: a program isn't told which.
+    /// It is absent, or deleted: a program doesn't learn which.
     Absent,
 }
 
@@ -42,7 +43,7 @@ impl Reply {
             Reply::Absent => None,
         }
     }
-    /// Whether it tells the same.
+    /// Whether both are the same answer.
     pub fn is_same(self, other: Reply) -> bool
         ensures { IsTrue result ↔ (reply_of self ≡ reply_of other) }
     {

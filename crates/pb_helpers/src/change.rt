@@ -9,18 +9,20 @@ use pb_base::{COLUMNS, Cell, Column, Content, Revision, Row, Ts, Value};
 use pb_isa::{MAX_RECORD_BYTES, RECORD_BYTES};
 use std::marker::Model;
 
-/// Which record a program is told. A program is judged for one, since it may load only bytes that the record has.
+/// Which record a program gets. A program is judged for one, since it may load only bytes that the
+/// record has.
 #[derive(Clone, Copy, PartialEq, Eq)]
 pub enum Version {
     First,
     Second,
 }
 
-/// The change record: the bytes that tell a program which change it runs for. Row, column, the change's start and commit,
-/// 1 for a value or 0 for a deletion, and the acknowledged timestamp (0 for none) stand at 0, 8, 16, 24, 32 and 40, in
-/// 8 bytes each with the lowest first; at 48 stands the value, or zeros. In version 2 there stand besides at 80 1 or 0 for
-/// whether the cell had a value at the acknowledged timestamp, and at 88 that value, or zeros. It is a cell's: its column is
-/// 0 to 15.
+/// The change record: the bytes that show a program which change it runs for. Six numbers stand
+/// first, in 8 bytes each with the lowest first. Row and column are at 0 and 8, the change's start
+/// and commit at 16 and 24, 1 for a value or 0 for a deletion at 32, and the acknowledged timestamp
+/// (0 for none) at 40. At 48 stands the value, or zeros. In version 2 there also stands at 80 a 1
+/// or 0 for whether the cell had a value at the acknowledged timestamp, and at 88 that value, or
+/// zeros. It is a cell's: its column is 0 to 15.
 #[derive(Drop)]
 pub struct Record {
     bytes: Bytes,
@@ -49,7 +51,8 @@ impl Model for Record {
     ghost invariant = { λ r. (recorded_column (all_bytes r.bytes) < COLUMNS) × IsSized r.bytes };
 }
 
-// The word at 32. A stamp counts as no value, since only an acknowledgment has one, and no observer is told of those.
+// The word at 32. A stamp counts as no value, since only an acknowledgment has one, and no observer
+// is notified of those.
 fn present(content: Content) -> u64
     ensures { result ≡ present content }
 {
@@ -107,7 +110,7 @@ fn old_value(old: Option<Value>) -> Value
 }
 
 impl Version {
-    /// Whether it tells what the cell held at the acknowledged timestamp.
+    /// Whether it shows what the cell held at the acknowledged timestamp.
     pub fn tells_old(self) -> bool
         ensures { result ≡ is_second self }
     {
@@ -126,13 +129,14 @@ impl Record {
         }
     }
 
-    /// The record of version 2, which tells besides the value that the cell had at the acknowledged timestamp, if it
-    /// had one.
+    /// The record of version 2, which also shows the value that the cell had at the acknowledged
+    /// timestamp, if it had one.
     pub fn with_old(cell: Cell, found: &Revision, acknowledged: Ts, old: Option<Value>) -> Record
         ensures record { result ≡ record_with_old cell found.now acknowledged.0 old }
         ensures size { length result ≡ MAX_RECORD_BYTES }
     {
-        // From the last to the first, so that the place of each part is known, whatever stands behind it.
+        // From the last to the first, so that the place of each part is known, whatever stands
+        // after it.
         let mut bytes = [0; MAX_RECORD_BYTES];
         bytes[88..].copy_from_slice(&old_value(old));
         bytes[80..88].copy_from_slice(&flag_of(old).to_le_bytes());

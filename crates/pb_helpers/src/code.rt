@@ -1,5 +1,5 @@
-//! The rules that an instruction can break. They are an enum, since a definition can't be read by numbers; it stands in
-//! this crate, as the lowest whose rules tell codes.
+//! The rules that an instruction can break. They are an enum, since a definition can't be read by
+//! numbers; it stands in this crate, as the lowest whose rules report codes.
 ghost use Rattle.std.specs.Prelude.{◌≡◌, if◌then◌else◌};
 ghost use Rattle.pb_helpers.specs.Codes.{code_number, when, lowest_code};
 
@@ -45,7 +45,7 @@ pub enum RuleCode {
 }
 
 impl RuleCode {
-    /// The number by which a code is told.
+    /// The number by which a code is reported.
     pub fn code(self) -> u8
         ensures { result ≡ code_number self }
     {

@@ -1,4 +1,4 @@
--- The acknowledged timestamp that a read tells is the start of a run committed up to the start of the reader.
+-- The acknowledged timestamp that a read returns is the start of a run committed up to the start of the reader.
 use Rattle.std.proofs.Common.{◌≡◌, ℕ, ◌≤◌, inr, List, ap, arith}
 use Rattle.pb_history.specs.Words.{Cell, Row, Answer, ObserverOf, stamp_of, acknowledged_in, StateOf}
 use Rattle.pb_history.specs.declared.entry.Entry.{Entry}

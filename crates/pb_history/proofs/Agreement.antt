@@ -1,4 +1,4 @@
--- A legal journal and the state that it leads to tell each other.
+-- A legal journal and the state that it leads to agree.
 use Rattle.std.proofs.Common.{◌≡◌, ◌≢◌, ℕ, ◌≤◌, ◌⊎◌, inl, inr, false, cond, List, [], ◌∷◌, ◌++◌, Option, Some, None, refl, sym, ap, subst, ◌∙◌, arith}
 use Rattle.std.specs.Cmp.{unsigned_tied, nat_cmp_total}
 use Rattle.std.specs.FinMap as map
@@ -26,13 +26,13 @@ step_by s x (Some t) = Step.ReadAt (ts s) x t
 abbrev pub got : StateOf → ℕ → Option TransactionOf
 got state s = map.get state.transactions s
 
--- ---- what entries tell of transactions, and transactions of entries
+-- ---- what entries record of transactions, and transactions of entries
 
 -- stamped with c, or past that
 abbrev pub PastStamp : Phase → ℕ → Type 0
 PastStamp h c = (h ≡ Phase.Stamped (ts c)) ⊎ ((h ≡ Phase.Committed (ts c)) ⊎ (h ≡ Phase.Failed))
 
--- what an answered step says of its transaction from then on
+-- what an answered step promises of its transaction from then on
 abbrev pub Told : StateOf → ℕ → Step → Answer → Type 0
 Told state seat (Step.Begin work) (Answer.At s) = (t : TransactionOf) × (got state s.0 ≡ Some t) × (t.seat ≡ seat) × (t.work ≡ work)
 Told state seat (Step.Read s x) (Answer.Found start commit content) = (t : TransactionOf) × (got state s.0 ≡ Some t) × Has t.reads (read_of x None (Answer.Found start commit content))
@@ -44,7 +44,7 @@ Told state seat (Step.Stamp s) (Answer.At c) = (t : TransactionOf) × (got state
 Told state seat (Step.CommitPrimary s) Answer.Committed = (t : TransactionOf) × (got state s.0 ≡ Some t) × (c : ℕ) × (t.phase ≡ Phase.Committed (ts c))
 Told state seat _ _ = Unit {0}
 
--- the entries that a transaction has behind it
+-- the entries that the journal has of a transaction
 pub record Logged (observers : List ObserverOf) (journal : List Entry) (s : ℕ) (t : TransactionOf) : Type 0 where
   pub begun : IsEntry journal t.seat (Step.Begin t.work) (Answer.At (ts s))
   pub reads : (r : RecordedRead) → Has t.reads r → IsEntry journal t.seat (step_by s r.cell r.at) r.answer

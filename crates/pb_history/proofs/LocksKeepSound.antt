@@ -13,7 +13,7 @@ use Rattle.pb_base.proofs.Logic.{or_cases}
 abbrev pub with_prewrite : TableView → ℕ → Cell → Cell → Content → TableView
 with_prewrite v s x p k = record v { prewritten = set1 v.prewritten s (λ y. v.prewritten s y || same_cell x y); lock = set2 v.lock x s (Some p); stored = set2 v.stored x s (Some k) }
 
--- what a read tells does not turn on phases: it stands where its write record and data do
+-- what a read returned doesn't depend on phases: it stands where its write record and data do
 pub tells_on : (v w : TableView) (s : ℕ) (x : Cell) (answer : Answer) → ((start c : ℕ) → v.write x c ≡ Some start → w.write x c ≡ Some start) → ((start c : ℕ) → v.write x c ≡ Some start → w.stored x start ≡ v.stored x start) → ((c u : ℕ) → c ≤ s → w.write x c ≡ Some u → v.write x c ≡ Some u) → ReadTells v s x answer → ReadTells w s x answer
 tells_on v w s x answer f g h t = grind arith
 
@@ -149,7 +149,7 @@ module _ (v : TableView) (i : IsSoundView v) (s c : ℕ) (x p : Cell) (locked : 
   stamp_was : (u d : ℕ) → HasStamp (with_record v s x c) u d → HasStamp v u d
   stamp_was u d w = grind arith
 
-  -- who is committed is s, or was it before
+  -- a transaction that is committed is s, or was it before
   complete_now : (u d : ℕ) → (with_record v s x c).phase u ≡ Some (committed_at d) → ((u ≡ s) × (d ≡ c)) ⊎ (v.phase u ≡ Some (committed_at d))
   complete_now u d e = elim (changed_or_before v.phase s (Some (committed_at c)) u (Some (committed_at d)) e) [ inl a ↦ inl (a.0, same_commit d c (sym a.1)) | inr b ↦ inr b.0 ]
 

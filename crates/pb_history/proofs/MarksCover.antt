@@ -181,7 +181,7 @@ module _ (observers : List ObserverOf) (seats clock : ℕ) where
   pub legal_covers : (journal : List Entry) (state : StateOf) → IsLegal observers seats clock journal state → IsCovered state
   legal_covers journal state l = run_covers [] journal (opening observers seats clock) state (record { fits = l.fits; run = refl }) nothing_covers l.run
 
--- ---- behind is marked
+-- ---- a cell on which an observer isn't up to date is marked
 
 module _ (journal : List Entry) (state : StateOf) (a : Agrees journal state) (i : IsSoundTable state) (cov : IsCovered state) where
   -- of two write records on one cell, the later commit is of the later start
@@ -193,7 +193,7 @@ module _ (journal : List Entry) (state : StateOf) (a : Agrees journal state) (i 
         elim (i.apart x c u d s f e n) [ inl g ↦ omega (arith, second, g, low) | inr g ↦ absurd (omega (arith, second, g, low)) ])
   ]
 
-  -- an acknowledgment of a start at least c tells a stamp at least c
+  -- an acknowledgment of a start at least c has a stamp at least c
   acknowledged_by_then : (p : ℕ) (row : Row) (column c d s : ℕ) (v : Option Revision) → IsNewestVersion state.entries (Cell.Ack p row column) v → write_at state.entries (Cell.Ack p row column) d ≡ Some s → c ≤ s → c ≤ stamp_in v
   acknowledged_by_then p row column c d s None n e low = let none = n d (small journal state a i cov (Cell.Ack p row column) d s e) in absurd cc
   acknowledged_by_then p row column c d s (Some v) n e low =

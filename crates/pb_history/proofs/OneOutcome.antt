@@ -41,7 +41,7 @@ lock_or_none e x s p a none = some_none _ _ a.locked (none s a.fits)
 one_mark : (marks : Marks) (after : Option Cell) (x y : Cell) → IsNextMark marks after (Some x) → IsNextMark marks after (Some y) → x ≡ y
 one_mark marks after x y p q = grind (arith, first_of_two)
 
--- an observer is behind, or all are up to date
+-- that an observer isn't up to date, and that all are, exclude each other
 behind_or_not : (observers : List ObserverOf) (e : Entries) (x : Cell) → SomeBehind observers e x → AllUpToDate observers e x → ⊥
 behind_or_not observers e (Cell.Data row column) b all =
     let o = b.1.acknowledges in

@@ -42,7 +42,7 @@ module _ (s : ℕ) where
         | false ↦ λ n. of_transaction r.0 es new seat t sound (after ∙ ap told n ∙ h) mine r.2
       ] refl
 
-  -- the first of them tells which
+  -- the first of them names the seat
   of_first : (old : StateOf) (es : List Entry) (new : StateOf) → IsSoundTable old → got old s ≡ None → JournalLeads old es new → (seat : ℕ) × AreOf seat (entries_naming s es)
   of_first old [] new i h r = (0, λ e has. absurd has)
   of_first old (e ∷ es) new i h r =

@@ -1,4 +1,4 @@
--- What the tests of a phase tell of it.
+-- What the tests of a phase show of it.
 use Rattle.std.proofs.Common.{arith, ◌≡◌, true}
 use Rattle.pb_history.specs.Words.{Phase, is_reading, is_declared}
 

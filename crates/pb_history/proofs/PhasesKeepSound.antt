@@ -77,7 +77,7 @@ module _ (v : TableView) (i : IsSoundView v) (s : ℕ) (h : Phase) (plain : IsPl
 abbrev pub has_read : TableView → ℕ → RecordedRead → TableView
 has_read v s r = record v { reads = set1 v.reads s (v.reads s ++ r ∷ []) }
 
--- a read is recorded: it tells what stands, and no lock at most the timestamp read at was seen
+-- a read is recorded: it returned what stands, and no lock at most the timestamp read at was seen
 module _ (v : TableView) (i : IsSoundView v) (s : ℕ) (x : Cell) (at : Option Ts) (answer : Answer) (begun : read_up_to s at ≤ v.clock) (unlocked : (u : ℕ) → u ≤ read_up_to s at → v.lock x u ≡ None) (tells : ReadTells v (read_up_to s at) x answer) where
   read_back : (u : ℕ) (r : RecordedRead) → Has ((has_read v s (read_of x at answer)).reads u) r → ((u ≡ s) × (read_of x at answer ≡ r)) ⊎ Has (v.reads u) r
   read_back u r e = grind (arith, changed_or_before, read_of, has_more, v.reads)

@@ -1,4 +1,4 @@
--- Marks are found, and go once no observer is behind.
+-- Marks are found, and go once all observers are up to date.
 use Rattle.std.proofs.Common.{arith, ◌≡◌, ℕ, true, cond, ◌⊎◌, inl, inr, Option, Some, None, refl, ap, ◌∙◌, is_some, Less, Equal, Greater}
 use Rattle.std.specs.Ordering.{ordering_reverse}
 use Rattle.std.specs.FinMap as map

@@ -1,4 +1,4 @@
--- What the history of a legal journal tells of runs and of reads.
+-- What the history of a legal journal shows of runs and of reads.
 use Rattle.std.proofs.Common.{◌≡◌, ℕ, ◌==◌, not, cond, Bool, inl, inr, true, false, List, [], ◌∷◌, Option, Some, None, refl, sym, ap, subst, ◌∙◌, arith}
 use Rattle.std.proofs.lemmas.Bool.{eqb-true}
 use Rattle.pb_history.specs.Words.{Cell, Content, Revision, Row, Ts, Reply, Talk, Means, JudgedOf, AreRunWrites, Meant, IsMeant, tells_old, record_by, RecordedRead, Declared, Work, Step, Answer, StateOf, opening, cells_of, ObserverOf, observed_cell, observed_column, acknowledgment, IsKnown, IsReadOf, old_at, WasOld, AreReplies, IsItsRun, MayDeclare, is_reading, asked_cell, read_up_to, stamp_of, value_in, found_answer, version_in, acknowledged_in, StepCase}
@@ -41,7 +41,7 @@ run_declared : (observers : List ObserverOf) (o : ℕ) (row : Row) (s : ℕ) (re
 run_declared observers o row s reads what may = grind arith
 
 module _ (journal : List Entry) (state : StateOf) (a : Agrees journal state) (i : IsSoundTable state) where
-  -- every read of a transaction of start s tells this of the history
+  -- every read of a transaction of start s shows this of the history
   abbrev Tells : ℕ → RecordedRead → Type 0
   Tells s r = TellsRecorded state.observers journal (read_up_to s r.at) r.cell r.answer
 
@@ -69,7 +69,7 @@ module _ (journal : List Entry) (state : StateOf) (a : Agrees journal state) (i 
   none_at_zero : (x : Cell) → NoSnapshot state.observers journal 0 x
   none_at_zero x m k h w = let above = (i.stamped m.start m.commit (inr (phase_in_view journal state a i m h))).0 in omega arith
 
-  -- the reads of the asks are among those behind the first two
+  -- the reads of the asks are among those after the first two
   are_behind : (named : Option Ts) (x : Cell) (rest : List RecordedRead) (old : Reply) (asked : List RecordedRead) → WasOld named x rest old asked → (r : RecordedRead) → Has asked r → Has rest r
   are_behind named x rest old asked was r h = grind arith
 

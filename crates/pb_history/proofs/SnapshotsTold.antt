@@ -19,7 +19,7 @@ use Rattle.pb_history.proofs.JournalsAreSound.{legal_sound}
 transaction_there : (o : Option TransactionOf) (h : Phase) → option_map (λ (t : TransactionOf). t.phase) o ≡ Some h → (t : TransactionOf) × (o ≡ Some t) × (t.phase ≡ h)
 transaction_there o h e = grind arith
 
--- what a read that is recorded tells
+-- what a recorded read returned
 abbrev pub TellsRecorded : List ObserverOf → List Entry → ℕ → Cell → Answer → Type 0
 TellsRecorded observers journal s x (Answer.Found start commit content) = IsSnapshot observers journal s x start.0 commit.0 content
 TellsRecorded observers journal s x Answer.Absent = NoSnapshot observers journal s x

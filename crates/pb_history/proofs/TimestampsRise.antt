@@ -16,7 +16,7 @@ pub run_rises : (old : StateOf) (es : List Entry) (new : StateOf) → JournalLea
 run_rises old [] new r = let clock : new.clock ≡ old.clock = ap (λ (z : StateOf). z.clock) r in omega (arith, clock)
 run_rises old (e ∷ es) new r = grind (arith, case_timestamps, e.seat, new.clock, e.step, e.answer, r.1.taken, run_rises r.0 es new r.2)
 
--- ---- what rising timestamps tell
+-- ---- what follows from rising timestamps
 
 pub at_most : (low high : ℕ) (ts : List ℕ) → AreRising low high ts → low ≤ high
 at_most low high [] r = r

@@ -7,7 +7,7 @@ use Rattle.pb_history.specs.Words.{Cell, cell_cmp, cell_cmp_total, cell_cmp-IsAn
 use Rattle.pb_history.specs.History.{Has}
 use Rattle.pb_base.proofs.Logic.{and_true}
 
--- whether two cells are one, kept folded, since proofs need only what it tells
+-- whether two cells are one, kept folded, since proofs need only what it shows
 unfoldable pub same_cell : Cell → Cell → Bool
 same_cell x y = eq_by_cmp cell_cmp x y
 

@@ -72,7 +72,7 @@ pub record IsDeclared (state : StateOf) (start : ℕ) (what : Declared) : Type 0
   pub known : IsKnown what
   pub for_work : IsForWork state.observers t.work what
 
--- the history of a journal, told by the state that it leads to
+-- the history of a journal, as the state that it leads to records it
 pub record TellsHistory (journal : List Entry) (state : StateOf) : Type 0 where
   pub early : (s : ℕ) (t : TransactionOf) → map.get state.transactions s ≡ Some t → s ≤ state.clock
   pub committed : (m : Member) → InHistory state.observers journal m → IsCommitted state m

@@ -1,5 +1,5 @@
--- The laws of the table's steps and of legal journals, each in one sentence over the definitions of what is told. The
--- functions of `laws.rt` promise them, one each.
+-- The laws of the table's steps and of legal journals, each in one sentence over definitions of what holds. The functions of
+-- `laws.rt` promise them, one each.
 use Rattle.std.specs.Prelude.{ℕ, ◌<◌, ◌^◌, List}
 use Rattle.pb_history.specs.Words.{ObserverOf, Step, Answer, StateOf, opening, CanAnswer, TableStep, step_reasons}
 use Rattle.pb_history.specs.declared.entry.Entry.{Entry}
@@ -37,11 +37,11 @@ OpeningIsSound = (observers : List ObserverOf) (seats clock : ℕ) → clock < 2
 abbrev pub SoundHasData : Type 0
 SoundHasData = (state : StateOf) → IsSoundTable state → KeepsData state
 
--- the state tells the journal's committed transactions, and its declarations
+-- the state records the journal's committed transactions, and its declarations
 abbrev pub HistoriesAreTold : Type 0
 HistoriesAreTold = OfLegal (λ _ _ _ journal state. TellsHistory journal state)
 
--- each read tells what the table held when it was made
+-- each read returns what the table held when it was made
 abbrev pub ReadsAreTold : Type 0
 ReadsAreTold = OfLegal (λ observers seats clock journal _. TellsReads observers seats clock journal)
 
@@ -61,11 +61,11 @@ RunsAreCounted = OfLegal (λ _ _ _ journal state. TellsRunCounts journal state)
 abbrev pub JournalsAreSound : Type 0
 JournalsAreSound = OfLegal (λ observers seats clock journal state. TellsSoundness observers seats clock journal state)
 
--- who begins after a commit was answered has it in its snapshot
+-- a transaction that begins after a commit was answered has it in its snapshot
 abbrev pub CommitsAreOrdered : Type 0
 CommitsAreOrdered = OfLegal (λ _ _ _ journal state. TellsCommitOrder journal state)
 
--- each read tells a snapshot of the whole history, whatever is committed later
+-- each read returns what a snapshot of the whole history has, whatever is committed later
 abbrev pub ReadsTellSnapshots : Type 0
 ReadsTellSnapshots = OfLegal (λ _ _ _ journal state. TellsSnapshots journal state)
 
@@ -93,7 +93,7 @@ TransactionsAreTold = OfLegal (λ _ _ _ journal state. TellsTransactions journal
 abbrev pub StepsCanAnswer : Type 0
 StepsCanAnswer = (old : StateOf) (seat : ℕ) (step : Step) (answer : Answer) (new : StateOf) → TableStep old seat step answer new → CanAnswer step answer
 
--- no observer is behind on a cell without its mark
+-- a cell on which an observer isn't up to date has its mark
 abbrev pub BehindIsMarked : Type 0
 BehindIsMarked = OfLegal (λ _ _ _ _ state. TellsMarks state)
 
@@ -117,11 +117,11 @@ ClockIsLastGiven = OfLegal (λ _ _ clock journal state. IsLastGiven clock (times
 abbrev pub FirstMarksAreFound : Type 0
 FirstMarksAreFound = (old : StateOf) (seat : ℕ) (step : Step) (answer : Answer) (new : StateOf) → TableStep old seat step answer new → TellsFirstMark old step answer
 
--- a mark goes once nobody is behind, so that passes end
+-- a mark goes once all observers are up to date, so that passes end
 abbrev pub SweepsUnmark : Type 0
 SweepsUnmark = (old : StateOf) (seat : ℕ) (step : Step) (answer : Answer) (new : StateOf) → TableStep old seat step answer new → TellsUnmarked old step new
 
--- a report's counts of marks and locks tell whether it is quiet
+-- a report's counts of marks and locks show whether it is quiet
 abbrev pub QuietIsCounted : Type 0
 QuietIsCounted = OfLegal (λ _ _ _ _ state. TellsQuiet state)
 

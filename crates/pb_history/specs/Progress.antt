@@ -1,4 +1,4 @@
--- What keeps observers at work: marks are found, and go once nobody is behind (OSDI 2010, section 2.4).
+-- What keeps observers at work: marks are found, and go once all are up to date (OSDI 2010, section 2.4).
 use Rattle.std.specs.Prelude.{◌≡◌, true, false, ◌⊎◌}
 use Rattle.std.specs.declared.cmp.Ordering.TheVariants.{Less}
 use Rattle.pb_history.specs.Words.{Cell, cell_cmp, ComesAfter, Step, Answer, StateOf, is_marked, SomeBehind}
@@ -10,7 +10,7 @@ TellsFirstMark old (Step.NextMark after) answer =
     → (y : Cell) × (answer ≡ Answer.Marked y) × (is_marked old.marks y ≡ true) × ComesAfter after y × ((y ≡ x) ⊎ (cell_cmp y x ≡ Less))
 TellsFirstMark old _ answer = Unit {0}
 
--- a cell that is swept has no mark where no observer is behind on it
+-- a cell that is swept has no mark where all observers are up to date on it
 abbrev pub TellsUnmarked : StateOf → Step → StateOf → Type 0
 TellsUnmarked old (Step.Sweep x) new = (SomeBehind old.observers old.entries x → ⊥) → is_marked new.marks x ≡ false
 TellsUnmarked old _ new = Unit {0}

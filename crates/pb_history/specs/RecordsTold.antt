@@ -1,4 +1,4 @@
--- What the table that a legal journal leads to tells of its history (OSDI 2010, section 2.2).
+-- What the table that a legal journal leads to shows of its history (OSDI 2010, section 2.2).
 use Rattle.std.specs.Prelude.{◌≡◌, ◌≢◌, ℕ, ◌⊎◌, List, Some}
 use Rattle.pb_history.specs.Words.{Cell, Content, StateOf, ObserverOf, lock_at, write_at}
 use Rattle.pb_history.specs.declared.entry.Entry.{Entry}
@@ -13,7 +13,7 @@ pub record WroteAt (observers : List ObserverOf) (journal : List Entry) (x : Cel
   pub content : Content
   pub writes : WritesTo m x content
 
--- the table has the locks and write records of the history, and no write record besides
+-- the table has the locks and write records of the history, and no other write record
 pub record TellsRecords (journal : List Entry) (state : StateOf) : Type 0 where
   -- a committed transaction has its write record or its lock on each cell that it wrote
   pub stands : (m : Member) → InHistory state.observers journal m → (x : Cell) (k : Content) → WritesTo m x k → (write_at state.entries x m.commit ≡ Some m.start) ⊎ ((p : Cell) × (lock_at state.entries x m.start ≡ Some p))

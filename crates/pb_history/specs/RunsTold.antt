@@ -1,4 +1,4 @@
--- What the history of a legal journal tells of the runs of observers (OSDI 2010, section 2.4).
+-- What the history of a legal journal shows of the runs of observers (OSDI 2010, section 2.4).
 use Rattle.std.specs.Prelude.{◌≡◌, ℕ, ◌<◌, ◌⊎◌, true, List, [], ◌∷◌, Some, None, slice_get}
 use Rattle.pb_history.specs.Words.{Cell, Row, Content, Revision, Writes, Ask, Reply, Talk, Means, AreRunWrites, tells_old, record_by, Work, StateOf, ObserverOf, observed_cell, acknowledgment, asked_cell, value_of}
 use Rattle.pb_history.specs.declared.entry.Entry.{Entry}
@@ -36,7 +36,7 @@ pub record IsObserverRun (observers : List ObserverOf) (journal : List Entry) (m
   pub acknowledged : ℕ
   pub acknowledges : IsAcknowledgedAt observers journal m.start (acknowledgment observers o row) acknowledged
   pub newer : acknowledged < version.commit.0
-  -- what the program is told of the acknowledged timestamp, if its record is of version 2
+  -- what the program is given of the acknowledged timestamp, if its record is of version 2
   pub old : Reply
   pub old_is : tells_old observer.program ≡ true → IsValueAt observers journal acknowledged (observed_cell observers o row) old
   pub talk : Talk

@@ -1,4 +1,4 @@
--- What the history of a legal journal tells of the changes of scripts.
+-- What the history of a legal journal shows of the changes of scripts.
 use Rattle.std.specs.Prelude.{◌≡◌, true, List}
 use Rattle.pb_history.specs.Words.{is_batch, Work, StateOf}
 use Rattle.pb_history.specs.declared.entry.Entry.{Entry}

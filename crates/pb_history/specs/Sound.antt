@@ -1,5 +1,5 @@
--- What holds of the table after every step (OSDI 2010, section 2.2): how transactions, locks, write records and data go
--- together, and what a recorded read still tells.
+-- What holds of the table after every step (OSDI 2010, section 2.2): how transactions, locks, write records and data go together,
+-- and what a recorded read still shows.
 use Rattle.std.specs.Prelude.{◌≡◌, ◌≢◌, ℕ, ◌<◌, ◌≤◌, ◌^◌, ◌⊎◌, true, Some, None, is_some}
 use Rattle.std.specs.FinMap as map
 use Rattle.pb_history.specs.Words.{Cell, Content, Entries, Phase, RecordedRead, Answer, read_up_to, StateOf, TransactionOf, data_at, lock_at, write_at}
@@ -30,14 +30,13 @@ HasLock v x s = (p : Cell) × (v.lock x s ≡ Some p)
 abbrev pub LacksPrimary : TableView → ℕ → Type 0
 LacksPrimary v s = (p : Cell) → v.primary s ≡ Some p → v.lock p s ≡ None
 
--- a read of x in the snapshot at s tells the newest write record of a commit at most s with its data, or that there is
--- none
+-- a read of x in the snapshot at s returns the newest write record of a commit at most s with its data, or that there is none
 abbrev pub ReadTells : TableView → ℕ → Cell → Answer → Type 0
 ReadTells v s x (Answer.Found start commit content) = (commit.0 ≤ s) × HasRecord v x commit.0 start.0 × (v.stored x start.0 ≡ Some content) × ((c u : ℕ) → c ≤ s → HasRecord v x c u → c ≤ commit.0)
 ReadTells v s x Answer.Absent = (c u : ℕ) → c ≤ s → HasRecord v x c u → ⊥
 ReadTells v s x _ = ⊥
 
--- said of functions, so that a step changes few of them, and each at one timestamp or cell
+-- stated for functions, so that a step changes few of them, and each at one timestamp or cell
 pub record IsSoundView (v : TableView) : Type 0 where
   -- ---- timestamps
 
@@ -93,10 +92,10 @@ pub record IsSoundView (v : TableView) : Type 0 where
 
   -- nothing was read up to a timestamp above the clock
   pub read_begun : (s : ℕ) (r : RecordedRead) → Has (v.reads s) r → read_up_to s r.at ≤ v.clock
-  -- each read still tells the newest write record of its snapshot
+  -- each read still shows the newest write record of its snapshot
   pub tells : (s : ℕ) (r : RecordedRead) → Has (v.reads s) r → ReadTells v (read_up_to s r.at) r.cell r.answer
-  -- and none will come to that snapshot: who writes the cell with a commit in it has its write record there, or is not
-  -- committed and never will be, since the lock on its primary is gone
+  -- and none will come to that snapshot: a transaction that writes the cell with a commit in it has its write record there, or is
+  -- not committed and never will be, since the lock on its primary is gone
   pub settled : (s : ℕ) (r : RecordedRead) (u c : ℕ) (k : Content) → Has (v.reads s) r → HasStamp v u c → c ≤ read_up_to s r.at → v.content u r.cell ≡ Some k → HasRecord v r.cell c u ⊎ ((IsCommittedAt v u c → ⊥) × LacksPrimary v u)
 
 -- what `State` keeps by its type

@@ -1,5 +1,5 @@
--- What a legal journal tells of each transaction: all that the table keeps of it follows from the entries that name its
--- start, which are one seat's.
+-- What a legal journal shows of each transaction: all that the table keeps of it follows from the entries that name its start,
+-- which are one seat's.
 use Rattle.std.specs.Prelude.{◌≡◌, ℕ, Bool, true, false, ◌==◌, List, [], ◌∷◌, ◌++◌, Option, Some, None, option_map}
 use Rattle.std.specs.List.{filter, list_any}
 use Rattle.std.specs.FinMap as map

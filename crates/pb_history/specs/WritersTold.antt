@@ -1,4 +1,4 @@
--- What the history of a legal journal tells of two transactions that write one cell (OSDI 2010, section 2.2).
+-- What the history of a legal journal shows of two transactions that write one cell (OSDI 2010, section 2.2).
 use Rattle.std.specs.Prelude.{◌≢◌, ◌<◌, ◌⊎◌, List}
 use Rattle.pb_history.specs.Words.{Cell, Content, StateOf}
 use Rattle.pb_history.specs.declared.entry.Entry.{Entry}

@@ -8,14 +8,15 @@ use pb_steps::Answer;
 use std::alloc::Global;
 use std::marker::Model;
 
-/// An answer as it is kept, in 16 bytes where an `Answer` has 64: what is told of a lock or of a version stands on the heap.
+/// An answer as it is kept, in 16 bytes where an `Answer` has 64: what it reports of a lock or of a
+/// version stands on the heap.
 #[derive(Drop)]
 pub struct KeptAnswer {
     form: KeptForm,
 }
 
-// Fields lie in the order in which they stand here: a row behind what takes a byte needs no 8 more. So a marked cell
-// stands here by its parts, since a whole cell would.
+// Fields lie in the order in which they stand here: a row after what takes a byte needs no 8 more.
+// So a marked cell stands here by its parts, since a whole cell would.
 #[derive(Drop)]
 pub(crate) enum KeptForm {
     At(Ts),
@@ -81,7 +82,7 @@ impl AnswerRoom {
     }
 }
 
-// Keeps what is told of a lock or of a version in the room.
+// Keeps what an answer reports of a lock or of a version in the room.
 fn told_form(answer: Answer, room: &mut AnswerRoom) -> KeptForm
     requires { room.old ≡ true }
     ensures { answer_of result ≡ answer }

@@ -1,4 +1,5 @@
-//! What every step keeps, and what every legal journal tells: empty functions, so that a caller has the law.
+//! What every step keeps, and what holds of every legal journal: empty functions, so that a caller
+//! has the law.
 ghost use Rattle.pb_history.specs.Laws.{StepsKeepSound, OpeningIsSound, SoundHasData, JournalsAreSound};
 ghost use Rattle.pb_history.specs.Laws.{TransactionsAreTold, StepsCanAnswer};
 ghost use Rattle.pb_history.specs.Laws.{ReasonsRise, ClockIsLastGiven, FirstMarksAreFound, SweepsUnmark, QuietIsCounted};
@@ -7,8 +8,8 @@ ghost use Rattle.pb_history.specs.Laws.{HistoriesAreTold, ReadsAreTold, RunsAreC
 ghost use Rattle.pb_history.specs.Laws.{AcknowledgedIsEarlier, BehindIsMarked, HandledAtMostOnce, HandledWhenQuiet};
 ghost use Rattle.pb_history.specs.Laws.{TimestampsRise, CommitsAreOrdered, ReadsTellSnapshots, WritersAreApart, RecordsAreTold};
 
-/// The table is sound as it is opened, and every step keeps it so. Sound is how starts, commits, prewritten cells, locks,
-/// write records and data go together, and what recorded reads still tell.
+/// The table is sound as it is opened, and every step keeps it so. Sound is how starts, commits,
+/// prewritten cells, locks, write records and data go together, and what recorded reads still show.
 pub fn steps_keep_sound()
     ensures step { StepsKeepSound }
     ensures opening { OpeningIsSound }
@@ -32,16 +33,17 @@ pub fn histories_are_told()
     ensures { HistoriesAreTold }
 {}
 
-/// A read of a legal journal that found a version, or none, tells what the table held up to its start, or up to the
-/// timestamp that it named.
+/// A read of a legal journal that found a version, or none, returns what the table held up to its
+/// start, or up to the timestamp that it named.
 pub fn reads_are_told()
     ensures { ReadsAreTold }
 {}
 
-/// A committed run of a legal journal found its cell, in the snapshot at its start, newer than its acknowledgment, and
-/// wrote this, with its start as the stamp, and then what its program means on the record of what it read, with replies
-/// that are the same snapshot; where the record tells it, the value before is that of the snapshot at the acknowledged
-/// timestamp. What its program means is nothing, or 1 to 16 distinct data cells.
+/// A committed run of a legal journal found its cell, in the snapshot at its start, newer than its
+/// acknowledgment, and wrote this, with its start as the stamp, and then what its program means on
+/// the record of what it read, with replies that are the same snapshot; where the record has it,
+/// the value before is that of the snapshot at the acknowledged timestamp. What its program means
+/// is nothing, or 1 to 16 distinct data cells.
 pub fn runs_are_told()
     ensures { RunsAreTold }
 {}
@@ -68,14 +70,16 @@ pub fn commits_are_ordered()
     ensures { CommitsAreOrdered }
 {}
 
-/// Every read of a legal journal that found a version, or none, tells the snapshot at its start, or at the timestamp that
-/// it named, which is none above its start, of the whole history, whatever was committed after it. That is so of any
+/// Every read of a legal journal that found a version, or none, returns what the snapshot at its
+/// start has, or that at the timestamp that it named, which is none above its start. It is the
+/// snapshot of the whole history, whatever was committed after the read. That is so of any
 /// transaction, committed or not.
 pub fn reads_tell_snapshots()
     ensures { ReadsTellSnapshots }
 {}
 
-/// The acknowledged timestamp that a read of a legal journal tells is at most the start of its transaction.
+/// The acknowledged timestamp that a read of a legal journal returns is at most the start of its
+/// transaction.
 pub fn acknowledged_is_earlier()
     ensures { AcknowledgedIsEarlier }
 {}
@@ -103,7 +107,8 @@ pub fn transactions_are_told()
     ensures { TransactionsAreTold }
 {}
 
-/// A cell on which an observer is behind is marked, after each legal journal, so that a pass finds it.
+/// A cell on which an observer isn't up to date is marked, after each legal journal, so that a pass
+/// finds it.
 pub fn behind_is_marked()
     ensures { BehindIsMarked }
 {}
@@ -120,7 +125,8 @@ pub fn handled_when_quiet()
     ensures { HandledWhenQuiet }
 {}
 
-/// What every legal journal tells of its history and state, in one law for who has such a journal; each part is a law above.
+/// What holds of the history and state of every legal journal, in one law for those who have such a
+/// journal. Each part is a law above.
 pub fn journals_tell()
     ensures history { HistoriesAreTold }
     ensures versions { ReadsAreTold }
@@ -167,18 +173,19 @@ pub fn first_marks_are_found()
     ensures { FirstMarksAreFound }
 {}
 
-/// `Sweep` leaves no mark where no observer of the cell's column is behind on it.
+/// `Sweep` leaves no mark where all observers of the cell's column are up to date on it.
 pub fn sweeps_unmark()
     ensures { SweepsUnmark }
 {}
 
-/// After a legal journal neither mark nor lock is counted exactly where neither stands, so that counts tell that.
+/// After a legal journal neither mark nor lock is counted exactly where neither stands, so that the
+/// counts show that.
 pub fn quiet_is_counted()
     ensures { QuietIsCounted }
 {}
 
-/// A step of a sound table has one answer, and leaves one state. It is said of sound tables, since only soundness
-/// bounds the commit that `Clear` finds at a primary.
+/// A step of a sound table has one answer, and leaves one state. The law is stated for sound
+/// tables, since only soundness bounds the commit that `Clear` finds at a primary.
 pub fn steps_have_one_outcome()
     ensures { StepsHaveOneOutcome }
 {}

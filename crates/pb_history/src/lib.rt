@@ -1,12 +1,14 @@
-//! Journals of the shared table, and what legal ones tell.
+//! Journals of the shared table, and what holds of legal ones.
 //!
-//! A journal is legal where it is a run of steps from the table as opened. The laws stand apart from the code that
-//! takes steps, since they follow from the definition of a step alone, and a new body needn't check them anew; who
-//! calls them (`pb_state`, `pb_core`, jobs, worlds, reports) has them as contracts. The promise, of every legal
-//! journal, of however many seats: its history is one of snapshots, no two writers of a cell overlap, the table holds
-//! that history, and each change is handled by at most one committed run of an observer, by one where neither mark nor
-//! lock is left. Two runs of an observer for one change, for example, both write its acknowledgment, so that one was
-//! committed before the other began, and the later one reads it. Besides it has how an answer is kept in the journal.
+//! A journal is legal where it is a run of steps from the table as opened. The laws stand apart
+//! from the code that takes steps, since they follow from the definition of a step alone, and a new
+//! body needn't check them anew. Those who call them (`pb_state`, `pb_core`, jobs, worlds, reports)
+//! have them as contracts. The promise, of every legal journal, of however many seats: its history
+//! is one of snapshots, no two writers of a cell overlap, the table holds that history, and each
+//! change is handled by at most one committed run of an observer, by one where neither mark nor
+//! lock is left. Two runs of an observer for one change, for example, both write its
+//! acknowledgment, so that one was committed before the other began, and the later one reads it.
+//! The crate also has how an answer is kept in the journal.
 #![tactic(auto)]
 
 mod entry;

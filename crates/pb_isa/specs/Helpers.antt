@@ -31,7 +31,7 @@ helper_code =
     (λ p. record { read = p.0; write = p.1.0; delete = p.1.1.0; start = p.1.1.1 })
     (λ _. refl)
 
--- 1 reads, 2 writes, 3 deletes and 4 tells the start
+-- 1 reads, 2 writes, 3 deletes and 4 returns the start
 abbrev pub helper_of : ℤ → Option Helper
 helper_of k = cond (int_eq k (pos 1)) (Some Read) (cond (int_eq k (pos 2)) (Some Write) (cond (int_eq k (pos 3)) (Some Delete) (cond (int_eq k (pos 4)) (Some Start) None)))
 

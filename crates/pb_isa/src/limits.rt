@@ -8,7 +8,8 @@ pub const MAX_SLOTS: usize = 4_096;
 /// The most slots that a program of profile 1 takes.
 pub const PROFILE_1_SLOTS: usize = 512;
 
-/// The bytes of the stack. R10 points to the address behind them, so that offsets from it are negative.
+/// The bytes of the stack. R10 points to the address after them, so that offsets from it are
+/// negative.
 pub const STACK_BYTES: usize = 512;
 
 /// The bytes of a change record of version 1.

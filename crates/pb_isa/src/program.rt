@@ -16,8 +16,9 @@ use pb_base::NoMemory;
 use std::alloc::{AllocFailed, Global};
 use std::marker::Model;
 
-/// A program: some instructions of its profile, of at most so many slots together as the profile has. They are kept
-/// slot by slot besides, since jumps count slots, so that what a jump leads to is looked up and not counted out.
+/// A program: some instructions of its profile, of at most so many slots together as the profile
+/// has. They are also kept slot by slot, since jumps count slots, so that what a jump leads to is
+/// looked up and not counted out.
 #[derive(Drop)]
 pub struct Program {
     profile: Profile,
@@ -57,8 +58,8 @@ impl<T: Drop> From<AllocFailed<T>> for NoProgram {
     }
 }
 
-// Whether an instruction takes two slots. It also says that the instruction's numbers fit, which they do by their
-// types, so that this can be said of the whole list.
+// Whether an instruction takes two slots. It also promises that the instruction's numbers fit,
+// which they do by their types, so that this holds of the whole list.
 fn is_pair(insn: Insn) -> bool
     ensures places { places_of insn ≡ Some insn ∷ (if result then None ∷ [] else []) }
     ensures fits { Fits insn }

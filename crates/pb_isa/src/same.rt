@@ -6,8 +6,8 @@ ghost use Rattle.pb_isa.specs.declared.insn.Insn.TheVariants.{Alu, MovSx, Load, 
 use crate::insn::{AluOp, Cmp, Extension, Insn, Operand, Reg, Size, Width};
 use crate::profile::Profile;
 
-/// Whether both are one profile. Programs are told apart by it too, since the same instructions of the other profile
-/// are another program.
+/// Whether both are one profile. Programs are distinguished by it too, since the same instructions
+/// of the other profile are another program.
 pub fn is_same_profile(a: Profile, b: Profile) -> bool
     ensures { IsTrue result ↔ (a ≡ b) }
 {

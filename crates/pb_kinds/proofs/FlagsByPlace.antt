@@ -9,7 +9,7 @@ pub all_by_place : (f : Frame) (i n : ℕ) → i + n ≤ length f.written → ha
 all_by_place f i zero l = refl
 all_by_place f i (suc n) l = grind (arith, add-one, drop-cons, f.written, all_by_place f (i + 1) n (omega arith))
 
--- setting flags from a place on leaves what stands before and behind them
+-- setting flags from a place on leaves what stands before and after them
 pub set_by_parts : (w : List Bool) (i n : ℕ) → i ≤ length w → set_flags w i n ≡ take i w ++ replicate n true ++ drop (i + n) w
 set_by_parts w zero n l = let e : 0 + n ≡ n = omega arith in rw e refl
 set_by_parts [] (suc i) n l = absurd (omega arith)

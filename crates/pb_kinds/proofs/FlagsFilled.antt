@@ -1,7 +1,7 @@
 -- A list of flags set one after the other.
 use Rattle.std.proofs.Common.{◌≡◌, ℕ, zero, suc, ◌+◌, ◌<◌, Bool, true, List, [], ◌∷◌, ◌++◌, length, drop, set, replicate, refl, ap, arith, add-one}
 
--- one more flag set, behind those that are
+-- one more flag set, after those that are
 fill_more : (xs : List Bool) (i : ℕ) → i < length xs → set (replicate i true ++ drop i xs) i true ≡ replicate (suc i) true ++ drop (suc i) xs
 fill_more [] i h = absurd (omega arith)
 fill_more (x ∷ xs) zero h = refl

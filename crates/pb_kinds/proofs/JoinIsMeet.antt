@@ -19,7 +19,7 @@ is_same a = grind arith
 meet_self : (a : Kind) → meet a a ≡ a
 meet_self a = rw (is_same a) refl
 
--- with what says nothing, nothing is said
+-- the meet with a kind that says nothing says nothing
 meet_unset : (a : Kind) → meet a Kind.Unset ≡ Kind.Unset
 meet_unset a = grind arith
 
@@ -35,7 +35,7 @@ meet_known a b k = by_test (same_kind a b) a b k (same_means_equal a b)
 unset_meet : (a : Kind) → meet Kind.Unset a ≡ Kind.Unset
 unset_meet a = grind arith
 
--- a register of the joined list is the meet of its two kinds, also behind the lists' ends
+-- a register of the joined list is the meet of its two kinds, also after the lists' ends
 kind_at : (ks ms : List Kind) (r : ℕ) → get_or (meet_kinds ks ms) r Kind.Unset ≡ meet (get_or ks r Kind.Unset) (get_or ms r Kind.Unset)
 kind_at [] [] r = refl
 kind_at [] (m ∷ ms) r = sym (unset_meet (get_or (m ∷ ms) r Kind.Unset))

@@ -1,5 +1,5 @@
--- The join is the meet of two frames: a fact stands in it exactly where both have it. This is said beside `join`, since
--- a definition that forgot too much or kept too much would be wrong in the same way as its body.
+-- The join is the meet of two frames: a fact stands in it exactly if both have it. This is stated beside `join`, since a
+-- definition that forgot too much or kept too much would be wrong in the same way as its body.
 use Rattle.std.specs.Prelude.{◌≡◌, ◌≢◌, ◌↔◌, ℕ, IsTrue}
 use Rattle.pb_kinds.specs.declared.frame.Kind.{Kind}
 use Rattle.pb_kinds.specs.declared.frame.Frame.{Frame}

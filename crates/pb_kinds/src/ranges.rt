@@ -1,5 +1,5 @@
-//! Which bytes a pointer reaches, and which of them are written. It is said here once, below loads, stores and
-//! arguments.
+//! Which bytes a pointer reaches, and which of them are written. It is defined here once, below
+//! loads, stores and arguments.
 ghost use Rattle.std.specs.Prelude.{◌≡◌, ◌≤◌, ◌+◌, length, replicate, true, IsTrue};
 ghost use Rattle.std.specs.List.{list_all};
 ghost use Rattle.pb_kinds.specs.Ranges.{in_stack, in_record, from_low, are_written, set_flags, with_written};

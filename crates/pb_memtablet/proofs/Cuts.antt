@@ -17,7 +17,7 @@ pub record IsLastUpTo {K X : Type 0} (R : K → K → Ordering) (es : List (K ×
   pub within : place < length es
   pub cut : IsCut R es k (suc place)
 
--- e stands right behind it
+-- e stands right after it
 pub record IsFirstAbove {K X : Type 0} (R : K → K → Ordering) (es : List (K × X)) (k : K) (e : K × X) : Type 0 where
   pub place : ℕ
   pub is : e ≡ get_or es place e

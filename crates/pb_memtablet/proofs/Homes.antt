@@ -177,7 +177,7 @@ drop_past (e ∷ es) (suc i) le = drop_past es i (omega arith)
 pub front_of : {E : Type 0} (xs ys zs : List E) (n : ℕ) → xs ++ ys ≡ zs → n ≡ length xs → xs ≡ take n zs
 front_of xs ys zs n e same = sym (ap (λ m. take m zs) same ∙ ap (take (length xs)) (sym e) ∙ take-append_seam xs ys)
 
--- what stands behind it
+-- what stands after it
 pub back_of : {E : Type 0} (xs ys zs : List E) (n : ℕ) → xs ++ ys ≡ zs → n ≡ length xs → ys ≡ drop n zs
 back_of xs ys zs n e same = sym (ap (λ m. drop m zs) same ∙ ap (drop (length xs)) (sym e) ∙ drop-append_seam xs ys)
 

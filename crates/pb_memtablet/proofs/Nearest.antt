@@ -126,7 +126,7 @@ module _ (ms : MarkList) (s : T (map.is_sorted cell_cmp ms)) where
       λ cell comes below. no_mark cell i (unmarked after i cell cut start (omega arith) comes (λ x more. ap (λ (y : Cell × Unit {0}). cell_cmp cell y.0) (get_or_default ms i x d lt) ∙ below)),
     )
 
-  -- ---- what a list of marks tells
+  -- ---- the next mark in a list of marks
   pub next_after : (a : Cell) (r : Option (Cell × Unit {0})) → r ≡ slice_get (entries_above cell_cmp a ms) 0 → IsNextMark (map.from_sorted ms) (Some a) (option_map (λ m. m.0) r)
   next_after a None p = no_next (Some a) (length ms) (none_above cell_cmp cell_cmp_total ms a s p) tt refl
   next_after a (Some m) p =

@@ -19,13 +19,13 @@ at_front [] a b = refl
 at_front (x ∷ []) a b = refl
 at_front (x ∷ y ∷ zs) a b = ap (λ l. a ∷ b ∷ l) (front (x ∷ y ∷ zs) a b)
 
--- a pair at any place, when those behind it have moved
+-- a pair at any place, when those after it have moved
 put_over : {X : Type 0} → (xs : List X) (i n : ℕ) (a b : X) → i ≤ length xs → n ≡ length xs - i → set (set (moved xs i n a b) i a) (suc i) b ≡ take i xs ++ a ∷ b ∷ drop i xs
 put_over xs zero n a b le n_is = ap (λ m. set (set (moved xs zero m a b) zero a) (suc zero) b) (omega (arith, n_is)) ∙ at_front xs a b
 put_over [] (suc i) n a b le n_is = absurd (omega (arith, le))
 put_over (x ∷ xs) (suc i) n a b le n_is = ap (λ l. x ∷ l) (put_over xs i n a b (omega (arith, le)) (omega (arith, n_is)))
 
--- two inserts side by side put both between what stands before and behind
+-- two inserts side by side put both between what stands before and after
 inserted : {X : Type 0} → (xs : List X) (i : ℕ) (a b : X) → i ≤ length xs → insert (insert xs i a) (suc i) b ≡ take i xs ++ a ∷ b ∷ drop i xs
 inserted xs zero a b le = refl
 inserted [] (suc i) a b le = absurd (omega (arith, le))

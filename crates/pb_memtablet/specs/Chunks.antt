@@ -1,5 +1,5 @@
--- Chunks of entries, and the one list that they are together. Callers of a sorted list see that list alone; how it is
--- parted is said by its invariant and by the contracts below it, so that nobody else depends on the length of a chunk.
+-- Chunks of entries, and the one list that they are together. Callers of a sorted list see that list alone. Its invariant and the
+-- contracts below it state how it is parted, so that nobody else depends on the length of a chunk.
 use Rattle.std.proofs.Common.{suc, ◌≡◌, ◌<◌, ◌≤◌, ℕ, Bool, false, not, IsTrue, List, [], ◌∷◌, length, take, drop, vec_len, vec_capacity, flat_map, filter, All, Ordering, Less, Greater, is_lt, is_le, Vec}
 use Rattle.std.specs.FinMap as map
 use Rattle.pb_memtablet.specs.declared.chunks.TheConstants.{CHUNK}

@@ -1,4 +1,4 @@
--- A tablet of either sort. Tables see its contents alone; its sort is told when it is made.
+-- A tablet of either sort. Tables see its contents alone; its sort is given when it is made.
 use Rattle.std.specs.Prelude.{Bool, true, false}
 use Rattle.pb_memtablet.specs.Words.{Contents}
 use Rattle.pb_memtablet.specs.declared.either.EitherTablet.{EitherTablet}

@@ -247,7 +247,7 @@ fn roomy_home<K: Ord + Drop, V: Drop>(
         return home;
     }
     part_chunk(chunks, spares, home);
-    // All blocks are counted, since each chunk behind has moved by one place.
+    // All blocks are counted, since each later chunk has moved by one place.
     count_blocks(chunks, counts);
     if does_start_by(&chunks[home + 1], key) {
         home + 1

@@ -417,7 +417,7 @@ impl Tablet for SlabTablet {
     }
 
     fn is_empty(&self) -> bool {
-        // The keys tell of the slab too, since it has no item without one.
+        // Without keys the slab is empty too, since it has no item without one.
         self.keys.is_empty() && self.marks.is_empty()
     }
 

@@ -197,7 +197,7 @@ pub(crate) fn replace_in<K: Ord + Drop, V: Drop>(
     true
 }
 
-// Whether the next key belongs right behind the key, which would stand at a place.
+// Whether the next key belongs right after the key, which would stand at a place.
 fn fits_behind<K: Ord, V>(entries: &[(K, V)], place: usize, key: &K, next: &K, value: &V) -> bool
     requires { IsGap K.cmp entries.now key.now place }
     ensures { result ≡ true → IsGap K.cmp (insert entries.now place (key.now, value.now)) next.now

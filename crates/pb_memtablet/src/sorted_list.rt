@@ -17,7 +17,7 @@ use std::marker::Model;
 
 /// A list of entries, sorted by key, in chunks of bounded length.
 ///
-/// A put or a removal moves the entries of one chunk at most, and not all that stand behind it.
+/// A put or a removal moves the entries of one chunk at most, and not all that stand after it.
 #[derive(Drop)]
 pub struct SortedList<K: Ord, V> {
     alloc: Global,
@@ -199,8 +199,8 @@ impl<K: Ord + Drop, V: Drop> SortedList<K, V> {
 }
 
 impl<K: Ord + Copy + Drop, V: Copy + Drop> SortedList<K, V> {
-    /// Puts one value and then another, each at its key. There is room for both. Where the second key belongs right behind
-    /// the first, they are put together.
+    /// Puts one value and then another, each at its key. There is room for both. Where the second
+    /// key belongs right after the first, they are put together.
     pub fn put_both(&mut self, key: K, value: V, next: K, next_value: V)
         requires { 2 ≤ self.old.room }
         ensures entries { self.new.entries ≡ put K.cmp next next_value

@@ -39,7 +39,7 @@ has_unfiltered p (e ∷ es) d h = more_has e d (filter p es) es (has_unfiltered 
 keeps_has : (b : Bool) (e d : Entry) (es : List Entry) → Has es d → Has (cond b (e ∷ es) es) d
 keeps_has b e d es h = grind arith
 
--- what was said and names the start is one of the entries that do
+-- what is in the conversation and names the start is one of the entries that do
 has_filtered : (s : Ts) (seat : ℕ) (said : List Received) (r : Received) → Has said r → names_start s.0 r.step r.answer ≡ true
     → Has (entries_naming s.0 (entries_by seat said)) (record { seat = seat; step = r.step; answer = r.answer })
 has_filtered s seat [] r h names = absurd h
@@ -65,7 +65,7 @@ module _ (observers : List ObserverOf) (seats clock : ℕ) (journal : List Entry
   abbrev second : Bool
   second = tells_old observer.program
 
-  -- what was said is in the journal
+  -- what is in the conversation is in the journal
   had : (s : Ts) (r : Received) → Has said (told (Step.Begin (Work.Run o row)) (Answer.At s)) → Has said r → names_start s.0 r.step r.answer ≡ true → IsEntry journal seat r.step r.answer
   had s r begun h names =
       has_unfiltered (λ (e : Entry). names_start s.0 e.step e.answer) journal _

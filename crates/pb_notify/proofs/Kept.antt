@@ -1,4 +1,4 @@
--- What a job's place says of its parts, after an answer and after an instruction.
+-- What holds of a job's parts at its place, after an answer and after an instruction.
 use Rattle.std.proofs.Common.{◌≡◌, ℕ, ◌<◌, Bool, Option, Some, length, refl, arith}
 use Rattle.pb_notify.specs.Words.{Cell, Row, Ts, Revision, JudgedOf, Ask, MachinePhase, Position, Seen, Step, Answer, Outcome, PlanOf, outcome_of}
 use Rattle.pb_txn.specs.Places as orders
@@ -60,7 +60,7 @@ at_after second locked (RunPlace.Over end) a at = tt
 
 -- ---- instructions
 
--- what an instruction did tells how the machine stands at the next place
+-- what an instruction did determines how the machine stands at the next place
 pub at_come : (locked o : ℕ) (s : Ts) (v : Position) (place : RunPlace) → ComesTo o s v place → locked < MAX_LOCKED → AtPlace locked place
 at_come locked o s v place x few = grind arith
 

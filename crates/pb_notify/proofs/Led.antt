@@ -43,10 +43,10 @@ reached_led j said k led made = led
 reached_led j said k led (took before from r to reaches next can is told) = grind (arith, answered_led, from.locked, from.place, r.answer, from.watch.judged, reached_led j before from led reaches)
 reached_led j said k led (computed before from to reaches need c) = computed_led from.watch.observer from.watch.judged (Cell.Data from.watch.row from.watch.column) from.place to.place (reached_led j said from led reaches) c.comes
 
--- ---- with what was said
+-- ---- with the conversation
 
 module _ (o : Watch) where
-  -- a look goes on from what was said before it
+  -- a look goes on from the conversation before it
   machine_at : (said : List Received) (n : ℕ) (place : RunPlace) (s : Ts) (v : Position) → MachineStandsAt place s v → conversation.SoFar o n place said → AtLed place → IsMachineOf o place s v said
   machine_at said n (RunPlace.Computing t w) s v stands so led =
       subst (λ (z : Position). IsMachineOf o (RunPlace.Computing t w) s z said) stands.1

@@ -20,7 +20,7 @@ module _ (s : Ts) (x : Cell) (at : Option Ts) (m : ℕ) (base : List Received) w
     pub count : n ≡ suc met
     pub said_is : said ≡ before ++ part
 
-  -- what was said at a step of a look
+  -- the conversation at a step of a look
   abbrev pub InLook : Look → ℕ → List Received → Type 0
   InLook Look.Reading n said = AreRounds s x at m base n said
   InLook (Look.Clearing primary) n said = (t : Ts) × IsIn n said (told (read_step s x at) (Answer.Locked t primary) ∷ [])

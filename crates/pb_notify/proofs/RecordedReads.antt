@@ -1,4 +1,4 @@
--- What the table keeps of a run's transaction as its looks go on: one read more for each that told what its cell holds.
+-- What the table keeps of a run's transaction as its looks go on: one read more for each look that returned what its cell holds.
 use Rattle.std.proofs.Common.{arith, ◌≡◌, ℕ, ◌<◌, inl, inr, Bool, cond, List, [], ◌∷◌, ◌++◌, Option, Some, None, refl, sym, subst, filter}
 use Rattle.std.proofs.lemmas.List.Elements.{filter-append}
 use Rattle.pb_notify.specs.Words.{Cell, Ts, Revision, Talk, tells_old, RecordedRead, Seen, Work, Step, Answer, IsReadOf, old_at, WasOld, WasSeen, AreReplies, ObserverOf, read_step, with_read, asked_cell, value_in, TransactionOf, new_transaction, Entry, Received, Has, names_start, entries_naming, transaction_after, transaction_from, names, told}
@@ -13,7 +13,7 @@ use Rattle.pb_base.proofs.Logic.{same_number as itself}
 pub same_either : {A : Type 0} (b : Bool) (x : A) → cond b x x ≡ x
 same_either b x = grind arith
 
--- what was said stays said
+-- what is in a conversation stays in it as it grows
 pub has_append : (said more : List Received) (r : Received) → Has said r → Has (said ++ more) r
 has_append [] more r h = absurd h
 has_append (x ∷ xs) more r (inl is) = inl is
@@ -23,7 +23,7 @@ has_append (x ∷ xs) more r (inr h) = inr (has_append xs more r h)
 abbrev pub bare_of : Ts → List Received → List Received
 bare_of s said = filter (λ (r : Received). names s.0 r.step) said
 
--- one more ask with its reply, and the read that told it
+-- one more ask with its reply, and the read that gave it
 replies_more : (rs : List RecordedRead) (talk : Talk) (r : RecordedRead) (q : machine.Ask) (a : machine.Reply) → AreReplies rs talk → IsReadOf r (asked_cell q) None → a ≡ value_in r.answer
     → AreReplies (rs ++ r ∷ []) (talk ++ (q, a) ∷ [])
 replies_more [] [] r q a h e f = (e, f, tt)
@@ -37,7 +37,7 @@ is_newer o s seen talk n said (dirty k now i newer) = newer
 is_newer o s seen talk n said (asked_more before m base q k now was look) = is_newer o s seen before m base was
 
 module _ (observers : List ObserverOf) (seat : ℕ) (s : Ts) where
-  -- ---- the transaction of this start after what was said
+  -- ---- the transaction of this start after the conversation
 
   abbrev one : Received → Option TransactionOf → Option TransactionOf
   one r t = cond (names_start s.0 r.step r.answer) (transaction_after observers seat r.step r.answer t) t
@@ -69,7 +69,7 @@ module _ (observers : List ObserverOf) (seat : ℕ) (s : Ts) where
     abbrev pub with_reads : List RecordedRead → TransactionOf
     with_reads rs = record (new_transaction seat (Work.Run o.observer o.row)) { reads = rs }
 
-    -- what was said began the run, and led to these reads by looks alone
+    -- the conversation began the run, and led to these reads by looks alone
     pub record IsRecorded (said : List Received) (reads : List RecordedRead) : Type 0 where
       pub begun : Has said (told (Step.Begin (Work.Run o.observer o.row)) (Answer.At s))
       pub bare : bare_of s said ≡ []

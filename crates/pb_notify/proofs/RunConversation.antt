@@ -26,7 +26,7 @@ plan_more : (p : PlanOf) (said : List Received) (q : PlanOf) (r : Received) → 
 plan_more p [] q r t next can = (ap plans.next_of (sym t) ∙ next, can, ap (λ z. plans.answered z r.answer) t)
 plan_more p (x ∷ xs) q r t next can = (t.0, t.1, plan_more (plans.answered p x.answer) xs q r t.2 next can)
 
--- where a look tells what the cell holds, the count is as before
+-- where a look returns what the cell holds, the count is as before
 tells_few : (n : ℕ) (look : Look) (b a : Answer) → n < MAX_LOCKED → look_after n look b ≡ Looked.Tells a → locked_after n look b < MAX_LOCKED
 tells_few n look b a few e = grind arith
 
@@ -39,7 +39,7 @@ rounds_go_on s x at m base n said (one_more k before round r is) =
 in_goes_on : (s : Ts) (x : Cell) (at : Option Ts) (m : ℕ) (base : List Received) (n : ℕ) (said part : List Received) → IsIn s x at m base n said part → (rest : List Received) × (said ≡ base ++ rest)
 in_goes_on s x at m base n said part i = grind (arith, rounds_go_on, append_assoc, i.met, i.before, i.rounds, i.said_is)
 
--- a look goes on from what was said before it
+-- a look goes on from the conversation before it
 pub look_goes_on : (s : Ts) (x : Cell) (at : Option Ts) (m : ℕ) (base : List Received) (look : Look) (n : ℕ) (said : List Received) → InLook s x at m base look n said → (rest : List Received) × (said ≡ base ++ rest)
 look_goes_on s x at m base Look.Reading n said i = rounds_go_on s x at m base n said i
 look_goes_on s x at m base (Look.Clearing primary) n said i = in_goes_on s x at m base n said _ i.1
@@ -352,14 +352,14 @@ module _ (o : Watch) where
     ended : (said : List Received) (place : RunPlace) (end : JobEnd) (n : ℕ) → SoFar n place said → need_at place ≡ Need.Over end → IsEnded end said
     ended said place end n i e = grind arith
 
--- what was said at any place can be ended: a look by a read without a lock, a plan as plans can
+-- the conversation at any place can be ended: a look by a read without a lock, a plan as plans can
 pub jobs_converse : PlansConverse → PlansEnd → JobsConverse
 jobs_converse pt pe o said k reaches =
     let h = reached_holds o pt pe said k reaches in
     let c = can_end o pt pe k.locked k.place said h.at h.so in
     (c.rest, c.end, c.run, c.whole)
 
--- at the end what was said is whole
+-- at the end the conversation is whole
 pub jobs_end : PlansConverse → PlansEnd → JobsEnd
 jobs_end pt pe o said k end reaches over =
     let h = reached_holds o pt pe said k reaches in

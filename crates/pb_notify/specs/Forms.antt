@@ -17,7 +17,7 @@ pub data IsRound (s : Ts) (x : Cell) (at : Option Ts) : List Received → Type 0
   settled : (t : Ts) (primary : Cell) (a b : Answer) → CanAnswer (Step.Settle primary) a → CanAnswer (Step.Clear x) b
       → IsRound s x at (told (read_step s x at) (Answer.Locked t primary) ∷ told (Step.Clear x) Answer.Waits ∷ told (Step.Settle primary) a ∷ told (Step.Clear x) b ∷ [])
 
--- any number of them, after what was said with so many locks met
+-- any number of them, after a conversation with so many locks met
 pub data AreRounds (s : Ts) (x : Cell) (at : Option Ts) (m : ℕ) (base : List Received) : ℕ → List Received → Type 0 where
   at_first : AreRounds s x at m base m base
   one_more : (n : ℕ) (said round : List Received) → AreRounds s x at m base n said → IsRound s x at round → AreRounds s x at m base (suc n) (said ++ round)
@@ -36,7 +36,7 @@ pub record IsLooked (s : Ts) (x : Cell) (at : Option Ts) (m : ℕ) (base : List 
   pub held : IsHeld answer
   pub said_is : said ≡ before ++ told (read_step s x at) answer ∷ []
 
--- a look at a cell that isn't at its end: what was said since is a beginning of one, and no more
+-- a look at a cell that isn't at its end: the conversation since is a beginning of one, and no more
 pub record IsLooking (s : Ts) (x : Cell) (at : Option Ts) (m : ℕ) (base said : List Received) : Type 0 where
   pub since : List Received
   pub said_is : said ≡ base ++ since
@@ -70,7 +70,7 @@ IsRecalled o s seen None n said = (seen.old ≡ None) × IsAcknowledged o s seen
 IsRecalled o s seen (Some t) n said =
     (m : ℕ) × (base : List Received) × IsAcknowledged o s seen m base × (look : IsLooked s (Cell.Data o.row o.column) (Some t) m base n said) × (seen.old ≡ value_in look.answer)
 
--- where the version is newer: the cell as of the acknowledged timestamp, if the program is told that, and a look at
+-- where the version is newer: the cell as of the acknowledged timestamp, if the program is given that, and a look at
 -- each cell that its machine asked for, with these asks and replies
 pub data AreAsked (o : Watch) (s : Ts) (seen : Seen) : Talk → ℕ → List Received → Type 0 where
   dirty : (n : ℕ) (said : List Received) → IsRecalled o s seen (old_at (tells_old o.judged) seen.acknowledged) n said → seen.acknowledged.0 < seen.version.commit.0 → AreAsked o s seen [] n said

@@ -19,8 +19,8 @@ MachineStandsAt place s v = ⊥
 abbrev pub IsLed : Position → Type 0
 IsLed v = (a : Placement) → IsPlacement (length v.bytes) a → (here : State) × IsAtState v a here
 
--- what was said since the machine had its last reply: nothing while it computes, and of one look at the cell while it
--- asks
+-- the conversation since the machine had its last reply: empty while it computes, and a beginning of one look at the cell while
+-- it asks
 abbrev pub IsSaidSince : RunPlace → ℕ → List Received → List Received → Type 0
 IsSaidSince (RunPlace.Computing s v) met base said = said ≡ base
 IsSaidSince (RunPlace.Asking s v q look) met base said = IsLooking s (Cell.Data q.row q.column) None met base said
@@ -45,7 +45,7 @@ IsAskingAt (RunPlace.Asking s v q look) = (a : Placement) → IsPlacement (lengt
 IsAskingAt place = Unit {0}
 
 -- the plan that is followed declares a run of the program on the record of what was seen, with the replies that were
--- read, and this is what the program means by them; what was said since is the plan's
+-- read, and this is what the program means by them; the conversation since is the plan's
 pub record IsEndedRun (o : Watch) (r : ℕ) (p : PlanOf) (said : List Received) : Type 0 where
   pub s : Ts
   pub seen : Seen
@@ -62,7 +62,7 @@ pub record IsEndedRun (o : Watch) (r : ℕ) (p : PlanOf) (said : List Received) 
   pub declares : p.what ≡ Declared.Run o.observer run
   pub followed : Converses (plans.fresh s.0 p.what) since p
 
--- before its sweep: with the sweep's answer what was said is a whole conversation, and if a run was declared in it,
+-- before its sweep: with the sweep's answer the conversation is whole, and if a run was declared in it,
 -- that is what its program means
 pub record IsBeforeSweep (o : Watch) (end : JobEnd) (said : List Received) : Type 0 where
   pub run : Option Meant

@@ -21,7 +21,7 @@ pub record HearsReply (v : Position) (q : Ask) (a : Answer) (w : Position) : Typ
   pub told : RepliedWith v q reply w
   pub most : w.taken ≤ slots w.judged.program.insns
 
--- what it leaves where its next instruction is the exit: the program's meaning of what it was given and told
+-- what it leaves where its next instruction is the exit: the program's meaning of what it was given and of its replies
 pub record ExitLeaves (v : Position) (f : Meant) : Type 0 where
   pub judged : f.judged ≡ v.judged
   pub bytes : f.bytes ≡ v.bytes
@@ -37,7 +37,7 @@ pub record ExitLeaves (v : Position) (f : Meant) : Type 0 where
 abbrev pub exit_at : Meant → ℕ → Position
 exit_at f taken = record { judged = f.judged; bytes = f.bytes; start = f.start; talk = f.talk; taken = taken; phase = MachinePhase.Going }
 
--- and behind it
+-- and after it
 abbrev pub ended_at : Meant → ℕ → Position
 ended_at f taken = record { judged = f.judged; bytes = f.bytes; start = f.start; talk = f.talk; taken = taken + 1; phase = MachinePhase.Over f.result }
 

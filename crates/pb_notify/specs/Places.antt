@@ -90,7 +90,7 @@ by_outcome r p (Some Outcome.Lost) = RunPlace.Over JobEnd.Lost
 abbrev pub after_plan : ℕ → PlanOf → RunPlace
 after_plan r p = by_outcome r p (outcome_of p)
 
--- after so many reads that met a lock, of a program that is told what its cell held at the acknowledged timestamp, or
+-- after so many reads that met a lock, of a program that is given what its cell held at the acknowledged timestamp, or
 -- isn't
 abbrev pub place_after : Bool → ℕ → RunPlace → Answer → RunPlace
 place_after second locked RunPlace.Beginning a = after_begin a
@@ -104,12 +104,12 @@ place_after second locked (RunPlace.Planning r p) a = after_plan r (plans.answer
 place_after second locked (RunPlace.Sweeping end) a = RunPlace.Over end
 place_after second locked (RunPlace.Over end) a = RunPlace.Over end
 
--- where a look for the machine comes to its end, the machine is told
+-- where a look for the machine comes to its end, the machine gets its reply
 abbrev pub IsToldBy : Position → Ask → Looked → RunPlace → Type 0
 IsToldBy v q (Looked.Tells a) (RunPlace.Computing s w) = HearsReply v q a w
 IsToldBy v q looked place = Unit {0}
 
--- only a look for the machine tells it anything
+-- only a look for the machine gives it a reply
 abbrev pub IsToldAt : ℕ → RunPlace → Answer → RunPlace → Type 0
 IsToldAt locked (RunPlace.Asking s v q look) a place = IsToldBy v q (look_after locked look a) place
 IsToldAt locked before a place = Unit {0}
@@ -152,7 +152,7 @@ GrowsAt (RunPlace.Starting s seen) = Unit {0}
 GrowsAt (RunPlace.Computing s v) = IsAtExit v
 GrowsAt place = ⊥
 
--- ---- what a place says of its parts
+-- ---- what holds of a place's parts
 
 -- wherever it may read, one lock more may be met; its machine goes or asks as the place says; a plan that it follows
 -- isn't over

@@ -32,7 +32,7 @@ fresh o = record { watch = o; locked = 0; place = RunPlace.Beginning }
 abbrev pub next_of : RunOf → Option Step
 next_of j = step_at j.watch.observer j.watch.row j.watch.column j.place
 
--- there is such a step, as an owner who is told to call may rely on
+-- there is such a step, on which an owner who has to call may rely
 abbrev pub HasNext : RunOf → Type 0
 HasNext j = (s : Step) × (next_of j ≡ Some s)
 
@@ -55,7 +55,7 @@ IsSlotOf j slot = IsSlotAt j.place slot
 abbrev pub answered : RunOf → Answer → RunOf
 answered j a = record j { locked = locked_at j.locked j.place a; place = place_after (tells_old j.watch.judged) j.locked j.place a }
 
--- its machine was told what a look for it found
+-- its machine received what a look for it found
 abbrev pub HearsLook : RunOf → Answer → RunOf → Type 0
 HearsLook j a k = IsToldAt j.locked j.place a k.place
 

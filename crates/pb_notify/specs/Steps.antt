@@ -1,5 +1,5 @@
--- What the instructions of a run's machine do: one, which a world tells of each, or all up to the next ask or the
--- exit, as a worker has them done. The second is said by the first, so that both are one meaning.
+-- What the instructions of a run's machine do: one, which a world notes for each, or all up to the next ask or the
+-- exit, as a worker has them done. The second is defined by the first, so that both have one meaning.
 use Rattle.std.specs.Prelude.{◌≡◌, ℕ, ◌≤◌, length}
 use Rattle.pb_notify.specs.Words.{slots, Placement, IsPlacement, Position, Moved, MachinePhase, Went, EndsAt, Moves, IsAskOrEnd, Meant, Declared}
 use Rattle.pb_notify.specs.Machines.{ExitLeaves}

@@ -9,12 +9,13 @@ use std::alloc::Global;
 use std::marker::Model;
 use std::sync::Arc;
 
-/// One run of an observer on a cell of its column (OSDI 2010, section 2.4), step after step: it begins a transaction,
-/// reads the cell and then its acknowledgment. Where the cell was committed after the acknowledged change, its machine
-/// runs on the record of the change, with a read for each cell that it asks for; where that record tells what the cell
-/// held when it was acknowledged, a read as of then comes before. What it leaves is declared and committed by a
-/// [`Plan`](pb_txn::Plan), and the cell is swept if it committed. Where there is nothing newer, it only sweeps the
-/// cell.
+/// One run of an observer on a cell of its column (OSDI 2010, section 2.4), step after step: it
+/// begins a transaction, reads the cell and then its acknowledgment. Where the cell was committed
+/// after the acknowledged change, its machine runs on the record of the change, with a read for
+/// each cell that it asks for. If that record gives what the cell held when it was acknowledged, a
+/// read as of then comes before. What it leaves is declared and committed by a
+/// [`Plan`](pb_txn::Plan), and the cell is swept if it committed. Where there is nothing newer, it
+/// only sweeps the cell.
 ///
 /// A read that meets a lock clears it, after its primary was settled where the lock waits for that, and reads again,
 /// until [`MAX_LOCKED`](crate::MAX_LOCKED) reads of the job met one.
@@ -105,10 +106,11 @@ impl ObserverJob {
         }
     }
 
-    /// Takes the answer of the next step, which is one that such a step can have. It takes no memory. Where a read
-    /// meets a lock, it goes on by clearing it, and settling its primary where that waits; it runs only where the
-    /// version that it found is newer than its acknowledgment; it ends at the 64th lock; it sweeps where it is clean
-    /// or committed, and only there. What a look for the machine found is its reply, at every placement.
+    /// Takes the answer of the next step, which is one that such a step can have. It takes no
+    /// memory. Where a read meets a lock, it goes on by clearing it, and settling its primary where
+    /// that waits. It runs only where the version that it found is newer than its acknowledgment.
+    /// It ends at the 64th lock. It sweeps where it is clean or committed, and only there. What a
+    /// look for the machine found is its reply, at every placement.
     pub fn took(&mut self, answer: Answer)
         requires { CanTake self.old answer }
         ensures answered { self.new ≡ answered self.old answer }
@@ -131,10 +133,11 @@ impl ObserverJob {
         self.locked = locked;
     }
 
-    /// Does one instruction of its machine, which it starts before the first. The exit also makes what it declares and
-    /// its plan. Refused for memory, which these two alone can be, it is as before, and goes on when it is called
-    /// again. It is one instruction at every placement, of the run on the record of what was seen and from its start;
-    /// and what is declared at the exit is what the program means by what it was given and told.
+    /// Does one instruction of its machine, which it starts before the first. The exit also makes
+    /// what it declares and its plan. Refused for memory, which these two alone can be, it is as
+    /// before, and goes on when it is called again. It is one instruction at every placement, of
+    /// the run on the record of what was seen and from its start. What is declared at the exit is
+    /// what the program means by what it was given and by its replies.
     #[inline(always)]
     pub fn local(&mut self, alloc: Global) -> Result<(), NoMemory>
         requires { need_of self.old ≡ Local }

@@ -6,10 +6,11 @@ ghost use Rattle.pb_notify.specs.Allowed.{JobsAreAllowed, RunsAreKept};
 use pb_history::{acknowledged_is_earlier, journals_are_sound, transactions_are_told};
 use pb_txn::{plans_are_allowed, plans_converse};
 
-/// What a job has asked is a beginning of a run's conversation, and at its end a whole one, whose declared run is what
-/// its program means. It is its begin and a look at the cell, or at the cell and its acknowledgment, where nothing is
-/// newer, and then a sweep; or these looks, a look at each cell that was asked for, with the replies of the declared
-/// run, and a transaction's conversation of that run, with a sweep where it committed; or a beginning of one, up to
+/// What a job has asked is a beginning of a run's conversation, and at its end a whole one, whose
+/// declared run is what its program means. It is its begin and a look at the cell, or at the cell
+/// and its acknowledgment, where nothing is newer, and then a sweep. Or it is these looks, a look
+/// at each cell that was asked for, with the replies of the declared run, and a transaction's
+/// conversation of that run, with a sweep where it committed. Or it is a beginning of one, up to
 /// the 64th read that met a lock.
 pub fn jobs_converse()
     ensures converses { JobsConverse }
@@ -18,10 +19,10 @@ pub fn jobs_converse()
     plans_converse();
 }
 
-/// The machine of a job stands where its program led it from entry, at every placement, on the record of what the job
-/// read and with the replies that it read. It has exactly the asks that the job looked at. Nothing was said since the
-/// last reply while it computes, and while it asks a beginning of one look at that cell; once it has ended, what was
-/// said since is its plan's.
+/// The machine of a job stands where its program led it from entry, at every placement, on the
+/// record of what the job read and with the replies that it read. It has exactly the asks that the
+/// job looked at. The conversation since the last reply is empty while it computes, and a beginning
+/// of one look at that cell while it asks; once it has ended, the conversation since is its plan's.
 pub fn machines_are_led()
     ensures led { MachinesAreLed }
     ensures open { AsksAreOpen }

@@ -76,7 +76,7 @@ impl Machine {
         }
     }
 
-    /// Does one instruction, and tells what it did.
+    /// Does one instruction, and returns what it did.
     #[inline(always)]
     pub fn local(&mut self) -> Moved
         requires { self.old.phase ≡ Going }
@@ -91,7 +91,7 @@ impl Machine {
         }
     }
 
-    /// Does all instructions up to the next ask or the exit, and tells what the last one did.
+    /// Does all instructions up to the next ask or the exit, and returns what the last one did.
     pub fn follow(&mut self) -> Moved
         requires { self.old.phase ≡ Going }
         ensures { FollowsOn self.old result self.new }
@@ -105,7 +105,7 @@ impl Machine {
         }
     }
 
-    /// Tells the instruction that waits what a read of its cell was answered.
+    /// Gives the instruction that waits the answer to the read of its cell.
     pub fn reply(self, ask: Ask, answer: Answer) -> Machine
         requires { self.phase ≡ Asking ask }
         ensures told { HearsReply self ask answer result }

@@ -134,7 +134,8 @@ fn if_dirty(second: bool, start: Ts, version: Revision, acknowledged: Ts) -> Run
             acknowledged,
             old: None,
         };
-        // It is read only where the record tells it, since `Declare` refuses a run with a read too many.
+        // It is read only where the record gives it, since `Declare` refuses a run with a read too
+        // many.
         match old_at(second, acknowledged) {
             None => RunPlace::Starting(start, seen),
             Some(_) => RunPlace::Recalling(start, seen, Look::Reading),
@@ -249,7 +250,8 @@ fn look_at(second: bool, locked: u8, place: &mut RunPlace, answer: Answer)
     *place = place_after(second, locked, before, answer);
 }
 
-/// Takes the answer of the next step where the place stands, and tells whether it is a plan, which goes on.
+/// Takes the answer of the next step where the place stands, and returns whether it is a plan,
+/// which goes on.
 pub fn take_answer(second: bool, locked: u8, place: &mut RunPlace, answer: Answer) -> bool
     requires at { AtPlace locked place.old }
     requires can { CanTakeAt place.old answer }
@@ -291,7 +293,7 @@ pub fn take_answer(second: bool, locked: u8, place: &mut RunPlace, answer: Answe
     }
 }
 
-/// Whether a program is told what its cell held at the acknowledged timestamp.
+/// Whether a program is given what its cell held at the acknowledged timestamp.
 pub fn tells_old(accepted: &Arc<Accepted>) -> bool
     ensures { result ≡ versions.tells_old accepted.now.value }
 {

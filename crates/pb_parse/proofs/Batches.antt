@@ -117,7 +117,7 @@ cut_choice : (k : Bool) (x y : List (List ℕ)) → (a : List ℕ) × (ys : List
 cut_choice true x y h = ([], x, refl)
 cut_choice false x y h = h
 
--- a line has an operation at least, be it empty, so what is read is never an empty batch
+-- a line has at least one operation, even if an empty one, so what is read is never an empty batch
 cut_some : (line : List ℕ) → (x : List ℕ) × (ys : List (List ℕ)) × (cut line ≡ x ∷ ys)
 cut_some [] = ([], [], refl)
 cut_some (b ∷ []) = (b ∷ [], [], refl)

@@ -49,7 +49,7 @@ next_observer_fault : (observers : List ObserverOf) (words : List (List ℕ)) (c
 unfolding next_observer
 next_observer_fault observers words cause h = grind (arith, then_err, next_fault, next_is, named_fault)
 
--- behind a name, a row
+-- after a name, a row out of range
 record BadRowBehind (observers : List ObserverOf) (words : List (List ℕ)) (cause : ScheduleCode) : Type 0 where
   observer : ℕ
   behind : List (List ℕ)
@@ -89,7 +89,7 @@ record BadChange (words : List (List ℕ)) (cause : ScheduleCode) : Type 0 where
   written : words ≡ codes "change" ∷ behind
   number : BadNumber 1 MAX_CHANGES behind cause
 
--- `run` with a name that nobody has, or a row out of range behind a name
+-- `run` with a name that nobody has, or a row out of range after a name
 record BadRun (observers : List ObserverOf) (words : List (List ℕ)) (cause : ScheduleCode) : Type 0 where
   behind : List (List ℕ)
   written : words ≡ codes "run" ∷ behind
@@ -135,7 +135,7 @@ job_fault observers words cause some h =
 
 -- ---- cells
 
--- a row, and digits that are no column behind it
+-- a row, and after it digits that are no column
 record BadColumn (words : List (List ℕ)) (cause : ScheduleCode) : Type 0 where
   row : Row
   behind : List (List ℕ)
@@ -193,7 +193,7 @@ cell_fault observers (word ∷ words) cause some h = elim (chosen_branch (bytes_
 abbrev Blames : List ObserverOf → List (List ℕ) → ScheduleCode → Type 0
 Blames observers words cause = (cause ≡ ScheduleCode.Form) ⊎ StopsAtField observers words cause
 
--- what stands behind a whole order is a fault of the form
+-- what stands after a whole order is a fault of the form
 once_fault : (event : Event) (words : List (List ℕ)) (cause : ScheduleCode) → once event words ≡ Err cause → cause ≡ ScheduleCode.Form
 unfolding once
 once_fault event words cause h = grind arith
@@ -265,7 +265,7 @@ on_fault : (make : Cell → Event) (r : Result (Cell × List (List ℕ)) Schedul
 unfolding once_on
 on_fault make r cause h = grind (arith, then_err, once_fault)
 
--- where a verb that names any cell may stop: at a row, a column, a name, or a row behind a name
+-- where a verb that names any cell may stop: at a row, a column, a name, or a row after a name
 record CellFields (observers : List ObserverOf) (verb : List ℕ) : Type 0 where
   blame_row : (words rest : List (List ℕ)) (word : List ℕ) (cause : ScheduleCode) → words ≡ verb ∷ word ∷ rest → IsNoRow word cause → StopsAtField observers words cause
   blame_column : (words rest : List (List ℕ)) (row : Row) (word : List ℕ) (cause : ScheduleCode) → words ≡ verb ∷ decimal row.0 ∷ word ∷ rest → IsRow row → IsNoColumn word cause → StopsAtField observers words cause
@@ -319,7 +319,7 @@ sweep_fault observers words cause h =
       | inr own ↦ bad_data observers words cause (data_fault words cause own)
     ]
 
--- one verb: where the word is it, what stands behind is blamed, and else the other verbs say what
+-- one verb: if the word is it, the fault is in what stands after it, and else the other verbs name the fault
 verb_fault : (verb this : List ℕ) (r others : Result Order ScheduleCode) (cause : ScheduleCode) (P : List ℕ → Type 0) → cond (bytes_eq verb this) r others ≡ Err cause → (r ≡ Err cause → P this) → (others ≡ Err cause → P verb) → P verb
 verb_fault verb this r others cause P h mine rest = grind (arith, chosen_branch, same_text)
 
@@ -333,7 +333,7 @@ by_verb observers verb words cause some h =
     (λ h. verb_fault verb (codes "clear") _ _ cause P h (any_cell_fault observers (codes "clear") Event.Clear words cause some (clear_fields observers))
     (λ h. verb_fault verb (codes "sweep") _ _ cause P h (sweep_fault observers words cause) (λ h. inl (sym (err_is {A = Order} ScheduleCode.Form cause h))))))))
 
--- whatever a line's words begin with, its fault is its form or a field's
+-- with any words at its beginning, a line's fault is its form or a field's
 words_blamed : (observers : List ObserverOf) (words : List (List ℕ)) (cause : ScheduleCode) → AreParts 32 words → order_of_words observers words ≡ Err cause → Blames observers words cause
 unfolding order_of_words
 words_blamed observers words cause some h = grind (arith, err_is, by_verb)

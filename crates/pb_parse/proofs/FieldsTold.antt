@@ -1,4 +1,4 @@
--- Where the words of a line stop at a field, the line has the field's fault, whatever stands behind.
+-- If the words of a line stop at a field, the line has the field's fault, with any words after it.
 use Rattle.std.proofs.Common.{◌≡◌, ℕ, ◌-◌, ◌^◌, ◌<◌, Bool, true, false, List, ◌∷◌, ◌++◌, length, Result, Err, refl, sym, ap, subst, ◌∙◌, arith, nat_lt, codes, decimal, bytes_eq}
 use Rattle.std.proofs.lemmas.Bool.{ltb-true}
 use Rattle.pb_parse.specs.Words.{COLUMNS, MAX_CHANGES, MAX_EVENTS, MAX_SEATS, Cell, Row, is_numeral, words_of, ObserverOf}
@@ -37,7 +37,7 @@ nobody_there observers word cause true is none =
     let f = first_is observers word lt in
     absurd (none.nobody (first_named observers word) lt f.same)
 
--- so it is refused, and told as no observer's
+-- so it is refused, with the fault of a name that no observer has
 name_refused : (observers : List ObserverOf) (word : List ℕ) (rest : List (List ℕ)) (cause : ScheduleCode) → IsNobody observers word cause → next_observer observers (word ∷ rest) ≡ Err cause
 unfolding next_observer
 name_refused observers word rest cause none = rw (nobody_there observers word cause _ refl none) (refused {A = ℕ × List (List ℕ)} ScheduleCode.NoObserver cause none.told)
@@ -56,7 +56,7 @@ run_row_refused : (observers : List ObserverOf) (o : ℕ) (word : List ℕ) (res
 unfolding next_run
 run_row_refused observers o word rest cause named out = rw (next_observer_back observers o (word ∷ rest) named, row_refused word rest cause out) refl
 
--- behind an actor, a job that is refused is the launch's fault
+-- after an actor, a job that is refused is the launch's fault
 launch_job_refused : (observers : List ObserverOf) (actor : ℕ) (words : List (List ℕ)) (cause : ScheduleCode) → IsActor actor → next_job observers words ≡ Err cause → launch_of observers (decimal actor ∷ words) ≡ Err cause
 unfolding launch_of
 launch_job_refused observers actor words cause may is = rw (actor_back actor words may, is) refl
@@ -112,7 +112,7 @@ crash_refused : (word : List ℕ) (rest : List (List ℕ)) (cause : ScheduleCode
 unfolding crash_of
 crash_refused word rest cause out = rw (number_refused 1 (MAX_SEATS - 1) word rest cause out) refl
 
--- a word that can't stand in its field is refused there, behind words that may stand in front
+-- a word that can't stand in its field is refused there, after words that may stand before it
 field_refused : (observers : List ObserverOf) (field : Field) (word : List ℕ) (rest : List (List ℕ)) (cause : ScheduleCode) → FitsInFront observers field → IsRefusedAt observers field word cause → order_of_words observers (words_in_front observers field ++ word ∷ rest) ≡ Err cause
 unfolding order_of_words next_job
 field_refused observers LaunchActor word rest cause fits out = launch_actor_refused observers word rest cause out

@@ -12,7 +12,7 @@ use Rattle.pb_parse.proofs.OwnFaults.{IsOwn, own_fault}
 use Rattle.pb_parse.proofs.Batches.{nothing_open, all_open}
 use Rattle.pb_base.proofs.Logic.{chosen_branch}
 
--- an operation's own fault is the line's, whatever stands before it
+-- an operation's own fault is the line's, after any writes
 own_after : (before : Writes) (text : List ℕ) (cause : ScriptCode) → IsOwn cause → operation text ≡ Err cause → IsFaultAfter before text cause
 own_after before text cause own h = grind arith
 

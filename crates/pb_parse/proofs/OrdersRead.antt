@@ -79,7 +79,7 @@ event_back : (observers : List ObserverOf) (e : Event) → FitsEvent observers e
 unfolding order_of_words
 event_back observers e fits = grind (arith, launch_back, step_back, crash_back, once_on_back, cell_back, sweep_back)
 
--- and a step as often as the last word says
+-- and a step as often as the last word states
 steps_back : (observers : List ObserverOf) (actor n : ℕ) → IsActor actor → 1 ≤ n → n ≤ MAX_EVENTS → order_of_words observers (codes "step" ∷ decimal actor ∷ decimal n ∷ []) ≡ Ok (record { event = Event.Step actor; times = n })
 unfolding order_of_words step_of times_of
 steps_back observers actor n fits low high = rw (actor_back actor (decimal n ∷ []) fits, number_back 1 MAX_EVENTS n (omega arith) low high) refl

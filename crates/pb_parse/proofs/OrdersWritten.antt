@@ -115,7 +115,7 @@ record IsWritten (observers : List ObserverOf) (order : Order) (words : List (Li
   written : AreWordsOf observers order words
   fits : FitsEvent observers order.event
 
--- the words of an event that is asked for once, and none behind them
+-- the words of an event that is asked for once, and none after them
 once_written : (observers : List ObserverOf) (event : Event) (words rest : List (List ℕ)) (order : Order) → once event rest ≡ Ok order → words ≡ event_words observers event ++ rest → FitsEvent observers event → IsWritten observers order words
 once_written observers event words rest order h is fits = grind (arith, once_is, append-nil)
 
@@ -130,7 +130,7 @@ launch_is observers words order some h =
     once_written observers (Event.Launch a.0.0 b.0.0) (codes "launch" ∷ words) b.0.1 order b.2
     (ap (λ (ws : List (List ℕ)). codes "launch" ∷ ws) (n.written ∙ ap (λ (ws : List (List ℕ)). decimal a.0.0 ∷ ws) j.written)) (n.fits, j.fits)
 
--- how often is said by no word, or by the spelling of a number
+-- how often stands in no word, or in the spelling of a number
 times_is : (words : List (List ℕ)) (n : ℕ) → times_of words ≡ Ok n → ((n ≡ 1) × (words ≡ [])) ⊎ ((1 ≤ n) × (n ≤ MAX_EVENTS) × (words ≡ decimal n ∷ []))
 unfolding times_of
 times_is words n h = grind (arith, ok_is, then_ok, number_is, none_left)
@@ -170,7 +170,7 @@ sweep_is observers words order h =
     let x = data_is observers words a.0 a.1 in
     once_written observers (Event.Sweep a.0.0) (codes "sweep" ∷ words) a.0.1 order a.2 (ap (λ (ws : List (List ℕ)). codes "sweep" ∷ ws) x.cell.written) (x.data_cell, x.cell.fits)
 
--- one verb: where the word is it, what stands behind says the order, and else the other verbs do
+-- one verb: if the word is it, what stands after it gives the order, and else the other verbs do
 verb_is : (verb : List ℕ) (this : List ℕ) (r others : Result Order ScheduleCode) (order : Order) (P : List ℕ → Type 0) → cond (bytes_eq verb this) r others ≡ Ok order → (r ≡ Ok order → P this) → (others ≡ Ok order → P verb) → P verb
 verb_is verb this r others order P h mine rest = grind (arith, chosen_branch, same_text)
 

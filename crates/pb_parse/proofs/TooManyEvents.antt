@@ -1,4 +1,4 @@
--- Too many events are told exactly of a line that is read and goes past what a schedule may have.
+-- Too many events are the fault exactly of a line that is read and goes past what a schedule may have.
 use Rattle.std.proofs.Common.{arith, ◌≡◌, ◌≢◌, ℕ, ◌+◌, ◌<◌, Bool, false, List, length, Ok, Err, refl, ◌∙◌, inl, inr, ◌⊎◌, ◌↔◌}
 use Rattle.std.proofs.lemmas.Bool.{lt-ltb}
 use Rattle.pb_parse.specs.Words.{MAX_EVENTS, is_skipped, ObserverOf}

@@ -1,5 +1,4 @@
--- The numbers by which a script's faults are told. They stand apart from the reading, which speaks of codes by their
--- names.
+-- The numbers by which a script's faults are reported. They stand apart from the reading, which uses the codes' names.
 use Rattle.std.specs.Prelude.{ℕ}
 use Rattle.pb_parse.specs.declared.script.code.ScriptCode.{ScriptCode}
 

@@ -19,12 +19,12 @@ name_of observers o = name_or_none (slice_get observers o)
 
 -- ---- the words of a line
 
--- a data cell by row and column; an acknowledgment by the observer's name, which tells its column too
+-- a data cell by row and column; an acknowledgment by the observer's name, which gives its column too
 abbrev pub cell_words : List ObserverOf → Cell → List (List ℕ)
 cell_words observers (Cell.Data row column) = decimal row.0 ∷ decimal column ∷ []
 cell_words observers (Cell.Ack o row column) = codes "ack" ∷ name_of observers o ∷ decimal row.0 ∷ []
 
--- the words of a launch behind its actor
+-- the words of a launch after its actor
 abbrev pub job_words : List ObserverOf → Job → List (List ℕ)
 job_words observers (Job.Change number) = codes "change" ∷ decimal number ∷ []
 job_words observers (Job.Run o row) = codes "run" ∷ name_of observers o ∷ decimal row.0 ∷ []
@@ -89,7 +89,7 @@ IsStep (Event.Settle x) = ⊥
 IsStep (Event.Clear x) = ⊥
 IsStep (Event.Sweep x) = ⊥
 
--- The words ask for an event so many times: for once they are the event's, and for a step there may stand behind them how often.
+-- The words ask for an event so many times. For once they are the event's; for a step, how often may stand after them.
 abbrev pub AreWordsOf : List ObserverOf → Order → List (List ℕ) → Type 0
 AreWordsOf observers order words =
     ((order.times ≡ 1) × (words ≡ event_words observers order.event))

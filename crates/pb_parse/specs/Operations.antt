@@ -1,4 +1,4 @@
--- What the operations of a line say, and which of them is at fault. Said of all at once, without an order of reading,
+-- What the operations of a line write, and which of them is at fault. It is defined for all at once, without an order of reading,
 -- since a looseness of the reading in turn would stand in definition and reader alike. The laws of lines cite it.
 use Rattle.std.specs.Prelude.{◌≡◌, ℕ, ◌≤◌, true, false, is_some, List, ◌∷◌, ◌++◌, length, map, Ok, Err}
 use Rattle.pb_parse.specs.Words.{MAX_CELLS, Cell, Content, Writes, content_in, are_distinct}
@@ -10,7 +10,8 @@ use Rattle.pb_parse.specs.ScriptLines.{cut}
 abbrev pub Say : List (List ℕ) → Writes → Type 0
 Say texts writes = map operation texts ≡ map (λ w. Ok w) writes
 
--- Why the operation of this text is at fault after those that say these writes: by itself; or it names one of their cells; or it names another, and they are as many as a transaction may have.
+-- Why the operation of this text is at fault after those that ask for these writes: by itself; or it names one of their cells; or
+-- it names another, and they are as many as a transaction may have.
 abbrev pub IsFaultAfter : Writes → List ℕ → ScriptCode → Type 0
 IsFaultAfter before text ScriptCode.Form = operation text ≡ Err ScriptCode.Form
 IsFaultAfter before text ScriptCode.Range = operation text ≡ Err ScriptCode.Range

@@ -1,4 +1,4 @@
--- The numbers by which a schedule's faults are told. Readers speak of codes by name.
+-- The numbers by which a schedule's faults are reported. Readers use the codes' names.
 use Rattle.std.specs.Prelude.{ℕ}
 use Rattle.pb_parse.specs.declared.schedule.code.ScheduleCode.{ScheduleCode}
 

@@ -1,4 +1,4 @@
--- Where a schedule is at fault, said by the words of a line up to one that can't stand there, and not by what a reader
+-- Where a schedule is at fault: defined by the words of a line up to one that can't stand there, and not by what a reader
 -- meets first. The laws of schedules cite it.
 use Rattle.std.specs.Prelude.{◌≡◌, ◌≢◌, ◌⊎◌, ℕ, ◌-◌, ◌^◌, ◌<◌, ◌+◌, true, false, List, [], ◌∷◌, ◌++◌, length, codes, Ok, decimal}
 use Rattle.std.specs.Str.Parse.{digits_value}

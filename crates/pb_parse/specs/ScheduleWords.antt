@@ -1,5 +1,5 @@
 -- The words of a schedule's line, each read from left to right: what is read, and the words after it. Each function of
--- src/schedule/words.rt cites the one of its name; what they read together is said without an order in EventLines.
+-- src/schedule/words.rt cites the one of its name; EventLines defines what they read together, without an order.
 use Rattle.std.specs.Prelude.{ℕ, ◌-◌, ◌^◌, nat_lt, if◌then◌else◌, List, [], ◌∷◌, length, codes, Result, Ok, Err, bytes_eq}
 use Rattle.std.specs.List.{position_or_len}
 use Rattle.pb_parse.specs.Words.{COLUMNS, MAX_CHANGES, MAX_EVENTS, MAX_SEATS, Row, Cell, ◌>>=◌, next_word, no_word, numeral_upto, words_of, ObserverOf, acknowledgment}
@@ -44,13 +44,13 @@ next_observer observers words = do
   o ← observer_named observers word.0
   Ok (o, word.1)
 
--- the number of a change behind `change`, from 1 on; whether the script has so many is asked where it is launched
+-- the number of a change after `change`, from 1 on; whether the script has so many is asked where it is launched
 unfoldable pub next_change : List (List ℕ) → Result (Job × List (List ℕ)) ScheduleCode
 next_change words = do
   number ← next_number 1 MAX_CHANGES words
   Ok (Job.Change number.0, number.1)
 
--- the name of an observer and a row, behind `run`; the run is on the cell of the observer's column there
+-- the name of an observer and a row, after `run`; the run is on the cell of the observer's column there
 unfoldable pub next_run : List ObserverOf → List (List ℕ) → Result (Job × List (List ℕ)) ScheduleCode
 next_run observers words = do
   observer ← next_observer observers words
@@ -69,14 +69,14 @@ once event words = do
   end ← no_word ScheduleCode.Form words
   Ok (record { event = event; times = 1 })
 
--- behind `launch` an actor and its job, and no word more
+-- after `launch` an actor and its job, and no word more
 unfoldable pub launch_of : List ObserverOf → List (List ℕ) → Result Order ScheduleCode
 launch_of observers words = do
   actor ← next_actor words
   job ← next_job observers actor.1
   once (Event.Launch actor.0 job.0) job.1
 
--- how often: once where no word says it
+-- how often: once if no word is left
 unfoldable pub times_of : List (List ℕ) → Result ℕ ScheduleCode
 times_of [] = Ok 1
 times_of (word ∷ words) = do
@@ -84,14 +84,14 @@ times_of (word ∷ words) = do
   end ← no_word ScheduleCode.Form words
   Ok n
 
--- behind `step` an actor, and how often its job goes on
+-- after `step` an actor, and how often its job goes on
 unfoldable pub step_of : List (List ℕ) → Result Order ScheduleCode
 step_of words = do
   actor ← next_actor words
   times ← times_of actor.1
   Ok (record { event = Event.Step actor.0; times = times })
 
--- behind `crash` an actor, and no word more
+-- after `crash` an actor, and no word more
 unfoldable pub crash_of : List (List ℕ) → Result Order ScheduleCode
 crash_of words = do
   actor ← next_actor words
@@ -104,14 +104,14 @@ next_data_cell words = do
   column ← next_number 0 (COLUMNS - 1) row.1
   Ok (Cell.Data row.0 column.0, column.1)
 
--- behind `ack` a name and a row; the column is the one that the observer observes, so no word tells it
+-- after `ack` a name and a row; the column is the one that the observer observes, so no word names it
 unfoldable pub next_acknowledgment : List ObserverOf → List (List ℕ) → Result (Cell × List (List ℕ)) ScheduleCode
 next_acknowledgment observers words = do
   observer ← next_observer observers words
   row ← next_row observer.1
   Ok (acknowledgment observers observer.0 row.0, row.1)
 
--- a data cell, or behind `ack` an acknowledgment
+-- a data cell, or after `ack` an acknowledgment
 abbrev pub next_cell : List ObserverOf → List (List ℕ) → Result (Cell × List (List ℕ)) ScheduleCode
 next_cell observers [] = Err ScheduleCode.Form
 next_cell observers (word ∷ words) = if bytes_eq word (codes "ack") then next_acknowledgment observers words else next_data_cell (word ∷ words)
@@ -120,7 +120,7 @@ next_cell observers (word ∷ words) = if bytes_eq word (codes "ack") then next_
 unfoldable pub once_on : (Cell → Event) → Result (Cell × List (List ℕ)) ScheduleCode → Result Order ScheduleCode
 once_on make cell = cell >>= λ x. once (make x.0) x.1
 
--- what a verb and the words behind it ask for
+-- what a verb and the words after it ask for
 abbrev pub order_by : List ObserverOf → List ℕ → List (List ℕ) → Result Order ScheduleCode
 order_by observers verb words =
     if bytes_eq verb (codes "launch") then launch_of observers words

@@ -1,5 +1,5 @@
--- A text of lines, each an event or several, and the first line at fault. `parse_schedule` promises it; the same is
--- said of all lines at once in EventLines, by a law.
+-- A text of lines, each an event or several, and the first line at fault. `parse_schedule` promises it. EventLines defines the
+-- same for all lines at once, and a law proves that both agree.
 use Rattle.std.specs.Prelude.{ℕ, ◌+◌, nat_lt, replicate, if◌then◌else◌, List, [], ◌++◌, length, Result, Ok, Err}
 use Rattle.pb_parse.specs.Words.{MAX_EVENTS, ◌>>=◌, is_skipped, lines_of, in_lines, ObserverOf}
 use Rattle.pb_parse.specs.declared.event.Event.{Event}
@@ -12,7 +12,7 @@ use Rattle.pb_parse.specs.ScheduleWords.{order_of}
 abbrev pub with_order : List Event → Order → Result (List Event) ScheduleCode
 with_order before order = if nat_lt MAX_EVENTS (length before + order.times) then Err ScheduleCode.TooMany else Ok (before ++ replicate order.times order.event)
 
--- The events so far, with those of one more line. That they are too many is told last of its line's faults.
+-- The events so far, with those of one more line. That they are too many is the last of a line's faults.
 unfoldable pub with_event_line : List ObserverOf → List Event → List ℕ → Result (List Event) ScheduleCode
 with_event_line observers before line = if is_skipped line then Ok before else (order_of observers line >>= with_order before)
 

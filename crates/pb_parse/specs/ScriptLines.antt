@@ -33,7 +33,7 @@ with_line before line = if is_skipped line then Ok before else do
   batch ← batch_of line
   if nat_le MAX_CHANGES (length before) then Err ScriptCode.TooMany else Ok (before ++ batch ∷ [])
 
--- the transactions of a text, or the line and the code of its fault; skipped lines are counted too, since a fault is told
--- by the line's number
+-- the transactions of a text, or the line and the code of its fault; skipped lines are counted too, since a fault is
+-- reported by the line's number
 abbrev pub script_of : List ℕ → Result Batches (ℕ × ℕ)
 script_of text = in_lines script_code with_line 0 [] (lines_of text)

@@ -1,4 +1,4 @@
--- The words of one operation, each read from left to right, since the first field at fault is the one that is told.
+-- The words of one operation, each read from left to right, since the first field at fault is the one that is reported.
 -- Each reader of src/script/words.rt cites the one of its name.
 use Rattle.std.specs.Prelude.{ℕ, ◌-◌, ◌^◌, replicate, ◌||◌, ◌==◌, nat_lt, if◌then◌else◌, List, ◌++◌, length, drop, codes, Result, Ok, Err, bytes_eq}
 use Rattle.std.specs.Char.{is_ascii_uppercase}
@@ -29,7 +29,7 @@ cell_at words = do
   column ← number_upto (COLUMNS - 1) second.0
   Ok (Cell.Data (record { 0 = row }) column, second.1)
 
--- `put ROW COL HEX`, behind its verb: the content is read before it is asked whether a word is left
+-- `put ROW COL HEX`, after its verb: the content is read before the check whether a word is left
 unfoldable pub put_of : List (List ℕ) → Result (Cell × Content) ScriptCode
 put_of words = do
   cell ← cell_at words
@@ -38,14 +38,14 @@ put_of words = do
   end ← no_word ScriptCode.Form word.1
   Ok (cell.0, Content.Value content)
 
--- `del ROW COL`, behind its verb
+-- `del ROW COL`, after its verb
 unfoldable pub del_of : List (List ℕ) → Result (Cell × Content) ScriptCode
 del_of words = do
   cell ← cell_at words
   end ← no_word ScriptCode.Form cell.1
   Ok (cell.0, Content.Deleted)
 
--- an operation by its verb; an unknown one is of no form, whatever stands behind it
+-- an operation by its verb; an unknown one is of no form, with any words after it
 unfoldable pub write_of : List (List ℕ) → Result (Cell × Content) ScriptCode
 write_of words = do
   verb ← next_word ScriptCode.Form words

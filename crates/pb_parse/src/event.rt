@@ -10,7 +10,8 @@ pub enum Job {
     Run(ObserverNo, Row),
 }
 
-/// One event. An actor is told by its number, which is that of its seat. A schedule's text names actors from 1 to 63.
+/// One event. An actor is named by its number, which is that of its seat. A schedule's text
+/// names actors from 1 to 63.
 #[derive(Clone, Copy)]
 pub enum Event {
     /// The actor gets a job; no step is taken.
@@ -22,8 +23,9 @@ pub enum Event {
     /// The step of this name on the cell, by the main seat, since it is no actor's (OSDI 2010, section 2.2): the
     /// transaction whose primary is locked there is decided against.
     Settle(Cell),
-    /// Likewise: a lock that another transaction left on the cell is taken off, as its primary says.
+    /// Likewise: a lock that another transaction left on the cell is taken off, as its primary
+    /// decides.
     Clear(Cell),
-    /// Likewise: the mark is taken off the cell where no observer is behind on it.
+    /// Likewise: the mark is taken off the cell if all observers are up to date on it.
     Sweep(Cell),
 }

@@ -2,9 +2,10 @@
 //!
 //! A script is the changes of a run, and a schedule the events of a replay. One crate reads both, since a fault of either
 //! is a line and a code, and worlds take its `Event` without anything of reports. `pb_driver` reads its texts
-//! by the names that `pb_script` hands on. A text is read exactly as its format says, line by line, or its first line
-//! at fault is told, by that line's first fault, unless memory ran out. So `put 7 0 2a; del 7 1` is one batch of two
-//! cells, and a second line `put 7 16 2a` is told as line 2 code 71, since there is no column above 15.
+//! by the names that `pb_script` hands on. A text is read line by line, exactly as its format
+//! defines; or its first line at fault is returned, with that line's first fault, unless memory
+//! ran out. So `put 7 0 2a; del 7 1` is one batch of two cells, and a second line `put 7 16 2a` is
+//! line 2 code 71, since there is no column above 15.
 #![tactic(auto)]
 
 mod event;

@@ -9,7 +9,7 @@ use Rattle.std.specs.Str.Parse.{digits_value, ParsesUnsigned}
 use Rattle.pb_reading.proofs.Readings.{if_ok, ok_is}
 use Rattle.std.proofs.lemmas.Str.Parse.{IsDigitsTest, IsNumeralModel, numerals_by_value, parse_digits}
 
--- digits are told by their test
+-- digits are recognized by their test
 pub digits_by_test : IsDigitsTest (λ ds. list_all is_ascii_digit ds ≡ true)
 digits_by_test = search rules
 

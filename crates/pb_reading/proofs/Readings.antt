@@ -1,4 +1,4 @@
--- What readings one after the other say of each, where they end well and where they end in a fault.
+-- What readings one after the other show about each, if they end well and if they end in a fault.
 use Rattle.std.proofs.Common.{arith, ◌≡◌, ◌⊎◌, ℕ, Bool, true, false, cond, List, [], ◌∷◌, Option, Some, None, Result, Ok, Err, refl, ap, inl, inr, nat_le, ok_or}
 use Rattle.std.specs.Str.Parse.{digits_value}
 use Rattle.pb_reading.specs.Reading.{◌>>=◌, is_numeral, next_word, no_word, numeral_upto}
@@ -44,7 +44,7 @@ next_is {E} form (w ∷ ws) x h = ap (λ (p : List ℕ × List (List ℕ)). p.0 
 pub none_left : {E : Type 0} (form : E) (words : List (List ℕ)) (x : Unit {0}) → no_word form words ≡ Ok x → words ≡ []
 none_left form words x h = grind arith
 
--- a word that is missing, or too many, is told as such
+-- a word that is missing, or too many, is reported as such
 pub next_fault : {E : Type 0} (form : E) (words : List (List ℕ)) (cause : E) → next_word form words ≡ Err cause → cause ≡ form
 next_fault form words cause h = grind arith
 

@@ -1,5 +1,5 @@
--- Which fault is told of a text: that of its first line at fault, by the line's number and the code's. Readers of
--- programs' texts, scripts and schedules promise it by these words, and so do their laws.
+-- Which fault is reported for a text: that of its first line at fault, by the line's number and the code's. Readers of programs'
+-- texts, scripts and schedules promise it by these words, and so do their laws.
 use Rattle.std.specs.Prelude.{◌≡◌, ℕ, ◌+◌, List, ◌∷◌, ◌++◌, length, Result, Ok, Err, codes, decimal}
 use Rattle.pb_reading.specs.declared.fault.LineFault.{LineFault}
 use Rattle.pb_reading.specs.declared.fault.TextFault.{TextFault}
@@ -16,12 +16,12 @@ abbrev pub ReadsLine : {X Y C : Type 0} → (X → Y) → Result X (LineFault C)
 ReadsLine view (Ok x) read = read ≡ Ok (view x)
 ReadsLine view (Err fault) read = Ends fault read
 
--- the line that a fault is told by; want of memory is no line's
+-- the line by which a fault is reported; want of memory is no line's
 abbrev pub line_told : TextFault → ℕ
 line_told (TextFault.NoMemory refused) = 0
 line_told (TextFault.At line code) = line
 
--- the number that it is told by
+-- the number by which it is reported
 abbrev pub code_told : TextFault → ℕ
 code_told (TextFault.NoMemory refused) = 1
 code_told (TextFault.At line code) = code
@@ -41,8 +41,8 @@ abbrev pub IsFaultOf : {Y : Type 0} → Result Y (ℕ × ℕ) → TextFault → 
 IsFaultOf read (TextFault.NoMemory refused) = ⊥
 IsFaultOf read (TextFault.At line code) = read ≡ Err (line, code)
 
--- the lines one after the other, each after what those before it made; the first fault ends it, and is told by the
--- number of its line, to which skipped lines count, and by that of its code
+-- the lines one after the other, each after what those before it made; the first fault ends it, and is reported by the number of
+-- its line, to which skipped lines count, and by that of its code
 abbrev pub in_lines : {S C : Type 0} → (C → ℕ) → (S → List ℕ → Result S C) → ℕ → S → List (List ℕ) → Result S (ℕ × ℕ)
 in_lines code with_line n before lines = in_turn (λ m s line. numbered code m (with_line s line)) n before lines
 

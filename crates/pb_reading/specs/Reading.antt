@@ -38,8 +38,8 @@ words_of line = slice_split (λ b. b == 32) line
 abbrev pub texts_of : List (Bor (List ℕ)) → List (List ℕ)
 texts_of texts = map (λ t. t.now) texts
 
--- The lines and the words of what is left of a text, behind a newline or a blank. Where nothing is left there are none,
--- while an empty text is one empty line, or one empty word.
+-- The lines and the words of what is left of a text, after a newline or a blank. If nothing is left there are none, while an
+-- empty text is one empty line, or one empty word.
 abbrev pub lines_left : Option (Bor (List ℕ)) → List (List ℕ)
 lines_left None = []
 lines_left (Some text) = lines_of text.now
@@ -78,12 +78,12 @@ numeral_upto form range greatest word = if is_numeral word then (if nat_le (digi
 
 -- ---- one after the other
 
--- each step from what those before it made, told its number, so that a fault can name its line; the first fault ends it
+-- each step from what those before it made, with its number, so that a fault can name its line; the first fault ends it
 abbrev pub in_turn : {S A E : Type 0} → (ℕ → S → A → Result S E) → ℕ → S → List A → Result S E
 in_turn step n s [] = Ok s
 in_turn step n s (x ∷ xs) = step n s x >>= λ t. in_turn step (n + 1) t xs
 
--- a fault as it is told of the line after n lines: the line's number, from 1, and the fault's
+-- the fault that is reported for the line after n lines: the line's number, from 1, and the fault's
 abbrev pub numbered : {A E : Type 0} → (E → ℕ) → ℕ → Result A E → Result A (ℕ × ℕ)
 numbered code n (Ok x) = Ok x
 numbered code n (Err fault) = Err (n + 1, code fault)

@@ -35,7 +35,8 @@ impl<T: Drop, C> From<AllocFailed<T>> for LineFault<C> {
     }
 }
 
-/// A fault of a text. Want of memory is told as line 0 and code 1, and is made of a refused growth alone.
+/// A fault of a text. Want of memory is reported as line 0 and code 1, and is made of a refused
+/// growth alone.
 #[derive(Debug, Drop)]
 pub enum TextFault {
     /// A growth was refused, whichever line was read.
@@ -45,7 +46,7 @@ pub enum TextFault {
 }
 
 impl TextFault {
-    /// At the line of this index, which is counted from 0, where lines are told from 1.
+    /// At the line of this index, which is counted from 0; lines are reported from 1.
     pub fn at(index: usize, code: u8) -> TextFault
         requires { index < usize.MAX }
         ensures { result ≡ At (index + 1) code }
@@ -56,7 +57,7 @@ impl TextFault {
         }
     }
 
-    /// The line that it is told by, from 1; 0 where it is no line's.
+    /// The line by which it is reported, from 1; 0 if it is no line's.
     pub fn line(&self) -> usize
         ensures { result ≡ line_told self.now }
     {
@@ -66,7 +67,7 @@ impl TextFault {
         }
     }
 
-    /// The number that it is told by.
+    /// The number by which it is reported.
     pub fn code(&self) -> u8
         ensures { result ≡ code_told self.now }
     {

@@ -26,8 +26,8 @@ pub fn is_numeral(word: &str) -> bool
     all_digits(digits)
 }
 
-/// The number that a word is, at most this. What is too large, of any length, is told apart from what is no number: the
-/// one is out of range, and the other of another form.
+/// The number that a word is, at most this. What is too large, of any length, is distinguished from
+/// what is no number: the one is out of range, and the other of another form.
 pub fn numeral_upto<C: Drop>(form: C, range: C, greatest: u64, word: &str) -> Result<u64, C>
     ensures value { Gives (λ _. false) (λ n. n) result
         (numeral_upto form range greatest word.now) }

@@ -2,7 +2,7 @@
 ghost use Rattle.std.specs.Prelude.{◌≡◌, ◌∷◌, false};
 ghost use Rattle.pb_reading.specs.Reading.{Gives, next_word, no_word, words_of, words_left};
 
-/// The first word of a line, and what stands behind its blank, if it has one.
+/// The first word of a line, and what stands after its blank, if it has one.
 pub fn first_word(line: &str) -> (&str, Option<&str>)
     ensures { words_of line.now ≡ result.0.now ∷ words_left result.1 }
 {
@@ -35,8 +35,8 @@ impl<'a> LineWords<'a> {
         }
     }
 
-    /// No word is left, or else this fault. It is the last test of a line, so that a word too many is told only where
-    /// all before it are read.
+    /// No word is left, or else this fault. It is the last test of a line, so that a word too many
+    /// is reported only if all before it are read.
     pub fn no_word<C: Drop>(&self, form: C) -> Result<(), C>
         ensures { Gives (λ _. false) (λ x. x) result
             (no_word form (words_left self.now.rest)) }

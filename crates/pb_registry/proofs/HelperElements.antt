@@ -22,7 +22,7 @@ numbers_pushed : (vs : List Value) (v : Value) → numbers (vs ++ v ∷ []) ≡ 
 numbers_pushed [] v = refl
 numbers_pushed (w ∷ vs) v = ap (λ ns. number_of w ∷ ns) (numbers_pushed vs v)
 
--- an element's number stands among all of them, behind those of the elements before it
+-- an element's number stands among all of them, after those of the elements before it
 parted : (vs : List Value) (i : ℕ) (d : Value) → i < length vs → (rest : List ℕ) × (numbers vs ≡ numbers (take i vs) ++ number_of (get_or vs i d) ∷ rest)
 parted [] i d lt = absurd (omega (arith, lt))
 parted (v ∷ vs) zero d lt = (numbers vs, refl)

@@ -21,7 +21,7 @@ not_first a h = grind arith
 turned : (m n : ℕ) (b : Bool) → (m == n) ≡ b → (n == m) ≡ b
 turned m n b h = grind arith
 
--- a new helper behind distinct ones
+-- a new helper after distinct ones
 pub one_more : (ns : List ℕ) (n : ℕ) → are_helpers ns ≡ true → is_helper n ≡ true → is_named n ns ≡ false → are_helpers (ns ++ n ∷ []) ≡ true
 one_more [] n all is new = ap (λ b. b && true) is
 one_more (m ∷ ns) n all is new =

@@ -1,4 +1,4 @@
--- How the codes of a manifest's faults are told. Readers speak of codes by name; three have one number.
+-- How the codes of a manifest's faults are reported. Readers refer to codes by name; three have one number.
 use Rattle.std.specs.Prelude.{ℕ, Bool, true, false, Option, Some, None}
 use Rattle.pb_registry.specs.Words.{Refused, refused_growth}
 use Rattle.pb_registry.specs.declared.code.ManifestCode.{ManifestCode}

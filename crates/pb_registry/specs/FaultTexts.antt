@@ -1,4 +1,4 @@
--- How the fault of a manifest is told, behind `manifest: ` in its line. `Display` of `RegistryFault` cites it.
+-- How the fault of a manifest is printed, after `manifest: ` in its line. `Display` of `RegistryFault` cites it.
 use Rattle.std.specs.Prelude.{ℕ, List, ◌++◌, codes, Option, Some, None, decimal}
 use Rattle.pb_registry.specs.Words.{Refused}
 use Rattle.pb_registry.specs.Codes.{number_of, refusal_of}

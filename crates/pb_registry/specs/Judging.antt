@@ -51,7 +51,7 @@ FaultAfter false p d c = IsOwnFault p d c
 abbrev pub IsLowestAfter : List (List ℕ) → Profile → Data → ManifestCode → Type 0
 IsLowestAfter names p d c = FaultAfter (is_used names d) p d c
 
--- the observer of this element stands behind those before
+-- the observer of this element is appended to those before it
 abbrev pub HasOneMore : Profile → Data → List ObserverOf → List ObserverOf → Type 0
 HasOneMore p d old new = (o : ObserverOf) × IsObserver p d o × (new ≡ old ++ o ∷ [])
 
@@ -68,11 +68,11 @@ pub record IsFirstElementFault (p : Profile) (ds : List Data) (place : ℕ) (cod
   pub there : slice_get ds place ≡ Some element
   pub fault : IsLowestAfter (names_of before) p element code
 
--- how a code is told, of the whole or of the observer at a place
+-- how a code is reported, of the whole or of the observer at a place
 abbrev pub fault_with : Option ℕ → ManifestCode → RegistryFault
 fault_with place c = record { observer = place; cause = c }
 
--- how a code is told of the observer at a place; want of memory has no place, since it is no observer's fault
+-- how a code is reported of the observer at a place; want of memory has no place, since it is no observer's fault
 abbrev pub fault_at : ℕ → ManifestCode → RegistryFault
 fault_at place c = if is_memory c then fault_with None memory else fault_with (Some place) c
 
@@ -90,7 +90,7 @@ abbrev pub TellsFault : Result ManifestOf ManifestCode → RegistryFault → Typ
 TellsFault (Err c) f = f ≡ fault_with None c
 TellsFault (Ok m) f = (place : ℕ) × (c : ManifestCode) × IsFirstElementFault m.profile m.elements place c × (f ≡ fault_with (Some place) c)
 
--- what reading a manifest tells: its observers, or its fault
+-- what reading a manifest returns: its observers, or its fault
 abbrev pub ReadsManifest : List ℕ → Result (List ObserverOf) RegistryFault → Type 0
 ReadsManifest text (Ok os) = AreTaken (manifest_of_text text) os
 ReadsManifest text (Err f) = TellsFault (manifest_of_text text) f

@@ -120,7 +120,7 @@ abbrev pub column_in : Option ℕ → Result ℕ ManifestCode
 column_in None = Err ManifestCode.Form
 column_in (Some n) = if nat_lt n COLUMNS then Ok n else Err ManifestCode.Column
 
--- the numbers of these values, 0 of one that is none
+-- the numbers of these values, 0 for one that isn't a number
 abbrev pub numbers_of : List Data → List ℕ
 numbers_of ds = map (λ d. unwrap_or (number_in d) 0) ds
 
@@ -157,7 +157,7 @@ pub record WrittenOf : Type 0 where
   pub version : Version
   pub bytes : List ℕ
 
--- name, column, helpers, record and digits are read in this order, so the fault that is told has the lowest code
+-- name, column, helpers, record and digits are read in this order, so the fault that is reported has the lowest code
 unfoldable pub members_of : Data → Result WrittenOf ManifestCode
 members_of d = do
   name ← name_in (text_at (codes "name") d)

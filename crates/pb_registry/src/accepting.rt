@@ -11,8 +11,9 @@ use pb_isa::Profile;
 use pb_verify::{Accepted, VerifyFault, verify_for};
 use std::alloc::Global;
 
-/// Reads the bytes of a program of this profile, and accepts it with these helpers, for change records of this version. Else
-/// it tells the first slot at fault, with the lowest code there: 10 to 16 of the bytes, or 21 to 38 of the program.
+/// Reads the bytes of a program of this profile, and accepts it with these helpers, for change
+/// records of this version. Else it returns the first slot at fault, with the lowest code there: 10
+/// to 16 of the bytes, or 21 to 38 of the program.
 pub fn accept_in(
     alloc: Global,
     profile: Profile,

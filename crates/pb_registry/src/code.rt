@@ -1,4 +1,5 @@
-//! Why a manifest is refused: codes apart inside, also where three of them are told by one number.
+//! Why a manifest is refused: the codes are distinct inside, also where three of them are reported
+//! by one number.
 ghost use Rattle.std.specs.Prelude.{◌≡◌};
 ghost use Rattle.pb_registry.specs.Codes.{number_of, refusal_of};
 
@@ -30,7 +31,7 @@ pub enum ManifestCode {
 }
 
 impl ManifestCode {
-    /// The number by which a code is told.
+    /// The number by which a code is reported.
     pub fn number(&self) -> u8
         ensures { result ≡ number_of self.now }
     {

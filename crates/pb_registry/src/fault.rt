@@ -1,4 +1,4 @@
-//! How the fault of a manifest is told: by numbers, since the names of codes stay inside.
+//! How the fault of a manifest is reported: by numbers, since the names of codes stay inside.
 ghost use Rattle.std.specs.Prelude.{◌≡◌};
 ghost use Rattle.pb_registry.specs.Judging.{fault_with, fault_at, memory_in};
 
@@ -52,7 +52,7 @@ impl RegistryFault {
         self.observer
     }
 
-    /// The number that it is told by.
+    /// The number by which it is reported.
     pub fn code(&self) -> u8
         ensures { result ≡ number_of self.now.cause }
     {
@@ -80,7 +80,7 @@ impl RegistryFault {
     }
 }
 
-/// A code as it is told: of the whole, or of the observer at a place.
+/// A code as it is reported: of the whole, or of the observer at a place.
 pub fn fault_with(observer: Option<u8>, code: ManifestCode) -> RegistryFault
     ensures { result ≡ fault_with observer code }
 {
@@ -90,7 +90,8 @@ pub fn fault_with(observer: Option<u8>, code: ManifestCode) -> RegistryFault
     }
 }
 
-/// A code as it is told of the observer at a place. Want of memory has none, since it isn't that observer's fault.
+/// A code as it is reported of the observer at a place. Want of memory has no place, since it isn't
+/// that observer's fault.
 pub fn fault_at(place: u8, code: ManifestCode) -> RegistryFault
     ensures { result ≡ fault_at place code }
 {

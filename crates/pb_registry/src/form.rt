@@ -1,4 +1,5 @@
-//! The form of a manifest: which members there are, and of which types. What they say is judged behind it.
+//! The form of a manifest: which members there are, and of which types. What they hold is judged
+//! after it.
 ghost use Rattle.std.specs.Prelude.{◌≡◌, ◌≢◌, ◌≤◌, map, length, Some, None, IfOk, IfErr, option_map};
 ghost use Rattle.std.specs.List.{list_all};
 ghost use Rattle.serde_json.specs.Read.{read};
@@ -118,7 +119,7 @@ fn has_record(profile: Profile, value: &Value) -> bool
 fn is_observer(profile: Profile, value: &Value) -> bool
     ensures { result ≡ is_observer profile (view value.now) }
 {
-    // A count and the names, so that there is no member besides.
+    // A count and the names, so that there is no other member.
     let members = if has_record(profile, value) { 5 } else { 4 };
     member_count(value) == members && has_members(value)
 }

@@ -18,7 +18,8 @@ use pb_verify::Observer;
 use serde_json::Value;
 use std::alloc::Global;
 
-// Asked of the element as it is written, since a used name is told before anything of the element is read.
+// Asked of the element as it is written, since a used name is reported before anything of the
+// element is read.
 fn is_used(observers: &IndexMap<String, RegisteredObserver>, element: &Value) -> bool
     ensures { result ≡ is_used (names_of (observers_of observers.now.entries)) (view element.now) }
 {
@@ -28,7 +29,8 @@ fn is_used(observers: &IndexMap<String, RegisteredObserver>, element: &Value) ->
     }
 }
 
-// Reads one observer more. A name that was used before is told first, as its code is the lowest.
+// Reads one observer more. A name that was used before is reported first, as its code is the
+// lowest.
 fn add_observer(
     alloc: Global,
     profile: Profile,
@@ -58,7 +60,8 @@ fn add_observer(
     }
 }
 
-/// Reads the observers of a manifest, in its order, their programs in this profile. The first at fault is told, with its lowest code.
+/// Reads the observers of a manifest, in its order, their programs in this profile. The first at
+/// fault is returned, with its lowest code.
 pub fn observers_in(
     alloc: Global,
     profile: Profile,

@@ -31,12 +31,14 @@ impl Model for Registry {
 }
 
 impl Registry {
-    /// Reads a manifest: an object with exactly `profile`, which is 1 or 2, and `observers`, an array. Each of these is an
-    /// object with exactly `name`, `column`, `helpers`, an array of numbers, and `code`, a text. A number is written with
-    /// digits alone, and is below 2^64. In profile 2 an observer may have `record` besides. A manifest is taken only where
-    /// its value has no fault, with an observer for each element: the name, column and program that stand there, accepted
-    /// with the helpers and for the version that stand there. Else its fault is told: that of the whole, without a place,
-    /// or the first element's at fault with its lowest code; or want of memory.
+    /// Reads a manifest: an object with exactly `profile`, which is 1 or 2, and `observers`, an
+    /// array. Each of these is an object with exactly `name`, `column`, `helpers`, an array of
+    /// numbers, and `code`, a text. A number is written with digits alone, and is below 2^64. In
+    /// profile 2 an observer may also have `record`. A manifest is taken only where its value has
+    /// no fault, with an observer for each element: the name, column and program that stand there,
+    /// accepted with the helpers and for the version that stand there. Else its fault is returned:
+    /// that of the whole, without a place, or the first element's at fault with its lowest code; or
+    /// want of memory.
     pub fn from_json(alloc: Global, text: &str) -> Result<Registry, RegistryFault>
         ensures judged { IsJudged result text.now }
         ensures few { IfOk result (λ os. length os ≤ MAX_OBSERVERS) }

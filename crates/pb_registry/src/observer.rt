@@ -204,8 +204,8 @@ fn members_of(alloc: Global, value: &Value) -> Result<Written, ManifestCode>
     })
 }
 
-/// Reads an observer, its program in this profile. The fault that is told has the lowest code, since members come by
-/// their codes and the program last.
+/// Reads an observer, its program in this profile. The fault that is returned has the lowest code,
+/// since members come by their codes and the program last.
 pub fn observer_in(alloc: Global, profile: Profile, value: &Value) -> Result<Observer, ManifestCode>
     ensures ok { IfOk result (IsObserver profile (view value.now)) }
     ensures err { IfErr result (λ c. c ≢ memory → IsOwnFault profile (view value.now) c) }

@@ -15,14 +15,14 @@ use Rattle.pb_history.proofs.Updates.{has_before as has_left, has_right, has_whi
 abbrev pub all_puts : StateOf → List Entry → List Put
 all_puts state es = flat_map (puts_by state) es
 
--- one element more of a list is that element behind those before it
+-- one element more of a list is that element after those before it
 one_more : {A : Type 0} (xs : List A) (i : ℕ) (x : A) → slice_get xs i ≡ Some x → take (suc i) xs ≡ take i xs ++ x ∷ []
 one_more [] zero x e = cc
 one_more [] (suc i) x e = cc
 one_more (y ∷ xs) zero x e = let h : y ≡ x = cc in ap (λ z. z ∷ []) h
 one_more (y ∷ xs) (suc i) x e = ap (λ l. y ∷ l) (one_more xs i x e)
 
--- one more write of a list is noted behind those before it
+-- one more write of a list is noted after those before it
 pub goes_on : {A B : Type 0} (f : A → B) (xs : List A) (i : ℕ) (x : A) (old now : List B) → slice_get xs i ≡ Some x → now ≡ old ++ map f (take i xs) → now ++ f x ∷ [] ≡ old ++ map f (take (i + 1) xs)
 goes_on f xs i x old now e h =
     ap (λ l. l ++ f x ∷ []) h
@@ -41,7 +41,7 @@ all_one_more : {A B : Type 0} (f : A → List B) (xs : List A) (y : A) → flat_
 all_one_more f [] y = append-nil (f y)
 all_one_more f (x ∷ xs) y = ap (λ l. f x ++ l) (all_one_more f xs y) ∙ sym (append_assoc (f x) (flat_map f xs) (f y))
 
--- one more entry adds its writes behind those of the entries before it
+-- one more entry adds its writes after those of the entries before it
 pub gathers_on : {A B : Type 0} (f : A → List B) (xs : List A) (y : A) (now new : List B) → now ≡ flat_map f xs → new ≡ now ++ f y → new ≡ flat_map f (xs ++ y ∷ [])
 gathers_on f xs y now new h e = e ∙ ap (λ l. l ++ f y) h ∙ sym (all_one_more f xs y)
 
@@ -104,7 +104,7 @@ distinct_content (v ∷ ws) d w (inr h) =
 
 -- ---- committed writes
 
--- a transaction that is told as committed is
+-- a transaction that `phase_in` gives as committed is
 phase_there : (state : StateOf) (start : ℕ) (t : TransactionOf) (c : Ts) → finmap.get state.transactions start ≡ Some t → phase_in state start ≡ Some (Phase.Committed c) → t.phase ≡ Phase.Committed c
 phase_there state start t c there p = let q : Some t.phase ≡ Some (Phase.Committed c) = ap (option_map (λ (u : TransactionOf). u.phase)) (sym there) ∙ p in cc
 

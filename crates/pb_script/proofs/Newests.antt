@@ -41,11 +41,11 @@ lower puts p (Some n) later h =
     let le : p.commit.0 ≤ n.commit.0 = ltb-false _ _ later in
     (Contains-append_left puts (p ∷ []) _ h.0, λ q k e. elim (Contains-push_cases puts p q k) [ inl m ↦ h.1 q m e | inr s ↦ let c : p.commit.0 ≡ q.commit.0 = ap (λ (y : Put). y.commit.0) s in omega arith ])
 
--- what is told goes by what is newest, and of an acknowledgment nothing is told
+-- what is reported goes by what is newest, and of an acknowledgment nothing is reported
 pub told_by : (M N : Cell → Option Newest → Type 0) (x : Cell) (r : Option Newest) → (M x r → N x r) → IsTold M x r → IsTold N x r
 told_by x k p r f h = grind arith
 
--- of a data cell what is newest is told
+-- of a data cell what is newest is reported
 told_data : (M N : Cell → Option Newest → Type 0) (x : Cell) (r s : Option Newest) → is_data x ≡ true → (M x r → N x s) → IsTold M x r → IsTold N x s
 told_data x k p r s d f h = grind arith
 
@@ -53,7 +53,7 @@ told_data x k p r s d f h = grind arith
 told_none : (M N : Cell → Option Newest → Type 0) (x : Cell) (r : Option Newest) → is_data x ≡ false → IsTold M x r → IsTold N x r
 told_none x k p r d h = grind arith
 
--- of each cell is told what is newest of these writes
+-- of each cell what is newest of these writes is reported
 abbrev AreTold : List Put → (Cell → Option Newest) → Type 0
 AreTold puts f = (x : Cell) → IsTold (IsNewestPut puts) x (f x)
 
@@ -76,7 +76,7 @@ newest_more puts p f g h news is x =
 stays_here : (puts : List Put) (p : Put) (r : Option Newest) → (is_data p.cell && is_later r p.commit) ≡ false → IsTold (IsNewestPut puts) p.cell r → IsTold (IsNewestPut (puts ++ p ∷ [])) p.cell r
 stays_here puts p r old h = grind (arith, one_false, told_none, told_by, lower, p.cell)
 
--- a write that isn't newer, or is no data, changes nothing that is told
+-- a write that isn't newer, or is no data, changes nothing that is reported
 newest_same : (puts : List Put) (p : Put) (f : Cell → Option Newest) → AreTold puts f → (is_data p.cell && is_later (f p.cell) p.commit) ≡ false → AreTold (puts ++ p ∷ []) f
 newest_same puts p f h old x = grind (arith, cases_Bool, same_cell, stays_here, told_by, other, other_cell, p.cell)
 

@@ -37,7 +37,7 @@ same_by_lookup es fs g h is = same_entries cell_cmp cell_cmp_total cell_cmp-IsAn
 abbrev IsOne : (Cell → Option Newest → Type 0) → Type 0
 IsOne newest = (x : Cell) (r s : Option Newest) → newest x r → newest x s → r ≡ s
 
--- and then of no cell two are told
+-- and then no cell has two reported
 told_one : (newest : Cell → Option Newest → Type 0) → IsOne newest → IsOne (IsTold newest)
 told_one newest one (Cell.Data row column) r s g h = one (Cell.Data row column) r s g h
 told_one newest one (Cell.Ack observer row column) r s g h = g ∙ sym h

@@ -20,7 +20,7 @@ zeros_not : (xs : List ℕ) (z : ℕ) → z ≢ 0 → zeros (xs ++ z ∷ []) ≡
 zeros_not [] z h = rw (ne_eqb z 0 h) refl
 zeros_not (x ∷ xs) z h = and_right (x == 0) (zeros (xs ++ z ∷ [])) (zeros_not xs z h)
 
--- nothing is taken off behind a byte that isn't zero
+-- nothing is taken off after a byte that isn't zero
 pub trim_same : (xs : List ℕ) (z : ℕ) → z ≢ 0 → trimmed (xs ++ z ∷ []) ≡ xs ++ z ∷ []
 trim_same [] z h = refl
 trim_same (x ∷ xs) z h = ap (λ t. cond t (x ∷ []) (x ∷ trimmed (xs ++ z ∷ []))) (zeros_not xs z h) ∙ ap (λ (t : List ℕ). x ∷ t) (trim_same xs z h)

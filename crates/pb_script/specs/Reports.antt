@@ -1,5 +1,5 @@
--- What a report says of a history. What is newest at a cell is a parameter, since a table says it by a snapshot at its
--- clock, and `report_of` by the writes that it is given.
+-- What a report shows of a history. What is newest at a cell is a parameter, since a table gets it by a snapshot at its clock,
+-- and `report_of` by the writes that it is given.
 use Rattle.std.specs.BTreeMap as tree
 use Rattle.std.specs.BTreeMap.{BTreeMap}
 use Rattle.std.specs.Prelude.{◌≡◌, ◌≢◌, ℕ, ◌≤◌, Bool, true, nat_lt, List, ◌++◌, map, Contains, Option, Some, None}
@@ -15,7 +15,7 @@ abbrev pub IsNewestPut : List Put → Cell → Option Newest → Type 0
 IsNewestPut puts x None = (p : Put) → Contains puts p → p.cell ≢ x
 IsNewestPut puts x (Some n) = Contains puts (record { cell = x; commit = n.commit; content = n.content }) × ((p : Put) → Contains puts p → p.cell ≡ x → p.commit.0 ≤ n.commit.0)
 
--- what is told of a cell: what is newest at a data cell, and of an acknowledgment nothing
+-- what is reported of a cell: what is newest at a data cell, and of an acknowledgment nothing
 abbrev pub IsTold : (Cell → Option Newest → Type 0) → Cell → Option Newest → Type 0
 IsTold newest (Cell.Data row column) r = newest (Cell.Data row column) r
 IsTold newest (Cell.Ack observer row column) r = r ≡ None

@@ -1,4 +1,4 @@
--- How often each observer ran, counted as members of the history and not as entries. The report's lines tell it.
+-- How often each observer ran, counted as members of the history and not as entries. The report's lines print it.
 use Rattle.std.specs.Prelude.{◌≡◌, ℕ, ◌+◌, List, [], ◌∷◌}
 use Rattle.pb_script.specs.Words.{ObserverOf, Entry, IsRunCount}
 use Rattle.pb_script.specs.ReportLines.{Tallies}

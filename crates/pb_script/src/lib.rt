@@ -1,10 +1,11 @@
 //! The report of a table, and what reads scripts and schedules, which stand in `pb_parse`.
 //!
-//! A report tells what a table was brought to: the newest committed write of each data cell, the runs of each
-//! observer, and what is left to do. It stands above the table, so that neither journal nor state knows of texts.
-//! `pb_driver` and `pb_story` end with it, and they take what reads scripts and schedules by its name too. A report
-//! has its lines and no others; a cell's is of what a snapshot at the table's clock has there, since no commit is
-//! above that clock. After `put 7 0 2a` alone it is `cell 7 0 commit 2 value 2a` and `quiet`.
+//! A report shows what a table was brought to: the newest committed write of each data cell, the
+//! runs of each observer, and what is left to do. It stands above the table, so that neither
+//! journal nor state knows of texts. `pb_driver` and `pb_story` end with it, and they take what
+//! reads scripts and schedules by its name too. A report has its lines and no others; a cell's is
+//! of what a snapshot at the table's clock has there, since no commit is above that clock. After
+//! `put 7 0 2a` alone it is `cell 7 0 commit 2 value 2a` and `quiet`.
 #![tactic(auto)]
 
 mod fault;

@@ -70,14 +70,15 @@ fn note_entry<T: Tablet>(
     ensures { OnOk result ((puts : List Put) → AreNewest puts table.old
         → AreNewest (puts ++ puts_by shared.now.state entry.now) table.new) }
 {
-    // So a declaration is answered, and other steps too, which are told apart next.
+    // So a declaration is answered, and other steps too, which are separated next.
     if entry.answer.get() != Answer::Done {
         return Ok(());
     }
     let Step::Declare(start, what) = &entry.step else {
         return Ok(());
     };
-    // The entry of a commit tells no writes, so that declarations are looked at, with what became of each.
+    // The entry of a commit names no writes, so that declarations are looked at, with what became
+    // of each.
     let Some(Phase::Committed(commit)) = shared.phase(*start) else {
         return Ok(());
     };

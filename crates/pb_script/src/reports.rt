@@ -1,5 +1,5 @@
 //! The report of a history: what is newest at each data cell, and what is left to do. It takes writes and counts from
-//! anywhere, so that its lines are said without a table.
+//! anywhere, so that its lines are defined without a table.
 mod lines;
 mod newest;
 mod tally;

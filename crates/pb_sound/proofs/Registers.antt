@@ -34,7 +34,7 @@ pub record IsFollowed (p : List Insn) (n : ℕ) (i : Insn) : Type 0 where
 pub each_is_followed : (p : List Insn) → LeadOn p → (n : ℕ) (i : Insn) → insn_at p n ≡ Some i → IsFollowed p n i
 each_is_followed p lead n i a = record { at = a; next = lead.next n i a }
 
--- where 36 isn't broken, an instruction stands behind
+-- where 36 isn't broken, an instruction follows
 pub next_is_there : (p : List Insn) (i : Insn) (n : ℕ) → IsFollowed p n i → falls p (n + size i) ≡ [] → is_some (insn_at p (n + size i)) ≡ true
 next_is_there p i n a h = a.next (ne_from_false _ _ (when_not _ _ h))
 

@@ -52,7 +52,7 @@ acts_silently : (e : Environment) (s : State) → e.judged.helpers ≡ no_helper
 unfolding act
 acts_silently e s none = does_at_silently e s (insn_at e.judged.program.insns s.slot) none
 
--- nothing was told so far, and nothing is written
+-- no reply was given so far, and nothing is written
 record IsSilentPoint (u : Point) : Type 0 where
   told : u.told ≡ 0
   writes : u.state.writes ≡ []
@@ -60,7 +60,7 @@ record IsSilentPoint (u : Point) : Type 0 where
 on_silently : (talk : Talk) (ws : Writes) (o : Outcome) (k : ℕ) (u : Point) → k ≡ 0 → ws ≡ [] → IsSilentStep ws o → on talk o k ≡ Some u → IsSilentPoint u
 on_silently talk ws o k u k0 none h e = grind arith
 
--- at each point of a run nothing was told, and nothing is written
+-- at each point of a run no reply was given, and nothing is written
 points_silently : (e : Environment) (talk : Talk) → e.judged.helpers ≡ no_helpers → (n : ℕ) (u : Point) → point_after e talk n ≡ Some u → IsSilentPoint u
 unfolding point_after state_at_entry
 points_silently e talk none zero u h = let same : point (state_at_entry e) 0 ≡ u = cc in subst IsSilentPoint same (record { told = refl; writes = refl })

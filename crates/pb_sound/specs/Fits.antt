@@ -1,5 +1,5 @@
--- What a frame says of the machine at a placement. The proof that nothing is stuck goes by it: the frame before a slot
--- fits the state of every run that comes there.
+-- What a frame states about the machine at a placement. The proof that nothing is stuck goes by it: the frame before a slot fits
+-- the state of every run that comes there.
 use Rattle.std.specs.Prelude.{◌≡◌, ℕ, ◌+◌, Option, Some, IsTrue}
 use Rattle.pb_sound.specs.Words.{STACK_BYTES, Environment, State, address, Kind, Frame, kind_of, has_byte}
 

@@ -1,5 +1,5 @@
--- What an instruction does whose rules hold: the step of the proof that nothing is stuck, said of one instruction and
--- any state that fits the frame before it.
+-- What an instruction does if its rules hold: the step of the proof that nothing is stuck, for one instruction and any state that
+-- fits the frame before it.
 use Rattle.std.specs.Prelude.{◌≡◌, ℕ, ◌<◌, IsTrue, is_some}
 use Rattle.pb_sound.specs.Words.{COLUMNS, Insn, insn_at, Environment, State, Reply, IsReply, Outcome, Goes, Asks, Ends, Stuck, Frame, after, leads, has_slot}
 use Rattle.pb_sound.specs.Fits.{FitsFrame}

@@ -1,11 +1,12 @@
 //! Accepted programs are never stuck: where the rules hold, the machine of the definitions goes on, at every placement
 //! alike, and a machine that tests nothing does the same.
 //!
-//! Laws alone: an accepted program is never stuck, at any placement, ends, has one meaning, and writes nothing or what
-//! a batch could. They stand apart from the machine above, so that an edit of it has none of them checked again.
-//! `pb_vm` cites them for its contracts, and `pb_world` for the headline. So they say of a program that loads the
-//! record's byte 16 and exits: the byte is there at every placement, since the frame before slot 0 has R1 at the
-//! record's first byte; and each run ends after two instructions, with one result.
+//! Laws alone: an accepted program is never stuck, at any placement, ends, has one meaning, and
+//! writes nothing or what a batch could. They stand apart from the machine above, so that an edit
+//! of it has none of them checked again. `pb_vm` cites them for its contracts, and `pb_world` for
+//! the headline. Take a program that loads the record's byte 16 and exits. By these laws the byte
+//! is there at every placement, since the frame before slot 0 has R1 at the record's first byte;
+//! and each run ends after two instructions, with one result.
 #![tactic(auto)]
 
 ghost use Rattle.pb_sound.specs.NeverStuck.{AcceptedAreNeverStuck};
@@ -25,11 +26,13 @@ pub fn accepted_are_never_stuck()
     ensures { AcceptedAreNeverStuck }
 {}
 
-/// What a machine that tests nothing rests on, in one law. From entry on, a list of registers and one of bytes do what the
-/// definitions do with an accepted program, and each byte that an instruction reads or writes is there, so that nothing has
-/// to be tested. What a run does at one placement, it does at every one, since no rule lets a number depend on an address:
-/// so a machine that keeps one placement tells what it does at each. An access is where the frame before its slot says, so
-/// that it can be resolved once, at upload. And what a program can still ask for and write falls from slot to slot.
+/// What a machine that tests nothing rests on, in one law. From entry on, a list of registers and
+/// one of bytes do what the definitions do with an accepted program, and each byte that an
+/// instruction reads or writes is there, so that nothing has to be tested. What a run does at one
+/// placement, it does at every one, since no rule lets a number depend on an address: so a machine
+/// that keeps one placement shows what it does at each. An access is where the frame before its
+/// slot says, so that it can be resolved once, at upload. And what a program can still ask for and
+/// write falls from slot to slot.
 pub fn accepted_programs_run()
     ensures { AcceptedRuns }
 {}
@@ -50,7 +53,8 @@ pub fn accepted_cells_run()
     ensures { AcceptedCellsRun }
 {}
 
-/// Whatever is told, a run of an accepted program comes to an end, since each instruction leads to a later slot.
+/// Whatever the replies, a run of an accepted program comes to an end, since each instruction leads
+/// to a later slot.
 pub fn every_run_ends()
     ensures { EveryRunEnds }
 {}

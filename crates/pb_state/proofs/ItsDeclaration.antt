@@ -8,7 +8,7 @@ use Rattle.pb_state.specs.Cells.{acknowledgment_by, run_writes}
 use Rattle.pb_base.proofs.Logic.{and_true as both}
 use Rattle.pb_base.proofs.SameCells.{cell_is as same_cell}
 
--- the test of two named timestamps tells that they are one
+-- the test of two named timestamps shows that they are one
 at_is : (p q : Option Ts) → is_at p q ≡ true → p ≡ q
 at_is p q e = grind arith
 
@@ -33,7 +33,7 @@ old_is None x was rest seen none h = grind arith
 old_is (Some a) x was (r ∷ rs) seen none h = if_old a x was r rs seen _ refl h
 old_is (Some a) x was [] seen none h = cc
 
--- what is read behind the first two
+-- what is read after the first two
 pub record IsSeenBy (second : Bool) (x : Cell) (v : Option Revision) (a : Ts) (rest : List RecordedRead) (seen : Seen) : Type 0 where
   pub found : v ≡ Some seen.version
   pub acknowledged : seen.acknowledged ≡ a

@@ -1,4 +1,4 @@
--- What the newest entry tells of locks and write records.
+-- What the newest entry shows of locks and write records.
 use Rattle.std.proofs.Common.{◌≡◌, ℕ, ◌≤◌, true, Option, Some, ap, ◌∙◌, arith, is_some}
 use Rattle.pb_state.specs.Words.{Cell, Ts, Item, Sort, Entries, IsNewest, IsOfSort, SomeLock, SomeWriteFrom, primary_of, start_of}
 

@@ -12,7 +12,7 @@ pub same_by_test : {A : Type 0} (k : Coded A) (x y : A) (b : Bool) → (IsTrue b
 same_by_test k x y true h = sym (is_same k x y (h.0 refl))
 same_by_test k x y false h = sym (differ_by_code k x y (λ e. let no = h.1 e in cc))
 
--- what isn't told apart is one
+-- what doesn't differ is one
 pub not_ne : (r b : Bool) → r ≡ not b → r ≡ false → b ≡ true
 not_ne r b e f = grind arith
 

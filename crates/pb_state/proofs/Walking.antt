@@ -55,7 +55,7 @@ comes_later (Some a) x y c l = cell_cmp_total.trans a x y c l
 less_back : (x y : Cell) → cell_cmp x y ≡ Greater → cell_cmp y x ≡ Less
 less_back x y g = cell_cmp_total.antisymm y x ∙ ap ordering_reverse g
 
--- a mark that is told, with none between, is one more that was passed
+-- a mark that is returned, with none between, is one more that was passed
 pub one_more_walked : (es : List1) → T (is_sorted cell_cmp es) → (last : Option Cell) (n : ℕ) (next : Cell) → IsWalked last es n → has next es ≡ true → ComesAfter last next → NoneBetween last es next → IsWalked (Some next) es (suc n) × (n < length es)
 one_more_walked [] s last n next w h c none = cc
 one_more_walked (e ∷ es) s last zero next w h c none =
@@ -123,13 +123,13 @@ walked_from (e ∷ es) last = by (after_or_not last e.0) (walked_from es last)
 held : (m : Marks) (q : Cell) (b : Bool) → map.contains_key m q ≡ b → has q (map.entries m) ≡ b
 held m q b is = sym (ap is_some (map.get-entries m q)) ∙ is
 
--- each mark that a table tells is the next of its marks
+-- each mark that a table returns is the next of its marks
 pub walked_on : (m : Marks) (last : Option Cell) (n : ℕ) (next : Cell) → IsWalked last (map.entries m) n → IsNextMark m last (Some next) → IsWalked (Some next) (map.entries m) (n + 1) × (n < length (map.entries m))
 walked_on m last n next w is =
     let done = one_more_walked (map.entries m) (map.entries_sorted m) last n next w (held m next true is.0) is.1 (λ q after below. held m q false (is.2 q after below)) in
     (subst (λ k. IsWalked (Some next) (map.entries m) k) (omega arith) done.0, done.1)
 
--- and where it tells none, all were passed
+-- and where it returns none, all were passed
 pub walked_all : (m : Marks) (last : Option Cell) (n : ℕ) → IsWalked last (map.entries m) n → IsNextMark m last None → n ≡ length (map.entries m)
 walked_all m last n w is = all_are_walked (map.entries m) last n w (λ q after. held m q false (is q after))
 

@@ -44,7 +44,7 @@ pub record Admits (s : StateOf) (seat : ℕ) (a : Admitted) : Type 0 where
   pub allowed : step_reason s seat (step_admitted a) ≡ None
   pub found : Finds s seat a
 
--- what is told of a step: what was found for it, or why it is refused
+-- what is returned for a step: what was found for it, or why it is refused
 abbrev pub TellsAdmission : StateOf → ℕ → Step → Result Admitted Reason → Type 0
 TellsAdmission s seat step (Ok a) = (step_admitted a ≡ step) × Admits s seat a
 TellsAdmission s seat step (Err r) = step_reason s seat step ≡ Some r

@@ -1,5 +1,5 @@
--- Observers of a column against the newest commit of a cell, one by one: what the loop of a sweep tells. That none is
--- late on the newest commit is that all are up to date with each.
+-- Observers of a column against the newest commit of a cell, one by one: what the loop of a sweep decides. None is late on the
+-- newest commit exactly if all are up to date with each.
 use Rattle.std.specs.Prelude.{◌≡◌, ℕ, ◌<◌, ◌≤◌, List, Option, Some, slice_get}
 use Rattle.pb_state.specs.Words.{Cell, Row, Revision, Entries, ObserverOf, IsNewestVersion, stamp_in}
 

@@ -1,4 +1,4 @@
--- Pairs in the order of their numbers, as transactions stand in their list, and what a look-up of one tells.
+-- Pairs in the order of their numbers, as transactions stand in their list, and what a look-up of one returns.
 use Rattle.std.specs.Prelude.{◌≡◌, ℕ, ◌<◌, List, length, slice_index_or}
 
 -- each number is above those before it

@@ -21,7 +21,7 @@ pub enum Admitted<'s> {
         cell: Cell,
         at: Option<Ts>,
     },
-    /// With the acknowledgment that a run writes besides.
+    /// With the acknowledgment that a run also writes.
     Declare {
         by: TransactionAt,
         what: &'s Declaration,

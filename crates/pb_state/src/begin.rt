@@ -27,7 +27,7 @@ impl<T: Tablet> Parts<T> {
     pub(crate) fn admit_begin(&self, seat: u32, work: &Work) -> Result<Admitted<'static>, Reason>
         ensures { TellsAdmission self.now seat (Step.Begin work.now) result }
     {
-        // By rising numbers, since the lowest that applies is told.
+        // By rising numbers, since the lowest that applies is returned.
         if self.clock == u64::MAX {
             return Err(Reason::OutOfTimestamps);
         }

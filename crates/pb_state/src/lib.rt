@@ -1,12 +1,14 @@
 //! The state of the shared table, and its transactions.
 //!
-//! A state has a table of tablets, the observers, the clock and the transactions, and no past: the journal that led to
-//! it is kept by `pb_core`, its only caller in the program, and what journals tell is shown in `pb_history`, below. So
-//! a new body here checks no law anew. The promise: steps are taken exactly as `TableStep` says, and refused exactly
-//! where it says so, with the lowest number; refused for memory, the state is as before. What a step needs is looked up
-//! once, where it is tested. `Prewrite(1, cell)` on a free cell, for one, is admitted with where transaction 1 stands,
-//! what that declared for the cell, and its primary; it has room made for one prewritten cell more, puts data and lock
-//! by one `apply`, which is the last that may be refused, and answers `Done`.
+//! A state has a table of tablets, the observers, the clock and the transactions, and no past.
+//! `pb_core`, its only caller in the program, keeps the journal that led to it. What holds of
+//! journals is proved in `pb_history`, below. So a new body here checks no law anew. The promise:
+//! steps are taken exactly as `TableStep` says, and refused exactly where it says so, with the
+//! lowest number; refused for memory, the state is as before. What a step needs is looked up once,
+//! where it is tested. `Prewrite(1, cell)` on a free cell, for one, is admitted with where
+//! transaction 1 stands, what that declared for the cell, and its primary; it has room made for one
+//! prewritten cell more, puts data and lock by one `apply`, which is the last that may be refused,
+//! and answers `Done`.
 #![tactic(auto)]
 
 mod admitted;

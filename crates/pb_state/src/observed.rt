@@ -66,7 +66,7 @@ fn with_old(at: Option<Ts>, cell: &Cell, seen: Seen, reads: &[RecordedRead]) -> 
     }
 }
 
-// What reads tell, if the first found its cell.
+// What reads show, if the first found its cell.
 fn seen_by(
     second: bool,
     cell: &Cell,
@@ -89,7 +89,7 @@ fn seen_by(
     }
 }
 
-// What the reads of a run tell: the first two are its cell, found, and its acknowledgment.
+// What the reads of a run show: the first two are its cell, found, and its acknowledgment.
 fn seen_in(cell: &Cell, acknowledgment: &Cell, second: bool, reads: &[RecordedRead]) -> Option<Seen>
     ensures { result ≡ seen_in cell.now acknowledgment.now second reads.now }
 {
@@ -128,7 +128,7 @@ fn asked_in(at: Option<Ts>, reads: &[RecordedRead]) -> &[RecordedRead]
     }
 }
 
-// Whether a program was told so of a cell that was read so.
+// Whether the reply is the one that this answer of a read gives.
 fn is_told(reply: Reply, answer: Answer) -> bool
     ensures { IsTrue result ↔ (reply_of reply ≡ value_in answer) }
 {
@@ -177,7 +177,7 @@ fn is_made_of(finished: &Finished, program: &Accepted, change: &Record, start: T
     finished.start() == start
 }
 
-// Whether a program is told what its cell held at the acknowledged timestamp.
+// Whether a program is given what its cell held at the acknowledged timestamp.
 fn tells_old(program: &Arc<Accepted>) -> bool
     ensures { result ≡ versions.tells_old program.now.value }
 {
@@ -215,7 +215,7 @@ fn is_newer_run(
     is_made_of(finished, program, &record, start)
 }
 
-// Whether besides each reply is what its cell was read with.
+// Whether it is such a run, and each reply is what its cell was read with.
 fn is_run(
     program: &Arc<Accepted>,
     cell: &Cell,

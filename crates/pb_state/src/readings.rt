@@ -72,8 +72,9 @@ pub(crate) fn any_lock_on<T: Tablet>(table: &Table<T>, cell: &Cell) -> Option<(T
     }
 }
 
-// The commit of the write record of this start on the cell. It is looked for from the newest down, since who clears a
-// lock knows its start and no commit; that there is none is told only after all. The loop ends, since `high` falls.
+// The commit of the write record of this start on the cell. It is looked for from the newest down,
+// since those who clear a lock know its start and no commit. That there is none is returned only
+// after all. The loop ends, since `high` falls.
 pub(crate) fn commit_of<T: Tablet>(table: &Table<T>, cell: &Cell, start: Ts) -> Option<Ts>
     ensures { MatchOption result (NoWriteOf table.now.contents.entries cell.now start.0)
         (λ c. write_at table.now.contents.entries cell.now c.0 ≡ Some start.0) }

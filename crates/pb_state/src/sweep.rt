@@ -1,4 +1,4 @@
-//! A mark is taken off a cell on which no observer is behind.
+//! A mark is taken off a cell once all observers of its column are up to date on it.
 ghost use Rattle.std.specs.Prelude.{◌≡◌, ◌≤◌, length, IfOk, OnErr, MatchBool, None};
 ghost use Rattle.std.specs.FinMap as map;
 ghost use Rattle.pb_base.specs.declared.limits.TheConstants.{MAX_OBSERVERS};
@@ -27,8 +27,9 @@ fn row_before(cell: &Cell) -> Option<Cell>
     Some(Cell::Data(Row(row.0 - 1), cell.column()))
 }
 
-// Whether the cell is marked. It is found by a walk, since a table tells the first mark after a cell, and not whether
-// one stands on it. The walk begins at the row before, and so meets few other marks.
+// Whether the cell is marked. It is found by a walk, since a table returns the first mark after a
+// cell, and not whether one stands on it. The walk begins at the row before, and so meets few other
+// marks.
 fn is_marked<T: Tablet>(table: &Table<T>, cell: &Cell) -> bool
     ensures { result ≡ is_marked table.now.contents.marks cell.now }
 {
@@ -105,7 +106,8 @@ fn is_any_late<T: Tablet>(
     false
 }
 
-// Whether an observer is behind on the cell. The newest commit is enough, since who has acknowledged it has all before.
+// Whether an observer isn't up to date on the cell. The newest commit is enough, since one that has
+// acknowledged it has acknowledged all before.
 fn is_behind<T: Tablet>(table: &Table<T>, observers: &[Observer], cell: &Cell) -> bool
     requires data_stands { HasData table.now.contents.entries }
     requires numbered { length observers.now ≤ MAX_OBSERVERS }

@@ -8,8 +8,9 @@ use pb_store::{Edit, Table, Tablet};
 use std::alloc::Global;
 use std::marker::Model;
 
-// How many reads a run makes, if its program asks for nothing: of its cell and of its acknowledgment. One that is told what
-// the cell held at the acknowledged timestamp makes a third. So many get room at once, so that most lists grow once.
+// How many reads a run makes, if its program asks for nothing: of its cell and of its
+// acknowledgment. One that is given what the cell held at the acknowledged timestamp makes a third.
+// So many get room at once, so that most lists grow once.
 const RUN_READS: usize = 2;
 
 /// A transaction, from its begin on. None is forgotten, since a report asks for the phase of each.

@@ -1,5 +1,5 @@
--- The answers that a step can have, whatever the state. Who makes calls has them promised (`Shared::call`, a worker's
--- call), so that a job needn't look for answers that never come.
+-- The answers that a step can have, in any state. They are promised to those who make calls (`Shared::call`, a worker's call), so
+-- that a job needn't look for answers that never come.
 use Rattle.pb_steps.specs.declared.step.Step.{Step}
 use Rattle.pb_steps.specs.declared.step.Answer.{Answer}
 

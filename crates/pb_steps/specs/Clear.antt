@@ -1,5 +1,5 @@
 -- Anyone takes a lock off a cell once its primary has none of that start (OSDI 2010, section 2.2). The write record of the
--- primary tells that the transaction is committed, and its commit; where there is none, the transaction never will be.
+-- primary shows that the transaction is committed, and its commit; where there is none, the transaction never will be.
 use Rattle.std.specs.Prelude.{◌≡◌, ◌≢◌, ℕ, ◌<◌, ◌^◌, ◌⊎◌, true, false, Some, is_some}
 use Rattle.std.specs.Ordering.{eq_by_cmp}
 use Rattle.pb_steps.specs.Words.{Cell, cell_cmp, Entries}

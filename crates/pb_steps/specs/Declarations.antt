@@ -1,6 +1,6 @@
--- Which declaration is one of its transaction (OSDI 2010, section 2.4): a script declares a batch, and a run what its
--- observer's program makes of the cells that it read. It is said twice: as a relation, which the laws of runs go by,
--- and as a test, since refusals are computed. Refusal 43 and the case of `Declare` cite them.
+-- Which declaration is one of its transaction (OSDI 2010, section 2.4): a script declares a batch, and a run what its observer's
+-- program makes of the cells that it read. It is defined twice: as a relation, which the laws of runs go by, and as a test, since
+-- refusals are computed. Refusal 43 and the case of `Declare` cite them.
 use Rattle.std.specs.Prelude.{◌≡◌, ℕ, ◌<◌, Bool, true, false, not, ◌&&◌, ◌==◌, nat_lt, if◌then◌else◌, List, [], ◌∷◌, Option, Some, None, slice_get}
 use Rattle.std.specs.Ordering.{eq_by_cmp}
 use Rattle.pb_steps.specs.Words.{Cell, Row, Ts, Revision, cell_cmp, same, is_batch, JudgedOf, judged_code, Ask, Reply, Talk, AreRunWrites, Meant, IsMeant, tells_old, record_by, ObserverOf, observed_cell, acknowledgment}
@@ -24,17 +24,17 @@ pub record IsReadOf (r : RecordedRead) (x : Cell) (named : Option Ts) : Type 0 w
   pub cell : r.cell ≡ x
   pub at : r.at ≡ named
 
--- the timestamp at which a run reads its cell once more: the acknowledged one, where its program is told the value then and
+-- the timestamp at which a run reads its cell once more: the acknowledged one, where its program is given the value then and
 -- something is acknowledged
 abbrev pub old_at : Bool → Ts → Option Ts
 old_at second a = if second && not (a.0 == 0) then Some a else None
 
--- after the reads of cell and acknowledgment: what the cell held at a timestamp that is read at, and the reads behind that
+-- after the reads of cell and acknowledgment: what the cell held at a timestamp that is read at, and the reads after that
 abbrev pub WasOld : Option Ts → Cell → List RecordedRead → Reply → List RecordedRead → Type 0
 WasOld None x reads old asked = (old ≡ None) × (reads ≡ asked)
 WasOld (Some a) x reads old asked = (third : RecordedRead) × IsReadOf third x (Some a) × (old ≡ value_in third.answer) × (reads ≡ third ∷ asked)
 
--- the reads of a run: its cell, found; its acknowledgment; where its program is told what the cell held at the acknowledged
+-- the reads of a run: its cell, found; its acknowledgment; where its program is given what the cell held at the acknowledged
 -- timestamp, the cell at that; and the cells that its program asked for
 pub record WasSeen (x ack : Cell) (second : Bool) (reads : List RecordedRead) (seen : Seen) (asked : List RecordedRead) : Type 0 where
   pub found_by : RecordedRead
@@ -91,12 +91,12 @@ with_old None x seen reads = Some seen
 with_old (Some a) x seen (r ∷ asked) = if is_read_of r x (Some a) then Some (record seen { old = value_in r.answer }) else None
 with_old (Some a) x seen [] = None
 
--- what reads tell, if the first found its cell
+-- what reads show, if the first found its cell
 abbrev pub seen_by : Bool → Cell → Option Revision → Ts → List RecordedRead → Option Seen
 seen_by second x None a rest = None
 seen_by second x (Some v) a rest = with_old (old_at second a) x (record { version = v; acknowledged = a; old = None }) rest
 
--- what the reads of a run tell of its cell and acknowledgment, which come first and in this order
+-- what the reads of a run show of its cell and acknowledgment, which come first and in this order
 abbrev pub seen_in : Cell → Cell → Bool → List RecordedRead → Option Seen
 seen_in x ack second (r ∷ q ∷ rest) = if is_read_of r x None && is_read_of q ack None then seen_by second x (version_in r.answer) (acknowledged_in q.answer) rest else None
 seen_in x ack second _ = None
@@ -111,7 +111,7 @@ asked_in _ _ = []
 abbrev pub is_replied : RecordedRead → Ask × Reply → Bool
 is_replied r a = is_read_of r (asked_cell a.0) None && same value_code a.1 (value_in r.answer)
 
--- one read for each ask, in order, and none besides
+-- one read for each ask, in order, and no more
 abbrev pub are_replies : List RecordedRead → Talk → Bool
 are_replies [] [] = true
 are_replies (r ∷ rs) (a ∷ talk) = is_replied r a && are_replies rs talk

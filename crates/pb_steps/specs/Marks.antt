@@ -1,5 +1,5 @@
--- Notifications (OSDI 2010, section 2.4): which cells are marked for their observers, and where an observer is behind.
--- That it has acknowledged is said of each commit of a cell, so that a cell without any is no case of its own.
+-- Notifications (OSDI 2010, section 2.4): which cells are marked for their observers, and where an observer isn't up to date. To
+-- have acknowledged is defined for each commit of a cell, so that a cell without any is no case of its own.
 use Rattle.std.specs.Prelude.{◌≡◌, ℕ, ◌<◌, ◌≤◌, Bool, true, false, ◌==◌, if◌then◌else◌, List, Option, Some, None, is_some, slice_get}
 use Rattle.std.specs.List.{list_any}
 use Rattle.std.specs.FinMap as map
@@ -22,7 +22,7 @@ with_mark observers marks x = if is_observed observers x then map.insert marks x
 abbrev pub is_marked : Marks → Cell → Bool
 is_marked marks x = map.contains_key marks x
 
--- ---- observers that are behind
+-- ---- observers that aren't up to date
 
 -- the stamp of an acknowledgment's newest version, and 0 where there is none
 abbrev pub stamp_in : Option Revision → ℕ
@@ -44,7 +44,7 @@ pub record IsBehind (observers : List ObserverOf) (e : Entries) (row : Row) (col
   pub acknowledges : Acknowledges observers e row column p acknowledged
   pub newer : stamp_in acknowledged < version.commit.0
 
--- an observer is behind on the cell; on an acknowledgment none is, since no observer's column has any
+-- an observer isn't up to date on the cell; on an acknowledgment all are, since no observer's column has any
 abbrev pub SomeBehind : List ObserverOf → Entries → Cell → Type 0
 SomeBehind observers e (Cell.Data row column) = (p : ℕ) × IsBehind observers e row column p
 SomeBehind observers e (Cell.Ack o row column) = ⊥

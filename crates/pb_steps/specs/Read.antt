@@ -15,7 +15,7 @@ abbrev pub read_step : Ts → Cell → Option Ts → Step
 read_step s x None = Step.Read s x
 read_step s x (Some t) = Step.ReadAt s x t
 
--- nothing is read once something is declared, since a declared run tells all reads of its transaction
+-- nothing is read once something is declared, since a declared run accounts for all reads of its transaction
 abbrev pub read_reasons : TransactionOf → Reasons
 read_reasons t = (Reason.WrongPhase, not (is_reading t.phase)) ∷ []
 
@@ -38,7 +38,7 @@ pub record ReadsLocked (old : StateOf) (seat s : ℕ) (x : Cell) (at : Option Ts
   pub newest : (u : ℕ) → lock.0 < u → u ≤ read_up_to s at → lock_at old.entries x u ≡ None
   pub new_is : new ≡ old
 
--- none does: the newest version at most that is told and recorded
+-- none does: the newest version at most that is returned and recorded
 pub record ReadsFound (old : StateOf) (seat s : ℕ) (x : Cell) (at : Option Ts) (v : Revision) (new : StateOf) : Type 0 where
   pub t : TransactionOf
   pub own : IsOwn old seat s t

@@ -14,7 +14,7 @@ abbrev pub read_up_to : ℕ → Option Ts → ℕ
 read_up_to s None = s
 read_up_to s (Some t) = t.0
 
--- the answer that tells a version
+-- the answer that returns a version
 abbrev pub found_answer : Revision → Answer
 found_answer v = Answer.Found v.start v.commit v.content
 
@@ -32,7 +32,7 @@ acknowledged_in _ = record { 0 = 0 }
 abbrev pub asked_cell : Ask → Cell
 asked_cell a = Cell.Data (record { 0 = a.row }) a.column
 
--- what a program is told of a content: a value, and of a deletion or a stamp that there is none
+-- the reply to a program for a content: a value, and for a deletion or a stamp that there is none
 abbrev pub value_of : Content → Reply
 value_of (Content.Value v) = Some v
 value_of _ = None

@@ -16,7 +16,7 @@ is_whole t = list_all (λ w. is_in t.prewritten w.0) t.declared
 abbrev pub unstamped_reasons : TransactionOf → Reasons
 unstamped_reasons t = (Reason.WrongPhase, not (is_declared t.phase) || not (is_whole t)) ∷ []
 
--- that no timestamp is left is told before whose transaction it is, since its number is lower
+-- want of a timestamp is reported before whose transaction it is, since its number is lower
 abbrev pub stamp_reasons : StateOf → ℕ → ℕ → Reasons
 stamp_reasons s seat start = (Reason.OutOfTimestamps, is_out s) ∷ own_reasons s seat start unstamped_reasons
 

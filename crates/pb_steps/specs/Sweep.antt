@@ -1,4 +1,4 @@
--- A mark is taken off a cell by anyone, once no observer of its column is behind on it (OSDI 2010, section 2.4).
+-- Anyone takes a mark off a cell, once all observers of its column are up to date on it (OSDI 2010, section 2.4).
 use Rattle.std.specs.Prelude.{◌≡◌, true, false}
 use Rattle.std.specs.FinMap as map
 use Rattle.pb_steps.specs.Words.{Cell}

@@ -17,8 +17,9 @@ pub struct RecordedRead {
     pub answer: Answer,
 }
 
-/// What a run saw of its cell: the newest version; the stamp of its acknowledgment, 0 where there was none; and, where its
-/// program is told that, the value at the acknowledged timestamp, if there was one.
+/// What a run saw of its cell: the newest version; the stamp of its acknowledgment, 0 where there
+/// was none; and, where its program is given that, the value at the acknowledged timestamp, if
+/// there was one.
 #[derive(Clone, Copy)]
 pub struct Seen {
     pub version: Revision,
@@ -65,8 +66,9 @@ pub fn acknowledged_in(answer: Answer) -> Ts
     }
 }
 
-/// The timestamp at which a run reads its cell once more: the acknowledged one, where its program is told the value
-/// then and something is acknowledged; 0 is nothing, since the first start is above it.
+/// The timestamp at which a run reads its cell once more: the acknowledged one, where its program
+/// is given the value then and something is acknowledged; 0 is nothing, since the first start is
+/// above it.
 pub fn old_at(second: bool, acknowledged: Ts) -> Option<Ts>
     ensures { result ≡ old_at second acknowledged }
 {
@@ -77,7 +79,8 @@ pub fn old_at(second: bool, acknowledged: Ts) -> Option<Ts>
     }
 }
 
-// What a program is told of a content. A stamp tells it nothing, since no program can ask for an acknowledgment.
+// The reply to a program for a content. For a stamp it is that there is none, since no program can
+// ask for an acknowledgment.
 fn value_of(content: Content) -> Reply
     ensures { reply_of result ≡ value_of content }
 {
@@ -88,7 +91,8 @@ fn value_of(content: Content) -> Reply
     }
 }
 
-/// What a program is told of a cell that it asked for, as it was read: deleted and absent are the same to it.
+/// The reply to a program for a cell that it asked for, as it was read. Deleted and absent are the
+/// same to it.
 pub fn reply_in(answer: Answer) -> Reply
     ensures { reply_of result ≡ value_in answer }
 {

@@ -47,7 +47,7 @@ impl Model for Declaration {
 impl Declared {
     ghost use Rattle.pb_steps.specs.Declarations.{IsKnown};
 
-    // For the proof: a batch and a run each tell what their types keep.
+    // For the proof: what the types of a batch and of a run keep.
     fn known(&self)
         ensures { IsKnown self.now }
     {
@@ -117,7 +117,7 @@ pub enum Step {
     Clear(Cell),
     /// Looks for the first marked cell after this one, or for the first of all: an observer may have work there.
     NextMark(Option<Cell>),
-    /// Takes the mark off a cell, once no observer of its column is behind on it.
+    /// Takes the mark off a cell, once all observers of its column are up to date on it.
     Sweep(Cell),
 }
 
@@ -180,6 +180,6 @@ pub enum Answer {
     Marked(Cell),
     /// There is none, or the cell that was to be swept isn't marked.
     NoMark,
-    /// An observer of the cell's column is behind on it; the mark stays.
+    /// An observer of the cell's column isn't up to date on it; the mark stays.
     StillBehind,
 }

@@ -53,13 +53,13 @@ module _ {K X : Type 0} {R : K → K → Ordering} (o : IsTotalOrder R) where
         | Greater ↦ λ _ q. not_itself x e es (above_all_below x.0 k e es (first _ _ s) q) ∙ behind_next k es e (second _ _ s) q
       ] refl p
 
--- after the entry that a walk was told comes what is left but that one
+-- after the entry that a walk got comes what is left without it
 pub after_told_entry : (after : Option Slot) (es : List (Slot × Item)) (e : Slot × Item) → T (is_sorted slot_cmp es) → Some e ≡ slice_get (entries_after after es) 0
     → entries_after (Some e.0) es ≡ drop 1 (entries_after after es)
 after_told_entry None es e s p = behind_first slot_cmp_total es e s p
 after_told_entry (Some k) es e s p = behind_next slot_cmp_total k es e s p
 
--- and where it is told none, nothing is to be shown
+-- and where it got none, nothing is to be shown
 pub rest_behind : (after : Option Slot) (es : List (Slot × Item)) (r : Option (Slot × Item)) → T (is_sorted slot_cmp es) → r ≡ slice_get (entries_after after es) 0
     → IfSome r (λ e. entries_after (Some e.0) es ≡ drop 1 (entries_after after es))
 rest_behind after es r s p = grind (arith, after_told_entry)

@@ -63,6 +63,6 @@ tiled_nothing low (tile ∷ tiles) r e =
 pub tiling_of_nothing : (tiles : List Tile) → rise_from_zero tiles ≡ true → all_nothing tiles ≡ true → IsTiling tiles
 tiling_of_nothing tiles r e = grind (arith, same_true, left_true, tile_of_nothing, right_true, tiled_nothing)
 
--- rows that don't rise from 0 are the reason that is told, whether or not the tablets are empty
+-- rows that don't rise from 0 are the reason that is returned, whether or not the tablets are empty
 pub refused_unrisen : (tiles : List Tile) → 0 < length tiles → rise_from_zero tiles ≡ false → table_reason tiles ≡ Some Reason.RowsDontRise
 refused_unrisen tiles lt e = grind arith

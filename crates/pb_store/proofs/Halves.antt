@@ -34,7 +34,7 @@ or_none (Some x) = refl
 absent : {X : Type 0} (x : Option X) → (is_some x ≡ true → ⊥) → x ≡ None
 absent x never = grind arith
 
--- a row below the next tile is below those behind it too, since first rows rise
+-- a row below the next tile is below those after it too, since first rows rise
 pub below_rest : (n : ℕ) (tile : Tile) (tiles : List Tile) → n < tile.0 → IsBelow tile.0 tiles → IsBelow n tiles
 below_rest n tile tiles lt rises = grind arith
 

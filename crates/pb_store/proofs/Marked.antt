@@ -1,4 +1,4 @@
--- The next mark of all tablets is the first that any of them tells, from the row's on.
+-- The next mark of all tablets is the first that any of them returns, from the row's on.
 use Rattle.std.proofs.Common.{◌≡◌, ℕ, ◌+◌, ◌<◌, Bool, true, false, List, Option, None, Some, ap, ◌∙◌, arith, is_some, length, below_more, inl, inr, Less}
 use Rattle.std.proofs.lemmas.Bool.{cases_order, false_from_ne_true as not_marked}
 use Rattle.std.specs.FinMap as map
@@ -40,7 +40,7 @@ module _ (tiles : List Tile) (tiled : AreTiled tiles) where
   pub no_next : (after : Option Cell) → NonePassed tiles after (length tiles) → IsNextMark (joined tiles).marks after None
   no_next after passed cell comes = unmarked cell (λ i lt. passed i lt cell comes)
 
-  -- the first tile that tells a mark tells the table's, since rows rise from tile to tile
+  -- the first tile that returns a mark returns the table's, since rows rise from tile to tile
   pub next_there : (after : Option Cell) (j : ℕ) (next : Cell) → j < length tiles → NonePassed tiles after j → IsNextMark (tile_at tiles j).marks after (Some next) → IsNextMark (joined tiles).marks after (Some next)
   next_there after j next lt passed there =
       let place : IsPlace tiles j (row_of next).0 = place_of_key mark_half next tiles j (marks_kept tiles tiled) lt there.0 in (
@@ -58,6 +58,6 @@ module _ (tiles : List Tile) (tiled : AreTiled tiles) where
             ]),
       )
 
--- a tablet that tells no mark after the cell is passed too
+-- a tablet that returns no mark after the cell is passed too
 pub one_more_passed : (tiles : List Tile) (after : Option Cell) (i : ℕ) → NonePassed tiles after i → ((cell : Cell) → ComesAfter after cell → marked tiles i cell ≡ false) → NonePassed tiles after (i + 1)
 one_more_passed tiles after i passed here = below_more (λ n. (cell : Cell) → ComesAfter after cell → marked tiles n cell ≡ false) i passed here

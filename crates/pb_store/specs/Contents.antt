@@ -1,5 +1,5 @@
--- What a tablet or a table contains: entries by slot, and marked cells. Both are maps, so that an edit is one insert or
--- one removal, and nothing is said of how they are kept. All contracts of tablets and tables speak of them.
+-- What a tablet or a table contains: entries by slot, and marked cells. Both are maps, so that an edit is one insert or one
+-- removal, and how they are kept stays open. All contracts of tablets and tables speak of them.
 use Rattle.std.specs.Prelude.{◌≡◌, ℕ, ◌<◌, ◌≤◌, Bool, true, false, List, [], ◌∷◌, Option, None, Some, refl, ◌==◌, ◌&&◌, filter}
 use Rattle.std.specs.Ordering.{is_lt}
 use Rattle.std.specs.FinMap as map

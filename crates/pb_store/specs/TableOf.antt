@@ -1,5 +1,5 @@
--- A table, as its callers see it. The first rows stand beside the contents, since contents alone don't tell how many
--- tablets there are and where they begin. It is the model of `Table`, and so what its contracts speak of.
+-- A table, as its callers see it. The first rows stand beside the contents, since contents alone don't show how many tablets
+-- there are and where they begin. It is the model of `Table`, and so what its contracts speak of.
 use Rattle.std.specs.Prelude.{ℕ, List, map, refl}
 use Rattle.std.specs.Coded.{Coded, code_by, coded×, coded_ℕ, coded_list}
 use Rattle.pb_store.specs.Words.{Row}

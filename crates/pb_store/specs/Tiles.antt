@@ -99,7 +99,7 @@ abbrev pub refusal_or_want : Option Reason → Refusal
 refusal_or_want None = memory_refusal
 refusal_or_want (Some why) = refusal_by why
 
--- this refusal tells that reason, or want of memory, for a table of some number of places
+-- this refusal gives that reason, or want of memory, for a table of some number of places
 pub record TellsSwapReason (c : Contents) (place : ℕ) (refusal : Refusal) : Type 0 where
   pub places : ℕ
   pub some : 0 < places

@@ -93,8 +93,8 @@ fn start_in<T: Tablet>(parts: &[(Row, T)], after: Option<Cell>) -> usize
     }
 }
 
-// The first marked cell after the given one, or of all. The first tablet that tells one has it, since later ones have
-// higher rows.
+// The first marked cell after the given one, or of all. The first tablet that returns one has it,
+// since later ones have higher rows.
 fn mark_in<T: Tablet>(parts: &[(Row, T)], after: &Option<Cell>) -> Option<Cell>
     requires { IsTiling (tiles_of T.contents parts.now) }
     ensures { IsNextMark (joined (tiles_of T.contents parts.now)).marks after.now result }
@@ -213,7 +213,7 @@ impl<T: Tablet> Table<T> {
         entry_in(&self.parts, place)
     }
 
-    /// The first entry after the given slot, or of all. Behind it stand the others.
+    /// The first entry after the given slot, or of all. The others stand after it.
     pub fn next_entry(&self, after: Option<Slot>) -> Option<(Slot, Item)>
         ensures entry { result ≡ slice_get (entries_after after
             (map.entries self.now.contents.entries)) 0 }
@@ -246,7 +246,7 @@ impl<T: Tablet> Table<T> {
         ensures err { OnErr result (self.new.contents ≡ self.old.contents) }
         ensures firsts { self.new.firsts ≡ self.old.firsts }
     {
-        // No edit tells a row, and so none a tablet.
+        // An empty list of edits names no row, and so no tablet.
         if edits.is_empty() {
             return Ok(());
         }

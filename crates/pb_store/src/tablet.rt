@@ -61,8 +61,8 @@ pub trait Tablet {
         requires { contents self ≡ nothing };
 }
 
-// For those who have sorts of their own; each body passes the call on. The programs here have a type of either sort in
-// its place, since of a box no contract tells the sort.
+// For those who have sorts of their own; each body passes the call on. The programs here have a
+// type of either sort in its place, since no contract states the sort in a box.
 impl Tablet for Box<dyn Tablet + Send + Drop> {
     ghost contents = { λ b. (Tablet-box b).contents b.value };
 

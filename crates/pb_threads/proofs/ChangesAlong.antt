@@ -9,7 +9,7 @@ use Rattle.pb_threads.proofs.Gaining.{gains_none, gains_on, gains_renumbered}
 
 -- ---- one change
 
--- before the first try nothing was said
+-- before the first try the conversation is empty
 pub no_tries : (batch : Writes) (a : SeatOf) → Gains (AreVain batch 0) a a
 no_tries batch a = gains_none a at_first
 
@@ -26,7 +26,7 @@ module _ (batch : Writes) (count : ℕ) (a b : SeatOf) (vain : Gains (AreVain ba
 
 -- ---- change after change
 
--- before the first change nothing was said
+-- before the first change the conversation is empty
 pub no_changes : (batches : List Writes) (n first : ℕ) (flags : List Bool) (a : SeatOf) → flags ≡ [] → Gains (AreTried batches n first flags) a a
 no_changes batches n first flags a none = gains_none a (subst (λ fs. AreTried batches n first fs []) (sym none) before_all)
 

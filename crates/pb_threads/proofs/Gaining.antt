@@ -11,11 +11,11 @@ pub append_nil : {A : Type 0} (xs : List A) → xs ++ [] ≡ xs
 append_nil [] = refl
 append_nil (x ∷ xs) = ap (λ l. x ∷ l) (append_nil xs)
 
--- a seat that was told nothing has gained nothing
+-- a seat that received nothing has gained nothing
 pub gains_none : {P : List Received → Type 0} (a : SeatOf) → P [] → Gains P a a
 gains_none a is = record { said = []; number = refl; received = sym (append_nil a.received); are_such = is }
 
--- what was gained may be said in other words
+-- what was gained may be stated in other words
 pub gains_as : {P R : List Received → Type 0} (a b : SeatOf) → ((said : List Received) → P said → R said) → Gains P a b → Gains R a b
 gains_as a b h g = record { said = g.said; number = g.number; received = g.received; are_such = h g.said g.are_such }
 

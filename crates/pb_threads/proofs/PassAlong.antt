@@ -10,7 +10,7 @@ use Rattle.pb_threads.proofs.Gaining.{append_assoc, gains_none, gains_more, gain
 
 -- ---- the observers of a cell, one after another
 
--- before the first observer nothing was said
+-- before the first observer the conversation is empty
 pub no_runs : (observers : List ObserverOf) (x : Cell) (a : SeatOf) → Gains (AreRuns observers x 0) a a
 no_runs observers x a = gains_none a before_all
 
@@ -26,7 +26,7 @@ module _ (observers : List ObserverOf) (x : Cell) (i : ℕ) (a b : SeatOf) (runs
 
 -- ---- from mark to mark
 
--- an answer that tells no cell tells that there is no mark
+-- an answer that names no cell reports that there is no mark
 pub no_mark : (after : Option Cell) (a : Answer) → CanAnswer (Step.NextMark after) a → ((x : Cell) → a ≢ Answer.Marked x) → a ≡ Answer.NoMark
 no_mark after a can isnt = grind arith
 
@@ -66,7 +66,7 @@ module _ (observers : List ObserverOf) (last : Option Cell) (a b : SeatOf) (walk
 
 -- ---- pass after pass
 
--- before the first pass nothing was said
+-- before the first pass the conversation is empty
 pub no_passes : (observers : List ObserverOf) (a : SeatOf) → Gains (ArePasses observers 0) a a
 no_passes observers a = gains_none a at_first
 

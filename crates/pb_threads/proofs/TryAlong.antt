@@ -11,7 +11,7 @@ use Rattle.pb_threads.proofs.Refusing.{stops_at}
 use Rattle.pb_threads.proofs.Gaining.{gains_none, gains_more, gains_as}
 use Rattle.pb_base.proofs.Logic.{or_false}
 
--- what was said so far led here, and tells whether the transaction is committed
+-- the conversation so far led here, and shows whether the transaction is committed
 pub record HasSaid (batch : Writes) (job : ChangeOf) (committed : Bool) (said : List Received) : Type 0 where
   pub converses : Converses (new_change batch) said job
   pub told : committed ≡ has_commit said
@@ -24,7 +24,7 @@ pub or_assoc : (a b c : Bool) → (a || (b || c)) ≡ ((a || b) || c)
 or_assoc true b c = refl
 or_assoc false b c = refl
 
--- one answer more tells a commit or doesn't
+-- one answer more reports a commit or doesn't
 commit_on : (said : List Received) (r : Received) → has_commit (said ++ r ∷ []) ≡ (has_commit said || is_commit r.answer)
 commit_on [] r = or_false (is_commit r.answer)
 commit_on (s ∷ ss) r = ap (λ b. is_commit s.answer || b) (commit_on ss r) ∙ or_assoc (is_commit s.answer) (has_commit ss) (is_commit r.answer)
@@ -34,7 +34,7 @@ converse_on : (p : ChangeOf) (said : List Received) (q : ChangeOf) (step : Step)
 converse_on p [] q step a t e can = (ap next_of (sym t) ∙ e, can, ap (λ (z : ChangeOf). answered z a) t)
 converse_on p (r ∷ rs) q step a t e can = (t.0, t.1, converse_on (answered p r.answer) rs q step a t.2 e can)
 
--- before its first step nothing was said, and nothing is committed
+-- before its first step the conversation is empty, and nothing is committed
 pub try_at_first : (batch : Writes) (a : SeatOf) (job : ChangeOf) → job ≡ new_change batch → IsAlong batch a a job false
 try_at_first batch a job is = gains_none a (record { converses = is; told = refl })
 

@@ -1,9 +1,9 @@
--- What a seat gained, and why its worker stopped. Of a call under a lock no more is said, since what the table has
+-- What a seat gained, and why its worker stopped. No more is stated of a call under a lock, since what the table has
 -- come to depends on all seats.
 use Rattle.std.specs.Prelude.{◌≡◌, ℕ, ◌⊎◌, List, [], ◌∷◌, ◌++◌, Option, Some, None}
 use Rattle.pb_threads.specs.Words.{Reason, Refusal, refusal_by, memory_refusal, Step, Answer, ObserverOf, Received, SharedOf, SeatOf, call_reason, IsLegalTable, told}
 
--- a seat was told one more answer
+-- a seat received one more answer
 pub record Told (old : SeatOf) (step : Step) (answer : Answer) (new : SeatOf) : Type 0 where
   pub number : new.number ≡ old.number
   pub received : new.received ≡ old.received ++ told step answer ∷ []

@@ -1,4 +1,4 @@
--- Where a worker stopped: just a beginning of what it was to say, and the step that it asked next. Each says where in
+-- Where a worker stopped: just a beginning of what it was to ask, and the step that it asked next. Each says where in
 -- its part it stopped, and has the whole parts before it, as the loops do.
 use Rattle.std.specs.Prelude.{◌≡◌, ℕ, ◌+◌, ◌*◌, ◌<◌, ◌⊎◌, Bool, false, List, [], ◌∷◌, ◌++◌, length, Option, Some, slice_get}
 use Rattle.pb_threads.specs.Words.{Cell, Ts, Refusal, Writes, row_of, Meant, Step, Answer, ObserverOf, Received, Outcome, ChangeOf, new_change, Converses, IsWholeChange, told, JobEnd, RunOf, watch_of, Reaches, IsRunConversation}
@@ -28,7 +28,7 @@ pub record TriesStop (opens : Option OpeningOf) (seat : ℕ) (batch : Writes) (c
   pub stops : TryStops opens seat batch committed r part
   pub said_is : said ≡ vain ++ part
 
--- after changes of which these flags tell whether they committed, in the next, or before it
+-- after changes of which these flags show whether they committed, in the next, or before it
 pub record ChangesStop (opens : Option OpeningOf) (seat : ℕ) (batches : List Writes) (n first : ℕ) (done : List Bool) (r : Refusal) (said : List Received) : Type 0 where
   pub flags : List Bool
   pub before : List Received

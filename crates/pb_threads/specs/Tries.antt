@@ -8,7 +8,7 @@ abbrev pub is_commit_outcome : Outcome → Bool
 is_commit_outcome (Outcome.Committed c) = true
 is_commit_outcome _ = false
 
--- one that isn't over isn't told as committed
+-- one that isn't over doesn't count as committed
 abbrev pub committed_in : Option Outcome → Bool
 committed_in None = false
 committed_in (Some o) = is_commit_outcome o

@@ -67,9 +67,9 @@ impl Desk {
 
     /// Takes the lock, makes one call and gives the lock back. Refused, it leaves the seat as it was.
     ///
-    /// Under the lock stands a [`Shared`] itself, as in `Mutex::new(shared)`, or what keeps more of one, as under the
-    /// lock of [`crate::run_workers`]: workers make this very call. It adds to the seat's list exactly the step and
-    /// the answer that it returns, one that the step can have.
+    /// Under the lock stands a [`Shared`] itself, as with `Mutex::new(shared)`, or what keeps more
+    /// of one, as under the lock of [`crate::run_workers`]: workers make this very call. It adds to
+    /// the seat's list exactly the step and the answer that it returns, one that the step can have.
     pub fn call<R: Wait, C: Callee>(
         rt: &R,
         shared: &Mutex<C>,
@@ -85,7 +85,7 @@ impl Desk {
     }
 }
 
-// The gate, and then the call. The gate comes first, so that who is held there holds no lock.
+// The gate, and then the call. The gate comes first, so that a worker held there holds no lock.
 pub(crate) fn ask<R: Wait, C: Callee, G: Gate>(
     rt: &R,
     shared: &Mutex<C>,

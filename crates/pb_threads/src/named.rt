@@ -1,5 +1,5 @@
-//! A table under a lock of which it is known how it was opened. A type parameter says it, since of what comes out of a
-//! lock nothing is known but what its type keeps.
+//! A table under a lock, of which it is known how it was opened. A type parameter keeps that, since
+//! nothing is known of what comes out of a lock but what its type keeps.
 ghost use Rattle.std.specs.Prelude.{◌≡◌};
 ghost use Rattle.pb_threads.specs.Gains.{opening_of};
 

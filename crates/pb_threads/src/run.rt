@@ -318,14 +318,15 @@ fn run_held<R: Threads + Wait + Sync, T: Tablet + Send, J: Opening + Send + Sync
 /// passes go on; the first such refusal is that of the first seat, before any of its passes. Swaps don't pass the
 /// gate.
 ///
-/// Its own growths come first: refused there, it hands everything back and has made no call. What a worker's seat
-/// gained is, in order: whole tries of its changes by number, each change until one commits or 100 are made; then
-/// passes, each from `NextMark` to `NoMark` with a whole conversation of every observer of a marked cell's column, in
-/// file order, up to a pass without a mark or the 1,000th. The first seat gained such passes alone. Where a refusal of
-/// a seat is named, its part may be a beginning of that. A change is named as unfinished exactly where no try of it
-/// committed, a try that was cut off behind its commit included. The table that comes out has the observers, seats,
-/// opening clock, limit and number of tablets of the one that went in, and a seat is refused only what a table opened so
-/// refuses.
+/// Its own growths come first: refused there, it hands everything back and has made no call. What a
+/// worker's seat gained is, in order, whole tries of its changes by number, each change until one
+/// commits or 100 are made. Then come passes, each from `NextMark` to `NoMark` with a whole
+/// conversation of every observer of a marked cell's column, in file order, up to a pass without a
+/// mark or the 1,000th. The first seat gained such passes alone. Where a refusal of a seat is
+/// named, its part may be a beginning of that. A change is named as unfinished exactly where no try
+/// of it committed; a try that was cut off after its commit has committed. The table that comes out
+/// has the observers, seats, opening clock, limit and number of tablets of the one that went in,
+/// and a seat is refused only what a table opened so refuses.
 pub fn run_workers<R: Threads + Wait + Sync, T: Tablet + Send, G: Gate>(
     rt: &R,
     alloc: Global,

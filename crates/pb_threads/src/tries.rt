@@ -30,8 +30,8 @@ pub fn tries_limit_is_this()
     ensures { MAX_TRIES ≡ 100 }
 {}
 
-/// Why a change was left, and whether a try of it had committed by then, since one that is cut off behind its commit
-/// has.
+/// Why a change was left, and whether a try of it had committed by then, since one that is cut off
+/// after its commit has.
 #[derive(Drop)]
 pub(crate) struct Cut {
     refusal: Refusal,
@@ -105,7 +105,7 @@ fn try_once<R: Wait, C: Callee, G: Gate>(
         };
         match ask(rt, shared, seat, step, gate) {
             Ok(answer) => {
-                // Noted at once, since a step behind the commit may be refused.
+                // Noted at once, since a step after the commit may be refused.
                 committed = or_commits(committed, &answer);
                 job.took(answer);
             }
@@ -123,7 +123,7 @@ fn stand_back(tries: u32) {
     }
 }
 
-// Tries a change until it commits, or so often as may be, and tells whether it committed.
+// Tries a change until it commits, or so often as may be, and returns whether it committed.
 fn try_all<R: Wait, C: Callee, G: Gate>(
     rt: &R,
     alloc: Global,

@@ -11,6 +11,6 @@ in_writes [] k d lt = absurd (omega (arith, lt))
 in_writes (w ∷ ws) zero d lt = refl
 in_writes (w ∷ ws) (suc k) d lt = in_writes ws k d (omega (arith, lt))
 
--- behind the primary the cell at a place is that of the write one place before
+-- after the primary the cell at a place is that of the write one place before
 pub after_first : (x : Cell) (ws : Writes) (k : ℕ) (d : Cell × Content) → k ≢ 0 → k < suc (length (names ws)) → slice_get (x ∷ names ws) k ≡ Some (slice_index_or ws (k - 1) d).0
 after_first x ws k d n1 lt = grind (arith, in_writes)

@@ -50,7 +50,7 @@ whole : (batch : Writes) → batch ≢ [] → (rest : List Received) × (o : Out
 whole [] some = absurd (some refl)
 whole (w ∷ ws) some = plans_converse 0 (Declared.Script (w ∷ ws)) w.0 _ [] (fresh 0 (Declared.Script (w ∷ ws))) refl refl
 
--- what was said since the begin can be ended, since a batch has some cells
+-- the conversation since the begin can be ended, since a batch has some cells
 on_from : (batch : Writes) (s : ℕ) (rest : List Received) (q : PlanOf) → batch ≢ [] → conversations.Converses (fresh s (Declared.Script batch)) rest q
     → (more : List Received) × (o : Outcome) × IsWhole (record { 0 = s }) (Declared.Script batch) (declared_cells (Declared.Script batch)) (rest ++ more) o
 on_from [] s rest q some t = absurd (some refl)

@@ -221,7 +221,7 @@ module _ (s : Ts) (what : Declared) (x : Cell) (others : List Cell) where
     no_step_is_over p l (clearing o done y left more said cs at c ends) e = absurd (no_step (λ z. Step.Clear z) (x ∷ done) y (left ++ more) at e)
     no_step_is_over p l (over o said whole) e = (o, refl)
 
-    -- a talk goes on from what was said
+    -- a talk goes on from the conversation so far
     pub said_all : (p q : PlanOf) (l said : List Received) → p.start ≡ s.0 → p.what ≡ what → SoFar p.place l → Converses p said q → SoFar q.place (l ++ said)
     said_all p q l [] s-is w-is so t = rw append-nil (subst (λ z. SoFar z.place l) (sym t) so)
     said_all p q l (r ∷ rs) s-is w-is so t =
@@ -270,7 +270,7 @@ module _ (s : Ts) (what : Declared) (x : Cell) (others : List Cell) where
   over_is_whole p l o (clearing w done y left more said cs at c ends) e = absurd (none_some o e)
   over_is_whole p l o (over w said whole) e = subst (λ z. Whole said z) (some_some w o e) whole
 
--- what was said at any place can be ended, by commits while none was refused, and else by clearing what is left
+-- the conversation at any place can be ended, by commits while none was refused, and else by clearing what is left
 pub plans_converse : PlansConverse
 plans_converse s what x others said q is t =
     let so = said_all (record { 0 = s }) what x others is (fresh s what) q [] said refl refl declaring t in

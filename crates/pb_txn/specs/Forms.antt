@@ -1,5 +1,5 @@
--- The conversations of a transaction (OSDI 2010, section 2.2): four forms, in words of steps and answers alone, so
--- that who reads a journal needs to know nothing of plans. The law `plans_converse` says that plans keep to them.
+-- The conversations of a transaction (OSDI 2010, section 2.2): four forms, in words of steps and answers alone, so that those who
+-- read a journal need to know nothing of plans. The law `plans_converse` says that plans keep to them.
 use Rattle.std.specs.Prelude.{◌≡◌, ℕ, List, [], ◌∷◌, ◌++◌, map, Some, None}
 use Rattle.pb_txn.specs.Words.{Cell, Ts, Declared, Step, Answer, CanAnswer, Received}
 use Rattle.pb_txn.specs.declared.place.Outcome.{Outcome}
@@ -29,7 +29,7 @@ pub data IsWhole (s : Ts) (what : Declared) : List Cell → List Received → Ou
   -- a conflict on the primary
   conflicted_first : (x : Cell) (after : List Cell)
       → IsWhole s what (x ∷ after) (told (Step.Declare s what) Answer.Done ∷ told (Step.Prewrite s x) Answer.Conflict ∷ []) Outcome.Conflicted
-  -- a conflict on a later cell: the primary is settled, and what was prewritten besides is cleared
+  -- a conflict on a later cell: the primary is settled, and what else was prewritten is cleared
   conflicted_later : (x y : Cell) (before after : List Cell) (a : Answer) (cs : List Received) → CanAnswer (Step.Settle x) a → AreCleared before cs
       → IsWhole s what (x ∷ before ++ y ∷ after) (told (Step.Declare s what) Answer.Done ∷ prewrites s (x ∷ before) ++ told (Step.Prewrite s y) Answer.Conflict ∷ told (Step.Settle x) a ∷ cs) Outcome.Conflicted
   -- the primary's lock was gone: the others are cleared

@@ -26,12 +26,12 @@ commit_from count c k = if nat_lt k count then PlanPlace.CommittingSecondary c k
 abbrev pub clear_from : ℕ → ℕ → Outcome → PlanPlace
 clear_from k end o = if nat_lt k end then PlanPlace.Clearing k end o else PlanPlace.Over o
 
--- a conflict on the primary leaves nothing behind; after one on a later cell, the primary is settled
+-- a conflict on the primary leaves nothing to clear; after one on a later cell, the primary is settled
 abbrev pub after_prewrite : ℕ → ℕ → Answer → PlanPlace
 after_prewrite count k Answer.Conflict = if k == 0 then PlanPlace.Over Outcome.Conflicted else PlanPlace.Settling k
 after_prewrite count k _ = prewrite_from count (k + 1)
 
--- the stamp is answered with the commit timestamp, which the end tells
+-- the stamp is answered with the commit timestamp, which the end reports
 abbrev pub after_stamp : Answer → PlanPlace
 after_stamp (Answer.At c) = PlanPlace.CommittingPrimary c
 after_stamp _ = PlanPlace.Stamping

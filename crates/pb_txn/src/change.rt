@@ -1,4 +1,5 @@
-//! Changes of a script: a begin, and then a plan, since only the begin's answer tells the start that a plan names.
+//! Changes of a script: a begin, and then a plan, since only the begin's answer gives the start
+//! that a plan names.
 use crate::place::Outcome;
 use crate::plan::Plan;
 use pb_base::{Batch, NoMemory};

@@ -5,10 +5,11 @@ ghost use Rattle.pb_txn.specs.Allowed.{PlansAreAllowed};
 
 use pb_history::{histories_are_told, journals_are_sound, transactions_are_told};
 
-/// What a plan has asked is a beginning of a transaction's conversation, and at its end a whole one. Without a next
-/// step it is at its end. There are four: it declares, prewrites every cell, is stamped, and commits the primary and
-/// then the others; or it meets a conflict on the primary, and that is all; or one on a later cell, and settles its
-/// primary and clears the others that it prewrote; or it loses its primary, and clears the others.
+/// What a plan has asked is a beginning of a transaction's conversation, and at its end a whole
+/// one. Without a next step it is at its end. There are four. It declares, prewrites every cell, is
+/// stamped, and commits the primary and then the others. Or it meets a conflict on the primary, and
+/// that is all. Or it meets one on a later cell, and settles its primary and clears the others that
+/// it prewrote. Or it loses its primary, and clears the others.
 pub fn plans_converse()
     ensures converses { PlansConverse }
     ensures ends { PlansEnd }

@@ -73,7 +73,8 @@ fn clear_from(k: usize, end: usize, outcome: Outcome) -> PlanPlace
     }
 }
 
-// After a prewrite: a conflict on the primary leaves nothing behind, since that is prewritten first.
+// After a prewrite: a conflict on the primary leaves nothing to clear, since that is prewritten
+// first.
 fn after_prewrite(count: usize, k: usize, answer: Answer) -> PlanPlace
     requires { k < count }
     ensures place { result ≡ Rattle.pb_txn.specs.Places.after_prewrite count k answer }
@@ -106,8 +107,8 @@ pub fn place_after(count: usize, place: PlanPlace, answer: Answer) -> PlanPlace
         },
         PlanPlace::CommittingPrimary(commit) => match answer {
             Answer::Committed => commit_from(count, commit, 1),
-            // Who took the primary's lock off has decided against the transaction, and all other cells are
-            // prewritten.
+            // Whoever took the primary's lock off has decided against the transaction, and all
+            // other cells are prewritten.
             _ => clear_from(1, count, Outcome::Lost),
         },
         PlanPlace::CommittingSecondary(commit, k) => commit_from(count, commit, k + 1),

@@ -1,4 +1,5 @@
-//! Plans. The next step is kept and lent, so that who makes it gets the declaration without a copy.
+//! Plans. The next step is kept and lent, so that whoever makes it gets the declaration without a
+//! copy.
 ghost use Rattle.std.specs.Prelude.{◌≡◌, ◌<◌, length, slice_get, Some};
 ghost use Rattle.pb_steps.specs.Declarations.{IsKnown};
 ghost use Rattle.pb_txn.specs.Places.{declared_cells, later_step, LiesWithin};
@@ -9,10 +10,11 @@ use pb_base::{Cell, Ts};
 use pb_steps::{Answer, Declaration, Declared, Step};
 use std::marker::Model;
 
-/// The steps of a transaction of this start, from its declaration to its end, one after another (OSDI 2010, section
-/// 2.2): it declares, prewrites each cell in declared order, the primary first, takes its commit timestamp, commits
-/// the primary and then the other cells. A conflict on the primary ends it; after one on a later cell it settles its
-/// primary, and clears what it prewrote besides. Where its primary was lost, it clears its other cells.
+/// The steps of a transaction of this start, from its declaration to its end, one after another
+/// (OSDI 2010, section 2.2). It declares, prewrites each cell in declared order, the primary first,
+/// takes its commit timestamp, commits the primary and then the other cells. A conflict on the
+/// primary ends it; after one on a later cell it settles its primary, and clears what else it
+/// prewrote. Where its primary was lost, it clears its other cells.
 ///
 /// It takes no memory.
 #[derive(Drop)]
@@ -33,7 +35,8 @@ impl Model for Plan {
     ghost invariant = { λ p. IsPlan p.start.0 p.declare p.later p.place };
 }
 
-// How many cells are written: of a run one more than its writes, since it writes its acknowledgment besides.
+// How many cells are written: of a run one more than its writes, since it also writes its
+// acknowledgment.
 fn cell_count(what: &Declared) -> usize
     ensures { result ≡ length (declared_cells what.now) }
 {

@@ -5,7 +5,7 @@ use Rattle.std.proofs.lemmas.List.{drop_all}
 use Rattle.pb_verify.specs.Words.{Insn, Helper, layout, slots, insn_at}
 use Rattle.pb_verify.specs.Needs.{called_by, calls_in, reads_by, writes_by, reads_from, writes_from, NeedsFall}
 
--- those of a slot, and those behind it
+-- those of a slot, and those after it
 pub calls_at : (count : Option Helper → ℕ) → count None ≡ 0 → (is : List (Option Insn)) (n : ℕ) → count (called_by (get_or is n None)) + calls_in count (drop (suc n) is) ≡ calls_in count (drop n is)
 calls_at count none [] zero = omega (arith, none)
 calls_at count none [] (suc n) = omega (arith, none)
@@ -21,11 +21,11 @@ fewer_calls count none is n (suc m) le =
       | inr last ↦ (let same : n ≡ suc m = omega (arith, le, last) in rw same (omega arith))
     ]
 
--- the reads of a slot, and those behind it
+-- the reads of a slot, and those after it
 pub reads_at : (p : List Insn) (n : ℕ) → reads_by (called_by (insn_at p n)) + reads_from p (n + 1) ≡ reads_from p n
 reads_at p n = rw add-one (calls_at reads_by refl (layout p) n)
 
--- the writes and deletions of a slot, and those behind it
+-- the writes and deletions of a slot, and those after it
 pub writes_at : (p : List Insn) (n : ℕ) → writes_by (called_by (insn_at p n)) + writes_from p (n + 1) ≡ writes_from p n
 writes_at p n = rw add-one (calls_at writes_by refl (layout p) n)
 

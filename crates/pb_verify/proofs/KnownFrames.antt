@@ -10,7 +10,7 @@ pub record AreKnownTo (p : List Insn) (n : ℕ) (fs : List (Option Frame)) : Typ
   pub len : length fs ≡ n
   pub each : (m : ℕ) → m < n → get_or fs m None ≡ known_at p m
 
--- before the first slot nothing is told yet
+-- before the first slot no frame is known yet
 pub none_known : (p : List Insn) (fs : List (Option Frame)) → fs ≡ [] → AreKnownTo p 0 fs
 none_known p fs e = record { len = ap length e; each = λ m h. absurd (omega (arith, h)) }
 

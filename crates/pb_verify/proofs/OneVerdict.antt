@@ -14,7 +14,7 @@ some_is_not_none x e = grind arith
 not_kept : (j : JudgedOf) (n : ℕ) (c : RuleCode) → lowest_code (faults j n) ≡ Some c → ¬ (faults j n ≡ [])
 not_kept j n c e k = some_is_not_none c (sym e ∙ ap lowest_code k)
 
--- of two refusals none is at an earlier slot, since all slots before the one that is told keep the rules
+-- of two refusals none is at an earlier slot, since all slots before the one that is reported keep the rules
 not_before : (j : JudgedOf) (n m : ℕ) (c d : RuleCode) → Refuses j n c → Refuses j m d → ¬ (n < m)
 not_before j n m c d r s l = not_kept j n c r.code (s.before n l)
 

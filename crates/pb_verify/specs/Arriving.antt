@@ -1,6 +1,6 @@
--- The frame with which each slot is reached, and what the rules say of a whole program. A frame is a fold over the
--- frames after all earlier slots, in their order, since `verify` goes forward once; that the order doesn't matter is a
--- law (`FramesAreMeets`). `Accepts` and `Refuses` are what the contracts of `verify` and of all crates above speak of.
+-- The frame with which each slot is reached, and the verdict of the rules on a whole program. A frame is a fold over the frames
+-- after all earlier slots, in their order, since `verify` goes forward once; that the order doesn't matter is a law
+-- (`FramesAreMeets`). `Accepts` and `Refuses` are what the contracts of `verify` and of all crates above speak of.
 use Rattle.std.specs.Prelude.{◌≡◌, ℕ, zero, suc, ◌+◌, ◌<◌, Bool, false, ◌||◌, if◌then◌else◌, List, [], ◌∷◌, ◌++◌, Option, Some, None, nat_eq}
 use Rattle.pb_verify.specs.Words.{Insn, slots, insn_at, JudgedOf, Frame, join, entry_frame, RuleCode, lowest_code}
 use Rattle.pb_verify.specs.Rules.{insn_rules}
@@ -51,7 +51,7 @@ codes_at j n None f = []
 codes_at j n (Some i) None = RuleCode.Unreachable ∷ []
 codes_at j n (Some i) (Some f) = insn_rules j n f i
 
--- the codes that are told of slot n: none where the rules hold there
+-- the codes that are reported for slot n: none if the rules hold there
 abbrev pub faults : JudgedOf → ℕ → List RuleCode
 faults j n = codes_at j n (insn_at j.program.insns n) (in_at j.program.insns n)
 

@@ -1,5 +1,5 @@
--- What is known after an instruction whose rules hold, and where it leads: the contracts of `step` and `spread` cite
--- them. They are total, also where rules are broken, since `frames` tells what is known of refused programs too.
+-- What is known after an instruction whose rules hold, and where it leads: the contracts of `step` and `spread` cite them. They
+-- are total, even if rules are broken, since `frames` returns what is known of refused programs too.
 use Rattle.std.specs.Prelude.{ℕ, ◌+◌, ℤ, pos, negsuc, ◌+ℤ◌, neg_ℤ, if◌then◌else◌, List, [], ◌∷◌, slice_set, slice_index_or, Option, Some}
 use Rattle.pb_verify.specs.Words.{Insn, AluOp, Width, Operand, Reg, number, Helper, Read, helper_of, Kind, Frame, kind_of, in_stack, with_written}
 use Rattle.pb_verify.specs.Rules.{at, bytes_of}

@@ -5,7 +5,7 @@ use Rattle.pb_verify.specs.Words.{Insn, JudgedOf, insn_at}
 use Rattle.pb_verify.specs.Following.{leads}
 use Rattle.pb_verify.specs.Arriving.{has_slot, Accepts}
 
--- an offset that isn't negative: it counts from the slot behind the jump
+-- an offset that isn't negative: it counts from the slot after the jump
 abbrev pub IsAhead : ℤ → Type 0
 IsAhead (pos z) = Unit {0}
 IsAhead (negsuc z) = ⊥

@@ -1,6 +1,6 @@
--- The rules of each instruction: for the frame before it, the codes of the rules that it breaks, lowest first. They are
--- this project's own profile; RFC 9669 has none. All codes are listed and not one, so that no order of tests is part of
--- a rule; which one is told is said once, by `lowest_code`. The contracts of src/rules.rt cite them, one each.
+-- The rules of each instruction: for the frame before it, the codes of the rules that it breaks, lowest first. They are this
+-- project's own profile; RFC 9669 has none. All codes are listed and not one, so that no order of tests is part of a rule; which
+-- one is reported is defined once, by `lowest_code`. The contracts of src/rules.rt cite them, one each.
 use Rattle.std.specs.Prelude.{ℕ, ◌+◌, ℤ, pos, negsuc, ◌+ℤ◌, Bool, false, not, ◌||◌, if◌then◌else◌, List, [], ◌∷◌, ◌++◌, is_none, nat_eq, nat_le}
 use Rattle.std.specs.Int.{byte_len}
 use Rattle.pb_verify.specs.Words.{Insn, AluOp, Width, Operand, Size, Reg, number, slots, insn_at, JudgedOf, declared_helper, width, Kind, Frame, kind_of, is_pointer, in_record, RuleCode, when, CodesRiseWithin, unset, stack_reads, stack_writes, call_rules}
@@ -71,14 +71,14 @@ alu_rules f op w dst src = numeric_rules f dst src
 
 -- ---- memory
 
--- n bytes are loaded at this distance from a pointer. Nothing is said of an unset base, which is told as 21
+-- n bytes are loaded at this distance from a pointer. An unset base has no code here, since it is reported as 21
 abbrev pub loads : ℕ → Frame → Kind → ℤ → ℕ → List RuleCode
 loads size f Kind.Unset offset n = []
 loads size f Kind.Number offset n = RuleCode.ThroughNumber ∷ []
 loads size f (Kind.Stack k) offset n = stack_reads f (k +ℤ offset) n
 loads size f (Kind.Record k) offset n = when (not (in_record size (k +ℤ offset) n)) RuleCode.OutsideRecord
 
--- n bytes are stored there: the record is read-only, so that a store to it is told as 28 wherever it goes
+-- n bytes are stored there: the record is read-only, so that a store to it is reported as 28 wherever it goes
 abbrev pub stores : Kind → ℤ → ℕ → List RuleCode
 stores Kind.Unset offset n = []
 stores Kind.Number offset n = RuleCode.ThroughNumber ∷ []

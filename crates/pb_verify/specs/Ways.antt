@@ -1,4 +1,4 @@
--- The frame before a slot says what is known on every way to it, and no more. It is said by single facts and without an
+-- The frame before a slot states what is known on every way to it, and no more. This is defined by single facts and without an
 -- order of slots, so that the verifier's pass could go another way and keep it; the laws of `pb_sound` stand on it.
 use Rattle.std.specs.Prelude.{◌≡◌, ◌↔◌, ℕ, ◌<◌, List, Option, Some, None, IsTrue, IfSome}
 use Rattle.pb_verify.specs.Words.{Insn, insn_at, Kind, Frame, entry_frame, has_byte, KnowsKind}
@@ -23,8 +23,8 @@ abbrev pub Says : Frame → Fact → Type 0
 Says f (HasKind r k) = KnowsKind f r k
 Says f (HasByte i) = IsTrue (has_byte f i)
 
--- entry is the only way to the first slot. The frame before a later one says exactly what is said on every way to it, and
--- where there is no frame, there is no way
+-- entry is the only way to the first slot. The frame before a later one states exactly the facts that every way to it states, and
+-- if there is no frame, there is no way
 pub record IsMeetOfWays (p : List Insn) : Type 0 where
   pub first : in_at p 0 ≡ Some entry_frame
   pub later : (n : ℕ) → 0 < n → IfSome (in_at p n) (λ f. (x : Fact) → Says f x ↔ ((m : ℕ) (g : Frame) → IsWay p n m g → Says g x))

@@ -34,9 +34,10 @@ pub fn arrive(jumps: &mut [Option<Box<Frame>>], slot: usize, frame: &mut Frame, 
     }
 }
 
-// The frame that is known at a slot ahead, where this one jumps there too. A box is made for the first jump to a slot
-// alone, so that straight code copies no frame. A target past the end is passed over: the verifier has refused it, but
-// `frames` comes to it, since it also tells of refused programs.
+// The frame that is known at a slot ahead, if this one jumps there too. A box is made for the first
+// jump to a slot alone, so that straight code copies no frame. A target past the end is passed
+// over: the verifier has refused it, but `frames` comes to it, since it also takes refused
+// programs.
 fn send(
     alloc: Global,
     jumps: &mut [Option<Box<Frame>>],
@@ -83,8 +84,9 @@ fn jump(
     Ok(())
 }
 
-/// Joins the frame after a slot into those of the slots that it leads to; but for the next instruction's, which it
-/// tells of, and 0 where it doesn't lead there, since no instruction leads to the first slot.
+/// Joins the frame after a slot into those of the slots that it leads to, but for the next
+/// instruction's. It returns the next instruction's slot, or 0 if it doesn't lead there, since no
+/// instruction leads to the first slot.
 pub fn spread(
     alloc: Global,
     jumps: &mut [Option<Box<Frame>>],
@@ -120,8 +122,8 @@ pub fn spread(
     }
 }
 
-/// No frames: nothing has jumped anywhere. A place for each slot, and a box behind it only once a jump leads there,
-/// since a frame has a flag for each byte of the stack.
+/// No frames: nothing has jumped anywhere. A place for each slot, and a box in it only once a jump
+/// leads there, since a frame has a flag for each byte of the stack.
 pub fn no_jumps(alloc: Global, slots: usize) -> Result<Vec<Option<Box<Frame>>>, NoMemory>
     ensures len { IfOk result (λ v. length v.items ≡ slots) }
     ensures each { IfOk result (λ v. (k : ℕ) → slice_index_or v.items k None ≡ None) }

@@ -1,5 +1,6 @@
-//! The rules of one instruction: for each list of codes in specs/Rules, a function that tells its lowest. The
-//! definition lists them lowest first, so that `or` in the same order finds it (`codes_rise`).
+//! The rules of one instruction: for each list of codes in specs/Rules, a function that returns its
+//! lowest. The definition lists them lowest first, so that `or` in the same order finds it
+//! (`codes_rise`).
 ghost use Rattle.std.specs.Prelude.{◌≡◌, ◌<◌, ◌+◌, ◌^◌, ◌≤◌, ℕ};
 ghost use Rattle.pb_isa.specs.Slots.{slots};
 ghost use Rattle.pb_kinds.specs.Ranges as ranges;
@@ -73,8 +74,8 @@ fn on_pointer(frame: &Frame, dst: Reg, src: Operand) -> bool
     kind(frame, dst).is_pointer() || points(frame, src)
 }
 
-// 36, of the slot that an instruction goes on to. Equality is enough, since no instruction takes a slot behind the
-// last.
+// 36, of the slot that an instruction goes on to. Equality is enough, since no instruction takes a
+// slot after the last.
 fn falls(program: &Program, slot: usize) -> Option<RuleCode>
     ensures { result ≡ lowest_code (falls program.now.insns slot) }
 {
@@ -159,7 +160,7 @@ fn in_record(version: Version, at: i64, bytes: u8) -> bool
     0 <= at && at <= size - i64::from(bytes)
 }
 
-// The bytes of a load. An unset base breaks nothing here, since it is told as 21.
+// The bytes of a load. An unset base breaks nothing here, since it is reported as 21.
 fn loads(version: Version, frame: &Frame, base: Kind, offset: i16, bytes: u8) -> Option<RuleCode>
     requires { IsNear (2 ^ 62) base }
     ensures { result ≡ lowest_code (loads (size_of version) frame.now base offset bytes) }
@@ -176,7 +177,8 @@ fn loads(version: Version, frame: &Frame, base: Kind, offset: i16, bytes: u8) ->
     }
 }
 
-// The bytes of a store: one to the record is told as 28, wherever it goes, since the record is read-only.
+// The bytes of a store: one to the record is reported as 28, wherever it goes, since the record is
+// read-only.
 fn stores(base: Kind, offset: i16, bytes: u8) -> Option<RuleCode>
     requires { IsNear (2 ^ 62) base }
     ensures { result ≡ lowest_code (stores base offset bytes) }
@@ -227,7 +229,8 @@ fn store(frame: &Frame, size: Size, dst: Reg, src: Reg, offset: i16) -> Option<R
         .or(access)
 }
 
-// One code at most: a jump back is told as 32 alone, since it has no target among the later slots.
+// One code at most: a jump back is reported as 32 alone, since it has no target among the later
+// slots.
 fn jumps(program: &Program, slot: usize, offset: i16) -> Option<RuleCode>
     requires { slot < slots program.now.insns }
     ensures { result ≡ lowest_code (jump_rules program.now.insns slot offset) }

@@ -93,8 +93,8 @@ fn code_at(
     }
 }
 
-/// Accepts a program where the rules hold at every slot with these helpers. Else it tells the first slot at fault, with the
-/// lowest code there, and drops the program.
+/// Accepts a program if the rules hold at every slot with these helpers. Else it returns the first
+/// slot at fault, with the lowest code there, and drops the program.
 pub fn verify(
     alloc: Global,
     program: Program,
@@ -106,9 +106,9 @@ pub fn verify(
     verify_for(alloc, program, helpers, Version::First)
 }
 
-/// Accepts a program where the rules hold at every slot with these helpers, for change records of a version, which say
-/// how many bytes may be loaded. Else it tells the first slot at fault, with the lowest code there, and drops the
-/// program.
+/// Accepts a program if the rules hold at every slot with these helpers, for change records of a
+/// version, which says how many bytes may be loaded. Else it returns the first slot at fault, with
+/// the lowest code there, and drops the program.
 pub fn verify_for(
     alloc: Global,
     program: Program,

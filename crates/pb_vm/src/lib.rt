@@ -3,9 +3,10 @@
 //! job of `pb_notify` holds a machine and answers its asks from a snapshot; a program of your own may do so with
 //! anything.
 //!
-//! Each step is one instruction of the machine of the definitions, at every placement; fewer are done than there are
-//! slots until it ends, and its end is what the program means. So a program that reads one cell is started, followed to
-//! its ask, told the reply, followed to its end, and finished.
+//! Each step is one instruction of the machine of the definitions, at every placement; fewer are
+//! done than there are slots until it ends, and its end is what the program means. So a program
+//! that reads one cell is started, followed to its ask, given the reply, followed to its end, and
+//! finished.
 #![tactic(auto)]
 
 mod instructions;

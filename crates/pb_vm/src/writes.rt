@@ -36,8 +36,8 @@ pub fn kept_writes(end: u64, writes: Vec<(Cell, Content)>) -> Vec<(Cell, Content
 }
 
 #[tactic(auto, using(crate::proofs::Replacing::is_there, crate::proofs::Replacing::is_absent, crate::proofs::Replacing::replaced_at_place, pb_sound::proofs::RunWrites::length_replaced))]
-/// Writes to a cell, which keeps its place where it was written before. It tells 0, or 3 for a 17th cell, which is not
-/// taken.
+/// Writes to a cell, which keeps its place where it was written before. It returns 0, or 3 for a
+/// 17th cell, which is not taken.
 pub fn write(writes: &mut Vec<(Cell, Content)>, cell: Cell, content: Content) -> u64
     requires few { length writes.old.items ≤ MAX_CELLS }
     requires room { length writes.old.items < MAX_CELLS

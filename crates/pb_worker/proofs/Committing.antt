@@ -22,6 +22,6 @@ pub record HasCommitted (batch : Writes) (start : Ts) (said : List Received) : T
   pub stamped : Has said (told (Step.Stamp start) (Answer.At commit))
   pub committed : Has said (commit_of start)
 
--- and so it is in all that was said
+-- and so it is in the whole conversation
 pub committed_within : (batch : Writes) (start : Ts) (part said : List Received) → Within part said → HasCommitted batch start part → HasCommitted batch start said
 committed_within batch start part said into h = record { commit = h.commit; begun = into _ h.begun; declared = into _ h.declared; stamped = into _ h.stamped; committed = into _ h.committed }

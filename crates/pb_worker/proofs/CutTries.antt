@@ -129,7 +129,7 @@ module _ (s : Ts) (what : Declared) (x : Cell) (others : List Cell) where
   at_place p all (clearing o done y left more said cs at c ends) e = absurd (clearing_none o done y left said cs c ends e)
   at_place p said (over o said' w) e = whole_commits s what (x ∷ others) said o w e
 
--- a change in which a commit was said is committed, wherever it stands
+-- a change with a commit in its conversation is committed, wherever it stands
 of_begun : (batch : Writes) (r : Received) (rest : List Received) (q : ChangeOf) → batch ≢ [] → HasBegun batch r rest q → has_commit (r ∷ rest) ≡ true → (start : Ts) × HasCommitted batch start (r ∷ rest)
 of_begun [] r rest q some b e = absurd (some refl)
 of_begun (w ∷ ws) r rest q some b e =
@@ -140,7 +140,7 @@ of_begun (w ∷ ws) r rest q some b e =
     let k = at_place s (Declared.Script batch) w.0 _ b.plan.place rest so first in
     (s, record { commit = k.0; begun = inl b.first; declared = inr k.1; stamped = inr k.2; committed = inr k.3 })
 
--- so a try that was cut off behind its commit has committed its change
+-- so a try that was cut off after its commit has committed its change
 pub cut_commits : (batch : Writes) (part : List Received) (q : ChangeOf) → batch ≢ [] → Converses (new_change batch) part q → has_commit part ≡ true → (start : Ts) × HasCommitted batch start part
 cut_commits batch [] q some t e = cc
 cut_commits batch (r ∷ rest) q some t e = of_begun batch r rest q some (has_begun batch r rest q t) e

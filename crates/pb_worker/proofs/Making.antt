@@ -222,7 +222,7 @@ module _ {how : OpeningOf} (observers : List ObserverOf) (batches : List Writes)
       let joined : j % n + j / n * n ≡ i % n + i / n * n = λ k. worker k + sym place k * n in
       sym left ∙ sym joined ∙ right
 
--- a change's start is the one that its worker's list tells, and no other script's transaction is committed
+-- a change's start is the one that its worker's list records, and no other script's transaction is committed
 pub changes_are_made : TransactionsAreTold → ChangesAreMade
 changes_are_made tell how observers batches spares olds news refusals unfinished before table are some w legal agree =
     let tells = tell table.state.observers table.state.seats table.opened table.journal table.state legal in

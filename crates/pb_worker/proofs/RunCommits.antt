@@ -26,7 +26,7 @@ run_left xs ys u b = record { o = b.o; row = b.row; begun = has_left xs ys _ b.b
 pub run_right : (xs ys : List Received) (u : Ts) → HasBegunRun ys u → HasBegunRun (xs ++ ys) u
 run_right xs ys u b = record { o = b.o; row = b.row; begun = has_right xs ys _ b.begun }
 
--- where nothing was said nothing is committed
+-- an empty conversation commits nothing
 nothing : CommitRuns []
 nothing = record { each = λ u h. absurd h }
 

@@ -47,12 +47,12 @@ has_entry : (b : Bool) (seat : ℕ) (e : Entry) (es : List Entry) (r : Received)
     → (Has (entries_of seat es) r → Has es (its_entry seat r)) → Has (e ∷ es) (its_entry seat r)
 has_entry b seat e es r own h more = grind arith
 
--- what a seat's entries tell stands in the journal
+-- what a seat's entries record stands in the journal
 pub in_journal : (seat : ℕ) (j : List Entry) (r : Received) → Has (entries_of seat j) r → IsEntry j seat r.step r.answer
 in_journal seat [] r h = absurd h
 in_journal seat (e ∷ es) r h = has_entry (e.seat == seat) seat e es r refl h (in_journal seat es r)
 
--- and what stands there of a seat is told by its entries
+-- and what stands there of a seat is recorded by its entries
 pub in_list : (seat : ℕ) (j : List Entry) (r : Received) → IsEntry j seat r.step r.answer → Has (entries_of seat j) r
 in_list seat [] r h = absurd h
 in_list seat (e ∷ es) r (inl is) = grind arith
@@ -119,7 +119,7 @@ seats_stay : (old : StateOf) (es : List Entry) (new : StateOf) → JournalLeads 
 seats_stay old [] new r = ap (λ (z : StateOf). z.seats) r
 seats_stay old (e ∷ es) new r = seats_stay r.0 es new r.2 ∙ machine_seats old e.seat e.step e.answer r.0 r.1
 
--- who began a transaction is a seat of the table
+-- a seat of the table began each transaction
 pub begun_by_seat : (old : StateOf) (es : List Entry) (new : StateOf) (seat : ℕ) (work : Work) (u : Ts) → JournalLeads old es new → IsEntry es seat (Step.Begin work) (Answer.At u) → seat < new.seats
 begun_by_seat old [] new seat work u r h = absurd h
 begun_by_seat old (e ∷ es) new seat work u r (inl is) = grind (arith, seats_stay, has_seat, r.1.allowed, new.seats, old.seats)

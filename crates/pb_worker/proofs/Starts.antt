@@ -1,4 +1,4 @@
--- Of each change of a worker that was committed, the worker's list tells one start.
+-- For each change of a worker that was committed, the worker's list records one start.
 use Rattle.std.proofs.Common.{◌≡◌, ℕ, zero, suc, ◌+◌, ◌*◌, ◌<◌, ◌⊎◌, Bool, true, false, cond, eqb, List, [], ◌∷◌, ◌++◌, length, Option, Some, None, inl, inr, refl, sym, ap, subst, ◌∙◌, arith, slice_get, slice_index_or}
 use Rattle.std.proofs.lemmas.Bool.{eq-eqb, ne_eqb}
 use Rattle.pb_worker.specs.Words.{Ts, Refusal, Writes, Step, Answer, Work, ObserverOf, Received, Has, told, OpeningOf, AreTried, tried, ChangesStop, share_of, IsWork, IsWorkBegun, in_changes, in_passes, AreFilled}

@@ -11,7 +11,7 @@ use Rattle.std.proofs.lemmas.Bool.{or_right as true_right, or_from as both_false
 
 -- ---- where nothing was committed
 
--- where a transaction is committed a commit was said
+-- where a transaction is committed, a commit is in the conversation
 has_committed : (said : List Received) (u : Ts) → Has said (commit_of u) → has_commit said ≡ true
 has_committed [] u h = absurd h
 has_committed (r ∷ rs) u (inl e) = ap (λ (z : Received). is_commit z.answer || has_commit rs) e
@@ -20,7 +20,7 @@ has_committed (r ∷ rs) u (inr h) = true_right (is_commit r.answer) (has_commit
 has_none : (said : List Received) (u : Ts) → has_commit said ≡ false → Has said (commit_of u) → ⊥
 has_none said u none h = not_both (has_commit said) (has_committed said u h) none
 
--- in a try in vain none was said
+-- in a try in vain there is none
 try_in_vain : (batch : Writes) (said : List Received) → IsTry batch false said → has_commit said ≡ false
 try_in_vain batch said t = grind (arith, ended_uncommitted, t.whole.rest, t.start, t.outcome, t.ended, t.whole.whole, t.whole.said_is)
 
@@ -49,7 +49,7 @@ by_change batch start said o is w = grind (arith, by_form, w.rest, w.whole, w.sa
 
 -- ---- all tries of a change
 
--- it tells whether the change was committed, and the one start at which it was
+-- it shows whether the change was committed, and the one start at which it was
 pub record TellsCommit (batch : Writes) (is : Bool) (start : Ts) (said : List Received) : Type 0 where
   pub made : is ≡ true → HasCommitted batch start said
   pub only : (u : Ts) → Has said (commit_of u) → (is ≡ true) × (u ≡ start)
@@ -74,7 +74,7 @@ of_done batch said d =
       },
     )
 
--- so all tries of a change tell one start, or none is committed
+-- so all tries of a change show one start, or none is committed
 pub of_tries : (batch : Writes) (is : Bool) (said : List Received) → AreTries batch is said → (start : Ts) × TellsCommit batch is start said
 of_tries batch is said d = grind (arith, of_done, has_none, tries_in_vain)
 

@@ -1,4 +1,4 @@
--- What the workers' lists and the journal tell together.
+-- What the workers' lists and the journal show together.
 use Rattle.std.specs.Prelude.{◌≡◌, ℕ, ◌+◌, ◌-◌, ◌%◌, ◌<◌, List, [], length, Option, Some, slice_get}
 use Rattle.pb_worker.specs.Words.{Refusal, Writes, Work, ObserverOf, Has, Member, InHistory, SharedOf, SeatOf, AreSeats, IsLegalTable, Agree, OpeningOf, Spare, WorkedOn}
 

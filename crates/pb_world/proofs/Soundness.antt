@@ -85,7 +85,7 @@ came_on w (ActorJob.Run r) k said st a m next can takes =
 local_by : (n : Need) → is_local_need n ≡ true → n ≡ Need.Local
 local_by n e = grind arith
 
--- an instruction leaves what it was told
+-- an instruction leaves the conversation as it was
 came_by : (w : WorldOf) (j k : ActorJob) (said : List Received) → JobCame w j said → is_local j ≡ true → Computes j k → JobCame w k said
 came_by w (ActorJob.Change c) k said m local did = absurd did
 came_by w (ActorJob.Run r) k said m local did =
@@ -129,7 +129,7 @@ moves_seats s seats k seat t told (calls st a c) is are = seats_after_call s sea
 
 -- ---- what a step leaves of a job
 
--- what is left of the job is tied to what its seat was told by then
+-- what is left of the job is tied to what its seat received by then
 record IsSteppedTo (w : WorldOf) (seat : SeatOf) (n : ℕ) (to : Stepped) : Type 0 where
   pub moves : Moves w.shared seat to.table to.seat
   pub tied : (k : ActorJob) → to.job ≡ Some k → CameSinceLaunch w to.seat n k

@@ -8,7 +8,7 @@ use Rattle.pb_world.specs.declared.job.ActorJob.{ActorJob}
 use Rattle.pb_world.specs.declared.note.Note.{Note}
 use Rattle.pb_world.specs.Jobs.{next_of, Takes, is_local, Computes, GrowsNext, unless_over}
 
--- the number is that of the reason for which the step is refused, and want of memory is told where there is none
+-- the number is that of the reason for which the step is refused, and want of memory is reported where there is none
 abbrev pub IsRefusedBy : SharedOf → ℕ → Step → NotCalled → Type 0
 IsRefusedBy s seat step (NotCalled.Refused code) = (why : Reason) × (call_reason s seat step ≡ Some why) × (code ≡ reason_code why)
 IsRefusedBy s seat step (NotCalled.NoMemory refused) = call_reason s seat step ≡ None

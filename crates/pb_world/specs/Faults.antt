@@ -1,4 +1,4 @@
--- How faults of events are told.
+-- How faults of events are printed.
 use Rattle.std.specs.Prelude.{ℕ, List, ◌++◌, codes, decimal}
 use Rattle.pb_world.specs.Words.{refused_growth}
 use Rattle.pb_world.specs.declared.fault.EventFault.{EventFault}

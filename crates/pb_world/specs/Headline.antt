@@ -15,7 +15,7 @@ pub record IsNeverStuck (v : Position) : Type 0 where
   pub at : (a : Placement) → IsPlacement (length v.bytes) a → (here : State) × IsAtState v a here × (act (environment_at v a) here ≢ Stuck)
   pub few : v.taken < slots v.judged.program.insns
 
--- its batch is a change of the script, and what was said is a beginning of that change
+-- its batch is a change of the script, and the conversation is a beginning of that change
 pub record HoldsOfChange (w : WorldOf) (c : ChangeOf) (said : List Received) : Type 0 where
   pub number : ℕ
   pub there : change_of w.batches number ≡ Some c.batch
@@ -24,8 +24,8 @@ pub record HoldsOfChange (w : WorldOf) (c : ChangeOf) (said : List Received) : T
   pub outcome : Outcome
   pub talk : IsWholeChange c.batch start (said ++ rest) outcome
 
--- What was said is a beginning of a run of its observer on the cell of its row. Its machine, while there is one, runs
--- the observer's program on the record of what was read, was told what was read, and is never stuck; while it asks, it
+-- The conversation is a beginning of a run of its observer on the cell of its row. Its machine, while there is one, runs the
+-- observer's program on the record of what was read, had what was read as its replies, and is never stuck; while it asks, it
 -- stands before the asking instruction.
 pub record HoldsOfRun (w : WorldOf) (r : RunOf) (said : List Received) : Type 0 where
   pub its : HasObserver w r.watch
@@ -37,12 +37,12 @@ pub record HoldsOfRun (w : WorldOf) (r : RunOf) (said : List Received) : Type 0 
   pub asks : IsAskingAt r.place
   pub ended : HasEnded r.watch r.place said
 
--- what is promised of a job and what was said for it
+-- what is promised of a job and its conversation
 abbrev pub HoldsOfJob : WorldOf → ActorJob → List Received → Type 0
 HoldsOfJob w (ActorJob.Change c) said = HoldsOfChange w c said
 HoldsOfJob w (ActorJob.Run r) said = HoldsOfRun w r said
 
--- its conversation is what its seat was told since the launch, and the seat's list is the journal's entries of that
+-- its conversation is what its seat received since the launch, and the seat's list is the journal's entries of that
 -- seat
 pub record HoldsOfActor (w : WorldOf) (k launched : ℕ) (seat : SeatOf) (j : ActorJob) : Type 0 where
   pub number : seat.number ≡ k

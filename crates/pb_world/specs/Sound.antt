@@ -1,5 +1,5 @@
--- What every world keeps: its journal is legal, each seat has its entries, and each actor's job is tied to what its
--- seat was told since the launch.
+-- What every world keeps: its journal is legal, each seat has its entries, and each actor's job is tied to what its seat received
+-- since the launch.
 use Rattle.std.specs.Prelude.{◌≡◌, ℕ, true, List, ◌++◌, length, Some, None, slice_get}
 use Rattle.pb_world.specs.Words.{is_batch, ObserverOf, Received, SeatOf, AreSeats, IsLegalTable, ChangeOf, new_change, Converses, Watch, RunOf, fresh, Reaches, Event}
 use Rattle.pb_world.specs.declared.actor.Actor.{Actor}
@@ -28,12 +28,12 @@ pub record RunCame (w : WorldOf) (r : RunOf) (said : List Received) : Type 0 whe
   pub accepted : RulesAccept r.watch.judged
   pub reaches : Reaches (fresh r.watch) said r
 
--- the job was led to where it stands by what was said
+-- the job was led to where it stands by the conversation
 abbrev pub JobCame : WorldOf → ActorJob → List Received → Type 0
 JobCame w (ActorJob.Change c) said = ChangeCame w c said
 JobCame w (ActorJob.Run r) said = RunCame w r said
 
--- what a seat was told since the launch led the job to where it stands
+-- what a seat received since the launch led the job to where it stands
 pub record CameSinceLaunch (w : WorldOf) (seat : SeatOf) (launched : ℕ) (j : ActorJob) : Type 0 where
   pub before : List Received
   pub said : List Received

@@ -31,7 +31,8 @@ pub enum NotCalled {
     Refused(u8),
 }
 
-/// One call of the table. Want of memory is told apart from the other refusals, since it doesn't end a job.
+/// One call of the table. Want of memory is kept apart from the other refusals, since it doesn't
+/// end a job.
 pub fn call<T: Tablet>(
     shared: &mut Shared<T>,
     seat: &mut Seat,
@@ -162,7 +163,8 @@ pub fn launch(actor: &mut Actor, said: usize, job: ActorJob)
     actor.job = Some(job);
 }
 
-/// An actor loses its job, if it has one. The table isn't told, so that its locks stay for others to clear.
+/// An actor loses its job, if it has one. The table isn't called, so that its locks stay for others
+/// to clear.
 pub fn crash(actor: &mut Actor) -> Note
     ensures note { result ≡ crash_note actor.old.job }
     ensures job { actor.new ≡ crashed actor.old }

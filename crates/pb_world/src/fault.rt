@@ -21,7 +21,7 @@ pub enum EventFault {
 }
 
 impl EventFault {
-    /// The number that it is told by.
+    /// The number by which it is reported.
     pub fn code(&self) -> u8
         ensures { result ≡ fault_code self.now }
     {

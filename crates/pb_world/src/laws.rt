@@ -24,15 +24,17 @@ pub fn actors_hold_their_launch()
     ensures refused { RefusedJobsEnd }
 {}
 
-/// Whatever events happen in an opened world, after each of them: the machine of each actor's run is a state of the
-/// definitions, reached from entry at every placement with replies that are the reads of its transaction, isn't stuck,
-/// and has done fewer instructions than its program has slots; an actor's conversation is a beginning of one of the
-/// forms, and the journal's entries of its seat since the launch; the committed transactions are a legal snapshot
-/// history; and each committed change of an observed column is handled by at most one committed run of each observer
-/// of that column, and by one when no mark and no lock is left. The same holds after each event, after several lists,
-/// and after a fault, which leaves the events before it. While a machine computes, nothing was read beyond what it was
-/// told; while it asks, its next instruction asks for the cell that is looked at; and once it has ended, what its run
-/// means is what its plan declares. A cell on which an observer is behind is marked.
+/// Whatever events happen in an opened world, this holds after each of them. The machine of each
+/// actor's run is a state of the definitions, reached from entry at every placement with replies
+/// that are the reads of its transaction, isn't stuck, and has done fewer instructions than its
+/// program has slots. An actor's conversation is a beginning of one of the forms, and the journal's
+/// entries of its seat since the launch. The committed transactions are a legal snapshot history.
+/// Each committed change of an observed column is handled by at most one committed run of each
+/// observer of that column, and by one when no mark and no lock is left. The same holds after each
+/// event, after several lists, and after a fault, which leaves the events before it. While a
+/// machine computes, nothing was read beyond what it was given. While it asks, its next instruction
+/// asks for the cell that is looked at. Once it has ended, what its run means is what its plan
+/// declares. A cell on which an observer isn't up to date is marked.
 pub fn worlds_hold()
     ensures holds { WorldsHold }
     ensures join { RunsJoin }

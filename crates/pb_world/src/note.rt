@@ -1,4 +1,4 @@
-//! Notes of events: what each did, as a story tells it.
+//! Notes of events: what each did, as a story prints it.
 use pb_steps::Answer;
 
 /// What an event did.

@@ -330,12 +330,13 @@ impl<T: Tablet> World<T> {
 
     /// Lets the events happen in order, and answers a note for each.
     ///
-    /// The fault tells the first event that can't happen: 60 there is no such actor, 61 the actor of a launch has a
-    /// job, 63 there is no such change or observer, 1 memory was refused. The events before it stand, and it did
-    /// nothing. A launch makes the job and takes no step; a step is one instruction of the job's machine, or the one
-    /// call of the table that comes next, which the table answers or, refusing it, ends the job; a crash loses the job
-    /// alone; `settle`, `clear` and `sweep` are calls of seat 0. Nothing else changes. Want of memory is told for the
-    /// notes at the first event, and else at one that could happen and may want some.
+    /// The fault names the first event that can't happen: 60 there is no such actor, 61 the actor
+    /// of a launch has a job, 63 there is no such change or observer, 1 memory was refused. The
+    /// events before it stand, and it did nothing. A launch makes the job and takes no step. A step
+    /// is one instruction of the job's machine, or the one call of the table that comes next, which
+    /// the table answers or, refusing it, ends the job. A crash loses the job alone. `settle`,
+    /// `clear` and `sweep` are calls of seat 0. Nothing else changes. Want of memory is reported
+    /// for the notes at the first event, and else at one that could happen and may want some.
     pub fn run(&mut self, alloc: Global, events: &[Event]) -> Result<Vec<Note>, WorldFault>
         ensures ok { IfOk result (λ ns. RunsTo self.old events.now ns.items self.new) }
         ensures err { IfErr result (λ f. StopsAtEvent self.old events.now f.event

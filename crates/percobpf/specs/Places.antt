@@ -1,4 +1,4 @@
--- Where spares go, and of which sort they are. Sorts are told by swaps and not by parity, as each swap replaces what
+-- Where spares go, and of which sort they are. Sorts are determined by swaps and not by parity, as each swap replaces what
 -- the one before it put there. `spares_for` promises them.
 use Rattle.std.specs.Prelude.{ℕ, ◌==◌, ◌+◌, ◌/◌, ◌%◌, zero, suc, Bool, not, List, [], ◌∷◌, ◌++◌}
 use Rattle.pb_memtablet.specs.declared.either.EitherTablet.{EitherTablet}

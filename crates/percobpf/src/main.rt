@@ -1,8 +1,9 @@
-//! The program: `run MANIFEST SCRIPT [--workers N] [--swaps M]` has N workers make a script's changes and run the
-//! observers while M tablets are replaced, and prints the committed cells and the work that is left;
-//! `replay MANIFEST SCRIPT SCHEDULE` lets a schedule's events happen, and nothing else, and prints the same of what
-//! they left; `asm IN OUT` writes the bytes of a program's text, `dis FILE` lists a program's bytes, and `check FILE`
-//! tells whether they are accepted, each with `--profile N`.
+//! The program: `run MANIFEST SCRIPT [--workers N] [--swaps M]` has N workers make a script's
+//! changes and run the observers while M tablets are replaced, and prints the committed cells and
+//! the work that is left. `replay MANIFEST SCRIPT SCHEDULE` lets a schedule's events happen, and
+//! nothing else, and prints the same of what they left. `asm IN OUT` writes the bytes of a
+//! program's text, `dis FILE` lists a program's bytes, and `check FILE` reports whether they are
+//! accepted, each with `--profile N`.
 //!
 //! It is main alone, since the crate of a program can't be called by another, nor tested as a library: `pb_command`
 //! does what the words ask. Here the tablets are made, and the words taken from the system.
@@ -34,9 +35,9 @@ fn end_all<T: Tablet>(mut parts: Vec<(Row, T)>) {
     parts.destroy_empty();
 }
 
-// Carries out a command over the real files, on a table of these tablets, whose rows begin at 0 and at 1,000, and with these
-// spares, with workers in threads of this handle. What is in the tablets isn't known here, so that a table which is refused is
-// told too.
+// Carries out a command over the real files, on a table of these tablets, whose rows begin at 0 and
+// at 1,000, and with these spares, with workers in threads of this handle. What is in the tablets
+// isn't known here, so that a table which is refused is reported too.
 fn carry_out<R: Threads + Wait + Sync, T: Tablet + Send>(
     threads: &R,
     rt: &HostRuntime,

@@ -101,7 +101,7 @@ impl<'a> Paths for Files<'a> {
     ghost use Rattle.std.specs.Result.{result_ok};
     ghost use Rattle.std.specs.Str.{bytes_eq};
 
-    // A file that isn't read answers a fault, but which isn't said here, as it is made anew each time.
+    // A file that isn't read answers a fault, but not a stated one, as it is made anew each time.
     ghost held = { λ h path. option_map (λ r. Ok r.now) (result_ok
         (if bytes_eq path (109 ∷ []) then h.manifest else if bytes_eq path (115 ∷ []) then h.script else h.schedule)) };
 
@@ -233,7 +233,8 @@ pub fn has_told(outcome: Result<Outcome, Unready>, fault: &str) -> bool {
     }
 }
 
-/// Whether a command whose output took so many bytes of this text, and then failed or took none, printed them and tells it.
+/// Whether a command printed so many bytes of this text, and reports that its output then failed or
+/// took none.
 pub fn is_cut(outcome: Result<Outcome, Unready>, taken: usize, text: &[u8]) -> bool {
     match outcome {
         Ok(outcome) => {

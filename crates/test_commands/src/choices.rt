@@ -99,7 +99,7 @@ pub const REPLAYED: [Replayed<'static>; 10] = [
         clock: 0,
         report: "cell 7 0 commit 4 value 2b\nruns watch 1\nquiet\n",
     },
-    // A crash behind the commit of the primary.
+    // A crash after the commit of the primary.
     Replayed {
         manifest: WATCH,
         script: TWO_CELLS,

@@ -1,4 +1,4 @@
-//! What the faults of a report are told as.
+//! The texts of a report's faults.
 use pb_script::ReportFault;
 use std::alloc::AllocError;
 use std::rt::HostRuntime;

@@ -34,7 +34,7 @@ impl<'a> Paths for Folder<'a> {
     ghost use Rattle.std.specs.Str.{bytes_eq};
     ghost use Rattle.pb_files.specs.declared.paths.PathFault.TheVariants.{Failed};
 
-    // An input that isn't read answers a fault, but which isn't said here, as it is made anew each time.
+    // An input that isn't read answers a fault, but not a stated one, as it is made anew each time.
     ghost held = { λ f path.
         if bytes_eq path (105 ∷ []) then option_map (λ r. Ok r.now) (result_ok f.input)
         else if bytes_eq path (111 ∷ []) then Some (ok_or (option_map (λ v. v.items) f.output) Failed)
@@ -103,7 +103,7 @@ fn asm(rt: &HostRuntime, folder: &mut Folder) -> Result<Outcome, Unready> {
     carry(rt, &options, folder, usize::MAX, true)
 }
 
-// Whether `asm` tells this, and writes nothing.
+// Whether `asm` reports this fault, and writes nothing.
 fn tells(rt: &HostRuntime, folder: &mut Folder, fault: &str) -> bool {
     has_told(asm(rt, folder), fault) && folder.output.is_none()
 }
@@ -119,7 +119,7 @@ fn memory_for_bytes_is_refused(rt: HostRuntime) {
             "no memory\n"
         )
     );
-    // The first fault is told.
+    // The first fault is reported.
     folder.refuses = Some(Unread::Failed);
     assert!(rt; tells(&rt, &mut folder, "no memory\n"));
 }
@@ -166,8 +166,8 @@ fn bytes_are_not_written(rt: HostRuntime) {
     }
 }
 
-// Whether a command prints just a beginning of the text, and tells it, where its output ends at whichever call, failing or taking
-// no byte.
+// Whether a command prints just a beginning of the text, and reports that, if its output ends at
+// any call, which fails or takes no byte.
 pub(crate) fn is_cut_anywhere(
     rt: &HostRuntime,
     options: &Options,

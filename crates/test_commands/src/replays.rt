@@ -38,7 +38,7 @@ fn memory_for_a_schedule_is_refused(rt: HostRuntime) {
     assert!(rt; has_told(outcome, "no memory\n"));
 }
 
-// Each replay whose output ends at some call prints a beginning of its report, and tells it.
+// Each replay whose output ends at some call prints a beginning of its report, and reports that.
 #[test]
 fn output_of_a_replay_may_fail(rt: HostRuntime) {
     for case in REPLAYED {

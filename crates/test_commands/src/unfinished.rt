@@ -17,7 +17,7 @@ fn script_of(alloc: Global, changes: u32) -> Result<String, NoMemory> {
     Ok(script)
 }
 
-// What is told of a worker that was refused in its second change, and of the changes from that on.
+// The text on a worker that was refused in its second change, and on the changes from that on.
 fn faults_of(alloc: Global, changes: u32) -> Result<String, NoMemory> {
     let mut faults = String::new(alloc);
     faults.push_str("worker 1 code 1\n")?;

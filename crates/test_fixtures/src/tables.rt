@@ -27,7 +27,8 @@ pub fn table(alloc: Global) -> Result<Table<ListTablet>, Unready>
     }
 }
 
-/// An empty table of tablets a thousand rows apart, each a slab or a list as it is told here.
+/// An empty table of tablets a thousand rows apart, each a slab where `slabs` is true, and else
+/// a list.
 pub fn table_of(alloc: Global, slabs: &[bool]) -> Result<Table<EitherTablet>, Unready>
     ensures { IfOk result (λ t. t.contents ≡ nothing) }
 {

@@ -69,8 +69,9 @@ impl From<ScriptFault> for Unready {
     }
 }
 
-/// Asks for a growth that is refused, for a tablet or a file in memory that refuses one. No block has so many bytes, so that it
-/// answers with the refused growth; its contract can't say so, and what asks goes on as if it refused nothing where it doesn't.
+/// Asks for a growth that is refused, for a tablet or a file in memory that refuses one. No block
+/// has so many bytes, so that it answers with the refused growth. Its contract can't promise that;
+/// if it doesn't refuse, what asks goes on as if it refused nothing.
 pub fn refused(alloc: Global) -> Result<(), NoMemory> {
     let _block = Vec::<u8>::with_capacity(alloc, usize::MAX)?;
     Ok(())

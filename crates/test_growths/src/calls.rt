@@ -25,7 +25,8 @@ fn is_filled(twins: &mut Twins, refusals: &mut Refusals) -> bool {
     false
 }
 
-// Whether the last of these steps is answered behind the others, where journal, book and list have to grow for it.
+// Whether the last of these steps is answered after the others, where journal, book and list have
+// to grow for it.
 fn is_last_called(alloc: Global, steps: &[Step], refusals: &mut Refusals) -> Result<bool, Unready> {
     let Some((last, before)) = steps.split_last() else {
         return Ok(true);

@@ -75,7 +75,7 @@ fn gives_its_observers(alloc: Global, registry: Registry, refusals: &mut Refusal
     }
 }
 
-// Whether it tells want of memory, and no place.
+// Whether it is want of memory, and names no place.
 fn is_memory(fault: &RegistryFault) -> bool {
     fault.code() == 1 && fault.observer().is_none() && fault.program().is_none()
 }

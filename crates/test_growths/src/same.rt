@@ -108,7 +108,7 @@ pub fn are_shared_same<T: Tablet>(a: &Shared<T>, b: &Shared<T>) -> bool {
         && are_entries_told_same(a.journal(), b.journal())
 }
 
-/// Whether two seats have one number, and were told the same.
+/// Whether two seats have one number, and received the same.
 pub fn are_seats_same(a: &Seat, b: &Seat) -> bool {
     a.number() == b.number() && are_received_same(a.received(), b.received())
 }

@@ -22,7 +22,7 @@ pub trait Swaps<T: Tablet> {
         ensures answered { IfOk result (λ old. T.contents old ≡ nothing) }
         ensures handed_back { IfErr result (λ e. T.contents e.0 ≡ nothing) };
 
-    /// Whether both contain the same, and are the same in all that can be told of them.
+    /// Whether both contain the same, and are the same in all that their calls return.
     fn is_as(&self, other: &Self) -> bool;
 }
 

@@ -7,8 +7,9 @@
 //! next ask or its exit, and by `P=END` a run is over, with this end: the result of one that committed, or `clean`, `conflicted`,
 //! `lost` or `blocked`. By `sC` seat 0 settles the cell of this column in row 7, and by `sa` the acknowledgment of cell 7 0.
 //!
-//! It prints what the journal has of the seats from `FROM` on, how many marks and locks are left, and the first turn that doesn't
-//! go as it says. With `--help` it names its words. It has no answer where there are no such words or no memory.
+//! It prints what the journal has of the seats from `FROM` on, how many marks and locks are left,
+//! and the first turn that doesn't go as it states. With `--help` it names its words. It has no
+//! answer where there are no such words or no memory.
 #![tactic(auto)]
 
 mod jobs;
@@ -47,7 +48,7 @@ fn table_text<T: Tablet>(
     Ok(text)
 }
 
-// What the turns leave, and the first that doesn't go as it says.
+// What the turns leave, and the first that doesn't go as it states.
 fn told_of(
     alloc: Global,
     observer: Observer,

@@ -72,7 +72,7 @@ fn run_at<'a>(jobs: &'a mut Vec<Job>, place: &str) -> Option<&'a mut ObserverJob
     }
 }
 
-// Whether a run goes as the turn says.
+// Whether a run goes as the turn states.
 fn runs(alloc: Global, jobs: &mut Vec<Job>, turn: &str) -> Option<bool> {
     if let Some((place, count)) = turn.split_once('/') {
         let count = count.parse::<u32>().ok()?;
@@ -85,7 +85,7 @@ fn runs(alloc: Global, jobs: &mut Vec<Job>, turn: &str) -> Option<bool> {
     Some(follows(alloc, run_at(jobs, place)?))
 }
 
-// Whether it goes as the turn says.
+// Whether it goes as the turn states.
 fn goes<T: Tablet>(
     alloc: Global,
     shared: &mut Shared<T>,
@@ -103,7 +103,7 @@ fn goes<T: Tablet>(
     runs(alloc, jobs, turn)
 }
 
-/// Takes the turns, and tells the first that doesn't go as it says.
+/// Takes the turns, and returns the first that doesn't go as it states.
 pub fn stopped_at<'a, T: Tablet>(
     alloc: Global,
     shared: &mut Shared<T>,

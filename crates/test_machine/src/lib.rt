@@ -27,7 +27,7 @@ use std::sync::Arc;
 
 const WORDS: &str = "PROFILE DIGITS COLUMN CONTENT MOVE..";
 
-/// The value whose first bytes have these digits, with zeros behind them; none by `-`.
+/// The value whose first bytes have these digits, with zeros after them; none by `-`.
 pub fn value_in(word: &str) -> Option<Option<Value>> {
     if word == "-" {
         return Some(None);

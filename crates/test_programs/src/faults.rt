@@ -1,4 +1,4 @@
-//! What faults are told as.
+//! The texts of faults.
 use pb_asm::AsmFault;
 use pb_base::{NoMemory, Reason, Refused, SinkFault};
 use pb_decode::DecodeFault;

@@ -83,7 +83,7 @@ fn call_code(frame: &Frame, helper: i32) -> u8 {
 fn arguments(rt: HostRuntime) {
     let number = Kind::Number;
     let unset = Kind::Unset;
-    // Row, column and place, and what a read, a write and a delete are told.
+    // Row, column and place, and the codes with which a read, a write and a delete are refused.
     let table = [
         (number, number, Kind::Stack(-32), 0, 0, 0),
         (number, number, Kind::Stack(-33), 0, 26, 0),

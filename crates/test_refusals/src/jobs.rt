@@ -50,7 +50,7 @@ fn job_of(alloc: Global, batch: Batch, same: &Batch, refusals: &mut Refusals) ->
     }
 }
 
-// Follows a change to its end, and tells whether each of its steps is answered.
+// Follows a change to its end, and returns whether each of its steps is answered.
 fn changes(twins: &mut Twins, job: &mut ChangeJob, refusals: &mut Refusals) -> bool {
     for _ in 0..16u32 {
         let Some(step) = job.next() else {
@@ -134,7 +134,8 @@ fn follows(alloc: Global, job: &mut ObserverJob, refusals: &mut Refusals) -> boo
     goes_on && job.follow(alloc).is_ok()
 }
 
-// Follows a job to its end, and tells after how many calls for instructions it came there so, each instruction done once.
+// Follows a job to its end, with each instruction done once, and returns after how many calls for
+// instructions it came there.
 fn follow_to_end(
     alloc: Global,
     twins: &mut Twins,

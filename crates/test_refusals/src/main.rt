@@ -91,8 +91,8 @@ fn all<R: Threads + Wait + Sync>(
     )
 }
 
-// Whether what a word with a file and a count behind it asks for held. A start has a count too, so that both words make the same
-// requests up to the first instruction.
+// Whether what a word with a file and a count after it asks for held. A start has a count too, so
+// that both words make the same requests up to the first instruction.
 fn held_in(
     rt: &HostRuntime,
     word: &str,
@@ -110,7 +110,8 @@ fn held_in(
     }
 }
 
-// Whether what the words behind the program's own ask for held; every check, where there are no such words.
+// Whether what the words after the program's own ask for held; every check, if there are no such
+// words.
 fn checks_hold<R: Threads + Wait + Sync>(
     threads: &R,
     rt: &HostRuntime,
@@ -132,7 +133,7 @@ fn checks_hold<R: Threads + Wait + Sync>(
     }
 }
 
-// Whether the call that was refused is told, if one was.
+// Whether the call that was refused was printed, if one was.
 fn is_told(rt: &HostRuntime, refusals: &Refusals) -> bool {
     match refusals.first() {
         None => true,

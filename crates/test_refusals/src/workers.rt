@@ -22,8 +22,8 @@ use test_growths::refusals::Refusals;
 use test_growths::same::{are_all_seats_same, are_batches_same, are_shared_same};
 use test_growths::twins::SORTS;
 
-// What happens before: a run that only begins, with timestamp 1, and a sweep by the main seat, so that both seats have been told
-// something.
+// What happens before: a run that only begins, with timestamp 1, and a sweep by the main seat, so
+// that both seats have received something.
 const BEFORE: &str = "launch 1 run watch 7\nstep 1\ncrash 1\nsweep 7 0\n";
 
 // What the script leaves. Its changes take 2 to 5; the runs on the two cells of column 0, which each delete cell 5 15, take

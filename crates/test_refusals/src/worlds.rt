@@ -60,7 +60,7 @@ fn left_after(
     requires { IsSoundWorld world }
     ensures { IfOk result (λ s. AreSeats s.0 s.1.items) }
 {
-    // For the proof: the seats of a world are those of its table, whatever happens.
+    // For the proof: the seats of a world are those of its table after any events.
     worlds_stay_sound();
     let mut world = world;
     let happened = world.run(alloc, events);

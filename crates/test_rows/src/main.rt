@@ -1,9 +1,9 @@
 //! What `checks/rows` calls for tables of rows that no program of the product has words for.
 //!
-//! The first word names a crate: `machine`, `table`, `jobs`, `worlds` or `workers`, which is `test_machine` and so on; the
-//! words behind it are that crate's. They are one program, since a program over so many crates takes long to prove and to
-//! link. With `--help` behind the first word it prints that crate's words. It ends with status 1 where it has no such words
-//! or no memory.
+//! The first word names a crate: `machine`, `table`, `jobs`, `worlds` or `workers`, which is
+//! `test_machine` and so on; the words after it are that crate's. They are one program, since a
+//! program over so many crates takes long to prove and to link. With `--help` after the first word
+//! it prints that crate's words. It ends with status 1 where it has no such words or no memory.
 #![tactic(auto)]
 
 use std::env;

@@ -13,7 +13,7 @@ fn content_at(cells: &Cells, row: u64, column: u8) -> Option<Content> {
     Some(version.content)
 }
 
-// What an observer's record tells of a content: a deletion is told as zeros.
+// The value that an observer's record has for a content: zeros for a deletion.
 fn value_told(content: Content) -> Value {
     match content {
         Content::Value(value) => value,

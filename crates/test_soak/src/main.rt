@@ -1,6 +1,7 @@
-//! Lets four workers make 1,000 changes of eight rows, with three observers that feed one another, and judges what is left
-//! by the journal's committed transactions in a plain map. With a number behind its name it does so as many times, and prints
-//! what it met in all; without one it does so once, and prints nothing. It ends with status 0 where all held.
+//! Lets four workers make 1,000 changes of eight rows, with three observers that feed one another,
+//! and judges what is left by the journal's committed transactions in a plain map. With a number
+//! after its name it does so as many times, and prints what it met in all; without one it does so
+//! once, and prints nothing. It ends with status 0 where all held.
 #![tactic(auto)]
 
 mod cells;
@@ -29,7 +30,7 @@ fn soak_all<R: Threads + Wait + Sync>(rt: &R, alloc: Global, count: u32) -> Resu
     Ok(met)
 }
 
-// How often, and whether that is told.
+// How often, and whether what it met is printed.
 fn count_in(words: &[String]) -> Option<(u32, bool)> {
     match words.get(1) {
         Some(word) => {

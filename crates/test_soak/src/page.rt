@@ -6,7 +6,7 @@ use pb_history::Entry;
 use pb_verify::Observer;
 use std::alloc::{AllocError, Global};
 
-// How many bytes of a value are told: those up to the last that isn't zero, and one at least.
+// How many bytes of a value are printed: those up to the last that isn't zero, and one at least.
 fn told_bytes(value: &Value) -> usize {
     let mut count = 1;
     for place in 0..32 {

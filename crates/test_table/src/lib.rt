@@ -1,11 +1,13 @@
 //! Takes steps of a shared table, for the rows of checks/tables/steps.py.
 //!
-//! With `TABLETS LAST LIMIT MANIFEST STEP..` the table has these tablets, each named by its first row and its sort (`l`, a list, or
-//! `s`, a slab), the observers of a manifest, and three seats; `LAST` is the last timestamp given out before, and the journal has
-//! room for `LIMIT` entries. A step is the number of the seat that asks and what it asks, as `pb_story` writes it. Only what a run
-//! declares is made here: behind the name of its observer stand that of the observer whose program runs, the run's start, the cell,
-//! the version's start, commit and content, the acknowledged timestamp, what the cell held there, and what the program is told of
-//! each cell that it asks for.
+//! With `TABLETS LAST LIMIT MANIFEST STEP..` the table has these tablets, each named by its first
+//! row and its sort (`l`, a list, or `s`, a slab), the observers of a manifest, and three seats;
+//! `LAST` is the last timestamp given out before, and the journal has room for `LIMIT` entries. A
+//! step is the number of the seat that asks and what it asks, as `pb_story` writes it. Only what a
+//! run declares is made here: after the name of its observer stand that of the observer whose
+//! program runs, the run's start, the cell, the version's start, commit and content, the
+//! acknowledged timestamp, what the cell held there, and what the program receives for each cell
+//! that it asks for.
 //!
 //! It prints each step with its answer, or with the number that it is refused with, and then how many marks and locks are left; or
 //! the number that the tablets are refused with, and the first rows of those that are handed back. With `--help` it names its
@@ -31,7 +33,8 @@ use words::Words;
 
 const WORDS: &str = "TABLETS LAST LIMIT MANIFEST STEP..";
 
-// Adds the answer of a step, or the number that it is refused with, and where journal or seat has more then, that besides.
+// Adds the answer of a step, or the number that it is refused with; and if journal or seat has more
+// then, that too.
 fn add_end<T: Tablet>(
     text: &mut String,
     shared: &mut Shared<T>,

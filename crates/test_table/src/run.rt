@@ -19,7 +19,7 @@ fn value_in(words: &mut Words) -> Option<Option<Value>> {
     }
 }
 
-// The record of this version that the words tell.
+// The record of this version that the words give.
 fn record_in(words: &mut Words, version: Version) -> Option<Record>
     ensures { IfSome result (λ r. length r ≡ size_of version) }
 {
@@ -52,7 +52,7 @@ fn finished_by(vm: Vm, reply: Reply) -> Option<Finished> {
     }
 }
 
-/// The run that the words tell, from the name of the observer whose program runs on.
+/// The run that the words give, from the name of the observer whose program runs on.
 pub fn run_in(alloc: Global, observers: &[Observer], words: &mut Words) -> Option<EndedRun> {
     let number = words.observer(observers)?.number();
     let program = &observers.get(usize::from(number))?.program;

@@ -36,7 +36,7 @@ fn declared_in(alloc: Global, observers: &[Observer], words: &mut Words) -> Opti
     Declaration::new(alloc, declared).ok()
 }
 
-// A read, which names a timestamp of its own behind its cell, or none.
+// A read, which names a timestamp of its own after its cell, or none.
 fn read_in(observers: &[Observer], words: &mut Words) -> Option<Step> {
     let (start, cell) = (words.ts()?, words.cell(observers)?);
     match words.next() {

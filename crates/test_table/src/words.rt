@@ -19,7 +19,7 @@ impl<'a> Words<'a> {
         self.rest.is_empty()
     }
 
-    /// The next word, without a semicolon behind it, and the empty one where none is left.
+    /// The next word, without a semicolon after it, and the empty one where none is left.
     pub fn next(&mut self) -> &'a str {
         let (word, rest) = match self.rest.split_once(' ') {
             Some(parts) => parts,
@@ -58,7 +58,7 @@ impl<'a> Words<'a> {
         None
     }
 
-    /// A data cell, or behind `ack` an acknowledgment.
+    /// A data cell, or after `ack` an acknowledgment.
     pub fn cell(&mut self, observers: &[Observer]) -> Option<Cell> {
         let word = self.next();
         if word == "ack" {
@@ -70,7 +70,7 @@ impl<'a> Words<'a> {
         Some(Cell::Data(row, self.column()?))
     }
 
-    /// A deletion, or behind `value` the digits of the first bytes, with zeros behind them.
+    /// A deletion, or after `value` the digits of the first bytes, with zeros after them.
     pub fn content(&mut self) -> Option<Content> {
         if self.next() == "deleted" {
             return Some(Content::Deleted);

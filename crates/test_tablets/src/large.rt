@@ -72,7 +72,7 @@ fn newest(ts: u64) -> Option<(Ts, Item)> {
     Some((Ts(ts), Item::Write(Ts(ts.wrapping_sub(1)))))
 }
 
-// The entries of the n-th cell: two, one after the other in the table, and none besides.
+// The entries of the n-th cell: two, one after the other in the table, and no other.
 fn are_entries<T: Tablet>(table: &Table<T>, n: u64) -> bool {
     let row = row_at(n);
     let place = (n as usize).wrapping_mul(2);
@@ -90,7 +90,7 @@ fn newest_in<T: Tablet>(table: &Table<T>, row: u64, sort: Sort, high: u64) -> Op
     table.newest(cell_in(row), sort, Ts(high))
 }
 
-// What is newest at the n-th cell up to some timestamps, and at the row behind it.
+// What is newest at the n-th cell up to some timestamps, and at the row after it.
 fn is_newest<T: Tablet>(table: &Table<T>, n: u64) -> bool {
     let row = row_at(n);
     newest_in(table, row, Sort::Write, 1).is_none()
@@ -100,7 +100,7 @@ fn is_newest<T: Tablet>(table: &Table<T>, n: u64) -> bool {
         && newest_in(table, row.wrapping_add(1), Sort::Write, u64::MAX).is_none()
 }
 
-// The mark behind the n-th cell, and behind the row after it: that of the next cell.
+// The mark after the n-th cell, and after the row that follows it: that of the next cell.
 fn is_marked<T: Tablet>(table: &Table<T>, n: u64) -> bool {
     let next = n.wrapping_add(1);
     let mark = if next < CELLS {
@@ -113,7 +113,7 @@ fn is_marked<T: Tablet>(table: &Table<T>, n: u64) -> bool {
         && table.next_mark(Some(cell_in(row.wrapping_add(1)))) == mark
 }
 
-// Whether all that is answered of cells here and there is so, and nothing is behind the last entry.
+// Whether all answers for cells here and there are so, and nothing is after the last entry.
 fn is_filled<T: Tablet>(table: &Table<T>) -> bool {
     for n in [
         0, 1, 15, 16, 31, 32, 9_999, 159_999, 174_999, 175_000, 319_999, 320_000, 349_998, 349_999,

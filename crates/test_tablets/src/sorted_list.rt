@@ -22,7 +22,7 @@ fn key_at(order: Order, i: u64, n: u64) -> u64 {
     number.wrapping_mul(2)
 }
 
-// Whether the list tells its entries around a place as the plain one does.
+// Whether the list returns its entries around a place as the plain one does.
 fn is_same_at(list: &SortedList<u64, u64>, plain: &[(u64, u64)], place: usize) -> bool {
     let Some(entry) = plain.get(place).copied() else {
         return list.at(place).is_none();
@@ -35,7 +35,7 @@ fn is_same_at(list: &SortedList<u64, u64>, plain: &[(u64, u64)], place: usize) -
     is_found && is_last && is_first && list.get(&gap).is_none()
 }
 
-// Whether all that the list tells is as of the plain one.
+// Whether all that the list returns is as from the plain one.
 fn is_same(list: &SortedList<u64, u64>, plain: &[(u64, u64)]) -> bool {
     let mut is_same = list.len() == plain.len() && list.is_empty() == plain.is_empty();
     for place in 0..plain.len() {

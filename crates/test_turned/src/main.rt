@@ -3,9 +3,10 @@
 //! accepted is run with each cell that it asks for absent, and once more with each found; it must come
 //! to its end in at most as many instructions as it has slots.
 //!
-//! With `FILE SEED TENTHS` behind its name it does so with so many tenths, 1 to 10, of the replaced bytes of the
-//! program in a file, at random by the seed, and prints what it met. With no words it does so with all of `copy`, and
-//! prints nothing. It ends with status 0 where all held; else it names the first byte, its value and what was wrong.
+//! With `FILE SEED TENTHS` after its name it does so with so many tenths, 1 to 10, of the replaced
+//! bytes of the program in a file, at random by the seed, and prints what it met. With no words it
+//! does so with all of `copy`, and prints nothing. It ends with status 0 where all held; else it
+//! names the first byte, its value and what was wrong.
 #![tactic(auto)]
 
 mod choice;
@@ -39,7 +40,7 @@ const COPY: [u64; 16] = [
     0x95000000_00000000,
 ];
 
-// What is asked for: of which code, which replaced bytes, and whether what was met is told.
+// What is asked for: of which code, which replaced bytes, and whether what was met is printed.
 #[derive(Drop)]
 struct Task {
     code: Vec<u8>,

@@ -118,7 +118,7 @@ fn run(alloc: Global, program: &Arc<Accepted>, reply: Reply) -> Result<(), Fault
     Ok(())
 }
 
-// Runs a program with each reply, and tells how many runs these are.
+// Runs a program with each reply, and returns how many runs these are.
 fn runs_of(alloc: Global, program: Accepted) -> Result<u64, Fault> {
     let program = Arc::new(alloc, program)?;
     let mut runs: u64 = 0;

@@ -1,4 +1,4 @@
-//! What is told of workers.
+//! What is printed on workers.
 use crate::clearing::is_clearing_told;
 use pb_base::{Batch, Content, Out, Refusal};
 use pb_core::{Seat, Shared};
@@ -10,7 +10,8 @@ use pb_store::Tablet;
 use pb_threads::Worked;
 use std::io;
 
-/// What is told besides the refusals, the seats, the changes that are left and the report.
+/// What is printed in addition to the refusals, the seats, the changes that are left and the
+/// report.
 #[derive(Clone, Copy, Debug, PartialEq, Eq)]
 pub enum How {
     /// Nothing.
@@ -33,13 +34,13 @@ impl How {
     }
 }
 
-/// Tells the report of a table.
+/// Prints the report of a table, and returns whether it could.
 pub fn is_reported<T: Tablet>(rt: &HostRuntime, shared: &Shared<T>) -> bool {
     let mut out = Out::new(rt.stdout());
     report(rt.alloc(), &mut out, shared).is_ok()
 }
 
-// Tells the number of each refusal, 0 where there is none.
+// Prints the number of each refusal, 0 where there is none.
 fn tell_refusals(rt: &HostRuntime, refusals: &[Option<Refusal>]) -> io::Result<()> {
     print!(rt; "refusals")?;
     for refusal in refusals {
@@ -52,7 +53,7 @@ fn tell_refusals(rt: &HostRuntime, refusals: &[Option<Refusal>]) -> io::Result<(
     println!(rt; "")
 }
 
-// Tells each seat's number, and how much it received.
+// Prints each seat's number, and how much it received.
 fn tell_seats(rt: &HostRuntime, seats: &[Seat]) -> io::Result<()> {
     for seat in seats {
         println!(rt; "seat {} received {}", seat.number(), seat.received().len())?;
@@ -60,7 +61,7 @@ fn tell_seats(rt: &HostRuntime, seats: &[Seat]) -> io::Result<()> {
     Ok(())
 }
 
-// Tells the numbers of the changes that are left.
+// Prints the numbers of the changes that are left.
 fn tell_unfinished(rt: &HostRuntime, unfinished: &[usize]) -> io::Result<()> {
     print!(rt; "unfinished")?;
     for number in unfinished {
@@ -69,7 +70,7 @@ fn tell_unfinished(rt: &HostRuntime, unfinished: &[usize]) -> io::Result<()> {
     println!(rt; "")
 }
 
-// Whether a seat was told what the journal's entry says.
+// Whether a seat received what the journal's entry records.
 fn is_told_so(received: &Received, entry: &Entry) -> bool {
     received.answer.get() == entry.answer.get() && received.step.is_same(&entry.step)
 }
@@ -145,7 +146,7 @@ fn word_of(answer: Answer) -> (&'static str, u64) {
     }
 }
 
-// Tells each entry: its seat, its step and its answer.
+// Prints each entry: its seat, its step and its answer.
 fn tell_journal(rt: &HostRuntime, journal: &[Entry]) -> io::Result<()> {
     for entry in journal {
         let (step, start, number) = words_of(&entry.step);
@@ -158,7 +159,7 @@ fn tell_journal(rt: &HostRuntime, journal: &[Entry]) -> io::Result<()> {
     Ok(())
 }
 
-// Tells what workers left of their table.
+// Prints what workers left of their table.
 fn tell_left<T: Tablet>(
     rt: &HostRuntime,
     shared: &Shared<T>,
@@ -177,7 +178,7 @@ fn tell_left<T: Tablet>(
     )
 }
 
-/// Whether `finish` accepts table and seats or not, and that is told, with the report.
+/// Whether it was printed if `finish` accepts table and seats, and, if it does, the report.
 pub fn is_end_told<T: Tablet>(rt: &HostRuntime, shared: Shared<T>, seats: Vec<Seat>) -> bool {
     match finish(shared, seats) {
         Ok(ended) => {
@@ -192,7 +193,7 @@ pub fn is_end_told<T: Tablet>(rt: &HostRuntime, shared: Shared<T>, seats: Vec<Se
     }
 }
 
-/// Whether all is told that is asked for of what workers left.
+/// Whether all was printed that is asked for of what workers left.
 pub fn is_told<T: Tablet>(rt: &HostRuntime, worked: Worked<T>, how: How) -> bool {
     let Worked {
         mut shared,

@@ -31,7 +31,7 @@ fn steps() -> Option<[Step; 7]> {
     ])
 }
 
-/// Whether the main seat's calls are told, each with the number that it is refused with, or 0.
+/// Whether the main seat's calls were printed, each with the number that it is refused with, or 0.
 pub fn is_clearing_told<T: Tablet>(
     rt: &HostRuntime,
     shared: &mut Shared<T>,

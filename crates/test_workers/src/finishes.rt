@@ -1,7 +1,8 @@
 //! What `finish` accepts, and that it hands back what it refuses.
 //!
-//! An operation is a word: `-P` takes the seat at a place aside, and `+` puts the last such seat behind the others; `oP` puts that
-//! of the other run's seats behind them, and `xP` ends one; `sPQ` exchanges two. `f` compares, which has to be refused.
+//! An operation is a word: `-P` takes the seat at a place aside, and `+` puts the last such seat
+//! after the others; `oP` puts that of the other run's seats after them, and `xP` ends one; `sPQ`
+//! exchanges two. `f` compares, which has to be refused.
 use crate::account::is_end_told;
 use crate::tablets::{parts_of, place_of};
 use crate::task::Task;
@@ -22,7 +23,7 @@ struct Moved {
     others: Vec<Seat>,
 }
 
-// Moves the seat at a place of a list behind another list.
+// Moves the seat at a place of a list to the end of another list.
 fn is_moved(from: &mut Vec<Seat>, place: usize, to: &mut Vec<Seat>) -> bool {
     if place >= from.len() {
         return false;
@@ -168,7 +169,7 @@ fn work_of_two<R: Threads + Wait + Sync>(
     })
 }
 
-/// Whether the operations that the words name were done, and the end is told.
+/// Whether the operations that the words name were done, and the end was printed.
 pub fn are_told<R: Threads + Wait + Sync>(
     threads: &R,
     rt: &HostRuntime,

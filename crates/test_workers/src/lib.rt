@@ -1,4 +1,5 @@
-//! Lets workers work as its words say, and prints what they leave, for the rows of checks/tables/workers.py.
+//! Lets workers work as its words state, and prints what they leave, for the rows of
+//! checks/tables/workers.py.
 //!
 //! With `HOW TURNS WORKERS LAST LIMIT SORTS REFUSED MANIFEST SCRIPT SPARE..` so many workers make the changes of a script and
 //! run the observers of a manifest, in such turns (turns.rt), over a table with a tablet of
@@ -60,7 +61,7 @@ fn are_passes_told(rt: &HostRuntime, passed: &[AtomicU64]) -> bool {
     println!(rt; "").is_ok()
 }
 
-// Whether workers worked as the words say, and that is told.
+// Whether workers worked as the words state, and that was printed.
 fn work_is_told<R: Threads + Wait + Clock + Sync>(
     threads: &R,
     rt: &HostRuntime,

@@ -1,9 +1,10 @@
 //! Lets events happen in a world, for the rows of checks/tables/worlds.py.
 //!
-//! With `SEATS LIMIT MANIFEST SCRIPT EVENTS..` the table of the world has so many seats, the observers of a manifest, and room for
-//! so many entries in its journal; its actors launch the changes of a script. Events stand in a list, with a semicolon between two,
-//! as in a schedule, but for observers, which are named by their numbers: so one can name actors, changes and observers that aren't
-//! there.
+//! With `SEATS LIMIT MANIFEST SCRIPT EVENTS..` the table of the world has so many seats, the
+//! observers of a manifest, and room for so many entries in its journal; its actors launch the
+//! changes of a script. Events stand in a list, with a semicolon between two, as a schedule has
+//! them, except that observers are named by their numbers: so one can name actors, changes and
+//! observers that aren't there.
 //!
 //! It runs the lists one after another, and prints the note of each event, or the event at fault and its code, and then the report.
 //! With `--help` it names its words. It has no answer where there are no such words or no memory.
@@ -72,7 +73,7 @@ fn add_lists(
     Some(())
 }
 
-// Runs the lists in a world over a table, and tells the report of what they left.
+// Runs the lists in a world over a table, and prints the report of what they left.
 fn is_run(
     rt: &HostRuntime,
     shared: Shared<ListTablet>,

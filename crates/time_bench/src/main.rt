@@ -1,8 +1,9 @@
 //! What the scripts of bench/ time.
 //!
-//! The first word names a crate: `programs`, `tablets` or `workers`, which is `time_programs` and so on; the words behind it
-//! are that crate's. They are one program, since a program over so many crates takes long to prove and to link. It ends with
-//! status 1 where it has no such words or no memory.
+//! The first word names a crate: `programs`, `tablets` or `workers`, which is `time_programs` and
+//! so on; the words after it are that crate's. They are one program, since a program over so many
+//! crates takes long to prove and to link. It ends with status 1 where it has no such words or no
+//! memory.
 #![tactic(auto)]
 
 use std::env;

@@ -20,7 +20,7 @@ pub struct Ran {
     pub finished: Finished,
 }
 
-/// Why there is no run to tell of.
+/// Why there is no run to report.
 #[derive(Drop)]
 pub enum NoRun {
     /// The program is refused.

@@ -96,8 +96,8 @@ fn change<T: Tablet>(tablet: &mut T, count: u32) -> Result<(), NoMemory> {
     Ok(())
 }
 
-// Whether it is the write record of a transaction that began before. Slot and item are both read for that: of a list, whether an
-// entry is there would be told without a look at it.
+// Whether it is the write record of a transaction that began before. Slot and item are both read
+// for that: a list can answer whether an entry is there without a look at it.
 fn is_record(slot: &Slot, item: &Item) -> bool {
     match *item {
         Item::Write(start) => slot.ts > start,

@@ -113,7 +113,7 @@ fn do_task<R: Threads + Wait + Sync>(
     Ok(met_by(alloc, worked))
 }
 
-// What the words behind the crate's own ask for.
+// What the words after the crate's own ask for.
 fn task_in(words: &[String]) -> Option<Task> {
     let workers = words.get(1)?.as_str().parse::<u32>().ok()?;
     let count = words.get(2)?.as_str().parse::<u32>().ok()?;

@@ -1,4 +1,4 @@
-/* Refused with 25: the 32 bytes behind the value are beyond the stack. */
+/* Refused with 25: the 32 bytes after the value are beyond the stack. */
 #include "percobpf.h"
 
 OBSERVER u64 beyond_the_stack(const struct change *change) {

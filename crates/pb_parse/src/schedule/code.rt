@@ -16,7 +16,7 @@ pub enum ScheduleCode {
 }
 
 impl ScheduleCode {
-    /// The number by which a code is told.
+    /// The number by which a code is reported.
     pub fn code(self) -> u8
         ensures { result ≡ schedule_code self }
     {

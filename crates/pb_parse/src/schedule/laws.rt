@@ -1,5 +1,6 @@
-//! What a schedule is read as, and where it is at fault, in the words of its format. Reader and definition go from
-//! left to right alike, so that a looseness could stand in both; these laws say the same without an order of reading.
+//! What a schedule is read as, and where it is at fault, in the words of its format. Reader and
+//! definition go from left to right alike, so that a looseness could stand in both; these laws
+//! state the same without an order of reading.
 ghost use Rattle.std.specs.Prelude.{◌≡◌, ◌⊎◌, ◌↔◌, ℕ, List, [], Ok, Err};
 ghost use Rattle.pb_reading.specs.Reading.{words_of};
 ghost use Rattle.pb_reading.specs.Faults.{StopsAt};
@@ -14,10 +15,10 @@ ghost use Rattle.pb_parse.specs.Schedules.{with_event_line, schedule_of};
 ghost use Rattle.pb_parse.specs.EventLines.{IsLineOf, IsSchedule};
 ghost use Rattle.pb_parse.specs.ScheduleFaults.{StopsAtField, GoesPast};
 
-/// A line is read as an event, so many times, exactly where it is the event's words with one blank between them, character
-/// for character; a step's may have one more, which says how often. What the words name may stand there: actors from 1 to
-/// 63, changes from 1 to 10,000, 1 to 1,000,000 times, rows of 64 bits, columns below 16, and observers by the name that
-/// they have first.
+/// A line is read as an event, so many times, exactly where it is the event's words with one blank
+/// between them, character for character; a step's may have one more, which states how often. What
+/// the words name may stand there: actors from 1 to 63, changes from 1 to 10,000, 1 to 1,000,000
+/// times, rows of 64 bits, columns below 16, and observers by the name that they have first.
 pub fn event_lines_are_read_as_written()
     ensures { (observers : List ObserverOf) (line : List ℕ) (order : Order)
         → (order_of observers line ≡ Ok order)
@@ -40,7 +41,8 @@ pub fn schedule_fault_is_first()
 
 /// A line that isn't read, and isn't at fault for its form, stops at its first field at fault: up to there its words are
 /// those of a line, and there stands a number beyond its range, or a name that no observer has. Each line that stops so
-/// has that fault, whatever stands behind. Too many events are told exactly where a line is read, and goes past.
+/// has that fault, with any words after it. Too many events are the fault exactly where a line is
+/// read, and goes past.
 pub fn schedule_faults_are_told_where_they_are()
     ensures field { (observers : List ObserverOf) (line : List ℕ) (cause : ScheduleCode)
         → order_of observers line ≡ Err cause

@@ -50,10 +50,11 @@ fn add_line(
     }
 }
 
-/// The events of a schedule, one a line, or as many as a line with `step` says. There are no more observers than a
-/// table may have, so that each is told by its number; of several of one name the first is meant. Of another text the
-/// first line at fault is told, from 1, with its code: 90 not of the form, 91 a number out of range, 92 over 1,000,000
-/// events, 93 no observer of that name. Where memory ran out it is line 0 with code 1.
+/// The events of a schedule, one per line, or as many as a line with `step` states. There are no
+/// more observers than a table may have, so that each is named by its number; of several of one
+/// name the first is meant. For another text it returns the first line at fault, from 1, with its
+/// code: 90 not of the form, 91 a number out of range, 92 over 1,000,000 events, 93 no observer of
+/// that name. If memory ran out it is line 0 with code 1.
 pub fn parse_schedule(
     alloc: Global,
     text: &str,

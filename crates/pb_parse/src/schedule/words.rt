@@ -1,4 +1,5 @@
-//! The words of a line, read from left to right, so that the first field at fault is the one that is told.
+//! The words of a line, read from left to right, so that the first field at fault is the one that
+//! is reported.
 ghost use Rattle.std.specs.Prelude.{◌≡◌, ◌≤◌, ◌-◌, ◌^◌, IfOk, MatchOption, length, false, Ok, Err};
 ghost use Rattle.pb_base.specs.declared.limits.TheConstants.{MAX_OBSERVERS};
 ghost use Rattle.pb_reading.specs.Reading.{Gives, words_left};
@@ -95,7 +96,7 @@ fn next_row(words: &mut LineWords) -> Result<Row, ScheduleCode>
     Ok(Row(number))
 }
 
-// The name of an observer. Any other word here is told as no observer's name, whatever it looks like.
+// The name of an observer. Any other word is refused as no observer's name, even one of digits.
 #[tactic(auto, unfolding(crate::specs::ScheduleWords::next_observer))]
 fn next_observer(words: &mut LineWords, observers: &[Observer]) -> Result<Named, ScheduleCode>
     requires { length observers.now ≤ MAX_OBSERVERS }
@@ -144,7 +145,7 @@ fn next_job(words: &mut LineWords, observers: &[Observer]) -> Result<Job, Schedu
     }
 }
 
-// What is asked for once. It has no word behind it.
+// What is asked for once. It has no word after it.
 #[tactic(auto, unfolding(crate::specs::ScheduleWords::once))]
 fn once(words: &LineWords, event: Event) -> Result<Order, ScheduleCode>
     ensures { Gives (λ _. false) (λ o. o) result (once event (words_left words.now.rest)) }
@@ -164,7 +165,7 @@ fn launch_of(words: &mut LineWords, observers: &[Observer]) -> Result<Order, Sch
     once(words, Event::Launch(actor, job))
 }
 
-// How often: once where no word says it. So `next_word`, which misses a word, isn't called.
+// How often: once if no word is left. So `next_word`, which refuses that, isn't called.
 #[tactic(auto, unfolding(crate::specs::ScheduleWords::times_of))]
 fn times_of(words: &mut LineWords) -> Result<usize, ScheduleCode>
     ensures { Gives (λ _. false) (λ n. n) result (times_of (words_left words.old.rest)) }
@@ -224,8 +225,8 @@ fn next_acknowledgment(words: &mut LineWords, observers: &[Observer]) -> Result<
     Ok(Cell::Ack(observer.number, row, observer.column))
 }
 
-// A data cell, or behind `ack` an acknowledgment. The word is looked at before it is taken, since one that isn't
-// `ack` is read again as the row.
+// A data cell, or after `ack` an acknowledgment. The word is looked at before it is taken, since
+// one that isn't `ack` is read again as the row.
 fn next_cell(words: &mut LineWords, observers: &[Observer]) -> Result<Cell, ScheduleCode>
     requires { length observers.now ≤ MAX_OBSERVERS }
     ensures { Gives (λ _. false) (λ x. (x, words_left words.new.rest)) result
@@ -243,7 +244,7 @@ fn next_cell(words: &mut LineWords, observers: &[Observer]) -> Result<Cell, Sche
     }
 }
 
-// What the verb and the words behind it ask for.
+// What the verb and the words after it ask for.
 #[tactic(auto, unfolding(crate::specs::ScheduleWords::order_of_words, crate::specs::ScheduleWords::once_on))]
 fn order_of_words(words: &mut LineWords, observers: &[Observer]) -> Result<Order, ScheduleCode>
     requires { length observers.now ≤ MAX_OBSERVERS }
@@ -271,7 +272,8 @@ fn order_of_words(words: &mut LineWords, observers: &[Observer]) -> Result<Order
     }
 }
 
-/// What a line asks for: the whole line is one order, so that a word behind its last one is a fault too.
+/// What a line asks for: the whole line is one order, so that a word after its last one is a fault
+/// too.
 pub fn order_of(observers: &[Observer], line: &str) -> Result<Order, ScheduleCode>
     requires { length observers.now ≤ MAX_OBSERVERS }
     ensures { Gives (λ _. false) (λ o. o) result (order_of observers.now line.now) }

@@ -20,7 +20,7 @@ pub enum ScriptCode {
 }
 
 impl ScriptCode {
-    /// The number by which a code is told.
+    /// The number by which a code is reported.
     pub fn code(self) -> u8
         ensures { result ≡ script_code self }
     {

@@ -67,7 +67,7 @@ fn batch_of(alloc: Global, line: &str) -> Result<Batch, LineFault<ScriptCode>>
     }
 }
 
-// Adds what one line says.
+// Adds what one line asks for.
 #[tactic(auto, unfolding(crate::specs::ScriptLines::with_line))]
 fn add_line(
     alloc: Global,
@@ -89,10 +89,11 @@ fn add_line(
     Ok(())
 }
 
-/// The transactions of a script, one a line: operations joined by `; `, each `put ROW COL HEX` or `del ROW COL`. Of
-/// another text the first line at fault is told, from 1, with its code: 70 not of the form, 71 row or column out of
-/// range, 72 not 2 to 64 lower-case hexadecimal digits, even in number, 73 a cell named before in the line, 74 a 17th
-/// cell, 75 over 10,000 changes. Where memory ran out it is line 0 with code 1.
+/// The transactions of a script, one per line: operations joined by `; `, each `put ROW COL HEX` or
+/// `del ROW COL`. For another text it returns the first line at fault, from 1, with its code: 70
+/// not of the form, 71 row or column out of range, 72 not 2 to 64 lower-case hexadecimal digits,
+/// even in number, 73 a cell named before in the line, 74 a 17th cell, 75 over 10,000 changes. If
+/// memory ran out it is line 0 with code 1.
 pub fn parse_script(alloc: Global, text: &str) -> Result<Vec<Batch>, ScriptFault>
     ensures { ReadsText (λ v. v.items) result (script_of text.now) }
 {
@@ -112,7 +113,8 @@ pub fn parse_script(alloc: Global, text: &str) -> Result<Vec<Batch>, ScriptFault
     Ok(batches)
 }
 
-/// The fault that is told is that of the first line at fault: the lines before it are a script of their own.
+/// The fault that is returned is that of the first line at fault: the lines before it are a script
+/// of their own.
 pub fn fault_is_first()
     ensures { (text : List ℕ) (line code : ℕ) → script_of text ≡ Err (line, code)
         → StopsAt script_code with_line [] text line code }

@@ -51,7 +51,7 @@ fn value_of_word(word: &str) -> Result<Value, ScriptCode>
     }
     let mut content = [0; 32];
     let count = digits.len() / 2;
-    // Into the front alone, so that the bytes that no digit tells stay zero.
+    // Into the front alone, so that the bytes that no digit sets stay zero.
     match hex::decode_to_slice(word, &mut content[..count]) {
         Ok(()) => Ok(content),
         Err(_) => Err(ScriptCode::Hex),

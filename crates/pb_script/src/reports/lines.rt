@@ -13,7 +13,8 @@ pub struct Newest {
     pub content: Content,
 }
 
-// The bytes without zeros at the end, but for the first, so that a value of zeros alone is told as `00`.
+// The bytes without zeros at the end, but for the first, so that a value of zeros alone is printed
+// as `00`.
 fn trim_zeros(bytes: &[u8]) -> &[u8]
     ensures bytes { result.now ≡ trimmed bytes.now }
     ensures no_longer { length result.now ≤ length bytes.now }
@@ -30,8 +31,9 @@ fn trim_zeros(bytes: &[u8]) -> &[u8]
     trim_zeros(front)
 }
 
-/// Two hexadecimal digits for each byte of a value, but for the zeros at its end; at least one byte is told. They are
-/// written into room of the caller's on the stack, so that a line takes no memory but its text's.
+/// Two hexadecimal digits for each byte of a value, but for the zeros at its end; at least one byte
+/// is shown. They are written into room of the caller's on the stack, so that a line takes no
+/// memory but its text's.
 pub fn digits_of<'a>(value: &Value, room: &'a mut [u8; 64]) -> &'a str
     ensures { result.now ≡ encode_lower (trimmed value.now) }
 {

@@ -55,7 +55,8 @@ fn put_newest(table: &mut BTreeMap<Cell, Newest>, put: &Put) -> Result<(), Alloc
     Ok(())
 }
 
-/// Notes one more committed write. One of an acknowledgment is passed over, since a report tells data cells alone.
+/// Notes one more committed write. One of an acknowledgment is passed over, since a report shows
+/// data cells alone.
 pub fn note(table: &mut BTreeMap<Cell, Newest>, put: &Put) -> Result<(), AllocError>
     ensures { OnOk result ((puts : List Put) → AreNewest puts table.old
         → AreNewest (puts ++ put.now ∷ []) table.new) }

@@ -39,7 +39,7 @@ loop-slot-preserved-in_default c =
 insn_is : (c : After-arrive-is_reached) → insn_at c.args.program.insns c.loop-slot.slot ≡ Some c.in-Some.insn
 insn_is c = sym c.at.ensures ∙ c.in-Some.is
 
--- what `arrive` tells is the frame before the slot, as the definition has it
+-- what `arrive` reports is the frame before the slot, as the definition has it
 known_is : (c : After-arrive-is_reached) → (if c.arrive-is_reached.result then Some c.arrive-is_reached.new.frame else None) ≡ in_at c.args.program.insns c.loop-slot.slot
 known_is c = grind (arith, in_is, c.loop-slot.slot, c.args.program.insns, c.loop-slot.invariant.known, c.arrive-is_reached.ensures.known, c.loop-slot.next, c.loop-slot.frame, c.deref_mut.ensures.value)
 

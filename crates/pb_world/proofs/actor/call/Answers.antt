@@ -22,7 +22,7 @@ taken_for r = if r.0 == 1 then Ok refused_growth else Err r.0
 taken_for_reason : (why : Reason) → taken_for (refusal_by why) ≡ Err (reason_code why)
 taken_for_reason why = ap (λ b. if b then Ok refused_growth else Err (reason_code why)) (other_than_memory why)
 
--- so a refused growth is told where there is no reason
+-- so a refused growth is reported where there is no reason
 none_for_memory : (o : Option Reason) (a : Result Answer Refusal) (r : Refusal) (m : Result NoMemory ℕ) (e : NoMemory) → a ≡ Err r → ((why : Reason) → o ≡ Some why → a ≡ Err (refusal_by why)) → m ≡ taken_for r → m ≡ Ok e → o ≡ None
 none_for_memory None a r m e is some told ok = refl
 none_for_memory (Some why) a r m e is some told ok =
