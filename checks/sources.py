@@ -15,6 +15,8 @@ PLACES = ("wrong-bodies", "must-fail")
 
 # What isn't code. A quote after a name is a prime of a clause's, and one before it a lifetime's.
 NOT_CODE = re.compile(r"""//[^\n]*|/\*.*?\*/|"(?:\\.|[^"\\])*"|(?<!\w)'(?:\\.[^']*|[^'\\\n])'""", re.S)
+# A string or a comment of a file of definitions or proofs.
+NOTE = re.compile(r'"(?:\\.|[^"\\\n])*"|(?<!\S)--(?!\S)[^\n]*')
 CLAUSE = re.compile(r"\b(?:requires|ensures|decreases)\b[^{}]*$")
 OWNER = re.compile(r"(?P<kind>impl|trait|mod|struct|enum)\b(?P<head>[^{;]*)$", re.S)
 FUNCTION = re.compile(r"\bfn\s+(\w+)")
@@ -99,9 +101,27 @@ def located(function, text):
     return replace(function, first_line=first, last_line=last)
 
 
+def blank(text):
+    return re.sub(r"[^\n]", " ", text)
+
+
 def without_comments(text):
     """The text with blanks for what isn't code, at the same places."""
-    return NOT_CODE.sub(lambda it: re.sub(r"[^\n]", " ", it[0]), text)
+    return NOT_CODE.sub(lambda it: blank(it[0]), text)
+
+
+def with_strings(text):
+    """The text with blanks for its comments alone, at the same places."""
+    return NOT_CODE.sub(lambda it: blank(it[0]) if it[0].startswith("/") else it[0], text)
+
+
+def code_of(name, text):
+    """The lines of a source without comments, and without those that have nothing else."""
+    if name.endswith(".rt"):
+        text = with_strings(text)
+    elif name.endswith(".antt"):
+        text = NOTE.sub(lambda it: it[0] if it[0].startswith('"') else "", text)
+    return "\n".join(line.rstrip() for line in text.split("\n") if line.strip())
 
 
 def closing(text, at):
@@ -216,6 +236,7 @@ def functions_changed(sources, pairs):
     """The functions that the pairs change, as they are then, and whether it is the body of one alone; none where they change
     anything else, such as a definition, a constant or a type."""
     found, are_bodies = [], True
+    slices = lambda text, functions: [with_strings(text)[it.start : it.end] for it in functions]
     for file, text in applied(sources, pairs).items():
         if not file.endswith(".rt"):
             return [], False
@@ -225,7 +246,8 @@ def functions_changed(sources, pairs):
             return [], False
         are_bodies = are_bodies and [it.split() for it in rest] == [it.split() for it in rest_after]
         are_bodies = are_bodies and all(a.head.split() == b.head.split() for a, b in zip(before, after))
-        changed = [b for a, b in zip(before, after) if (a.head + a.body).split() != (b.head + b.body).split()]
+        both = zip(slices(sources[file], before), slices(text, after), after)
+        changed = [its for old, new, its in both if old != new]
         are_bodies = are_bodies and all([it.key for it in before].count(its.key) == 1 for its in changed)
         found += [located(it, text) for it in changed]
     return found, are_bodies and len(found) == 1

@@ -2,7 +2,7 @@
 
 Each crate with wrong bodies has a line: its name, a sum, how many bodies there are, how many of them are unsettled, and the kit by
 which they were tried. The sum is of all in the repository that a verdict rests on: the crate's code, definitions, proofs and edits,
-the code, definitions and proofs of each crate below it, and the tool. `untried` in the place of the sum says openly that the bodies
+the code, definitions and proofs of each crate below it, without comments, and the tool. `untried` in the place of the sum says openly that the bodies
 weren't tried over what is there now. `checks/wrong-bodies` writes the sums; with --untried it writes that word where a sum is no
 longer that of now. The kit isn't in the sum, since the next machine may have another, and nothing in the repository is changed by
 that.
@@ -14,7 +14,7 @@ import hashlib
 import subprocess
 from dataclasses import dataclass
 
-from sources import PLACES, SOURCES, TOP, edits_of, lines_of_crates
+from sources import PLACES, SOURCES, TOP, code_of, edits_of, lines_of_crates
 
 NOTES = TOP / "checks/wrong-bodies.tried"
 TOOL = ("wrong-bodies", "batches.py", "copies.py", "verdicts.py", "trials.py", "sources.py", "tried.py")
@@ -35,10 +35,10 @@ class Note:
 
 
 def sum_of_files(files, folder):
-    """A sum of the names and contents of some files."""
+    """A sum of the names of some files and of what stands in them, but for the comments of sources."""
     made = hashlib.sha256()
     for it in files:
-        content = it.read_bytes()
+        content = code_of(it.name, it.read_text(encoding="utf-8")).encode()
         made.update(f"{it.relative_to(folder)} {len(content)}\n".encode() + content)
     return made.hexdigest()
 
