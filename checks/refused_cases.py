@@ -23,7 +23,7 @@ MACHINES = 7
 
 # how many runs of a case end otherwise than with ample memory, at least: by its first word, and where its words are refused or
 # ask for help
-LEAST = {"run": 50, "replay": 50, "asm": 40, "dis": 40, "check": 40, "frames": 40}
+LEAST = {"run": 50, "replay": 50, "asm": 40, "dis": 40, "check": 40, "frames": 40, "trial": 40}
 LEAST_OF_WORDS = 30
 
 # how often each call of `test_refusals` is refused, at least: of the table with each kind of step, where in each of two tables the
@@ -350,6 +350,20 @@ def replay_cases(room):
     yield Case("replay-full-output", [*watch, "rivals.schedule"], 1, b"", b"cannot write the output\n", "/dev/full")
 
 
+# a trial of the counter of examples/c
+TRIED = ["trial", "counter", "--row", "7", "--column", "0", "--value", "2a"]
+
+
+def trial_cases(room):
+    """Cases of trials of one run, with an ask, a write and an old value."""
+    (room / "counter").write_bytes((TOP / "examples/c/counter.v1.bin").read_bytes())
+    lines = b"read 7 15 -> value 04\nwrite 7 15 value 05\nresult 0\ninstructions 18\n"
+    yield Case("trial", [*TRIED, "--old", "29", "--cell", "7", "15", "04"], 0, lines, program=STORY)
+    yield Case("trial-refused", ["trial", "bad-code", *TRIED[2:]], 1, b"refused slot 1 code 12\n", program=STORY)
+    yield Case("trial-missing", ["trial", "missing", *TRIED[2:]], 1, b"", b"cannot read missing\n", program=STORY)
+    yield Case("trial-full-output", TRIED, 1, b"", b"cannot write the output\n", "/dev/full", STORY)
+
+
 def story_cases(room):
     """Cases of the story of some of these replays, as checks/model.py prints it, and of what is known before the slots of a
     program."""
@@ -359,9 +373,11 @@ def story_cases(room):
         words = ["replay", f"{manifest}.json", f"{name}.script", f"{name}.schedule", *(["--clock", str(clock)] if clock else [])]
         out, err, status = "", told, 1
         if not told.startswith("schedule"):
-            out, err, status = model.story((room / f"{manifest}.json").read_text(), script, schedule, clock)
-        yield Case(f"story-{name}", words, status, out.encode(), err.encode(), program=STORY)
+            out, err, status = model.story((room / f"{manifest}.json").read_text(), script, schedule, clock, is_idle=True)
+        yield Case(f"story-{name}", [*words, "--idle"], status, out.encode(), err.encode(), program=STORY)
     rivals = ["replay", "watch.json", "rivals.script", "rivals.schedule"]
+    lines = b"1 1 begin script -> at 1\n2 1 declare 1 script; 7 0 value 2a -> done\ncell 7 0 commit 2 value 2a\nruns watch 1\nquiet\n"
+    yield Case("story-excerpt", [*rivals, "--events", "1-2"], 0, lines, program=STORY)
     yield Case("story-missing", [*rivals[:3], "missing"], 1, b"", b"cannot read missing\n", program=STORY)
     yield Case("story-full-output", rivals, 1, b"", b"cannot write the output\n", "/dev/full", STORY)
     known = b"0 r1=record+0 r10=stack+0\n1 r0=number r1=record+0 r10=stack+0\n2 r0=number r1=number r10=stack+0\n"
@@ -370,7 +386,10 @@ def story_cases(room):
     yield Case("frames-refused", ["frames", "bad-code"], 1, b"refused slot 1 code 12\n", program=STORY)
     yield Case("frames-missing", ["frames", "missing"], 1, b"", b"cannot read missing\n", program=STORY)
     yield Case("frames-full-output", ["frames", "known"], 1, b"", b"cannot write the output\n", "/dev/full", STORY)
-    for number, words in enumerate(([], ["run", "m", "s"], ["frames"], ["frames", "f", "--profile", "+1"], ["replay", "m", "s"]), 1):
+    yield from trial_cases(room)
+    trials = ["trial", "f"], [*TRIED, "--old", "x"], [*TRIED, "--cell", "7", "16", "2a"]
+    others = [], ["run", "m", "s"], ["frames"], ["frames", "f", "--profile", "+1"], ["replay", "m", "s"], [*rivals, "--events", "3-2"]
+    for number, words in enumerate((*others, *trials), 1):
         yield Case(f"story-words-{number}", words, 2, b"", None, program=STORY)
     yield Case("story-help", ["--help"], 0, None, b"", program=STORY)
 

@@ -26,9 +26,14 @@ REPLAYED = "compiled crashes files manifests profiles records replays results sc
 
 
 def story(manifest: str, script: str, schedule: str, out: str, *more: str) -> Row:
-    """A replay whose story is this, with more words."""
+    """A replay whose story is this, with more words, and `--idle` where events of actors without a job are in it."""
     files = files_of(m=manifest, s=script, e=schedule)
-    return Row(["replay", "m", "s", "e", *more], files, out=out.encode(), program=STORY)
+    return Row(["replay", "m", "s", "e", *more, *idle_of(out)], files, out=out.encode(), program=STORY)
+
+
+def idle_of(out: str) -> list[str]:
+    """The option without which a story has no such line."""
+    return ["--idle"] if " -> idle\n" in out else []
 
 
 def story_stops(manifest: str, script: str, schedule: str, out: str, fault: str) -> Row:
@@ -389,8 +394,8 @@ def files_and_clock(row: Row) -> tuple[list[str], int]:
 def told_by_model(row: Row) -> Row:
     """The story of the events of a replay, as the model prints it."""
     files, clock = files_and_clock(row)
-    out, err, status = model.story(*(row.files[file].decode() for file in files), clock)
-    return replace(row, out=out.encode(), err=err.encode(), status=status, program=STORY)
+    out, err, status = model.story(*(row.files[file].decode() for file in files), clock, is_idle=True)
+    return replace(row, words=[*row.words, *idle_of(out)], out=out.encode(), err=err.encode(), status=status, program=STORY)
 
 
 def story_of(row: Row) -> Row:

@@ -18,10 +18,12 @@ mod paths;
 mod programs;
 mod reading;
 
-pub use answer::Verdict;
+pub use answer::{Verdict, VerdictText};
 pub use fault::FileFault;
 pub use files::Files;
 pub use laws::{first_file_fault_is_told, known_programs_are_judged};
 pub use paths::{PathFault, Paths};
-pub use programs::{Listing, ProgramText, assemble_file, check_file, tell_file};
-pub use reading::{texts_at, three_texts_at};
+pub use programs::{
+    Listing, ProgramText, assemble_file, check_file, refusal_of, tell_file, write_answer,
+};
+pub use reading::{bytes_at, texts_at, three_texts_at};

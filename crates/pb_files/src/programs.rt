@@ -74,8 +74,8 @@ pub fn assemble_file<'a, P: Paths>(
     }
 }
 
-// A refusal, and the line that reports it.
-fn refusal_of<'a>(alloc: Global, refused: Refused) -> Result<VerdictText, FileFault<'a>>
+/// A refusal, and the line that reports it.
+pub fn refusal_of<'a>(alloc: Global, refused: Refused) -> Result<VerdictText, FileFault<'a>>
     ensures told { IfOk result
         (λ a. (a.verdict ≡ verdicts.Refused)
         × (string_bytes a.text ≡ refusal_line refused.slot refused.code)) }
@@ -164,8 +164,11 @@ fn verdict_of<'a>(
     }
 }
 
-// Writes an answer.
-fn write_answer<'a, O: Sink>(answer: &VerdictText, out: &mut O) -> Result<Verdict, FileFault<'a>>
+/// Writes an answer.
+pub fn write_answer<'a, O: Sink>(
+    answer: &VerdictText,
+    out: &mut O,
+) -> Result<Verdict, FileFault<'a>>
     requires unfailed { O.failed out.old ≡ false }
     ensures ok { IfOk result (λ v. (v ≡ answer.now.verdict)
         × TookAll (taking O.taken O.failed out.old out.new) (string_bytes answer.now.text)) }

@@ -19,5 +19,6 @@ pub use schedule::{
     schedule_faults_are_told_where_they_are, schedules_are_their_lines,
 };
 pub use script::{
-    fault_is_first, operation_fault_is_first, parse_script, reads_batches, reads_operations,
+    ScriptCode, fault_is_first, operation_fault_is_first, parse_script, reads_batches,
+    reads_operations, value_of_word,
 };

@@ -3,6 +3,8 @@ mod code;
 mod lines;
 mod words;
 
+pub use code::ScriptCode;
 pub use lines::{
     fault_is_first, operation_fault_is_first, parse_script, reads_batches, reads_operations,
 };
+pub use words::value_of_word;

@@ -1,2 +1,4 @@
 pub mod Writes
+pub mod Shown
 pub mod Retelling
+pub mod Trials

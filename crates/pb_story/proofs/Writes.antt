@@ -1,9 +1,9 @@
--- The writes that are still to be told.
+-- The writes that are still to be printed.
 use Rattle.std.proofs.Common.{arith, ◌≡◌, ℕ, suc, ◌+◌, List, ◌∷◌, ◌++◌, drop, Some, ap, ◌∙◌, append_assoc, add-one, drop-cons, slice_get, flat_map}
 use Rattle.std.proofs.lemmas.Option.{slice_get_within, get_or_from_slice_get}
 use Rattle.pb_story.specs.Words.{Cell, Content, Writes}
 
--- what is left to tell is the next write and what is left behind it
+-- what is left to print is the next write and what is left after it
 drop_next : (ws : Writes) (i : ℕ) (w : Cell × Content) → slice_get ws i ≡ Some w → drop i ws ≡ w ∷ drop (i + 1) ws
 drop_next ws i w h =
     let inside = slice_get_within ws i w h in

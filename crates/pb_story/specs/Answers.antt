@@ -8,7 +8,7 @@ use Rattle.pb_story.specs.Steps.{start_text, on_cell_text, at_cell_text}
 abbrev pub found_text : Ts → Ts → Content → List ℕ
 found_text s c content = codes "found " ++ (decimal s.0 ++ (codes " " ++ (decimal c.0 ++ (codes " " ++ content_text content))))
 
--- an answer by its word, and behind it what it tells: timestamps, a cell, a content
+-- an answer by its word, and after it what it holds: timestamps, a cell, a content
 abbrev pub answer_text : List ObserverOf → Answer → List ℕ
 answer_text observers (Answer.At t) = start_text (codes "at") t
 answer_text observers (Answer.Locked s x) = at_cell_text observers (codes "locked") s x

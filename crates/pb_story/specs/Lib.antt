@@ -5,3 +5,4 @@ pub mod Answers
 pub mod Lines
 pub mod Stories
 pub mod Frames
+pub mod Trials

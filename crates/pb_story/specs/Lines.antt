@@ -1,7 +1,7 @@
--- The line of an event: its number, its seat, what it does and its note. What it does is said by the world before it,
--- which knows the job's next step, and the note by what came of it. `open_line` and `end_line` cite these.
-use Rattle.std.specs.Prelude.{◌≡◌, ℕ, List, [], ◌++◌, codes, Option, Some, None, decimal}
-use Rattle.pb_story.specs.Words.{ObserverOf, Step, Event, Job, ActorJob, Note, next_of, IsSlotOf, WorldOf, held_job}
+-- The line of an event: its number, its seat, what it does and its note. The world before it defines what it does, since that
+-- has the job's next step, and what came of it defines the note. `open_line`, `end_line` and `is_shown` cite these.
+use Rattle.std.specs.Prelude.{◌≡◌, ℕ, Bool, true, false, not, ◌&&◌, ◌||◌, if◌then◌else◌, List, [], ◌++◌, codes, Option, Some, None, decimal}
+use Rattle.pb_story.specs.Words.{ObserverOf, Step, Event, Job, ActorJob, Note, next_of, IsSlotOf, WorldOf, held_job, Excerpt, is_within}
 use Rattle.pb_story.specs.Cells.{observer_name}
 use Rattle.pb_story.specs.Steps.{step_text}
 use Rattle.pb_story.specs.Answers.{answer_text}
@@ -46,7 +46,7 @@ IsDeed w (Event.Sweep x) text = text ≡ step_text w.shared.state.observers (Ste
 
 -- ---- what it came to
 
--- an instruction has nothing to tell
+-- an instruction has no note in words
 abbrev pub note_text : List ObserverOf → Note → List ℕ
 note_text observers Note.Launched = codes " -> launched"
 note_text observers (Note.Called answer) = codes " -> " ++ answer_text observers answer
@@ -68,3 +68,18 @@ pub record IsLine (w : WorldOf) (number : ℕ) (e : Event) (n : Note) (v : World
   pub opening : List ℕ
   pub opens : IsOpenLine w number e opening
   pub text_is : text ≡ opening ++ (note_text v.shared.state.observers n ++ codes "\n")
+
+-- ---- whether it is printed
+
+-- the event found its actor without a job
+abbrev pub is_idle : Note → Bool
+is_idle Note.Idle = true
+is_idle other = false
+
+-- the event of this number, to which this was noted, is one of the excerpt
+abbrev pub is_shown : Excerpt → ℕ → Note → Bool
+is_shown x number n = is_within x.first x.last number && (x.idle || not (is_idle n))
+
+-- what is printed of an event's line
+abbrev pub shown_line : Excerpt → ℕ → Note → List ℕ → List ℕ
+shown_line x number n line = if is_shown x number n then line else []

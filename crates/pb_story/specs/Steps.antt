@@ -25,12 +25,12 @@ on_cell_text observers word x = word ++ (codes " " ++ cell_text observers x)
 abbrev pub at_cell_text : List ObserverOf → List ℕ → Ts → Cell → List ℕ
 at_cell_text observers word s x = word ++ (codes " " ++ (decimal s.0 ++ (codes " " ++ cell_text observers x)))
 
--- a search for a marked cell, from the beginning or behind a cell; no actor's job asks it, but journals have it
+-- a search for a marked cell, from the beginning or after a cell; no actor's job asks it, but journals have it
 abbrev pub next_mark_text : List ObserverOf → Option Cell → List ℕ
 next_mark_text observers None = codes "next mark"
 next_mark_text observers (Some x) = on_cell_text observers (codes "next mark after") x
 
--- a step by its word; commits of a primary and of another cell have one word, told apart by the cell
+-- a step by its word; commits of a primary and of another cell have one word, and differ by the cell
 abbrev pub step_text : List ObserverOf → Step → List ℕ
 step_text observers (Step.Begin work) = codes "begin " ++ work_text observers work
 step_text observers (Step.Read s x) = at_cell_text observers (codes "read") s x

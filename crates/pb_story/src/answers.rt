@@ -1,4 +1,4 @@
-//! Answers of the shared table in words, behind `->` in the line of their step.
+//! Answers of the shared table in words, after `->` in the line of their step.
 ghost use Rattle.std.specs.Prelude.{◌≡◌, ◌++◌, OnOk, string_bytes};
 ghost use Rattle.pb_story.specs.Answers.{found_text, answer_text};
 

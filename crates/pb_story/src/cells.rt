@@ -1,4 +1,4 @@
-//! Cells, and what they hold, in words: those of scripts and reports, so that a cell is told alike in all of them.
+//! Cells, and what they hold, in words: those of scripts and reports, so that a cell reads alike in all of them.
 ghost use Rattle.std.specs.Prelude.{◌≡◌, ◌++◌, OnOk, string_bytes};
 ghost use Rattle.pb_story.specs.Cells.{observer_name, cell_text, content_text, write_text, writes_text};
 
@@ -58,7 +58,7 @@ pub fn add_content(text: &mut String, content: &Content) -> Result<(), AllocErro
     }
 }
 
-// Adds a write behind a semicolon.
+// Adds a write after a semicolon.
 fn add_write(
     text: &mut String,
     observers: &[Observer],
@@ -75,7 +75,7 @@ fn add_write(
     add_content(text, content)
 }
 
-/// Adds the writes of a batch, each behind a semicolon.
+/// Adds the writes of a batch, each after a semicolon.
 pub fn add_batch(text: &mut String, observers: &[Observer], batch: &Batch) -> Result<(), AllocError>
     ensures { OnOk result (string_bytes text.new
         ≡ string_bytes text.old ++ writes_text observers.now batch.now) }
@@ -87,7 +87,7 @@ pub fn add_batch(text: &mut String, observers: &[Observer], batch: &Batch) -> Re
     Ok(())
 }
 
-/// Adds the writes of a run, each behind a semicolon.
+/// Adds the writes of a run, each after a semicolon.
 pub fn add_writes(
     text: &mut String,
     observers: &[Observer],

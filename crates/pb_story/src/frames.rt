@@ -1,5 +1,5 @@
-//! What is known before each slot of a program, in words. It is told also of a program that is refused, since that is
-//! when it is asked for.
+//! What is known before each slot of a program, in words. It is printed for a program that is refused
+//! too, since that is when it is asked for.
 ghost use Rattle.std.specs.Prelude.{◌≡◌, ◌<◌, ◌≤◌, ◌+◌, ◌++◌, length, drop, IfOk, OnOk, string_bytes};
 ghost use Rattle.pb_isa.specs.declared.limits.TheConstants.{STACK_BYTES};
 ghost use Rattle.pb_story.specs.Frames.{distance_text, register_text, registers_text, run_length, begins_run, run_text, run_at, runs_text, frame_text, line_at, frames_text};
@@ -63,7 +63,7 @@ fn run_length(written: &[bool]) -> usize
     }
 }
 
-// Whether a byte is written and the one below it isn't, so that a run is told at its lowest byte alone.
+// Whether a byte is written and the one below it isn't, so that a run begins at its lowest byte alone.
 fn begins_run(written: &[bool], place: usize) -> bool
     requires { place < length written.now }
     ensures { result ≡ begins_run written.now place }
@@ -78,7 +78,7 @@ fn add_run(text: &mut String, place: usize, count: usize) -> Result<(), AllocErr
     ensures { OnOk result (string_bytes text.new ≡ string_bytes text.old ++ run_text place count) }
 {
     let first = STACK_BYTES - place;
-    // One more, since the distance is that of the last byte and not of the byte behind it.
+    // One more, since the distance is that of the last byte and not of the byte after it.
     let last = STACK_BYTES + 1 - (place + count);
     write!(text, " written=-{first}..-{last}")
 }

@@ -1,13 +1,14 @@
 //! The line of an event: its number, its seat, what it does and its note. It is made in two parts, since what an event
-//! does is told of the world before it, and its note of what came of it.
+//! does is known from the world before it, and its note from what came of it.
 ghost use Rattle.std.specs.Prelude.{◌≡◌, ◌++◌, OnOk, IfOk, string_bytes, codes};
-ghost use Rattle.pb_story.specs.Lines.{GrowsBy, seat_of, job_text, IsTurn, IsDeed, note_text, IsOpenLine};
+ghost use Rattle.pb_story.specs.Lines.{GrowsBy, seat_of, job_text, IsTurn, IsDeed, note_text, IsOpenLine, is_idle, is_shown};
 
 use crate::answers::add_answer;
 use crate::cells::add_name;
 use crate::steps::{add_on_cell, add_step};
 use pb_parse::{Event, Job};
 use pb_store::Tablet;
+use pb_texts::Excerpt;
 use pb_verify::Observer;
 use pb_world::{ActorJob, Note, World};
 use std::alloc::{AllocError, Global};
@@ -126,4 +127,18 @@ pub fn end_line(text: &mut String, observers: &[Observer], note: &Note) -> Resul
 {
     add_note(text, observers, note)?;
     text.push_str("\n")
+}
+
+fn is_idle(note: &Note) -> bool
+    ensures { result ≡ is_idle note.now }
+{
+    matches!(note, Note::Idle)
+}
+
+/// Whether an excerpt has the line of the event of this number, to which this was noted.
+pub fn is_shown(excerpt: &Excerpt, number: usize, note: &Note) -> bool
+    ensures { result ≡ is_shown excerpt.now number note.now }
+{
+    let number = number as u64;
+    excerpt.first <= number && number <= excerpt.last && (excerpt.idle || !is_idle(note))
 }

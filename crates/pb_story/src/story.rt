@@ -6,11 +6,12 @@ ghost use Rattle.pb_base.specs.Taking.{taking};
 ghost use Rattle.pb_story.specs.Stories.{IsEventFault, EventEnds, LinesEnd, StoryEnds};
 
 use crate::fault::StoryFault;
-use crate::lines::{end_line, open_line};
+use crate::lines::{end_line, is_shown, open_line};
 use pb_base::Sink;
 use pb_parse::Event;
 use pb_script::{ReportFault, report};
 use pb_store::Tablet;
+use pb_texts::Excerpt;
 use pb_world::{EventFault, Note, World, WorldFault};
 use std::alloc::Global;
 use std::slice;
@@ -37,21 +38,25 @@ fn happen<T: Tablet>(
     }
 }
 
-// Lets one event happen, that of this number, and writes its line.
+// Lets one event happen, that of this number, and writes its line, if the excerpt has it.
 fn tell_event<T: Tablet, S: Sink>(
     alloc: Global,
     world: &mut World<T>,
     number: usize,
     event: &Event,
+    excerpt: &Excerpt,
     sink: &mut S,
 ) -> Result<(), StoryFault>
     requires unfailed { S.failed sink.old ≡ false }
-    ensures { EventEnds world.old number event.now world.new
+    ensures { EventEnds excerpt.now world.old number event.now world.new
         (taking S.taken S.failed sink.old sink.new) result }
 {
-    // Before the event, since what it does is told of the world before it.
+    // Before the event, since what it does is known from the world before it.
     let mut line = open_line(alloc, world, number, event)?;
     let note = happen(alloc, world, number, event)?;
+    if !is_shown(excerpt, number, &note) {
+        return Ok(());
+    }
     end_line(&mut line, world.shared().observers(), &note)?;
     match sink.write_all(line.as_bytes()) {
         Ok(()) => Ok(()),
@@ -59,39 +64,41 @@ fn tell_event<T: Tablet, S: Sink>(
     }
 }
 
-// Lets the events happen in order, and writes the line of each as soon as it has happened.
+// Lets the events happen in order, and writes the line of each of the excerpt as soon as it has happened.
 fn tell_events<T: Tablet, S: Sink>(
     alloc: Global,
     world: &mut World<T>,
     events: &[Event],
+    excerpt: &Excerpt,
     sink: &mut S,
 ) -> Result<(), StoryFault>
     requires unfailed { S.failed sink.old ≡ false }
-    ensures { LinesEnd world.old events.now world.new
+    ensures { LinesEnd excerpt.now world.old events.now world.new
         (taking S.taken S.failed sink.old sink.new) result }
 {
     for number in 0..events.len() {
-        tell_event(alloc, world, number, &events[number], sink)?;
+        tell_event(alloc, world, number, &events[number], excerpt, sink)?;
     }
     Ok(())
 }
 
-/// Lets the events happen in order, as [`World::run`] does, writes the line of each, with its note, as soon as it has
-/// happened, and then the report of what they left.
+/// Lets the events happen in order, as [`World::run`] does, writes the line of each of the excerpt, with its note, as soon as it
+/// has happened, and then the report of what they left.
 ///
 /// Where an event is at fault, the lines of those before it were written, and no report follows. Where memory is refused,
-/// whole lines were written, and at most one event more has happened than they tell.
+/// whole lines were written, and at most one event more has happened than they show.
 pub fn tell_story<T: Tablet, S: Sink>(
     alloc: Global,
     world: &mut World<T>,
     events: &[Event],
+    excerpt: &Excerpt,
     sink: &mut S,
 ) -> Result<(), StoryFault>
     requires unfailed { S.failed sink.old ≡ false }
-    ensures { StoryEnds world.old events.now world.new
+    ensures { StoryEnds excerpt.now world.old events.now world.new
         (taking S.taken S.failed sink.old sink.new) result }
 {
-    tell_events(alloc, world, events, sink)?;
+    tell_events(alloc, world, events, excerpt, sink)?;
     match report(alloc, sink, world.shared()) {
         Ok(()) => Ok(()),
         Err(ReportFault::Output) => Err(StoryFault::Output),

@@ -118,7 +118,7 @@ all_ask make first second third rows f e =
     let t = given_first third rows f g.2 in
     (make m.0 s.0 t.0, all_some make _ _ _ m.0 s.0 t.0 m.1 s.1 t.1)
 
--- what is asked for where the walk stopped at this name, with these words behind
+-- what is asked for where the walk stopped at this name, with these words after it
 abbrev Asks : Text → List Text → Type 0
 Asks name words = has_plus (entered (built program_app) (Some (name, words))) ≡ false → (r : Request) × (command_in (entered (built program_app) (Some (name, words))) ≡ Some r)
 

@@ -6,3 +6,5 @@ pub mod Asked
 pub mod Faults
 pub mod Taken
 pub mod StoryFaults
+pub mod CellWords
+pub mod LocalArguments

@@ -2,8 +2,7 @@
 use Rattle.std.proofs.Common.{◌≡◌, List, [], Some, refl}
 use Rattle.clap.specs.Walk.{Text}
 use Rattle.clap.specs.Faults.{fault_of}
-use Rattle.pb_texts.specs.CommandLines.{Request}
-use Rattle.pb_texts.specs.StoryLines.{story_app, story_of, story_fault}
+use Rattle.pb_texts.specs.StoryLines.{StoryRequest, story_app, story_of, story_fault}
 
-pub asked_faultless : (words : List Text) (r : Request) → fault_of story_app words ≡ [] → story_of words ≡ Some r → story_fault words ≡ []
+pub asked_faultless : (words : List Text) (r : StoryRequest) → fault_of story_app words ≡ [] → story_of words ≡ Some r → story_fault words ≡ []
 asked_faultless words r f e = rw (f, e) refl

@@ -297,11 +297,11 @@ dis_words program file = program ∷ codes "dis" ∷ file ∷ []
 abbrev pub check_words : Text → Text → List Text
 check_words program file = program ∷ codes "check" ∷ file ∷ []
 
--- these words with `--profile` behind them
+-- these words with `--profile` after them
 abbrev pub profile_words : List Text → Text → List Text
 profile_words words profile = words ++ codes "--profile" ∷ profile ∷ []
 
--- these words with `--record` behind them
+-- these words with `--record` after them
 abbrev pub record_words : List Text → Text → List Text
 record_words words version = words ++ codes "--record" ∷ version ∷ []
 
@@ -313,18 +313,18 @@ AskFor words request = (words_fault words ≡ []) × (command_of words ≡ Some 
 abbrev pub HaveBadValue : List Text → Type 0
 HaveBadValue words = words_fault words ≡ ErrorKind.ValueValidation ∷ []
 
--- with `--profile` and the number of a profile behind them, the words ask for this of that profile
+-- with `--profile` and the number of a profile after them, the words ask for this of that profile
 abbrev pub TakeProfiles : List Text → (Profile → Request) → Type 0
 TakeProfiles words request = (profile : Text) → is_profile profile ≡ true → AskFor (profile_words words profile) (request (profile_numbered (count_number profile)))
 
--- with `--profile` and another plain word behind them, the words are refused
+-- with `--profile` and another plain word after them, the words are refused
 abbrev pub RefuseOtherProfiles : List Text → Type 0
 RefuseOtherProfiles words = (profile : Text) → is_plain_word profile ≡ true → is_profile profile ≡ false → HaveBadValue (profile_words words profile)
 
--- with `--record` and the number of a version behind them, the words ask for this for that version
+-- with `--record` and the number of a version after them, the words ask for this for that version
 abbrev pub TakeVersions : List Text → (Version → Request) → Type 0
 TakeVersions words request = (version : Text) → is_version version ≡ true → AskFor (record_words words version) (request (version_numbered (count_number version)))
 
--- with `--record` and another plain word behind them, the words are refused
+-- with `--record` and another plain word after them, the words are refused
 abbrev pub RefuseOtherVersions : List Text → Type 0
 RefuseOtherVersions words = (version : Text) → is_plain_word version ≡ true → is_version version ≡ false → HaveBadValue (record_words words version)

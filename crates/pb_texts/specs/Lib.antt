@@ -1,2 +1,4 @@
 pub mod CommandLines
+pub mod TrialWords
+pub mod ExcerptWords
 pub mod StoryLines

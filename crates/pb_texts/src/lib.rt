@@ -6,5 +6,6 @@
 mod words;
 
 pub use words::{
-    Options, ProgramFile, ReplayFiles, StoryOptions, options, plain_words_are_taken, story_options,
+    Excerpt, Options, ProgramFile, ReplayFiles, StoryOptions, Trial, TrialCell, options,
+    plain_words_are_taken, story_options,
 };

@@ -9,13 +9,15 @@ use Rattle.pb_files.specs.Files.{Held, Filing, KeepsFiles}
 use Rattle.pb_files.specs.Programs.{AnswerLeaves, TellsProgram}
 use Rattle.pb_command.specs.Commands.{FilesLeave, ReplayLeaves, IsToldAs}
 use Rattle.percobpf_story.specs.Replays.{TellsTexts}
+use Rattle.percobpf_story.specs.Trials.{Tries}
 
 -- What is left on the output where a command ended so, with a table of so many tablets. What is known before a slot is the same for every version.
 abbrev pub StoryLeaves : StoryOptions → ℕ → Held → Taking → Result Verdict Fault → Type 0
 StoryLeaves (StoryOptions.Frames program) places before out outcome = FilesLeave (AnswerLeaves (TellsProgram frames_text program.profile) (before program.file.now) program.file.now out) outcome
-StoryLeaves (StoryOptions.Replay files) places before out outcome = ReplayLeaves (TellsTexts places) before files out outcome
+StoryLeaves (StoryOptions.Replay files excerpt) places before out outcome = ReplayLeaves (TellsTexts excerpt places) before files out outcome
+StoryLeaves (StoryOptions.Trial trial) places before out outcome = FilesLeave (AnswerLeaves (Tries trial) (before trial.program.file.now) trial.program.file.now out) outcome
 
--- how a command ended, as its status and the line of its fault tell it
+-- how a command ended, as its status and the line of its fault show it
 pub record StoryCommands (options : StoryOptions) (places : ℕ) (files : Filing) (out err : Taking) (status : ℕ) : Type 0 where
   pub outcome : Result Verdict Fault
   pub kept : KeepsFiles files

@@ -1,4 +1,4 @@
-//! What is known before each slot of a program, as one more text that a command tells of a file's.
+//! What is known before each slot of a program, as one more text that a command writes for a file's.
 ghost use Rattle.pb_story.specs.Frames.{frames_text};
 
 use pb_base::NoMemory;

@@ -1,14 +1,17 @@
-//! The story program: `frames FILE` prints what is known before each slot of a program, and
-//! `replay MANIFEST SCRIPT SCHEDULE` does a schedule's events, prints what each did, and then the report.
+//! The story program: `frames FILE` prints what is known before each slot of a program,
+//! `replay MANIFEST SCRIPT SCHEDULE` does a schedule's events, prints what each did, as far as `--events` and `--idle` select it,
+//! and then the report, and `trial FILE` runs a program once on the record of a change, and prints what it asks, writes and
+//! returns.
 //!
 //! It stands beside `percobpf`, which prints neither, so that no contract of the command has a case for lines and
-//! frames. It reads files, tells faults and answers its status as `percobpf` does, by the calls of `pb_files` and
+//! frames. It reads files, reports faults and returns its status as `percobpf` does, by the calls of `pb_files` and
 //! `pb_command`. `frames` of the bytes of examples/watch.s begins with `0 r1=record+0 r10=stack+0`.
 #![tactic(auto)]
 
 mod carry;
 mod frames;
 mod replay;
+mod trial;
 
 use crate::carry::story_command;
 use pb_base::{NoMemory, Out, Row};

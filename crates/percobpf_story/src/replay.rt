@@ -9,6 +9,7 @@ use pb_base::{Sink, Ts};
 use pb_driver::{RunFault, open_replay};
 use pb_store::{Table, Tablet};
 use pb_story::{StoryFault, tell_story};
+use pb_texts::Excerpt;
 use std::alloc::Global;
 
 // The fault of a story as one of a replay.
@@ -23,10 +24,10 @@ fn of_story(fault: StoryFault) -> RunFault
 }
 
 /// Lets a schedule's events happen in a world of a manifest's observers and a script's changes, over an empty table with
-/// all its seats and `last` the last timestamp given out, writes the line of each, and then the report of what they
-/// left.
+/// all its seats and `last` the last timestamp given out, writes the line of each of the excerpt, and then the report of what
+/// they left.
 ///
-/// The first fault is told: the manifest's, the script's, the schedule's, an event's, a failed write, or want of memory. It
+/// The first fault is reported: the manifest's, the script's, the schedule's, an event's, a failed write, or want of memory. It
 /// ends the table on every path.
 pub fn tell_texts<T: Tablet, S: Sink>(
     alloc: Global,
@@ -35,16 +36,17 @@ pub fn tell_texts<T: Tablet, S: Sink>(
     schedule: &str,
     table: Table<T>,
     last: Ts,
+    excerpt: &Excerpt,
     sink: &mut S,
 ) -> Result<(), RunFault>
     requires empty { table.contents ≡ nothing }
     requires unfailed { S.failed sink.old ≡ false }
-    ensures { TellsTexts (length table.firsts) last.0 manifest.now script.now schedule.now
-        (taking S.taken S.failed sink.old sink.new) result }
+    ensures { TellsTexts excerpt.now (length table.firsts) last.0
+        manifest.now script.now schedule.now (taking S.taken S.failed sink.old sink.new) result }
 {
     let (world, events) = open_replay(alloc, manifest, script, schedule, table, last)?;
     let mut world = world;
-    let outcome = tell_story(alloc, &mut world, &events, sink);
+    let outcome = tell_story(alloc, &mut world, &events, excerpt, sink);
     let (shared, _seats) = world.close();
     shared.close();
     match outcome {

@@ -40,11 +40,11 @@ fn has_upper(digits: &[u8]) -> bool
     digits.iter().any(|b| b.is_ascii_uppercase())
 }
 
-// Up to 32 bytes in lower-case hexadecimal digits, followed by zeros. Capitals are looked for here, since `hex` reads
-// them too; an odd number of digits it refuses by itself.
-fn value_of_word(word: &str) -> Result<Value, ScriptCode>
+/// The value that a word writes: up to 32 bytes in lower-case hexadecimal digits, followed by zeros.
+pub fn value_of_word(word: &str) -> Result<Value, ScriptCode>
     ensures { Gives (λ _. false) (λ b. b) result (value_of_word word.now) }
 {
+    // Capitals are looked for here, since `hex` reads them too; an odd number of digits it refuses by itself.
     let digits = word.as_bytes();
     if digits.is_empty() || digits.len() > 64 || has_upper(digits) {
         return Err(ScriptCode::Hex);

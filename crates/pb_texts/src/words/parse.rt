@@ -31,12 +31,12 @@ const LAST_VERSION: u32 = 2;
 // What stands at the end of each help.
 const SEE_CODES: &str = "Codes and exit statuses: docs/CODES.md";
 
-// What the help says of the operands that two subcommands take.
+// The help of the operands that two subcommands take.
 const MANIFEST: &str = "A JSON file with the observers and their programs";
 
-const SCRIPT: &str = "A text file with the changes, one a line";
+const SCRIPT: &str = "A text file with the changes, one per line";
 
-// A command without operands and options: its name, and what its help says of it.
+// A command without operands and options: its name, and its line of help.
 fn bare_command<'a>(alloc: Global, name: &'a str, about: &'a str) -> Command<'a>
     ensures app { app_of result ≡ new_app name.now }
     ensures local { (fields_of result).has_globals ≡ false }
@@ -79,9 +79,8 @@ fn run_command<'a>(alloc: Global) -> Result<Command<'a>, AllocError>
         "run",
         "Makes a script's changes, runs the observers on them, and prints the report",
     );
-    let workers = "How many threads make the changes, 1 to 63; 1 where none is named";
-    let swaps =
-        "How many tablets are replaced beside the workers, 0 to 1000; 0 where none is named";
+    let workers = "How many threads make the changes, 1 to 63 (1 if not given)";
+    let swaps = "How many tablets are replaced while the workers run, 0 to 1000 (0 if not given)";
     bare.arg(operand(alloc, "MANIFEST", MANIFEST))?
         .arg(operand(alloc, "SCRIPT", SCRIPT))?
         .arg(number_option(alloc, "workers", "N", 1, MAX_WORKERS, workers))?
@@ -96,7 +95,7 @@ fn clock_option<'a>(alloc: Global) -> Arg<'a>
         .long("clock")
         .value_name("N")
         .value_parser(value_parser!(u64))
-        .help("The last timestamp given out before the events, 0 where none is named")
+        .help("The last timestamp given out before the events (0 if not given)")
 }
 
 pub fn replay_command<'a>(alloc: Global) -> Result<Command<'a>, AllocError>
@@ -106,9 +105,9 @@ pub fn replay_command<'a>(alloc: Global) -> Result<Command<'a>, AllocError>
     let bare = bare_command(
         alloc,
         "replay",
-        "Does a schedule's events with a script's changes, and prints the report",
+        "Replays a schedule's events with a script's changes, and prints the report",
     );
-    let schedule = "A text file with the events, one a line";
+    let schedule = "A text file with the events, one per line";
     bare.arg(operand(alloc, "MANIFEST", MANIFEST))?
         .arg(operand(alloc, "SCRIPT", SCRIPT))?
         .arg(operand(alloc, "SCHEDULE", schedule))?
@@ -126,7 +125,7 @@ pub fn profile_option<'a>(alloc: Global) -> Arg<'a>
     ensures rule { rule_of result ≡ profile_rule }
     ensures local { result.global ≡ false }
 {
-    let help = "The profile of the program, 1 or 2; 1 where none is named";
+    let help = "The profile of the program, 1 or 2 (1 if not given)";
     number_option(alloc, "profile", "N", 1, LAST_PROFILE, help)
 }
 
@@ -134,7 +133,7 @@ pub fn record_option<'a>(alloc: Global) -> Arg<'a>
     ensures rule { rule_of result ≡ record_rule }
     ensures local { result.global ≡ false }
 {
-    let help = "The version of the change record, 1 or 2; 1 where none is named";
+    let help = "The version of the change record, 1 or 2 (1 if not given)";
     number_option(alloc, "record", "N", 1, LAST_VERSION, help)
 }
 
@@ -144,7 +143,7 @@ fn asm_command<'a>(alloc: Global) -> Result<Command<'a>, AllocError>
 {
     let bare = bare_command(alloc, "asm", "Writes the bytes of a program's text");
     let output = "The file that the program's bytes are written to";
-    bare.arg(operand(alloc, "IN", "A text file with one instruction a line"))?
+    bare.arg(operand(alloc, "IN", "A text file with one instruction per line"))?
         .arg(operand(alloc, "OUT", output))?
         .arg(profile_option(alloc))
 }
@@ -208,7 +207,7 @@ fn matches_of<'a>(alloc: Global, words: &'a [&'a str]) -> Result<ArgMatches<'a>,
     command.try_get_matches_from(words)
 }
 
-fn value_in<'a>(run: &ArgMatches<'a>, id: &str) -> Option<&'a str>
+pub fn value_in<'a>(run: &ArgMatches<'a>, id: &str) -> Option<&'a str>
     ensures { option_map (λ s. s.now) result ≡ first_of id.now (rows_of (found_of run.now)) }
 {
     run.get_str(id)
@@ -312,7 +311,7 @@ fn version_numbered(number: u32) -> Version
 }
 
 // The version of the change record that the matches of `check` name.
-fn version_in(check: &ArgMatches) -> Option<Version>
+pub fn version_in(check: &ArgMatches) -> Option<Version>
     ensures { result ≡ version_of (first_of (codes "record") (rows_of (found_of check.now))) }
 {
     let number = count_in(check, "record", 1, LAST_VERSION)?;
@@ -379,7 +378,7 @@ pub fn plus_told(
     named.error(ErrorKind::ValueValidation, &text)
 }
 
-// The error of a plus before a number, told of the first option that has one.
+// The error of a plus before a number, which names the first option that has one.
 fn plus_error(alloc: Global, matches: &ArgMatches) -> Result<Error, AllocError>
     ensures { IfOk result (λ e. kind_of e ≡ ErrorKind.ValueValidation) }
 {
@@ -422,8 +421,8 @@ pub fn options<'a>(alloc: Global, words: &'a [&'a str]) -> Result<Options<'a>, E
     }
 }
 
-/// A subcommand with as many words behind it as it has operands, none of which begins with a hyphen, is taken. So is `run`
-/// with `--workers` and a number of workers behind them, or `--swaps` and a number of swaps, decimal digits alone, `replay`
+/// A subcommand with as many words after it as it has operands, none of which begins with a hyphen, is taken. So is `run`
+/// with `--workers` and a number of workers after them, or `--swaps` and a number of swaps, decimal digits alone, `replay`
 /// with `--clock` and a number of `u64`, and `asm`, `dis` and `check` with `--profile` and 1 or 2, decimal digits alone;
 /// with another such word there each is refused. Without `--profile` the profile is the first. So is `check` with
 /// `--record` and 1 or 2.

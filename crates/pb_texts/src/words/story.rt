@@ -1,16 +1,16 @@
 //! A command line of the story program, read with `clap`.
 ghost use Rattle.std.specs.Prelude.{◌≡◌, IfOk, Some, false, option_map};
-ghost use Rattle.clap.specs.Words.{FailsBy, app_of, fault_of, kind_of, subcommand_of, subcommand_rows_of};
+ghost use Rattle.clap.specs.Words.{FailsBy, app_of, fault_of, found_of, kind_of, rows_of, subcommand_of, subcommand_rows_of};
 ghost use Rattle.clap.specs.declared.builder.command.Command.TheViews.{out-Command as fields_of};
 ghost use Rattle.pb_reading.specs.Reading.{texts_of};
-ghost use Rattle.pb_texts.specs.CommandLines.{replay_app};
-ghost use Rattle.pb_texts.specs.StoryLines.{frames_app, story_app, story_in, story_of, story_fault, story_request};
+ghost use Rattle.pb_texts.specs.StoryLines.{frames_app, known_app, story_app, story_replay_in, known_in, story_in, story_of, story_fault, story_request};
 
 use crate::words::choice::StoryOptions;
+use crate::words::excerpt::{events_refused, excerpt_in, story_replay_command};
 use crate::words::parse::{
-    check_in, file_operand, plus_told, profile_in, profile_option, record_option, replay_command,
-    replay_in,
+    check_in, file_operand, plus_told, profile_in, profile_option, record_option, replay_in,
 };
+use crate::words::trial::{trial_command, trial_in, trial_refused};
 use clap::error::ErrorKind;
 use clap::{ArgMatches, Command, Error};
 use std::alloc::{AllocError, Global};
@@ -26,25 +26,24 @@ fn frames_command<'a>(alloc: Global) -> Result<Command<'a>, AllocError>
         .arg(record_option(alloc))
 }
 
-// The subcommand of the program's replays, told as what it does here.
-fn story_replay_command<'a>(alloc: Global) -> Result<Command<'a>, AllocError>
-    ensures app { IfOk result (λ c. app_of c ≡ replay_app) }
-    ensures local { IfOk result (λ c. (fields_of c).has_globals ≡ false) }
-{
-    let replay = replay_command(alloc)?;
-    Ok(replay.about("Does a schedule's events, and prints what each did, and then the report"))
-}
-
-fn story_program<'a>(alloc: Global) -> Result<Command<'a>, AllocError>
-    ensures { IfOk result (λ c. app_of c ≡ story_app) }
+// The program with the subcommands that try nothing.
+fn known_program<'a>(alloc: Global) -> Result<Command<'a>, AllocError>
+    ensures { IfOk result (λ c. app_of c ≡ known_app) }
 {
     let frames = frames_command(alloc)?;
     let replay = story_replay_command(alloc)?;
     let bare = Command::new(alloc, "percobpf_story").subcommand_required(true);
     let bare = bare.about(
-        "What is known before each slot of a program, and what each event of a replay did",
+        "What is known before each slot of a program, what each event of a replay did, and what one run does",
     );
     bare.subcommand(frames)?.subcommand(replay)
+}
+
+fn story_program<'a>(alloc: Global) -> Result<Command<'a>, AllocError>
+    ensures { IfOk result (λ c. app_of c ≡ story_app) }
+{
+    let trial = trial_command(alloc)?;
+    known_program(alloc)?.subcommand(trial)
 }
 
 fn story_matches<'a>(alloc: Global, words: &'a [&'a str]) -> Result<ArgMatches<'a>, Error>
@@ -56,18 +55,43 @@ fn story_matches<'a>(alloc: Global, words: &'a [&'a str]) -> Result<ArgMatches<'
     command.try_get_matches_from(words)
 }
 
-// What the matches of a command line name.
-fn story_in<'a>(matches: &ArgMatches<'a>) -> Option<StoryOptions<'a>>
-    ensures { option_map story_request result ≡ story_in (subcommand_rows_of matches.now) }
+// What the matches of `replay` name.
+fn story_replay_in<'a>(replay: &ArgMatches<'a>) -> Option<StoryOptions<'a>>
+    ensures { option_map story_request result ≡ story_replay_in (rows_of (found_of replay.now)) }
+{
+    let files = replay_in(replay)?;
+    Some(StoryOptions::Replay(files, excerpt_in(replay)?))
+}
+
+// What the matches of a command line name, where that is no trial.
+fn known_in<'a>(matches: &ArgMatches<'a>) -> Option<StoryOptions<'a>>
+    ensures { option_map story_request result ≡ known_in (subcommand_rows_of matches.now) }
 {
     match matches.subcommand() {
         Some(("frames", frames)) => Some(StoryOptions::Frames(check_in(frames)?)),
-        Some(("replay", replay)) => Some(StoryOptions::Replay(replay_in(replay)?)),
+        Some(("replay", replay)) => story_replay_in(replay),
         _ => None,
     }
 }
 
-// The error of a plus before a number of `frames`, told of the first option that has one.
+// What the matches of a command line name.
+fn story_in<'a>(
+    alloc: Global,
+    matches: &ArgMatches<'a>,
+) -> Result<Option<StoryOptions<'a>>, AllocError>
+    ensures { IfOk result (λ o. option_map story_request o
+        ≡ story_in (subcommand_rows_of matches.now)) }
+{
+    match matches.subcommand() {
+        Some(("trial", trial)) => match trial_in(alloc, trial)? {
+            Some(trial) => Ok(Some(StoryOptions::Trial(trial))),
+            None => Ok(None),
+        },
+        _ => Ok(known_in(matches)),
+    }
+}
+
+// The error of a plus before a number of `frames`, which names the first option that has one.
 fn frames_plus_error(alloc: Global, matches: &ArgMatches) -> Result<Error, AllocError>
     ensures { IfOk result (λ e. kind_of e ≡ ErrorKind.ValueValidation) }
 {
@@ -83,6 +107,17 @@ fn frames_plus_error(alloc: Global, matches: &ArgMatches) -> Result<Error, Alloc
     )
 }
 
+// The error of words that `clap` takes and that ask for nothing.
+fn story_refused(alloc: Global, matches: &ArgMatches) -> Result<Error, AllocError>
+    ensures { IfOk result (λ e. kind_of e ≡ ErrorKind.ValueValidation) }
+{
+    match matches.subcommand() {
+        Some(("trial", trial)) => trial_refused(alloc, trial),
+        Some(("replay", _)) => events_refused(alloc),
+        _ => frames_plus_error(alloc, matches),
+    }
+}
+
 /// What the words of a command line of the story program ask for, the program's own first. The error of another command
 /// line has the text and the status to end with; where help is asked for, the help with status 0.
 pub fn story_options<'a>(alloc: Global, words: &'a [&'a str]) -> Result<StoryOptions<'a>, Error>
@@ -90,9 +125,10 @@ pub fn story_options<'a>(alloc: Global, words: &'a [&'a str]) -> Result<StoryOpt
     ensures read { IfOk result (λ o. story_of (texts_of words.now) ≡ Some (story_request o)) }
 {
     let matches = story_matches(alloc, words)?;
-    match story_in(&matches) {
+    match story_in(alloc, &matches)? {
         Some(options) => Ok(options),
-        // Of what `clap` takes, only a plus before the number of a profile or of a version asks for nothing.
-        None => Err(frames_plus_error(alloc, &matches)?),
+        // Of what `clap` takes, only a plus before the number of a profile or of a version asks for nothing, a cell or a value
+        // of a trial that no script has, or an `--events` that names no events.
+        None => Err(story_refused(alloc, &matches)?),
     }
 }

@@ -1,5 +1,5 @@
 use Rattle.std.proofs.Common.{arith}
-use Rattle.pb_texts.proofs.words.story.story_program.Goals as goal
+use Rattle.pb_texts.proofs.words.story.known_program.Goals as goal
 
 pub returns : goal.returns
 returns c = grind arith
