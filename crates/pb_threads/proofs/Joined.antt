@@ -18,6 +18,9 @@ length_map : {A B : Type 0} (f : A → B) (xs : List A) → length (map f xs) �
 length_map f [] = refl
 length_map f (x ∷ xs) = ap suc (length_map f xs)
 
+pub as_many : (olds : List Worker) (seats : List SeatOf) → seats_in olds ≡ seats → length olds ≡ length seats
+as_many olds seats is = sym (length_map (λ (w : Worker). w.seat) olds) ∙ ap length is
+
 pub some_olds : (olds : List Worker) (seats : List SeatOf) → seats_in olds ≡ seats → 1 < length seats → 1 < length olds
 some_olds olds seats is some = subst (λ n. 1 < n) (ap length (sym is) ∙ length_map (λ (w : Worker). w.seat) olds) some
 
