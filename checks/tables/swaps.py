@@ -109,8 +109,26 @@ def in_all(places: int) -> Row:
     return steps(f"{story}marks {places} locks {places}\n", WATCHED, limit=1000, tablets=named(sorts, 1000))
 
 
+LAST = 2**64 - 1
+
+
+def at_the_last_timestamp(first: str) -> Row:
+    """A change that begins at the last timestamp, whose two entries are in the tablet, and then in a spare of the other sort, and in
+    one of the same."""
+    made = [
+        f"0 begin script -> at {LAST}",
+        f"0 declare {LAST} script; 7 0 value 2a -> done",
+        f"0 prewrite {LAST} 7 0 -> done",
+    ]
+    seen = f"entries -> 7 0 data {LAST} value 2a; 7 0 lock {LAST} 7 0"
+    swaps = [f"swap 0 {OTHER[first]} -> {first}", f"swap 0 {first} -> {OTHER[first]}"]
+    lines = [*made, seen, swaps[0], seen, swaps[1], seen, "marks 0 locks 1"]
+    return steps("".join(f"{line}\n" for line in lines), WATCHED, last=LAST - 1, tablets=f"0{first}")
+
+
 TABLES: Tables = {
     "a change beside swaps": SWAPPED,
     "swaps that are refused": REFUSED_SWAPS,
     "each tablet keeps its rows": [in_all(places) for places in range(1, 10)],
+    "the last timestamp": [at_the_last_timestamp(first) for first in "ls"],
 }
