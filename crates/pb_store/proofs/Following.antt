@@ -47,7 +47,9 @@ module _ {K X : Type 0} {R : K → K → Ordering} (o : IsTotalOrder R) where
   behind_next : (k : K) (es : List (K × X)) (e : K × X) → T (is_sorted R es) → Some e ≡ slice_get (above k es) 0 → above e.0 es ≡ drop 1 (above k es)
   behind_next k [] e s p = cc
   behind_next k (x ∷ es) e s p =
-      elim (R k x.0) as (λ r. R k x.0 ≡ r → Some e ≡ slice_get (cond (is_lt r) (x ∷ above k es) (above k es)) 0 → above e.0 (x ∷ es) ≡ drop 1 (cond (is_lt r) (x ∷ above k es) (above k es))) [
+      let left : Ordering → List (K × X) = λ r. cond (is_lt r) (x ∷ above k es) (above k es) in
+      let P : Ordering → Type 0 = λ r. R k x.0 ≡ r → Some e ≡ slice_get (left r) 0 → above e.0 (x ∷ es) ≡ drop 1 (left r) in
+      elim (R k x.0) as P [
         | Less ↦ λ lt q. behind_first (x ∷ es) e s q ∙ sym (all_above k es (below_lower k x.0 es lt (first _ _ s)))
         | Equal ↦ λ _ q. not_itself x e es (above_all_below x.0 k e es (first _ _ s) q) ∙ behind_next k es e (second _ _ s) q
         | Greater ↦ λ _ q. not_itself x e es (above_all_below x.0 k e es (first _ _ s) q) ∙ behind_next k es e (second _ _ s) q
