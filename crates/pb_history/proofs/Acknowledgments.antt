@@ -1,5 +1,5 @@
 -- An acknowledgment is written by a run of its observer alone, with the run's start as its stamp.
-use Rattle.std.proofs.Common.{arith, ◌≡◌, ℕ, true, false, cond, List, ◌∷◌, Some, refl, sym, ap, subst, ◌∙◌}
+use Rattle.std.proofs.Common.{arith, ◌≡◌, ℕ, Bool, true, false, cond, List, ◌∷◌, Some, refl, sym, ap, subst, ◌∙◌}
 use Rattle.std.specs.Ordering.{eq_by_cmp}
 use Rattle.std.specs.Cmp.{Equal-is}
 use Rattle.pb_history.specs.Words.{Cell, Row, Content, cell_cmp, cell_cmp-IsAntisymmetric, Writes, content_in, AreRunWrites, RecordedRead, Work, Declared, ObserverOf, observed_column, acknowledgment, is_reading, IsKnown, MayDeclare, StateOf, cells_of, data_at, write_at}
@@ -25,8 +25,11 @@ own_ack observers p r s o row column k e stamp = grind arith
 run_acks : (observers : List ObserverOf) (p : ℕ) (r : Row) (s : ℕ) (ws : Writes) (o : ℕ) (row : Row) (column : ℕ) (k : Content) → AreRunWrites ws
     → content_in ((acknowledgment observers p r, Content.Stamp (ts s)) ∷ ws) (Cell.Ack o row column) ≡ Some k → Acknowledges observers (Work.Run p r) s o row column k
 run_acks observers p r s ws o row column k few e =
-    elim (eq_by_cmp cell_cmp (Cell.Ack o row column) (acknowledgment observers p r)) as (λ b. eq_by_cmp cell_cmp (Cell.Ack o row column) (acknowledgment observers p r) ≡ b → cond b (Some (Content.Stamp (ts s))) (content_in ws (Cell.Ack o row column)) ≡ Some k → Acknowledges observers (Work.Run p r) s o row column k) [
-      | true ↦ λ t f. own_ack observers p r s o row column k (cell_cmp-IsAntisymmetric (Cell.Ack o row column) (acknowledgment observers p r) ((Equal-is (cell_cmp (Cell.Ack o row column) (acknowledgment observers p r))).0 t)) cc
+    let x = Cell.Ack o row column in
+    let own = acknowledgment observers p r in
+    let P : Bool → Type 0 = λ b. eq_by_cmp cell_cmp x own ≡ b → cond b (Some (Content.Stamp (ts s))) (content_in ws x) ≡ Some k → Acknowledges observers (Work.Run p r) s o row column k in
+    elim (eq_by_cmp cell_cmp x own) as P [
+      | true ↦ λ t f. own_ack observers p r s o row column k (cell_cmp-IsAntisymmetric x own ((Equal-is (cell_cmp x own)).0 t)) cc
       | false ↦ λ t f. let none = no_ack ws o row column (run_plain ws few) in absurd cc
     ] refl e
 
