@@ -180,14 +180,16 @@ module _ (rules : RulesAreByCode) (j : JudgedOf) (n : ℕ) (f : Frame) (i : Insn
         (λ x. elim (s.0 x) as (λ _. IsTrue (has_byte f p) ⊎ WritesByte j f i p) [ inl e ↦ inl e | inr e ↦ inr (t, e.0, h, w, e.1, e.2, e.3) ]),
         (λ x. s.1 (elim x as (λ _. IsTrue (has_byte f p) ⊎ IsAmong (kind_of f t.base) t.offset t.bytes p) [
           | inl e ↦ inl e
-          | inr e ↦ (let q = subst (λ (u : Touch). (kind_of f u.base ≡ Kind.Stack e.1) × (from_low (e.1 +ℤ u.offset) ≤ p) × (p < from_low (e.1 +ℤ u.offset) + u.bytes)) (only e.0 e.2) (e.4, e.5, e.6) in inr (e.1, q.0, q.1, q.2))
+          | inr e ↦ inr (subst (λ (u : Touch). IsAmong (kind_of f u.base) u.offset u.bytes p) (only e.0 e.2) (e.1, e.4, e.5, e.6))
         ])),
       )
 
 module _ (rules : RulesAreByCode) (j : JudgedOf) (n : ℕ) (f : Frame) where
   -- the bytes of a store
   store_bytes : (i : Insn) (z : Size) (d : Reg) (o : ℤ) → insn_rules j n f i ≡ [] → Touches j i (touch Storing (number d) o (size_bytes z)) → ((u : Touch) → Touches j i u → u ≡ touch Storing (number d) o (size_bytes z)) → (p : ℕ) → IsTrue (has_byte (with_store f (at f d) o (bytes_of z)) p) ↔ (IsTrue (has_byte f p) ⊎ WritesByte j f i p)
-  store_bytes i z d o hold h only p = subst (λ b. IsTrue (has_byte (with_store f (at f d) o b) p) ↔ (IsTrue (has_byte f p) ⊎ WritesByte j f i p)) (bytes_are z) (by_touch rules j n f i hold (touch Storing (number d) o (size_bytes z)) h (inl refl) only p)
+  store_bytes i z d o hold h only p =
+      let P : ℕ → Type 0 = λ b. IsTrue (has_byte (with_store f (at f d) o b) p) ↔ (IsTrue (has_byte f p) ⊎ WritesByte j f i p) in
+      subst P (bytes_are z) (by_touch rules j n f i hold (touch Storing (number d) o (size_bytes z)) h (inl refl) only p)
 
   -- the bytes of a helper
   call_bytes : (k : ℤ) (o : Option Helper) → declared_helper j.helpers k ≡ o → insn_rules j n f (Insn.Call k) ≡ [] → (p : ℕ) → IsTrue (has_byte (after_call f o) p) ↔ (IsTrue (has_byte f p) ⊎ WritesByte j f (Insn.Call k) p)

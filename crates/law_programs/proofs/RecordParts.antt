@@ -5,7 +5,7 @@ use mir.Syntax.{w64}
 use Rattle.std.proofs.Math.Seq.{take-append_seam, drop-append-add}
 use Rattle.std.proofs.lemmas.List.{append-nil}
 use Rattle.std.proofs.lemmas.Nat.{from_le_bytes-to_le_bytes_8}
-use Rattle.law_programs.specs.Words.{Cell, Content, Revision, row_of, column_of, Reply, reply_bytes, word_bytes, present, value_bytes, record_of, is_value, record_with_old}
+use Rattle.law_programs.specs.Words.{Cell, Content, Revision, row_of, column_of, Reply, reply_bytes, word_bytes, value_bytes, record_of, is_value, record_with_old}
 use Rattle.law_programs.specs.RecordParts.{HasContent, HasOld, HasParts, HasValueSize, FitsRecord, AreRecords}
 
 -- the first 32 bytes of a list that begins with so many
@@ -21,9 +21,9 @@ length-reply r h = grind arith
 
 -- the value of a version, in its record with whatever follows
 content_in : (x : Cell) (found : Revision) (a : ℕ) (rest : List ℕ) (c : Content) → found.content ≡ c → HasValueSize c → HasContent (record_of x found a ++ rest) c
-content_in x found a rest c e h = subst (λ d. HasContent ((word_bytes (row_of x).0 ++ (word_bytes (column_of x) ++ (word_bytes found.start.0 ++ (word_bytes found.commit.0 ++ (word_bytes (present d) ++ (word_bytes a ++ value_bytes d)))))) ++ rest) c) (sym e) (of c h)
+content_in x found a rest c e h = subst (λ d. HasContent (record_of x (record found { content = d }) a ++ rest) c) (sym e) (of c h)
   where
-    of : (c : Content) → HasValueSize c → HasContent ((word_bytes (row_of x).0 ++ (word_bytes (column_of x) ++ (word_bytes found.start.0 ++ (word_bytes found.commit.0 ++ (word_bytes (present c) ++ (word_bytes a ++ value_bytes c)))))) ++ rest) c
+    of : (c : Content) → HasValueSize c → HasContent (record_of x (record found { content = c }) a ++ rest) c
     of (Content.Value v) h = (from_le_bytes-to_le_bytes_8 1 (omega arith), front v rest h)
     of Content.Deleted h = (from_le_bytes-to_le_bytes_8 0 (omega arith), refl)
     of (Content.Stamp t) h = (from_le_bytes-to_le_bytes_8 0 (omega arith), refl)

@@ -28,7 +28,7 @@ pub use Rattle.pb_kinds.specs.declared.frame.Kind.{Kind}
 pub use Rattle.pb_helpers.specs.Arguments.{call_rules, filled_bytes, is_cell, is_place, stack_reads, stack_writes, taken_bytes, unset}
 pub use Rattle.pb_helpers.specs.Codes.{CodesRiseWithin, code_number, lowest_code, when}
 pub use Rattle.pb_helpers.specs.OldRecord.{is_value, record_with_old}
-pub use Rattle.pb_helpers.specs.Record.{present, record_of, value_bytes, word_at, word_bytes}
+pub use Rattle.pb_helpers.specs.Record.{record_of, value_bytes, word_at, word_bytes}
 pub use Rattle.pb_helpers.specs.declared.code.RuleCode.{RuleCode}
 pub use Rattle.pb_verify.specs.Arriving.{Accepts, Refuses, codes_at, faults, frame_after, has_slot, if_leads}
 unfoldable pub use Rattle.pb_verify.specs.Arriving.{in_at}
