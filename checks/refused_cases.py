@@ -57,6 +57,8 @@ BY_ITSELF = {
     # its own observers, and room for what it leaves
     "run_workers": 6,
     "run_workers, a seat": 25,
+    # its list at 0, 4, 8 and 16 entries, and room for two answers
+    "Seat::make_room": 6,
     # seats and books
     "Shared::open": 2,
     "Shared::swap": 20,

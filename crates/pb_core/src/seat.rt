@@ -1,7 +1,9 @@
 //! Seats, and the books of their places in the journal.
 ghost use Rattle.std.specs.Prelude.{◌≡◌};
 
-use pb_history::Received;
+use pb_base::NoMemory;
+use pb_history::{AnswerRoom, Received};
+use std::alloc::Global;
 use std::marker::Model;
 
 /// The places of one seat's entries in the journal, in 4 bytes each, since a journal has at most 1,000,000 entries.
@@ -24,6 +26,10 @@ impl Model for Book {
 pub struct Seat {
     pub(crate) number: u32,
     pub(crate) received: Vec<Received>,
+    // Room for the answer of its next step, in its list and in the journal, made before the step so that no answer is lost.
+    // It stands here, since a seat can be given room where nobody waits for the table.
+    pub(crate) room: AnswerRoom,
+    pub(crate) journal_room: AnswerRoom,
 }
 
 impl Model for Seat {
@@ -35,7 +41,31 @@ impl Model for Seat {
 }
 
 impl Seat {
-    ghost use Rattle.std.specs.Prelude.{◌≡◌};
+    ghost use Rattle.std.specs.Prelude.{◌≡◌, []};
+
+    // One with an empty list.
+    pub(crate) fn new(alloc: Global, number: u32) -> Seat
+        ensures { result ≡ record { number = number; received = [] } }
+    {
+        Seat {
+            number,
+            received: Vec::new(alloc),
+            room: AnswerRoom::new(alloc),
+            journal_room: AnswerRoom::new(alloc),
+        }
+    }
+
+    /// Makes room for the next step and its answer, where there is none, for a caller that shares a table under a lock: before
+    /// it takes the lock, so that nobody waits for that. [`Shared::call`](crate::Shared::call) itself makes what is missing.
+    /// The seat's list stays as it is, also where memory is refused.
+    pub fn make_room(&mut self) -> Result<(), NoMemory>
+        ensures { self.new ≡ self.old }
+    {
+        self.received.reserve(1)?;
+        self.room.make()?;
+        self.journal_room.make()?;
+        Ok(())
+    }
 
     /// Its number at its table, from 0.
     pub fn number(&self) -> u32

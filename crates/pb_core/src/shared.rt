@@ -24,9 +24,6 @@ pub struct Shared<T: Tablet> {
     limit: usize,
     // How many tablets the table has.
     places: usize,
-    // Room for the next answer of the journal, and of a seat, made before the step, so that no answer is lost.
-    journal_room: AnswerRoom,
-    seat_room: AnswerRoom,
 }
 
 impl<T: Tablet> Model for Shared<T> {
@@ -134,10 +131,7 @@ fn empty_seats(alloc: Global, count: u32) -> Result<Vec<Seat>, NoMemory>
 {
     let mut seats = Vec::new(alloc);
     for number in 0..count {
-        seats.push(Seat {
-            number,
-            received: Vec::new(alloc),
-        })?;
+        seats.push(Seat::new(alloc, number))?;
     }
     Ok(seats)
 }
@@ -230,8 +224,6 @@ impl<T: Tablet> Shared<T> {
             opened: last.0,
             limit,
             places,
-            journal_room: AnswerRoom::new(alloc),
-            seat_room: AnswerRoom::new(alloc),
         };
         Ok((shared, all))
     }
@@ -266,8 +258,6 @@ impl<T: Tablet> Shared<T> {
             opened: _,
             limit: _,
             places: _,
-            journal_room: _,
-            seat_room: _,
         } = self;
         state.close();
     }
@@ -444,13 +434,13 @@ impl<T: Tablet> Shared<T> {
         let place = self.journal.len() as u32;
         let book = &mut self.books[number as usize];
         make_rooms(&mut self.journal, &mut book.places, &mut seat.received)?;
-        self.journal_room.make()?;
-        self.seat_room.make()?;
+        seat.journal_room.make()?;
+        seat.room.make()?;
         let answer = self.state.take_admitted(number, admitted)?;
         append(&mut book.places, place);
-        let entry = entry_of(number, kept, &answer, &mut self.journal_room);
+        let entry = entry_of(number, kept, &answer, &mut seat.journal_room);
         append(&mut self.journal, entry);
-        let received = received_of(told, &answer, &mut self.seat_room);
+        let received = received_of(told, &answer, &mut seat.room);
         append(&mut seat.received, received);
         Ok(answer)
     }

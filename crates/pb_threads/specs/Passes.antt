@@ -41,6 +41,16 @@ pub record IsRun (observers : List ObserverOf) (n : ℕ) (x : Cell) (said : List
   pub talk : IsRunConversation (watch_of n o (row_of x)) said end run
   pub meant : WasMeant run
 
+-- the end of a run that committed
+abbrev pub is_ran_end : JobEnd → Bool
+is_ran_end (JobEnd.Ran r) = true
+is_ran_end _ = false
+
+-- a run that needs this is over, and committed
+abbrev pub has_ran : Need → Bool
+has_ran (Need.Over end) = is_ran_end end
+has_ran _ = false
+
 -- the observer of this number is one of another column
 pub record IsOfOther (observers : List ObserverOf) (n : ℕ) (x : Cell) : Type 0 where
   pub o : ObserverOf

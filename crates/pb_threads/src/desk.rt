@@ -4,9 +4,10 @@ ghost use Rattle.pb_base.specs.Reasons.{refusal_by, memory_refusal};
 ghost use Rattle.pb_steps.specs.Answers.{CanAnswer};
 ghost use Rattle.pb_core.specs.Calls.{SharedOf, Calls, call_reason};
 ghost use Rattle.pb_core.specs.Histories.{IsLegalTable};
-ghost use Rattle.pb_threads.specs.Gains.{OpeningOf, IsOpenedAs, Told, MayRefuse};
+ghost use Rattle.pb_threads.specs.Gains.{OpeningOf, IsOpenedAs, Told, MayRefuse, IsWant};
 
 use crate::gate::Gate;
+use crate::waits::take_lock;
 use pb_base::Refusal;
 use pb_core::{Seat, Shared};
 use pb_steps::{Answer, Step};
@@ -60,12 +61,21 @@ fn call<C: Callee>(shared: &mut C, seat: &mut Seat, step: &Step) -> Result<Answe
     shared.take(seat, step)
 }
 
+// What the seat alone takes for one call. Want of memory is its refusal, and leaves it as it was.
+fn make_room(seat: &mut Seat) -> Result<(), Refusal>
+    ensures same { seat.new ≡ seat.old }
+    ensures want { IfErr result IsWant }
+{
+    Ok(seat.make_room()?)
+}
+
 impl Desk {
     ghost use Rattle.std.specs.Prelude.{◌≡◌, IfOk, IfErr, OnErr};
     ghost use Rattle.pb_steps.specs.Answers.{CanAnswer};
     ghost use Rattle.pb_threads.specs.Gains.{Told, MayRefuse};
 
-    /// Takes the lock, makes one call and gives the lock back. Refused, it leaves the seat as it was.
+    /// Takes the lock, makes one call and gives the lock back. Refused, it leaves the seat as it was. The seat's room for the
+    /// answer is made before the lock is taken; where memory is refused for that, the table isn't called.
     ///
     /// Under the lock stands a [`Shared`] itself, as with `Mutex::new(shared)`, or what keeps more
     /// of one, as under the lock of [`crate::run_workers`]: workers make this very call. It adds to
@@ -81,7 +91,9 @@ impl Desk {
         ensures refused { IfErr result (λ r. MayRefuse C.opening seat.old.number step.now r) }
         ensures seat { OnErr result (seat.new ≡ seat.old) }
     {
-        call(&mut *shared.lock(rt), seat, step)
+        // Before the lock is taken, so that nobody waits for it.
+        make_room(seat)?;
+        call(&mut *take_lock(rt, shared), seat, step)
     }
 }
 

@@ -6,6 +6,7 @@ ghost use Rattle.pb_threads.specs.Stops.{RunStops};
 
 use crate::desk::{Callee, ask};
 use crate::gate::Gate;
+use crate::waits::{turns_after, yield_for};
 use pb_base::{Cell, NoMemory, ObserverNo, Refusal};
 use pb_core::Seat;
 use pb_notify::{Need, ObserverJob, jobs_converse};
@@ -67,6 +68,7 @@ pub(crate) fn run_one<R: Wait, C: Callee, G: Gate>(
     // As many steps as the job asks: it has an end of its own, since it gives up at its last lock.
     for _turn in rt.forever() {
         let Some(step) = job.next() else {
+            yield_for(turns_after(&job));
             return Ok(());
         };
         let answer = ask(rt, shared, seat, step, gate)?;

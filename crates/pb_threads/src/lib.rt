@@ -19,6 +19,7 @@ mod passes;
 mod run;
 mod spares;
 mod tries;
+mod waits;
 mod worker;
 
 pub use desk::{Callee, Desk};

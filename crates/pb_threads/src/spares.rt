@@ -18,7 +18,7 @@ use std::thread;
 use std::thread::Threads;
 
 // Swaps a spare in under the lock, and then ends the emptied tablet that comes back: why it was refused, if it was.
-// The lock is given back before that, so that no worker waits for it.
+// The lock is given back before that; what was in the tablet is let go under it, since `Shared::swap` returns it emptied.
 fn swap_in<R: Wait, T: Tablet, J: Opening>(
     rt: &R,
     shared: &Mutex<Held<T, J>>,

@@ -8,22 +8,16 @@ ghost use Rattle.pb_threads.specs.Stops.{TryStops, TriesStop, ChangesStop};
 
 use crate::desk::{Callee, ask};
 use crate::gate::Gate;
+use crate::waits::{turns_of, yield_for};
 use pb_base::{Batch, NoMemory, Refusal};
 use pb_core::Seat;
 use pb_steps::Answer;
 use pb_txn::{ChangeJob, Outcome, changes_converse, plans_converse};
 use std::alloc::Global;
 use std::sync::{Mutex, Wait};
-use std::thread;
 
 /// How often a change is tried at most, so that a worker ends whatever others commit before it.
 pub const MAX_TRIES: u32 = 100;
-
-// How often a thread yields after a try for each that was in vain, and how often at most. The limit isn't lower,
-// since with one of 32 several workers took longer to change one row.
-const TURNS: u32 = 16;
-
-const MOST_TURNS: u32 = 512;
 
 /// The limit of tries has this value.
 pub fn tries_limit_is_this()
@@ -115,14 +109,6 @@ fn try_once<R: Wait, C: Callee, G: Gate>(
     unreachable!()
 }
 
-// Lets others go on, the longer the more tries were in vain, so that those whose locks it met come to their ends.
-fn stand_back(tries: u32) {
-    let turns = tries.saturating_mul(TURNS).min(MOST_TURNS);
-    for _turn in 0..turns {
-        thread::yield_now();
-    }
-}
-
 // Tries a change until it commits, or so often as may be, and returns whether it committed.
 fn try_all<R: Wait, C: Callee, G: Gate>(
     rt: &R,
@@ -143,7 +129,8 @@ fn try_all<R: Wait, C: Callee, G: Gate>(
         if committed {
             return Ok(true);
         }
-        stand_back(count + 1);
+        // So that those whose locks it met come to their ends.
+        yield_for(turns_of(count + 1));
     }
     Ok(false)
 }

@@ -4,7 +4,7 @@ use crate::refusals::Refusals;
 use crate::same::are_states_same;
 use crate::steps::steps;
 use crate::swaps::are_swapped;
-use crate::twins::{Twins, call_all, call_both, close, open_twice, two_tables};
+use crate::twins::{Twins, call_all, call_both, close, is_room_made, open_twice, two_tables};
 use pb_base::Ts;
 use pb_memtablet::EitherTablet;
 use pb_state::State;
@@ -64,6 +64,26 @@ pub fn shared_grows(alloc: Global, refusals: &mut Refusals) -> Result<bool, Unre
         }
     }
     Ok(true)
+}
+
+// Whether room is made before each of so many calls, and each is answered.
+fn are_rooms_made(twins: &mut Twins, refusals: &mut Refusals) -> bool {
+    for _ in 0..32_u32 {
+        if !is_room_made(twins, refusals)
+            || call_both(twins, &Step::NextMark(None), refusals).is_none()
+        {
+            return false;
+        }
+    }
+    true
+}
+
+/// `Seat::make_room` before calls, as a worker makes it before it takes the lock.
+pub fn seats_make_room(alloc: Global, refusals: &mut Refusals) -> Result<bool, Unready> {
+    let mut twins = open_twice(alloc, watchers(alloc)?, watchers(alloc)?)?;
+    let held = are_rooms_made(&mut twins, refusals);
+    close(twins);
+    Ok(held)
 }
 
 // The answer of a step, also where it is refused once; what the state is then, the other is too.

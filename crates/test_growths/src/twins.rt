@@ -149,6 +149,24 @@ pub fn call_both(twins: &mut Twins, step: &Step, refusals: &mut Refusals) -> Opt
     }
 }
 
+/// Whether the first seat's room for its next step is made. Where memory is refused for it, the seat is as it was, and the same call
+/// again makes the room.
+pub fn is_room_made(twins: &mut Twins, refusals: &mut Refusals) -> bool {
+    let Some(seat) = twins.seats.first_mut() else {
+        return false;
+    };
+    let Some(other) = twins.others.first() else {
+        return false;
+    };
+    if seat.make_room().is_err() {
+        refusals.note("Seat::make_room");
+        if !are_seats_same(seat, other) || seat.make_room().is_err() {
+            return false;
+        }
+    }
+    are_seats_same(seat, other)
+}
+
 /// Whether each of these calls is answered.
 pub fn call_all(twins: &mut Twins, steps: &[Step], refusals: &mut Refusals) -> bool {
     for step in steps {

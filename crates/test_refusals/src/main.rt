@@ -56,6 +56,7 @@ fn tables_hold(alloc: Global, refusals: &mut Refusals) -> Result<bool, Unready> 
             && runs::tables_open(alloc, refusals)?
             && calls::shared_calls(alloc, refusals)?
             && calls::shared_grows(alloc, refusals)?
+            && calls::seats_make_room(alloc, refusals)?
             && observers::runs_are_declared(alloc, refusals)?
             && reports::tables_are_reported(alloc, refusals)?,
     )

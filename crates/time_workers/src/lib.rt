@@ -1,8 +1,8 @@
 //! Times workers: with the words `WORKERS COUNT ROWS SWAPS` so many workers, 1 to 63, make so many changes, each of one
 //! cell: with `spread` of a row of its own, with `one` all of one row. Meanwhile so many tablets are replaced, up to 1,000. With
-//! `busy` as a fifth word the manifest has an observer that copies each change. It prints how many calls were answered by a
-//! conflict, and how many changes are unfinished, where no seat was refused a step, the report is written, and no mark and no
-//! lock is left.
+//! `busy` as a fifth word the manifest has an observer that copies each change, with `long` one whose run does 4,096 slots. It
+//! prints how many calls were answered by a conflict, and how many changes are unfinished, where no seat was refused a step, the
+//! report is written, and no mark and no lock is left.
 #![tactic(auto)]
 
 ghost use Rattle.std.specs.Prelude.{◌≤◌, ◌<◌};
@@ -23,6 +23,17 @@ use test_fixtures::{
 
 const NONE: &str = "{\"profile\":1,\"observers\":[]}";
 
+// How often the long program adds 1 to register 0: with the move before and the exit after it has 4,096 slots.
+const SUMS: u32 = 4_094;
+
+// What the observer does, if there is one.
+#[derive(Clone, Copy)]
+enum Load {
+    Nothing,
+    Copies,
+    Long,
+}
+
 // What is to be done, and by how many.
 #[derive(Drop)]
 struct Task {
@@ -30,7 +41,7 @@ struct Task {
     count: u32,
     is_spread: bool,
     swaps: u32,
-    manifest: &'static str,
+    load: Load,
     ghost some: { 1 ≤ workers },
     ghost few: { workers < 64 },
 }
@@ -54,6 +65,27 @@ fn script(alloc: Global, count: u32, is_spread: bool) -> Result<String, NoMemory
         text.push_str(&line)?;
     }
     Ok(text)
+}
+
+// The manifest of one observer of column 0, whose straight program does each of its slots: `mov64 r0, 0`, the sums, `exit`.
+fn long_manifest(alloc: Global) -> Result<String, NoMemory> {
+    let mut text = String::from_str(
+        alloc,
+        "{\"profile\":2,\"observers\":[{\"name\":\"long\",\"column\":0,\"helpers\":[],\"code\":\"b700000000000000",
+    )?;
+    for _sum in 0..SUMS {
+        text.push_str("0700000001000000")?;
+    }
+    text.push_str("9500000000000000\"}]}")?;
+    Ok(text)
+}
+
+fn manifest_of(alloc: Global, load: Load) -> Result<String, NoMemory> {
+    match load {
+        Load::Nothing => Ok(String::from_str(alloc, NONE)?),
+        Load::Copies => Ok(String::from_str(alloc, COPY)?),
+        Load::Long => long_manifest(alloc),
+    }
 }
 
 // How many calls of these seats were answered by a conflict.
@@ -97,7 +129,8 @@ fn do_task<R: Threads + Wait + Sync>(
     task: &Task,
 ) -> Result<Option<Met>, Unready> {
     let text = script(alloc, task.count, task.is_spread)?;
-    let observers = observers_of(alloc, task.manifest)?;
+    let manifest = manifest_of(alloc, task.load)?;
+    let observers = observers_of(alloc, &manifest)?;
     let batches = batches_of(alloc, &text)?;
     let spares = spares_of(alloc, [false, true], task.swaps as usize)?;
     let table = table_of(alloc, &[false, true])?;
@@ -123,9 +156,13 @@ fn task_in(words: &[String]) -> Option<Task> {
         _ => return None,
     };
     let swaps = words.get(4)?.as_str().parse::<u32>().ok()?;
-    let manifest = match words.get(5) {
-        Some(_) => COPY,
-        None => NONE,
+    let load = match words.get(5) {
+        None => Load::Nothing,
+        Some(word) => match word.as_str() {
+            "busy" => Load::Copies,
+            "long" => Load::Long,
+            _ => return None,
+        },
     };
     if workers < 1 || workers > 63 {
         return None;
@@ -135,7 +172,7 @@ fn task_in(words: &[String]) -> Option<Task> {
         count,
         is_spread,
         swaps,
-        manifest,
+        load,
     })
 }
 
