@@ -242,7 +242,9 @@ module _ {K X : Type 0} (R : K → K → Ordering) (o : IsTotalOrder R) where
     module _ (cs ds : List (Vec (K × X) A)) (k : K) (i : ℕ) (b : Vec (K × X) A) (h : IsHome R cs k i) (s : T (is_sorted R (chunk_entries ds))) (lt : suc i < length ds) (e : b ≡ get_or ds (suc i) b) where
       at_second : T (is_sorted R (chunk_entries (take (suc i) ds) ++ (b.items ++ chunk_entries (drop (suc (suc i)) ds))))
       at_second =
-          subst (λ (c : Vec (K × X) A). T (is_sorted R (chunk_entries (take (suc i) ds) ++ (c.items ++ chunk_entries (drop (suc (suc i)) ds))))) (sym e) (subst (λ l. T (is_sorted R l)) (chunk_entries-split ds (suc i) b lt) s)
+          let xs = chunk_entries (take (suc i) ds) in
+          let ys = chunk_entries (drop (suc (suc i)) ds) in
+          subst (λ (c : Vec (K × X) A). T (is_sorted R (xs ++ (c.items ++ ys)))) (sym e) (subst (λ l. T (is_sorted R l)) (chunk_entries-split ds (suc i) b lt) s)
 
       pub home-second : drop (suc (suc i)) ds ≡ drop (suc i) cs → starts_by R k b.items ≡ true → IsHome R ds k (suc i)
       home-second after t = grind (arith, below_to_first, at_second, b.items, h.above)

@@ -79,7 +79,8 @@ entries_copy : (g : Map) (x n : ℕ) (mem bs : List ℕ) → ((i b : ℕ) → x 
 entries_copy g x zero mem bs h l q = cc
 entries_copy g x (suc n) mem bs h l q =
     let more : x < length mem = omega arith in
-    let go : (a : Option ℕ) (r : Option (List ℕ)) → g x ≡ a → entries g (x + 1) n ≡ r → push_front a r ≡ Some bs → get_or mem x 0 ∷ take n (drop (suc x) mem) ≡ bs = λ a r. elim a as (λ a. g x ≡ a → entries g (x + 1) n ≡ r → push_front a r ≡ Some bs → get_or mem x 0 ∷ take n (drop (suc x) mem) ≡ bs) [
+    let P : Option ℕ → Option (List ℕ) → Type 0 = λ a r. g x ≡ a → entries g (x + 1) n ≡ r → push_front a r ≡ Some bs → get_or mem x 0 ∷ take n (drop (suc x) mem) ≡ bs in
+    let go : (a : Option ℕ) (r : Option (List ℕ)) → P a r = λ a r. elim a as (λ a. P a r) [
       | None ↦ λ e1 e2 q. cc
       | Some b ↦ λ e1. elim r as (λ r. entries g (x + 1) n ≡ r → push_front (Some b) r ≡ Some bs → get_or mem x 0 ∷ take n (drop (suc x) mem) ≡ bs) [
         | None ↦ λ e2 q. cc

@@ -45,7 +45,8 @@ module _ (w u : WorldOf) (u-is : w ≡ u) where
   own_answers seat told t step a some at none calls =
       let v : WorldOf = record w { shared = t; seats = slice_set w.seats 0 told } in
       let did : OwnAnswers w seat step (Note.Called a) v = record { answer = a; told = told; note = refl; calls = calls; after = refl } in
-      let own : OwnCalls w step (Note.Called a) v = record { seat = seat; its_seat = read_is_there w.seats 0 seat some at; calls = subst (λ r. MatchOption r (OwnAnswers w seat step (Note.Called a) v) (λ why. (Note.Called a ≡ Note.Refused (reason_code why)) × (v ≡ w))) (sym none) did } in
+      let P : Option Reason → Type 0 = λ r. MatchOption r (OwnAnswers w seat step (Note.Called a) v) (λ why. (Note.Called a ≡ Note.Refused (reason_code why)) × (v ≡ w)) in
+      let own : OwnCalls w step (Note.Called a) v = record { seat = seat; its_seat = read_is_there w.seats 0 seat some at; calls = subst P (sym none) did } in
       subst (λ x. OwnCalls x step (Note.Called a) v) u-is own
 
   pub own_same : (seat told : SeatOf) (t : SharedOf) → seat ≡ get_or w.seats 0 seat → t ≡ w.shared → told ≡ seat → record w { shared = t; seats = slice_set w.seats 0 told } ≡ u
@@ -64,7 +65,8 @@ module _ (w u : WorldOf) (u-is : w ≡ u) where
   own_refused seat told t step code some at why t-is told-is =
       let v : WorldOf = record w { shared = t; seats = slice_set w.seats 0 told } in
       let same : v ≡ w = own_same seat told t at t-is told-is ∙ sym u-is in
-      let own : OwnCalls w step (Note.Refused code) v = record { seat = seat; its_seat = read_is_there w.seats 0 seat some at; calls = subst (λ r. MatchOption r (OwnAnswers w seat step (Note.Refused code) v) (λ y. (Note.Refused code ≡ Note.Refused (reason_code y)) × (v ≡ w))) (sym (why.1)) (ap (λ n. Note.Refused n) (why.2), same) } in
+      let P : Option Reason → Type 0 = λ r. MatchOption r (OwnAnswers w seat step (Note.Refused code) v) (λ y. (Note.Refused code ≡ Note.Refused (reason_code y)) × (v ≡ w)) in
+      let own : OwnCalls w step (Note.Refused code) v = record { seat = seat; its_seat = read_is_there w.seats 0 seat some at; calls = subst P (sym (why.1)) (ap (λ n. Note.Refused n) (why.2), same) } in
       subst (λ x. OwnCalls x step (Note.Refused code) v) u-is own
 
   pub actor_takes_step : (k : ℕ) (seat told : SeatOf) (a b : Actor) (n : Note) (t : SharedOf) → IsWorld w → no_actor (actor_of u k) ≡ None → seat ≡ get_or w.seats k seat → a ≡ get_or w.actors k a → ActorSteps w.shared seat a n t told b

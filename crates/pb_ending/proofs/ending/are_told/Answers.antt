@@ -13,7 +13,8 @@ pub returns-in-None : goal.returns-in-None
 returns-in-None c =
     let l = c.loop-e in
     let s = c.index-seats-place.result in
-    let other : slice_get s.received (slice_index_or l.cursors c.in-Some.place 0) ≢ Some (told_by c.e-item.result) = subst (λ (rs : List Received). slice_get rs (slice_index_or l.cursors c.in-Some.place 0) ≢ Some (told_by c.e-item.result)) c.received.ensures (c.in-None.ensures.none refl) in
+    let P : List Received → Type 0 = λ rs. slice_get rs (slice_index_or l.cursors c.in-Some.place 0) ≢ Some (told_by c.e-item.result) in
+    let other : P s.received = subst P c.received.ensures (c.in-None.ensures.none refl) in
     (λ t. absurd (false≢true t), λ told. absurd (off_not_told c.args.journal.now l.e-index c.e-item.result c.loop-e-test.true c.e-item.is c.args.seats.now l.cursors l.invariant.along c.in-Some.place s c.in-Some.ensures.some c.index-seats-place.is c.args.count other told))
 
 pub loop-e-preserved : goal.loop-e-preserved
@@ -24,7 +25,8 @@ loop-e-preserved c =
           let s = w.index-seats-place.result in
           let place = w.in-Some.place in
           let in' : place < length l.cursors = let few = c.requires.few in let counted = c.requires.counted in let within = w.in-Some.ensures.some.within in omega (arith, few, counted, within, l.invariant.sized) in
-          let there : slice_get s.received (slice_index_or l.cursors place 0) ≡ Some (told_by c.e-item.result) = subst (λ (rs : List Received). slice_get rs (slice_index_or l.cursors place 0) ≡ Some (told_by c.e-item.result)) w.received.ensures w.in-Some-cursor_after.ensures.some.0 in
+          let P : List Received → Type 0 = λ rs. slice_get rs (slice_index_or l.cursors place 0) ≡ Some (told_by c.e-item.result) in
+          let there : P s.received = subst P w.received.ensures w.in-Some-cursor_after.ensures.some.0 in
           rw w.cursors-is (record {
             sized = length-set l.cursors place w.in-Some-cursor_after.next ∙ l.invariant.sized;
             along = one_on c.args.journal.now l.e-index c.e-item.result c.loop-e-test.true c.e-item.is c.args.seats.now l.cursors l.invariant.along place s w.in-Some.ensures.some w.index-seats-place.is c.places_of-places.result w.in-Some-cursor_after.next c.places_of-places.ensures in' there w.in-Some-cursor_after.ensures.some.1;

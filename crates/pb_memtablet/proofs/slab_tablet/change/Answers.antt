@@ -14,23 +14,35 @@ take_entry-requires-clause-sorted c = sorted_keys c.args.items.now.slots c.args.
 
 put : (c : After-replace_entry) → IsDone (seen c.replace_entry.new.items.slots c.replace_entry.new.keys.entries) c.args.marks.now.entries c.args.edit.now (seen c.args.items.now.slots c.args.keys.now.entries) c.args.marks.now.entries
 put c =
-    subst (λ e. IsDone (seen c.replace_entry.new.items.slots c.replace_entry.new.keys.entries) c.args.marks.now.entries e (seen c.args.items.now.slots c.args.keys.now.entries) c.args.marks.now.entries) (sym c.in-Put.is)
-    (put_done (seen c.args.items.now.slots c.args.keys.now.entries) c.args.marks.now.entries c.requires.kept.lists (seen c.replace_entry.new.items.slots c.replace_entry.new.keys.entries) c.in-Put.slot c.in-Put.item c.replace_entry.ensures.seen (subst PutsOfSort c.in-Put.is c.requires.of_sort))
+    let es = seen c.args.items.now.slots c.args.keys.now.entries in
+    let ms = c.args.marks.now.entries in
+    let fs = seen c.replace_entry.new.items.slots c.replace_entry.new.keys.entries in
+    subst (λ e. IsDone fs ms e es ms) (sym c.in-Put.is)
+    (put_done es ms c.requires.kept.lists fs c.in-Put.slot c.in-Put.item c.replace_entry.ensures.seen (subst PutsOfSort c.in-Put.is c.requires.of_sort))
 
 erase : (c : After-take_entry) → IsDone (seen c.take_entry.new.items.slots c.take_entry.new.keys.entries) c.args.marks.now.entries c.args.edit.now (seen c.args.items.now.slots c.args.keys.now.entries) c.args.marks.now.entries
 erase c =
-    subst (λ e. IsDone (seen c.take_entry.new.items.slots c.take_entry.new.keys.entries) c.args.marks.now.entries e (seen c.args.items.now.slots c.args.keys.now.entries) c.args.marks.now.entries) (sym c.in-Erase.is)
-    (erase_done (seen c.args.items.now.slots c.args.keys.now.entries) c.args.marks.now.entries c.requires.kept.lists (seen c.take_entry.new.items.slots c.take_entry.new.keys.entries) c.in-Erase.slot c.take_entry.ensures.seen)
+    let es = seen c.args.items.now.slots c.args.keys.now.entries in
+    let ms = c.args.marks.now.entries in
+    let fs = seen c.take_entry.new.items.slots c.take_entry.new.keys.entries in
+    subst (λ e. IsDone fs ms e es ms) (sym c.in-Erase.is)
+    (erase_done es ms c.requires.kept.lists fs c.in-Erase.slot c.take_entry.ensures.seen)
 
 mark : (c : After-put) → IsDone (seen c.args.items.now.slots c.args.keys.now.entries) c.put.new.self.entries c.args.edit.now (seen c.args.items.now.slots c.args.keys.now.entries) c.args.marks.now.entries
 mark c =
-    subst (λ e. IsDone (seen c.args.items.now.slots c.args.keys.now.entries) c.put.new.self.entries e (seen c.args.items.now.slots c.args.keys.now.entries) c.args.marks.now.entries) (sym c.in-Mark.is)
-    (mark_done (seen c.args.items.now.slots c.args.keys.now.entries) c.args.marks.now.entries c.requires.kept.lists c.put.new.self.entries c.in-Mark.cell c.put.ensures.entries)
+    let es = seen c.args.items.now.slots c.args.keys.now.entries in
+    let ms = c.args.marks.now.entries in
+    let ns = c.put.new.self.entries in
+    subst (λ e. IsDone es ns e es ms) (sym c.in-Mark.is)
+    (mark_done es ms c.requires.kept.lists ns c.in-Mark.cell c.put.ensures.entries)
 
 unmark : (c : After-take_out) → IsDone (seen c.args.items.now.slots c.args.keys.now.entries) c.take_out.new.self.entries c.args.edit.now (seen c.args.items.now.slots c.args.keys.now.entries) c.args.marks.now.entries
 unmark c =
-    subst (λ e. IsDone (seen c.args.items.now.slots c.args.keys.now.entries) c.take_out.new.self.entries e (seen c.args.items.now.slots c.args.keys.now.entries) c.args.marks.now.entries) (sym c.in-Unmark.is)
-    (unmark_done (seen c.args.items.now.slots c.args.keys.now.entries) c.args.marks.now.entries c.requires.kept.lists c.take_out.new.self.entries c.in-Unmark.cell c.take_out.ensures.entries)
+    let es = seen c.args.items.now.slots c.args.keys.now.entries in
+    let ms = c.args.marks.now.entries in
+    let ns = c.take_out.new.self.entries in
+    subst (λ e. IsDone es ns e es ms) (sym c.in-Unmark.is)
+    (unmark_done es ms c.requires.kept.lists ns c.in-Unmark.cell c.take_out.ensures.entries)
 
 pub returns-in-Put-clause-kept : goal.returns-in-Put-clause-kept
 returns-in-Put-clause-kept c = record { keys = c.replace_entry.ensures.stored; lists = (put c).lists }

@@ -13,7 +13,8 @@ returns-in_err-tell_event g c =
     let same : c.from_residual.result ≡ Err c.in_err-tell_event.field-0.0 = search rules in
     let now = g.S.Sink.taken c.tell_event.new.sink in
     let failed = g.S.Sink.failed c.tell_event.new.sink in
-    subst (λ r. LinesEnd c.args.excerpt.now c.args.world.now c.args.events.now c.tell_event.new.world (taking g.S.Sink.taken g.S.Sink.failed c.args.sink.now c.tell_event.new.sink) r) (sym same)
+    let whole = taking g.S.Sink.taken g.S.Sink.failed c.args.sink.now c.tell_event.new.sink in
+    subst (λ r. LinesEnd c.args.excerpt.now c.args.world.now c.args.events.now c.tell_event.new.world whole r) (sym same)
     (told_to c.args.excerpt.now c.args.world.now c.args.events.now l.number l.world c.tell_event.new.world c.index-events-number.result
     (g.S.Sink.taken c.args.sink.now) (g.S.Sink.taken l.sink) now (g.S.Sink.failed l.sink) failed c.in_err-tell_event.field-0.0 at l.invariant c.in_err-tell_event.ensures)
 
