@@ -2,8 +2,10 @@
 //
 // REFUSE_AT names the request, counted from 1 at the program's start; requests are calls of malloc, calloc, realloc,
 // aligned_alloc and posix_memalign. Where REFUSE_REST is 1, those after it are refused too. REFUSE_FD names an open file
-// descriptor: one byte is written to it when a request is met and refused. All other requests go to the C library.
+// descriptor: `x` is written to it when the first request is refused, and `s` when the first is that gives a part of a block
+// back, which the C library can refuse too. All other requests go to the C library.
 #include <errno.h>
+#include <malloc.h>
 #include <stddef.h>
 #include <stdlib.h>
 #include <unistd.h>
@@ -20,9 +22,10 @@ static long number_in(const char *name) {
     return text ? atol(text) : 0;
 }
 
-// Whether this request is the one to refuse.
-static int is_refused(void) {
+// Whether this request is the one to refuse; of which kind it is, for the descriptor.
+static int is_refused(char kind) {
     static long at = -1;
+    static int told_more, told_less;
     if (at < 0) {
         at = number_in("REFUSE_AT");
     }
@@ -33,14 +36,15 @@ static int is_refused(void) {
     if (now < at || (now > at && number_in("REFUSE_REST") == 0)) {
         return 0;
     }
-    if (write((int)number_in("REFUSE_FD"), "x", 1) != 1) {
+    int *told = kind == 's' ? &told_less : &told_more;
+    if (!__atomic_exchange_n(told, 1, __ATOMIC_RELAXED) && write((int)number_in("REFUSE_FD"), &kind, 1) != 1) {
         abort();
     }
     return 1;
 }
 
 void *malloc(size_t size) {
-    if (is_refused()) {
+    if (is_refused('x')) {
         errno = ENOMEM;
         return NULL;
     }
@@ -48,7 +52,7 @@ void *malloc(size_t size) {
 }
 
 void *calloc(size_t count, size_t size) {
-    if (is_refused()) {
+    if (is_refused('x')) {
         errno = ENOMEM;
         return NULL;
     }
@@ -56,7 +60,7 @@ void *calloc(size_t count, size_t size) {
 }
 
 void *realloc(void *old, size_t size) {
-    if (is_refused()) {
+    if (is_refused(old != NULL && size <= malloc_usable_size(old) ? 's' : 'x')) {
         errno = ENOMEM;
         return NULL;
     }
@@ -64,7 +68,7 @@ void *realloc(void *old, size_t size) {
 }
 
 void *aligned_alloc(size_t alignment, size_t size) {
-    if (is_refused()) {
+    if (is_refused('x')) {
         errno = ENOMEM;
         return NULL;
     }
@@ -72,7 +76,7 @@ void *aligned_alloc(size_t alignment, size_t size) {
 }
 
 int posix_memalign(void **to, size_t alignment, size_t size) {
-    void *memory = is_refused() ? NULL : __libc_memalign(alignment, size);
+    void *memory = is_refused('x') ? NULL : __libc_memalign(alignment, size);
     if (memory == NULL) {
         return ENOMEM;
     }
