@@ -1,3 +1,4 @@
+pub mod Seated
 pub mod StepsKeep
 pub mod Keeps
 pub mod Fresh

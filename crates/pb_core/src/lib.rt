@@ -15,7 +15,7 @@ mod shared;
 pub use laws::legal_tables_tell;
 pub use pb_finished::Finished;
 pub use pb_helpers::Record;
-pub use pb_history::{Entry, KeptAnswer, Received};
+pub use pb_history::{Entry, KeptCall, KeptEntry, Received};
 pub use pb_steps::{
     Answer, Declaration, Declared, EndedRun, Phase, RecordedRead, Seen, Step, Work,
     acknowledged_in, version_in,

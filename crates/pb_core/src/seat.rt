@@ -2,7 +2,7 @@
 ghost use Rattle.std.specs.Prelude.{◌≡◌};
 
 use pb_base::NoMemory;
-use pb_history::{AnswerRoom, Received};
+use pb_history::{CallRoom, KeptCall};
 use std::alloc::Global;
 use std::marker::Model;
 
@@ -25,11 +25,11 @@ impl Model for Book {
 #[derive(Drop)]
 pub struct Seat {
     pub(crate) number: u32,
-    pub(crate) received: Vec<Received>,
-    // Room for the answer of its next step, in its list and in the journal, made before the step so that no answer is lost.
+    pub(crate) received: Vec<KeptCall>,
+    // Room for its next call, in its list and in the journal, made before the step so that no answer is lost.
     // It stands here, since a seat can be given room where nobody waits for the table.
-    pub(crate) room: AnswerRoom,
-    pub(crate) journal_room: AnswerRoom,
+    pub(crate) room: CallRoom,
+    pub(crate) journal_room: CallRoom,
 }
 
 impl Model for Seat {
@@ -50,8 +50,8 @@ impl Seat {
         Seat {
             number,
             received: Vec::new(alloc),
-            room: AnswerRoom::new(alloc),
-            journal_room: AnswerRoom::new(alloc),
+            room: CallRoom::new(alloc),
+            journal_room: CallRoom::new(alloc),
         }
     }
 
@@ -75,7 +75,7 @@ impl Seat {
     }
 
     /// Its steps and answers, in order.
-    pub fn received(&self) -> &[Received]
+    pub fn received(&self) -> &[KeptCall]
         ensures { result.now ≡ self.now.received }
     {
         &self.received

@@ -5,7 +5,7 @@ ghost use Rattle.pb_core.specs.Calls.{IsFresh, IsBlank};
 use crate::laws::legal_tables_tell;
 use crate::seat::{Book, Seat};
 use pb_base::{MAX_ENTRIES, MAX_OBSERVERS, MAX_SEATS, NoMemory, Reason, Refusal, Ts};
-use pb_history::{AnswerRoom, Entry, KeptAnswer, Received, journals_tell, quiet_is_counted};
+use pb_history::{CallRoom, KeptCall, KeptEntry, journals_tell, quiet_is_counted};
 use pb_state::{Admitted, State};
 use pb_steps::{Answer, Phase, Step};
 use pb_store::{Table, Tablet};
@@ -18,7 +18,7 @@ use std::marker::Model;
 /// A shared table ends by `close` alone.
 pub struct Shared<T: Tablet> {
     state: State<T>,
-    journal: Vec<Entry>,
+    journal: Vec<KeptEntry>,
     books: Vec<Book>,
     opened: u64,
     limit: usize,
@@ -69,9 +69,9 @@ fn append<X: Drop>(list: &mut Vec<X>, item: X)
 
 // Room for one item more in each list, or none of them changed.
 fn make_rooms(
-    journal: &mut Vec<Entry>,
+    journal: &mut Vec<KeptEntry>,
     places: &mut Vec<u32>,
-    received: &mut Vec<Received>,
+    received: &mut Vec<KeptCall>,
 ) -> Result<(), NoMemory>
     ensures journal { journal.new.items ≡ journal.old.items }
     ensures places { places.new.items ≡ places.old.items }
@@ -88,27 +88,20 @@ fn make_rooms(
 
 // The journal's entry of a step.
 #[inline(always)]
-fn entry_of(seat: u32, step: Step, answer: &Answer, room: &mut AnswerRoom) -> Entry
+fn entry_of(seat: u32, step: Step, answer: &Answer, room: &mut CallRoom) -> KeptEntry
     requires { room.old ≡ true }
     ensures { result ≡ record { seat = seat; step = step; answer = answer.now } }
 {
-    Entry {
-        seat,
-        step,
-        answer: KeptAnswer::new(*answer, room),
-    }
+    KeptEntry::new(seat, step, *answer, room)
 }
 
 // A step as its seat received it.
 #[inline(always)]
-fn received_of(step: Step, answer: &Answer, room: &mut AnswerRoom) -> Received
+fn received_of(step: Step, answer: &Answer, room: &mut CallRoom) -> KeptCall
     requires { room.old ≡ true }
     ensures { result ≡ record { step = step; answer = answer.now } }
 {
-    Received {
-        step,
-        answer: KeptAnswer::new(*answer, room),
-    }
+    KeptCall::new(step, *answer, room)
 }
 
 // Empty books, one a seat.
@@ -266,7 +259,7 @@ impl<T: Tablet> Shared<T> {
     /// committed change is handled by at most one committed run of each observer of its column. It is a run of steps from
     /// the opening state, and leads to the state that is there. Where no mark and no lock is left, a change is handled by
     /// exactly one committed run.
-    pub fn journal(&self) -> &[Entry]
+    pub fn journal(&self) -> &[KeptEntry]
         ensures entries { result.now ≡ self.now.journal }
         ensures legal { IsLegalTable self.now }
         ensures history { TellsHistory self.now.journal self.now.state }

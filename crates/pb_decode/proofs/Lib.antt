@@ -5,3 +5,4 @@ pub mod Places
 mod FrontRead
 mod LowestCode
 mod OneProgramOrFault
+mod OnePacking

@@ -29,10 +29,10 @@ bytes_len (i ∷ p) = grind (arith, length-append, insn_len, bytes_len p)
 -- ---- one way to read
 
 -- instructions of the profile, with numbers that fit
-abbrev All : Profile → List Insn → Type 0
+abbrev pub All : Profile → List Insn → Type 0
 All profile p = AllByRecursion Fits p × AllByRecursion (IsOf profile) p
 
-abbrev Each : Profile → Insn → Type 0
+abbrev pub Each : Profile → Insn → Type 0
 Each profile i = Fits i × IsOf profile i
 
 front_one : (profile : Profile) (i : Insn) (p : List Insn) → All profile (i ∷ p) → Each profile i

@@ -1,8 +1,8 @@
 //! Programs to bytes: each instruction has one slot, and the 64-bit immediate two.
-ghost use Rattle.std.specs.Prelude.{◌≡◌, ◌++◌, IfOk, OnOk, ◌<◌};
+ghost use Rattle.std.specs.Prelude.{◌≡◌, ◌++◌, ◌/◌, ◌^◌, IfOk, OnOk, ◌<◌};
 ghost use Rattle.pb_isa.specs.declared.insn.Insn.TheVariants as insn;
 ghost use Rattle.pb_isa.specs.Registers.{number};
-ghost use Rattle.pb_decode.specs.Encoding.{slot, bits_of, first_slot, second_bytes, insn_bytes, encoding, Encodes};
+ghost use Rattle.pb_decode.specs.Encoding.{slot, bits_of, first_slot, second_slot, second_bytes, insn_bytes, encoding, Encodes};
 
 use crate::fields::SlotFields;
 use crate::forms::{Form, Source};
@@ -87,7 +87,7 @@ fn jump_slot(cmp: Cmp, width: Width, dst: Reg, src: Operand, offset: i16) -> Slo
 }
 
 // The first slot of an instruction. Fields that it doesn't use are zero, since it is read back only so.
-fn first_slot(insn: Insn) -> SlotFields
+pub(crate) fn first_slot(insn: Insn) -> SlotFields
     ensures slot { result ≡ first_slot insn }
     ensures dst { result.dst < 16 }
     ensures src { result.src < 16 }
@@ -151,20 +151,28 @@ fn first_slot(insn: Insn) -> SlotFields
     }
 }
 
+// The second slot of a 64-bit immediate has its high half, and nothing else.
+pub(crate) fn second_slot(imm: u64) -> SlotFields
+    ensures slot { result ≡ second_slot (imm / 2 ^ 32) }
+    ensures dst { result.dst < 16 }
+    ensures src { result.src < 16 }
+{
+    SlotFields {
+        opcode: 0,
+        dst: 0,
+        src: 0,
+        offset: 0,
+        imm: (imm / 0x1_0000_0000) as u32,
+    }
+}
+
 // Writes an instruction's slots at the end. The high half of a 64-bit immediate follows in a slot of its own.
 fn put(out: &mut Vec<u8>, insn: Insn) -> Result<(), AllocError>
     ensures { OnOk result (out.new.items ≡ out.old.items ++ insn_bytes insn) }
 {
     out.extend_from_slice(&first_slot(insn).bytes())?;
     if let Insn::LoadImm { imm, .. } = insn {
-        let second = SlotFields {
-            opcode: 0,
-            dst: 0,
-            src: 0,
-            offset: 0,
-            imm: (imm / 0x1_0000_0000) as u32,
-        };
-        out.extend_from_slice(&second.bytes())?;
+        out.extend_from_slice(&second_slot(imm).bytes())?;
     }
     Ok(())
 }

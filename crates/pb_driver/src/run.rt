@@ -54,10 +54,12 @@ fn conclude<T: Tablet, S: Sink>(
     } = worked;
     match finish(shared, seats) {
         Ok(ended) => {
+            // The seats end before the report is made, so that it takes the room that their lists had.
+            let shared = ended.into_shared();
             // For the proof: the journal is legal.
-            ended.shared().known();
-            let outcome = report(alloc, sink, ended.shared());
-            ended.close();
+            shared.known();
+            let outcome = report(alloc, sink, &shared);
+            shared.close();
             match outcome {
                 Ok(()) => Ok(Ran {
                     refusals,

@@ -9,7 +9,7 @@ ghost use Rattle.pb_ending.specs.Cursors.{told_by, AreNumberedBelow, ArePlaces, 
 use crate::same::is_same;
 use pb_base::MAX_SEATS;
 use pb_core::{Seat, Shared};
-use pb_history::{Entry, Received};
+use pb_history::{KeptCall, KeptEntry};
 use pb_store::Tablet;
 use std::marker::Model;
 
@@ -96,7 +96,7 @@ fn place_of(number: u32, seats: &[Seat], places: &[usize; SEATS]) -> Option<usiz
 }
 
 // The place after this item of the list, if there is one and it is what the entry records.
-fn cursor_after(e: &Entry, list: &[Received], next: usize) -> Option<usize>
+fn cursor_after(e: &KeptEntry, list: &[KeptCall], next: usize) -> Option<usize>
     ensures some { IfSome result (λ n. (slice_get list.now next ≡ Some (told_by e.now))
         × (n ≡ next + 1)) }
     ensures none { result ≡ None → slice_get list.now next ≢ Some (told_by e.now) }
@@ -122,7 +122,7 @@ fn are_at_end(seats: &[Seat], cursors: &[usize; SEATS]) -> bool
 
 // Each list is the journal's entries of its seat. One pass along the journal has a cursor in each list, so that each
 // entry is looked at once.
-fn are_told(count: u32, journal: &[Entry], seats: &[Seat]) -> bool
+fn are_told(count: u32, journal: &[KeptEntry], seats: &[Seat]) -> bool
     requires few { count ≤ MAX_SEATS }
     requires counted { length seats.now ≡ count }
     requires seated { AreNumberedBelow count seats.now }
@@ -132,7 +132,7 @@ fn are_told(count: u32, journal: &[Entry], seats: &[Seat]) -> bool
     let places = places_of(seats);
     let mut cursors = [0; SEATS];
     for e in journal {
-        if let Some(place) = place_of(e.seat, seats, &places) {
+        if let Some(place) = place_of(e.seat(), seats, &places) {
             match cursor_after(e, seats[place].received(), cursors[place]) {
                 Some(next) => cursors[place] = next,
                 None => return false,
@@ -189,9 +189,17 @@ impl<T: Tablet> Ended<T> {
         &self.shared
     }
 
+    /// The table alone. Its seats end here, since their lists have as many calls as the journal has.
+    pub fn into_shared(self) -> Shared<T>
+        ensures table { result ≡ self.shared }
+        ensures agree { Agree self.shared self.seats }
+    {
+        let Ended { shared, seats: _ } = self;
+        shared
+    }
+
     /// Ends the table. It takes no memory.
     pub fn close(self) {
-        let Ended { shared, seats: _ } = self;
-        shared.close();
+        self.into_shared().close();
     }
 }

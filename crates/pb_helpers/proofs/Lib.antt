@@ -1,3 +1,4 @@
 pub mod LowestCode
 pub mod ArgumentCodesRise
 pub mod Versions
+pub mod Filled

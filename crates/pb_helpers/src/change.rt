@@ -25,30 +25,26 @@ pub enum Version {
 /// zeros. It is a cell's: its column is 0 to 15.
 #[derive(Drop)]
 pub struct Record {
-    bytes: Bytes,
-}
-
-// Two arrays and no list, so that a record takes no memory of its own.
-#[derive(Clone, Copy)]
-enum Bytes {
-    First([u8; RECORD_BYTES]),
-    Second([u8; MAX_RECORD_BYTES]),
+    // How many bytes it has.
+    size: usize,
+    // They stand here and not in a list, so that a record takes no memory of its own. Zeros follow up to the most that
+    // one has, so that a machine loads from both versions alike.
+    bytes: [u8; MAX_RECORD_BYTES],
 }
 
 impl Model for Record {
-    ghost use Rattle.std.specs.Prelude.{ℕ, List};
-    ghost use Rattle.pb_helpers.specs.Bytes.{all_bytes};
+    ghost use Rattle.std.specs.Prelude.{ℕ, List, take};
+    ghost use Rattle.pb_helpers.specs.Bytes.{IsFilled};
 
     ghost Value = { List ℕ };
 
-    ghost view = { λ r. all_bytes r.bytes };
+    ghost view = { λ r. take r.size r.bytes };
 
     ghost use Rattle.std.specs.Prelude.{◌<◌};
     ghost use Rattle.pb_base.specs.declared.limits.TheConstants.{COLUMNS};
     ghost use Rattle.pb_helpers.specs.Record.{recorded_column};
-    ghost use Rattle.pb_helpers.specs.Bytes.{IsSized};
 
-    ghost invariant = { λ r. (recorded_column (all_bytes r.bytes) < COLUMNS) × IsSized r.bytes };
+    ghost invariant = { λ r. (recorded_column (take r.size r.bytes) < COLUMNS) × IsFilled r.size r.bytes };
 }
 
 // The word at 32. A stamp counts as no value, since only an acknowledgment has one, and no observer
@@ -72,21 +68,22 @@ fn value_of(content: Content) -> Value
     }
 }
 
-// The bytes of version 1.
-fn first_bytes(cell: Cell, found: &Revision, acknowledged: Ts) -> [u8; RECORD_BYTES]
-    ensures record { result ≡ record_of cell found.now acknowledged.0 }
-    ensures in_range { recorded_column result < COLUMNS }
-    ensures size { length result ≡ RECORD_BYTES }
+// The bytes of version 1, with zeros up to the most that a record has.
+fn first_bytes(cell: Cell, found: &Revision, acknowledged: Ts) -> [u8; MAX_RECORD_BYTES]
+    ensures record { result ≡ padded (record_of cell found.now acknowledged.0) }
+    ensures in_range { recorded_column (record_of cell found.now acknowledged.0) < COLUMNS }
+    ensures size { length (record_of cell found.now acknowledged.0) ≡ RECORD_BYTES }
 {
-    let mut bytes = [0; RECORD_BYTES];
-    bytes[..8].copy_from_slice(&cell.row().0.to_le_bytes());
-    bytes[8..16].copy_from_slice(&u64::from(cell.column().number()).to_le_bytes());
-    bytes[16..24].copy_from_slice(&found.start.0.to_le_bytes());
-    bytes[24..32].copy_from_slice(&found.commit.0.to_le_bytes());
-    bytes[32..40].copy_from_slice(&present(found.content).to_le_bytes());
-    bytes[40..48].copy_from_slice(&acknowledged.0.to_le_bytes());
-    bytes[48..].copy_from_slice(&value_of(found.content));
-    bytes
+    // From the last to the first, so that the place of each part is known, whatever stands after it.
+    let mut first = [0; MAX_RECORD_BYTES];
+    first[48..80].copy_from_slice(&value_of(found.content));
+    first[40..48].copy_from_slice(&acknowledged.0.to_le_bytes());
+    first[32..40].copy_from_slice(&present(found.content).to_le_bytes());
+    first[24..32].copy_from_slice(&found.commit.0.to_le_bytes());
+    first[16..24].copy_from_slice(&found.start.0.to_le_bytes());
+    first[8..16].copy_from_slice(&u64::from(cell.column().number()).to_le_bytes());
+    first[..8].copy_from_slice(&cell.row().0.to_le_bytes());
+    first
 }
 
 // The word at 80.
@@ -109,6 +106,32 @@ fn old_value(old: Option<Value>) -> Value
     }
 }
 
+// The bytes of version 2.
+fn second_bytes(
+    cell: Cell,
+    found: &Revision,
+    acknowledged: Ts,
+    old: Option<Value>,
+) -> [u8; MAX_RECORD_BYTES]
+    ensures record { result ≡ padded (record_with_old cell found.now acknowledged.0 old) }
+    ensures in_range { recorded_column (record_with_old cell found.now acknowledged.0 old)
+        < COLUMNS }
+    ensures size { length (record_with_old cell found.now acknowledged.0 old) ≡ MAX_RECORD_BYTES }
+{
+    // From the last to the first, as the bytes of version 1.
+    let mut bytes = [0; MAX_RECORD_BYTES];
+    bytes[88..].copy_from_slice(&old_value(old));
+    bytes[80..88].copy_from_slice(&flag_of(old).to_le_bytes());
+    bytes[48..80].copy_from_slice(&value_of(found.content));
+    bytes[40..48].copy_from_slice(&acknowledged.0.to_le_bytes());
+    bytes[32..40].copy_from_slice(&present(found.content).to_le_bytes());
+    bytes[24..32].copy_from_slice(&found.commit.0.to_le_bytes());
+    bytes[16..24].copy_from_slice(&found.start.0.to_le_bytes());
+    bytes[8..16].copy_from_slice(&u64::from(cell.column().number()).to_le_bytes());
+    bytes[..8].copy_from_slice(&cell.row().0.to_le_bytes());
+    bytes
+}
+
 impl Version {
     /// Whether it shows what the cell held at the acknowledged timestamp.
     pub fn tells_old(self) -> bool
@@ -125,7 +148,8 @@ impl Record {
         ensures size { length result ≡ RECORD_BYTES }
     {
         Record {
-            bytes: Bytes::First(first_bytes(cell, found, acknowledged)),
+            size: RECORD_BYTES,
+            bytes: first_bytes(cell, found, acknowledged),
         }
     }
 
@@ -135,20 +159,9 @@ impl Record {
         ensures record { result ≡ record_with_old cell found.now acknowledged.0 old }
         ensures size { length result ≡ MAX_RECORD_BYTES }
     {
-        // From the last to the first, so that the place of each part is known, whatever stands
-        // after it.
-        let mut bytes = [0; MAX_RECORD_BYTES];
-        bytes[88..].copy_from_slice(&old_value(old));
-        bytes[80..88].copy_from_slice(&flag_of(old).to_le_bytes());
-        bytes[48..80].copy_from_slice(&value_of(found.content));
-        bytes[40..48].copy_from_slice(&acknowledged.0.to_le_bytes());
-        bytes[32..40].copy_from_slice(&present(found.content).to_le_bytes());
-        bytes[24..32].copy_from_slice(&found.commit.0.to_le_bytes());
-        bytes[16..24].copy_from_slice(&found.start.0.to_le_bytes());
-        bytes[8..16].copy_from_slice(&u64::from(cell.column().number()).to_le_bytes());
-        bytes[..8].copy_from_slice(&cell.row().0.to_le_bytes());
         Record {
-            bytes: Bytes::Second(bytes),
+            size: MAX_RECORD_BYTES,
+            bytes: second_bytes(cell, found, acknowledged, old),
         }
     }
 
@@ -206,9 +219,10 @@ impl Record {
     pub fn version(&self) -> Version
         ensures { length self.now ≡ size_of result }
     {
-        match self.bytes {
-            Bytes::First(_) => Version::First,
-            Bytes::Second(_) => Version::Second,
+        if self.size == RECORD_BYTES {
+            Version::First
+        } else {
+            Version::Second
         }
     }
 
@@ -219,25 +233,15 @@ impl Record {
         ensures most { length self.now ≤ MAX_RECORD_BYTES }
         ensures in_range { recorded_column self.now < COLUMNS }
     {
-        match &self.bytes {
-            Bytes::First(bytes) => bytes,
-            Bytes::Second(bytes) => bytes,
-        }
+        &self.bytes[..self.size]
     }
 
-    /// Its bytes, with zeros up to the most that a record has. The machine copies them, so that its memory is of one
+    /// Its bytes, with zeros up to the most that a record has. A machine loads from these, so that its memory is of one
     /// size for both versions.
-    pub fn padded(&self) -> [u8; MAX_RECORD_BYTES]
-        ensures { result ≡ padded self.now }
+    pub fn padded(&self) -> &[u8; MAX_RECORD_BYTES]
+        ensures { result.now ≡ padded self.now }
     {
-        match &self.bytes {
-            Bytes::First(first) => {
-                let mut bytes = [0; MAX_RECORD_BYTES];
-                bytes[..80].copy_from_slice(first);
-                bytes
-            }
-            Bytes::Second(bytes) => *bytes,
-        }
+        &self.bytes
     }
 
     /// Whether both have the same bytes. Records of two versions never do, since they differ in number.

@@ -1,5 +1,5 @@
 pub mod Words
-pub mod KeptAnswers
+pub mod KeptCalls
 pub mod Places
 pub mod Journals
 pub mod History

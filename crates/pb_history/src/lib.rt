@@ -8,15 +8,15 @@
 //! change is handled by at most one committed run of an observer, by one where neither mark nor
 //! lock is left. Two runs of an observer for one change, for example, both write its
 //! acknowledgment, so that one was committed before the other began, and the later one reads it.
-//! The crate also has how an answer is kept in the journal.
+//! The crate also has how a call is kept in the journal.
 #![tactic(auto)]
 
 mod entry;
-mod kept_answer;
+mod kept_call;
 mod laws;
 
-pub use entry::{Entry, Received};
-pub use kept_answer::{AnswerRoom, KeptAnswer};
+pub use entry::{Entry, KeptEntry, Received};
+pub use kept_call::{CallRoom, KeptCall};
 pub use laws::{
     acknowledged_is_earlier, behind_is_marked, clock_is_last_given, commits_are_ordered,
     first_marks_are_found, handled_at_most_once, handled_when_quiet, histories_are_told,

@@ -12,7 +12,6 @@ mod insn;
 mod limits;
 mod profile;
 mod program;
-mod same;
 
 pub use arithmetic::{alu, holds};
 pub use extending::{mov_sx, sign_extended};

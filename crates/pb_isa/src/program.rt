@@ -1,5 +1,5 @@
 //! Programs: lists of instructions that take at most so many slots together.
-ghost use Rattle.std.specs.Prelude.{◌≡◌, ◌≢◌, ◌<◌, ◌≤◌, ◌⊎◌, ◌↔◌, IsTrue, if◌then◌else◌, IfOk, IfErr, Ok, [], ◌∷◌, Some, None};
+ghost use Rattle.std.specs.Prelude.{◌≡◌, ◌≢◌, ◌<◌, ◌≤◌, ◌⊎◌, if◌then◌else◌, IfOk, IfErr, Ok, [], ◌∷◌, Some, None};
 ghost use Rattle.pb_isa.specs.Bounds.{Fits};
 ghost use Rattle.pb_isa.specs.Slots.{layout, places_of, insn_at, slots};
 ghost use Rattle.pb_isa.specs.NextSlots.{NextSlotsAreFirst};
@@ -11,7 +11,6 @@ ghost use Rattle.pb_isa.specs.declared.program.NoProgram.TheVariants.{NoMemory};
 use crate::insn::Insn;
 use crate::limits::MAX_SLOTS;
 use crate::profile::Profile;
-use crate::same::{are_same, is_same_profile};
 use pb_base::NoMemory;
 use std::alloc::{AllocFailed, Global};
 use std::marker::Model;
@@ -122,14 +121,6 @@ impl Program {
         ensures { result ≡ insn_at self.now.insns slot }
     {
         self.places[slot]
-    }
-
-    /// Whether both are of one profile and have the same instructions. A declared run is refused where its program
-    /// isn't the observer's, so that a program that only means the same isn't enough.
-    pub fn is_same(&self, other: &Program) -> bool
-        ensures { IsTrue result ↔ (self.now ≡ other.now) }
-    {
-        is_same_profile(self.profile, other.profile) && are_same(&self.insns, &other.insns)
     }
 
     /// Its instructions, in order.

@@ -12,8 +12,8 @@ use crate::reports::{Newest, Put, note, report_of};
 use crate::tallies::tallies_of;
 use pb_base::{Batch, Cell, Content, NoMemory, Sink, Ts};
 use pb_core::Shared;
-use pb_history::Entry;
-use pb_steps::{Answer, Declared, Phase, Step};
+use pb_history::KeptEntry;
+use pb_steps::{Answer, Declared, Phase};
 use pb_store::Tablet;
 use std::alloc::Global;
 use std::collections::BTreeMap;
@@ -65,21 +65,20 @@ fn note_writes(
 fn note_entry<T: Tablet>(
     table: &mut BTreeMap<Cell, Newest>,
     shared: &Shared<T>,
-    entry: &Entry,
+    entry: &KeptEntry,
 ) -> Result<(), NoMemory>
     ensures { OnOk result ((puts : List Put) → AreNewest puts table.old
         → AreNewest (puts ++ puts_by shared.now.state entry.now) table.new) }
 {
-    // So a declaration is answered, and other steps too, which are separated next.
-    if entry.answer.get() != Answer::Done {
-        return Ok(());
-    }
-    let Step::Declare(start, what) = &entry.step else {
+    let Some((start, what)) = entry.call().declares() else {
         return Ok(());
     };
+    if entry.call().answer() != Answer::Done {
+        return Ok(());
+    }
     // The entry of a commit names no writes, so that declarations are looked at, with what became
     // of each.
-    let Some(Phase::Committed(commit)) = shared.phase(*start) else {
+    let Some(Phase::Committed(commit)) = shared.phase(start) else {
         return Ok(());
     };
     match what.get() {

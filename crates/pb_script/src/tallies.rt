@@ -6,8 +6,8 @@ ghost use Rattle.pb_history.specs.RunCounts.{IsRunCount, begins_committed_run, p
 use crate::reports::Tally;
 use pb_base::NoMemory;
 use pb_core::Shared;
-use pb_history::Entry;
-use pb_steps::{Answer, Phase, Step, Work};
+use pb_history::KeptEntry;
+use pb_steps::{Answer, Phase, Work};
 use pb_store::Tablet;
 use pb_verify::Observer;
 use std::alloc::Global;
@@ -19,14 +19,17 @@ fn phase_is_committed(phase: Option<Phase>) -> bool
 }
 
 // Whether the entry begins a run of the observer that is committed. Begins are counted, since a run has one.
-fn begins_committed_run<T: Tablet>(shared: &Shared<T>, number: usize, entry: &Entry) -> bool
+fn begins_committed_run<T: Tablet>(shared: &Shared<T>, number: usize, entry: &KeptEntry) -> bool
     ensures { result
         ≡ begins_committed_run shared.now.state number entry.now.step entry.now.answer }
 {
-    let Step::Begin(Work::Run(observer, _)) = &entry.step else {
+    let Some(work) = entry.call().begins() else {
         return false;
     };
-    let Answer::At(start) = entry.answer.get() else {
+    let Work::Run(observer, _) = work else {
+        return false;
+    };
+    let Answer::At(start) = entry.call().answer() else {
         return false;
     };
     observer.number() as usize == number && phase_is_committed(shared.phase(start))

@@ -5,7 +5,7 @@ ghost use Rattle.pb_state.specs.Admitted.{Admits, TellsAdmission};
 
 use crate::admitted::{Admitted, TransactionAt};
 use crate::cells::Cells;
-use crate::observed::{acknowledgment_of, is_its};
+use crate::observed::acknowledgment_if_its;
 use crate::parts::Parts;
 use pb_base::{Cell, NoMemory, Reason, Ts};
 use pb_steps::{Answer, Declaration, Step};
@@ -24,17 +24,13 @@ impl<T: Tablet> Parts<T> {
         if !transaction.phase().is_reading() {
             return Err(Reason::WrongPhase);
         }
-        let reads = transaction.reads();
-        if !is_its(
+        let acknowledgment = acknowledgment_if_its(
             &self.observers,
             transaction.work(),
             start,
-            reads,
+            transaction.reads(),
             what.get(),
-        ) {
-            return Err(Reason::NotItsDeclaration);
-        }
-        let acknowledgment = acknowledgment_of(&self.observers, transaction.work());
+        )?;
         Ok(Admitted::Declare {
             by,
             what,

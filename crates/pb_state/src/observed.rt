@@ -1,19 +1,20 @@
 //! Whether a declaration is one of its transaction, and what it writes. No machine is run: what a declared run has in
 //! it is compared with what its transaction read.
-ghost use Rattle.std.specs.Prelude.{◌≡◌, ◌↔◌, ◌&&◌, nat_lt, IsTrue, Some, IfOk, is_some, true, slice_get};
-ghost use Rattle.std.specs.Option.{option_copied};
-ghost use Rattle.pb_base.specs.Batch.{primary_in};
+ghost use Rattle.std.specs.Prelude.{◌≡◌, ◌↔◌, ◌&&◌, ◌∷◌, nat_lt, IsTrue, Some, IfSome, IfOk, IfErr, OnOk, is_some, true, false, slice_get};
+ghost use Rattle.std.specs.Option.{option_copied, option_map};
+ghost use Rattle.pb_base.specs.declared.refusal.Reason.TheVariants.{NotItsDeclaration};
+ghost use Rattle.pb_helpers.specs.Bytes.{is_second};
+ghost use Rattle.pb_helpers.specs.OldRecord as versions;
 ghost use Rattle.pb_helpers.specs.Replies.{ask_of, reply_of};
+ghost use Rattle.pb_verify.specs.Observers.{acknowledgment_at};
 ghost use Rattle.pb_finished.specs.Talk.{talk_of};
 ghost use Rattle.pb_steps.specs.Reads.{value_in};
-ghost use Rattle.pb_steps.specs.Declarations.{IsKnown, is_at, is_read_of, with_old, seen_by, seen_in, asked_in, is_replied, are_replies, is_made_of, is_run, is_run_by, is_run_of, is_its};
-ghost use Rattle.pb_helpers.specs.OldRecord as versions;
-ghost use Rattle.pb_steps.specs.State.{cells_of};
-ghost use Rattle.pb_state.specs.Cells.{acknowledgment_by, cells_in};
+ghost use Rattle.pb_steps.specs.Declarations.{old_at, is_at, is_read_of, with_old, seen_by, seen_in, asked_in, is_replied, are_replies, is_made_of, is_run_by, is_run_of, is_its};
+ghost use Rattle.pb_state.specs.Cells.{acknowledgment_by};
 
-use pb_base::{Cell, ObserverNo, Revision, Row, Ts};
+use pb_base::{Cell, ObserverNo, Reason, Revision, Row, Ts};
 use pb_finished::Finished;
-use pb_helpers::{Ask, Record, Reply};
+use pb_helpers::{Ask, Record, Reply, Version};
 use pb_steps::{
     Answer, Declared, RecordedRead, Seen, Work, acknowledged_in, old_at, reply_in, version_in,
 };
@@ -46,18 +47,26 @@ fn is_read_of(read: &RecordedRead, cell: &Cell, at: Option<Ts>) -> bool
     is_at(read.at, at)
 }
 
-// What was seen, with what the cell held at a timestamp if that was read at.
-fn with_old(at: Option<Ts>, cell: &Cell, seen: Seen, reads: &[RecordedRead]) -> Option<Seen>
-    ensures { result ≡ with_old at cell.now seen reads.now }
+// What was seen, with what the cell held at a timestamp if that was read at; and the reads after that.
+fn with_old<'r>(
+    at: Option<Ts>,
+    cell: &Cell,
+    seen: Seen,
+    reads: &'r [RecordedRead],
+) -> Option<(Seen, &'r [RecordedRead])>
+    ensures seen { option_map (λ s. s.0) result ≡ with_old at cell.now seen reads.now }
+    ensures acknowledged { IfSome result (λ s. s.0.acknowledged ≡ seen.acknowledged) }
+    ensures asked { IfSome result (λ s. (r q : RecordedRead)
+        → asked_in at (r ∷ q ∷ reads.now) ≡ s.1.now) }
 {
     match at {
-        None => Some(seen),
+        None => Some((seen, reads)),
         Some(at) => match reads {
             [] => None,
-            [read, ..] => {
+            [read, asked @ ..] => {
                 if is_read_of(read, cell, Some(at)) {
                     let old = reply_in(read.answer).value();
-                    Some(Seen { old, ..seen })
+                    Some((Seen { old, ..seen }, asked))
                 } else {
                     None
                 }
@@ -66,15 +75,18 @@ fn with_old(at: Option<Ts>, cell: &Cell, seen: Seen, reads: &[RecordedRead]) -> 
     }
 }
 
-// What reads show, if the first found its cell.
-fn seen_by(
+// What reads show, if the first found its cell; and the reads of the asks.
+fn seen_by<'r>(
     second: bool,
     cell: &Cell,
     found: Option<Revision>,
     acknowledged: Ts,
-    reads: &[RecordedRead],
-) -> Option<Seen>
-    ensures { result ≡ seen_by second cell.now found acknowledged reads.now }
+    reads: &'r [RecordedRead],
+) -> Option<(Seen, &'r [RecordedRead])>
+    ensures seen { option_map (λ s. s.0) result
+        ≡ seen_by second cell.now found acknowledged reads.now }
+    ensures asked { IfSome result (λ s. (r q : RecordedRead)
+        → asked_in (old_at second s.0.acknowledged) (r ∷ q ∷ reads.now) ≡ s.1.now) }
 {
     match found {
         None => None,
@@ -89,9 +101,18 @@ fn seen_by(
     }
 }
 
-// What the reads of a run show: the first two are its cell, found, and its acknowledgment.
-fn seen_in(cell: &Cell, acknowledgment: &Cell, second: bool, reads: &[RecordedRead]) -> Option<Seen>
-    ensures { result ≡ seen_in cell.now acknowledgment.now second reads.now }
+// What the reads of a run show: the first two are its cell, found, and its acknowledgment. With it come the reads of the
+// asks, which stand after them, so that nothing is looked for twice.
+fn seen_in<'r>(
+    cell: &Cell,
+    acknowledgment: &Cell,
+    second: bool,
+    reads: &'r [RecordedRead],
+) -> Option<(Seen, &'r [RecordedRead])>
+    ensures seen { option_map (λ s. s.0) result
+        ≡ seen_in cell.now acknowledgment.now second reads.now }
+    ensures asked { IfSome result (λ s. s.1.now
+        ≡ asked_in (old_at second s.0.acknowledged) reads.now) }
 {
     let [found, acknowledged, rest @ ..] = reads else {
         return None;
@@ -110,22 +131,6 @@ fn seen_in(cell: &Cell, acknowledgment: &Cell, second: bool, reads: &[RecordedRe
         acknowledged_in(acknowledged.answer),
         rest,
     )
-}
-
-// The reads after these two, or after three.
-fn asked_in(at: Option<Ts>, reads: &[RecordedRead]) -> &[RecordedRead]
-    ensures { result.now ≡ asked_in at reads.now }
-{
-    match at {
-        None => match reads {
-            [_, _, asked @ ..] => asked,
-            _ => &[],
-        },
-        Some(_) => match reads {
-            [_, _, _, asked @ ..] => asked,
-            _ => &[],
-        },
-    }
 }
 
 // Whether the reply is the one that this answer of a read gives.
@@ -163,8 +168,8 @@ fn are_replies(reads: &[RecordedRead], talk: &[(Ask, Reply)]) -> bool
     }
 }
 
-// Whether a run is this program's on this record, from this start. Programs are compared as wholes, since contracts
-// know no equality of shared pointers.
+// Whether a run is this program's on this record, from this start. Programs are compared as wholes, packed, since shared
+// pointers have no equality.
 fn is_made_of(finished: &Finished, program: &Accepted, change: &Record, start: Ts) -> bool
     ensures { result ≡ is_made_of program.now change.now start.0 finished.now }
 {
@@ -177,26 +182,18 @@ fn is_made_of(finished: &Finished, program: &Accepted, change: &Record, start: T
     finished.start() == start
 }
 
-// Whether a program is given what its cell held at the acknowledged timestamp.
-fn tells_old(program: &Arc<Accepted>) -> bool
-    ensures { result ≡ versions.tells_old program.now.value }
+// The version that an observer's program is accepted for.
+fn version_of(program: &Arc<Accepted>) -> Version
+    ensures { is_second result ≡ versions.tells_old program.now.value }
 {
-    program.version().tells_old()
+    program.version()
 }
 
-// The record of what was seen of a cell, of the version that the program is accepted for.
-fn record_by(program: &Arc<Accepted>, cell: &Cell, seen: &Seen) -> Record
-    ensures { result ≡ versions.record_by
-        (versions.tells_old program.now.value) cell.now seen.now.version
-        seen.now.acknowledged.0 seen.now.old }
-{
-    let version = program.version();
-    Record::of_version(version, *cell, &seen.version, seen.acknowledged, seen.old)
-}
-
-// Whether a run of this start is of the program on the record of what was seen, and newer than what was acknowledged.
+// Whether a run of this start is of the program on the record, of this version, of what was seen, and newer than what
+// was acknowledged.
 fn is_newer_run(
     program: &Arc<Accepted>,
+    version: Version,
     cell: &Cell,
     start: Ts,
     finished: &Finished,
@@ -204,32 +201,33 @@ fn is_newer_run(
 ) -> bool
     ensures { result ≡
         (nat_lt seen.now.acknowledged.0 seen.now.version.commit.0 && is_made_of program.now.value
-        (versions.record_by
-        (versions.tells_old program.now.value) cell.now seen.now.version seen.now.acknowledged.0
+        (versions.record_by (is_second version) cell.now seen.now.version seen.now.acknowledged.0
         seen.now.old) start.0 finished.now) }
 {
     if seen.acknowledged >= seen.version.commit {
         return false;
     }
-    let record = record_by(program, cell, seen);
+    let record = Record::of_version(version, *cell, &seen.version, seen.acknowledged, seen.old);
     is_made_of(finished, program, &record, start)
 }
 
 // Whether it is such a run, and each reply is what its cell was read with.
 fn is_run(
     program: &Arc<Accepted>,
+    version: Version,
     cell: &Cell,
     start: Ts,
-    reads: &[RecordedRead],
     finished: &Finished,
     seen: &Seen,
+    asked: &[RecordedRead],
 ) -> bool
-    ensures { result ≡ is_run program.now.value cell.now start.0 reads.now finished.now
-        (Some seen.now) }
+    ensures { result ≡
+        (nat_lt seen.now.acknowledged.0 seen.now.version.commit.0 && is_made_of program.now.value
+        (versions.record_by (is_second version) cell.now seen.now.version seen.now.acknowledged.0
+        seen.now.old) start.0 finished.now && are_replies asked.now finished.now.talk) }
 {
-    let at = old_at(tells_old(program), seen.acknowledged);
-    is_newer_run(program, cell, start, finished, seen)
-        && are_replies(asked_in(at, reads), finished.talk())
+    is_newer_run(program, version, cell, start, finished, seen)
+        && are_replies(asked, finished.talk())
 }
 
 // Whether a run of this start is the observer's on what its transaction read.
@@ -244,10 +242,19 @@ fn is_run_by(
     ensures { result ≡ is_run_by
         (Some observer.now) cell.now acknowledgment.now start.0 reads.now finished.now }
 {
-    let second = tells_old(&observer.program);
+    let version = version_of(&observer.program);
+    let second = version.tells_old();
     match seen_in(cell, acknowledgment, second, reads) {
         None => false,
-        Some(seen) => is_run(&observer.program, cell, start, reads, finished, &seen),
+        Some((seen, asked)) => is_run(
+            &observer.program,
+            version,
+            cell,
+            start,
+            finished,
+            &seen,
+            asked,
+        ),
     }
 }
 
@@ -258,58 +265,62 @@ fn observer_at(observers: &[Observer], number: ObserverNo) -> Option<&Observer>
     observers.get(number.number() as usize)
 }
 
-// Whether there is an observer of this number, and the run is its own on this row.
-fn is_run_of(
+// The acknowledgment in this row of the observer of this number, if there is one and the run is its own there.
+fn acknowledgment_of(
     observers: &[Observer],
     number: ObserverNo,
     row: Row,
     start: Ts,
     reads: &[RecordedRead],
     finished: &Finished,
-) -> bool
-    ensures { result ≡ is_run_of observers.now number row start.0 reads.now finished.now }
+) -> Option<Cell>
+    ensures some { IfSome result (λ a. Some a
+        ≡ acknowledgment_at (slice_get observers.now number) number row) }
+    ensures of_run { is_some result ≡ is_run_of
+        observers.now number row start.0 reads.now finished.now }
 {
     let Some(observer) = observer_at(observers, number) else {
-        return false;
+        return None;
     };
     let cell = Cell::Data(row, observer.column);
     let acknowledgment = Cell::Ack(number, row, observer.column);
-    is_run_by(observer, &cell, &acknowledgment, start, reads, finished)
+    if is_run_by(observer, &cell, &acknowledgment, start, reads, finished) {
+        Some(acknowledgment)
+    } else {
+        None
+    }
 }
 
-/// Whether a declaration is one of a transaction with this work, start and reads.
-pub(crate) fn is_its(
+/// The acknowledgment that a transaction with this work, start and reads also writes, or none of a script, if this is a
+/// declaration of it. Its observer is looked up once for both.
+pub(crate) fn acknowledgment_if_its(
     observers: &[Observer],
     work: Work,
     start: Ts,
     reads: &[RecordedRead],
     what: &Declared,
-) -> bool
-    ensures { result ≡ is_its observers.now work start.0 reads.now what.now }
+) -> Result<Option<Cell>, Reason>
+    ensures its { OnOk result (is_its observers.now work start.0 reads.now what.now ≡ true) }
+    ensures acknowledgment { IfOk result (λ a. a ≡ acknowledgment_by observers.now work) }
+    ensures refused { IfErr result (λ r. (r ≡ NotItsDeclaration)
+        × (is_its observers.now work start.0 reads.now what.now ≡ false)) }
 {
     match work {
         Work::Script => match what {
-            Declared::Script(_) => true,
-            Declared::Run(_, _) => false,
+            Declared::Script(_) => Ok(None),
+            Declared::Run(_, _) => Err(Reason::NotItsDeclaration),
         },
         Work::Run(number, row) => match what {
-            Declared::Script(_) => false,
+            Declared::Script(_) => Err(Reason::NotItsDeclaration),
             Declared::Run(by, run) => {
-                *by == number && is_run_of(observers, number, row, start, reads, run.get())
+                if *by != number {
+                    return Err(Reason::NotItsDeclaration);
+                }
+                match acknowledgment_of(observers, number, row, start, reads, run.get()) {
+                    Some(acknowledgment) => Ok(Some(acknowledgment)),
+                    None => Err(Reason::NotItsDeclaration),
+                }
             }
-        },
-    }
-}
-
-/// The acknowledgment of an observer in a row, where there is that observer.
-pub(crate) fn acknowledgment_of(observers: &[Observer], work: Work) -> Option<Cell>
-    ensures { result ≡ acknowledgment_by observers.now work }
-{
-    match work {
-        Work::Script => None,
-        Work::Run(number, row) => match observer_at(observers, number) {
-            Some(observer) => Some(Cell::Ack(number, row, observer.column)),
-            None => None,
         },
     }
 }

@@ -37,6 +37,7 @@ use crate::op::Op;
 use crate::resolving::{resolve, resolve_next};
 use crate::rules::lowest_broken;
 use pb_base::{NoMemory, Refused};
+use pb_decode::PackedProgram;
 use pb_helpers::{HelperTable, RuleCode, Version};
 use pb_isa::{Insn, Program};
 use pb_kinds::{Frame, entry};
@@ -145,7 +146,8 @@ pub fn verify_for(
         step(&mut frame, insn);
         next = spread(alloc, &mut jumps, slot, insn, &frame)?;
     }
-    Ok(Accepted::new(program, helpers, version, ops))
+    let packed = PackedProgram::new(alloc, program)?;
+    Ok(Accepted::new(packed, helpers, version, ops))
 }
 
 /// The rules accept a program, or they refuse it at one slot with one code, and not both.

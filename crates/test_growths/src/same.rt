@@ -1,7 +1,7 @@
 //! Whether two tables are the same, entry by entry. No memory is needed for it.
 use pb_base::{Batch, Ts};
 use pb_core::{Seat, Shared};
-use pb_history::{Entry, Received};
+use pb_history::{KeptCall, KeptEntry};
 use pb_state::State;
 use pb_store::{Table, Tablet};
 use pb_verify::Observer;
@@ -56,26 +56,24 @@ pub fn are_states_same<T: Tablet>(a: &State<T>, b: &State<T>) -> bool {
         && are_tables_same(a.table(), b.table())
 }
 
-fn are_entries_told_same(a: &[Entry], b: &[Entry]) -> bool {
+fn are_entries_told_same(a: &[KeptEntry], b: &[KeptEntry]) -> bool {
     if a.len() != b.len() {
         return false;
     }
     for (entry, other) in a.iter().zip(b) {
-        let is_told_same = entry.answer.get() == other.answer.get()
-            && entry.step.is_same(&other.step);
-        if entry.seat != other.seat || !is_told_same {
+        if entry.seat() != other.seat() || !entry.call().is_same(other.call()) {
             return false;
         }
     }
     true
 }
 
-fn are_received_same(a: &[Received], b: &[Received]) -> bool {
+fn are_received_same(a: &[KeptCall], b: &[KeptCall]) -> bool {
     if a.len() != b.len() {
         return false;
     }
     for (received, other) in a.iter().zip(b) {
-        if received.answer.get() != other.answer.get() || !received.step.is_same(&other.step) {
+        if !received.is_same(other) {
             return false;
         }
     }

@@ -16,31 +16,28 @@ mod jobs;
 mod turns;
 
 use jobs::{Job, jobs_of, observer_of, observers_of};
-use pb_base::Ts;
+use pb_base::{NoMemory, Ts};
 use pb_core::Shared;
 use pb_store::Tablet;
 use pb_story::{add_answer, add_step};
 use pb_verify::Observer;
-use std::alloc::{AllocError, Global};
+use std::alloc::Global;
 use test_fixtures::open_table;
 use turns::stopped_at;
 
 const WORDS: &str = "DIGITS FROM TASKS TURNS";
 
 // The entries of the seats from this one on, each in a line, and a line of the marks and locks that stand.
-fn table_text<T: Tablet>(
-    alloc: Global,
-    shared: &Shared<T>,
-    from: u32,
-) -> Result<String, AllocError> {
+fn table_text<T: Tablet>(alloc: Global, shared: &Shared<T>, from: u32) -> Result<String, NoMemory> {
     let mut text = String::new(alloc);
     let observers = shared.observers();
     for entry in shared.journal() {
-        if entry.seat >= from {
-            write!(text, "{} ", entry.seat)?;
-            add_step(&mut text, observers, &entry.step)?;
+        if entry.seat() >= from {
+            let call = entry.call().get()?;
+            write!(text, "{} ", entry.seat())?;
+            add_step(&mut text, observers, &call.step)?;
             text.push_str(" -> ")?;
-            add_answer(&mut text, observers, &entry.answer.get())?;
+            add_answer(&mut text, observers, &call.answer)?;
             text.push_str("\n")?;
         }
     }

@@ -5,7 +5,7 @@ ghost use Rattle.pb_notify.specs.Runs.{need_of};
 
 use pb_base::{Batch, Cell, ObserverNo, Row, Ts};
 use pb_helpers::HelperTable;
-use pb_history::Entry;
+use pb_history::KeptEntry;
 use pb_notify::{JobEnd, Need, ObserverJob};
 use pb_registry::accept;
 use pb_steps::{Declaration, Declared, EndedRun, Step, Work};
@@ -24,12 +24,15 @@ const ASK_AND_DELETE: &[u8] =
     b"\xb7\x01\0\0\x07\0\0\0\xb7\x02\0\0\x01\0\0\0\xbf\xa3\0\0\0\0\0\0\x07\x03\0\0\xe0\xff\xff\xff\x85\0\0\0\x01\0\0\0\xb7\x01\0\0\x05\0\0\0\xb7\x02\0\0\x0f\0\0\0\x85\0\0\0\x03\0\0\0\x95\0\0\0\0\0\0\0";
 
 // Whether the entries are of these steps, and no others.
-fn are_entries(journal: &[Entry], steps: &[Step]) -> bool {
+fn are_entries(journal: &[KeptEntry], steps: &[Step]) -> bool {
     if journal.len() != steps.len() {
         return false;
     }
     for (entry, step) in journal.iter().zip(steps) {
-        if !entry.step.is_same(step) {
+        let Ok(call) = entry.call().get() else {
+            return false;
+        };
+        if !call.step.is_same(step) {
             return false;
         }
     }

@@ -11,7 +11,7 @@ use pb_core::{Seat, Shared};
 use pb_ending::finish;
 use pb_memtablet::EitherTablet;
 use pb_parse::parse_script;
-use pb_steps::{Answer, Phase, Step, Work};
+use pb_steps::{Answer, Phase, Work};
 use pb_store::Tablet;
 use pb_threads::{NotRun, Open, Worked, run_workers};
 use std::alloc::Global;
@@ -91,7 +91,8 @@ fn are_handed_back(
 fn committed_changes(shared: &Shared<EitherTablet>) -> usize {
     let mut count: usize = 0;
     for entry in shared.journal() {
-        if let (Step::Begin(Work::Script), Answer::At(start)) = (&entry.step, entry.answer.get())
+        if let Answer::At(start) = entry.call().answer()
+            && matches!(entry.call().begins(), Some(Work::Script))
             && matches!(shared.phase(start), Some(Phase::Committed(_)))
         {
             count = count.saturating_add(1);

@@ -2,7 +2,7 @@
 use crate::fault::Fault;
 use crate::history::{Commits, declared_at};
 use pb_base::{Cell, Content};
-use pb_history::Entry;
+use pb_history::KeptEntry;
 use pb_steps::Declared;
 use std::alloc::{AllocError, Global};
 use std::collections::BTreeMap;
@@ -37,7 +37,7 @@ fn put_all(cells: &mut Cells, commit: u64, what: &Declared) -> Result<(), AllocE
 }
 
 /// What the transactions leave, one after another in the order of their commits.
-pub fn cells_of(alloc: Global, journal: &[Entry], commits: &Commits) -> Result<Cells, Fault> {
+pub fn cells_of(alloc: Global, journal: &[KeptEntry], commits: &Commits) -> Result<Cells, Fault> {
     let mut cells = BTreeMap::new(alloc);
     for (commit, place) in commits {
         let Some(what) = declared_at(journal, *place) else {

@@ -3,7 +3,7 @@ use crate::cells::Cells;
 use crate::history::{Commits, declared_at};
 use crate::script::ROWS;
 use pb_base::{Cell, Column, Content, Row, Value};
-use pb_history::Entry;
+use pb_history::KeptEntry;
 use pb_steps::Declared;
 
 // What a cell of this row holds, if anything was committed there.
@@ -30,7 +30,7 @@ fn is_run_on(what: &Declared, cell: &Cell) -> bool {
 }
 
 // How many committed runs write to this cell.
-fn runs_on(journal: &[Entry], commits: &Commits, row: u64, column: u8) -> u64 {
+fn runs_on(journal: &[KeptEntry], commits: &Commits, row: u64, column: u8) -> u64 {
     let Some(column) = Column::new(column) else {
         return 0;
     };
@@ -58,7 +58,7 @@ fn number(n: u64) -> Value {
 
 // Whether a row is as the observers leave it: column 1 is a copy of column 0, column 15 counts how often column 1 was
 // written up to its end, and column 14 is a copy of column 15.
-fn is_fed(cells: &Cells, journal: &[Entry], commits: &Commits, row: u64) -> bool {
+fn is_fed(cells: &Cells, journal: &[KeptEntry], commits: &Commits, row: u64) -> bool {
     let Some(changed) = content_at(cells, row, 0) else {
         return [1, 14, 15]
             .iter()
@@ -76,7 +76,7 @@ fn is_fed(cells: &Cells, journal: &[Entry], commits: &Commits, row: u64) -> bool
 }
 
 /// Whether each row is as the observers leave it.
-pub fn are_fed(cells: &Cells, journal: &[Entry], commits: &Commits) -> bool {
+pub fn are_fed(cells: &Cells, journal: &[KeptEntry], commits: &Commits) -> bool {
     for row in 0..ROWS {
         if !is_fed(cells, journal, commits, row) {
             return false;

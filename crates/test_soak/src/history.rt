@@ -1,6 +1,6 @@
 //! The committed transactions of a journal.
 use crate::fault::Fault;
-use pb_history::Entry;
+use pb_history::KeptEntry;
 use pb_steps::{Answer, Declared, Step};
 use std::alloc::Global;
 use std::collections::BTreeMap;
@@ -9,12 +9,13 @@ use std::collections::BTreeMap;
 pub type Commits = BTreeMap<u64, usize>;
 
 /// The committed transactions: each was declared and stamped before, and no two have one commit.
-pub fn commits_of(alloc: Global, journal: &[Entry]) -> Result<Commits, Fault> {
+pub fn commits_of(alloc: Global, journal: &[KeptEntry]) -> Result<Commits, Fault> {
     let mut declared: BTreeMap<u64, usize> = BTreeMap::new(alloc);
     let mut stamped: BTreeMap<u64, u64> = BTreeMap::new(alloc);
     let mut commits: BTreeMap<u64, usize> = BTreeMap::new(alloc);
     for place in 0..journal.len() {
-        match (&journal[place].step, journal[place].answer.get()) {
+        let call = journal[place].call().get()?;
+        match (&call.step, call.answer) {
             (Step::Declare(start, _), Answer::Done) => {
                 declared.insert(start.0, place)?;
             }
@@ -39,15 +40,13 @@ pub fn commits_of(alloc: Global, journal: &[Entry]) -> Result<Commits, Fault> {
 }
 
 /// What is declared at this place of the journal.
-pub fn declared_at(journal: &[Entry], place: usize) -> Option<&Declared> {
-    match &journal.get(place)?.step {
-        Step::Declare(_, what) => Some(what.get()),
-        _ => None,
-    }
+pub fn declared_at(journal: &[KeptEntry], place: usize) -> Option<&Declared> {
+    let (_, what) = journal.get(place)?.call().declares()?;
+    Some(what.get())
 }
 
 /// How many committed runs there are of this observer.
-pub fn runs_of(journal: &[Entry], commits: &Commits, observer: usize) -> usize {
+pub fn runs_of(journal: &[KeptEntry], commits: &Commits, observer: usize) -> usize {
     commits
         .values()
         .filter(|place| match declared_at(journal, **place) {
@@ -58,9 +57,9 @@ pub fn runs_of(journal: &[Entry], commits: &Commits, observer: usize) -> usize {
 }
 
 /// How many calls were answered by a conflict.
-pub fn conflicts_in(journal: &[Entry]) -> usize {
+pub fn conflicts_in(journal: &[KeptEntry]) -> usize {
     journal
         .iter()
-        .filter(|entry| entry.answer.get() == Answer::Conflict)
+        .filter(|entry| entry.call().answer() == Answer::Conflict)
         .count()
 }

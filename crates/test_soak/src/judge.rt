@@ -8,7 +8,7 @@ use crate::script::{CHANGES, MANIFEST, WORKERS, script};
 use pb_base::{Batch, MAX_ENTRIES, Out, Refusal, Ts};
 use pb_core::Shared;
 use pb_ending::finish;
-use pb_history::Entry;
+use pb_history::KeptEntry;
 use pb_memtablet::ListTablet;
 use pb_script::report;
 use pb_steps::Declared;
@@ -67,7 +67,7 @@ impl Display for Met {
 // its worker's seat.
 fn changes_of(
     alloc: Global,
-    journal: &[Entry],
+    journal: &[KeptEntry],
     commits: &Commits,
     batches: &[Batch],
 ) -> Result<BTreeMap<usize, usize>, Fault> {
@@ -79,7 +79,7 @@ fn changes_of(
         let Some(number) = batches.iter().position(|b| b.is_same(batch)) else {
             return Err(Fault::Changes);
         };
-        let seat = journal.get(*place).map_or(0, |entry| entry.seat);
+        let seat = journal.get(*place).map_or(0, |entry| entry.seat());
         let is_its = seat as usize == number % WORKERS as usize + 1;
         if changes.insert(number, *place)?.is_some() || !is_its {
             return Err(Fault::Changes);

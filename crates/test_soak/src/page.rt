@@ -2,7 +2,7 @@
 use crate::cells::{Cells, Version};
 use crate::history::{Commits, runs_of};
 use pb_base::{Cell, Content, Value};
-use pb_history::Entry;
+use pb_history::KeptEntry;
 use pb_verify::Observer;
 use std::alloc::{AllocError, Global};
 
@@ -42,7 +42,7 @@ pub fn page_of(
     alloc: Global,
     cells: &Cells,
     observers: &[Observer],
-    journal: &[Entry],
+    journal: &[KeptEntry],
     commits: &Commits,
 ) -> Result<String, AllocError> {
     let mut text = String::new(alloc);

@@ -3,7 +3,7 @@ use crate::clearing::is_clearing_told;
 use pb_base::{Batch, Content, Out, Refusal};
 use pb_core::{Seat, Shared};
 use pb_ending::finish;
-use pb_history::{Entry, Received};
+use pb_history::{KeptCall, KeptEntry, Received};
 use pb_script::report;
 use pb_steps::{Answer, Declared, Step, Work};
 use pb_store::Tablet;
@@ -71,16 +71,16 @@ fn tell_unfinished(rt: &HostRuntime, unfinished: &[usize]) -> io::Result<()> {
 }
 
 // Whether a seat received what the journal's entry records.
-fn is_told_so(received: &Received, entry: &Entry) -> bool {
-    received.answer.get() == entry.answer.get() && received.step.is_same(&entry.step)
+fn is_told_so(received: &KeptCall, entry: &KeptEntry) -> bool {
+    received.is_same(entry.call())
 }
 
 // Whether a seat received the journal's entries of it, in their order, and nothing else.
-fn has_its_entries(journal: &[Entry], seat: &Seat) -> bool {
+fn has_its_entries(journal: &[KeptEntry], seat: &Seat) -> bool {
     let received = seat.received();
     let mut next = 0;
     for entry in journal {
-        if entry.seat == seat.number() {
+        if entry.seat() == seat.number() {
             if next >= received.len() || !is_told_so(&received[next], entry) {
                 return false;
             }
@@ -91,7 +91,7 @@ fn has_its_entries(journal: &[Entry], seat: &Seat) -> bool {
 }
 
 // What each seat received beside the journal's entries of it.
-fn are_entries_theirs(journal: &[Entry], seats: &[Seat]) -> &'static str {
+fn are_entries_theirs(journal: &[KeptEntry], seats: &[Seat]) -> &'static str {
     if seats.iter().all(|seat| has_its_entries(journal, seat)) {
         "theirs"
     } else {
@@ -146,17 +146,24 @@ fn word_of(answer: Answer) -> (&'static str, u64) {
     }
 }
 
-// Prints each entry: its seat, its step and its answer.
-fn tell_journal(rt: &HostRuntime, journal: &[Entry]) -> io::Result<()> {
+// Prints an entry: its seat, its step and its answer.
+fn tell_entry(rt: &HostRuntime, seat: u32, call: &Received) -> io::Result<()> {
+    let (step, start, number) = words_of(&call.step);
+    let (answer, ts) = word_of(call.answer);
+    println!(rt; "entry {seat} {step} {start} {number} {answer} {ts}")
+}
+
+// Whether each entry was printed.
+fn is_journal_told(rt: &HostRuntime, journal: &[KeptEntry]) -> bool {
     for entry in journal {
-        let (step, start, number) = words_of(&entry.step);
-        let (answer, ts) = word_of(entry.answer.get());
-        println!(rt;
-            "entry {} {step} {start} {number} {answer} {ts}",
-            entry.seat
-        )?;
+        let Ok(call) = entry.call().get() else {
+            return false;
+        };
+        if tell_entry(rt, entry.seat(), &call).is_err() {
+            return false;
+        }
     }
-    Ok(())
+    true
 }
 
 // Prints what workers left of their table.
@@ -204,7 +211,7 @@ pub fn is_told<T: Tablet>(rt: &HostRuntime, worked: Worked<T>, how: How) -> bool
     let is_left_told = tell_left(rt, &shared, &seats, &refusals, &unfinished).is_ok();
     let is_more_told = match how {
         How::Told => true,
-        How::Listed => tell_journal(rt, shared.journal()).is_ok(),
+        How::Listed => is_journal_told(rt, shared.journal()),
         How::Cleared => {
             is_reported(rt, &shared) && is_clearing_told(rt, &mut shared, &mut seats) == Some(true)
         }

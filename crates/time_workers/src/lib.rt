@@ -93,7 +93,7 @@ fn conflicts_in(seats: &[Seat]) -> usize {
     let mut count: usize = 0;
     for seat in seats {
         for received in seat.received() {
-            if received.answer.get() == Answer::Conflict {
+            if received.answer() == Answer::Conflict {
                 count = count.saturating_add(1);
             }
         }

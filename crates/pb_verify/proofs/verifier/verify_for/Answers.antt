@@ -100,5 +100,5 @@ loop-slot-preserved c =
       near = rw more (within_push (n * 2147483648) ((n + 1) * 2147483648) _ _ (omega arith) c.loop-slot.invariant.near (within_if_more (n * 2147483648 + 2147483648) _ (Some c.step.new.frame) (omega arith) (c.step.ensures.near _ near)));
     }
 
-pub new-requires-clause-resolved : goal.new-requires-clause-resolved
-new-requires-clause-resolved c = grind (arith, all_resolved, c.args.program.insns, c.loop-slot.slot, c.loop-slot.ops.items, c.loop-slot.invariant.resolved)
+pub new-requires-2-clause-resolved : goal.new-requires-2-clause-resolved
+new-requires-2-clause-resolved c = grind (arith, all_resolved, c.in_ok-packed.ensures, c.args.program.insns, c.loop-slot.slot, c.loop-slot.ops.items, c.loop-slot.invariant.resolved)
