@@ -3,7 +3,7 @@ use Rattle.std.proofs.Common.{◌≡◌, ℕ, ◌<◌, ◌≤◌, ◌+◌, ◌-�
 use Rattle.std.specs.Cmp.{IsTotalOrder}
 use Rattle.std.specs.List.{All, AllWithin, insert, remove, last_or}
 use Rattle.std.proofs.lemmas.Bool.{cases_order}
-use Rattle.std.proofs.lemmas.List.{get_or_read}
+use Rattle.std.proofs.lemmas.List.{get_or_read, take_all}
 use Rattle.pb_memtablet.specs.Places.{IsCut}
 use Rattle.std.specs.List.Sorted.{IsPartitionedBy}
 use Rattle.std.proofs.lemmas.List.Elements.{All-cons, All-append, All-take, All-drop, All-head, All-tail}
@@ -97,6 +97,11 @@ module _ {E A : Type 0} where
       let all : length (chunk_entries (set cs i n)) + cond b 1 0 ≡ length (chunk_entries cs) + 0 = length-set_in cs i m n 0 (cond b 1 0) lt e less in
       omega arith
 
+  -- all after the first, as a slice has them
+  pub rest_is : (cs : List (Vec E A)) → take (length cs - 1) (drop 1 cs) ≡ drop 1 cs
+  rest_is [] = refl
+  rest_is (c ∷ cs) = take_all (length (c ∷ cs) - 1) cs (omega arith)
+
   -- a chunk that became empty is taken out
   pub retired_chunk : (cs ds : List (Vec E A)) (i : ℕ) (n x : Vec E A) → i < length cs → ds ≡ remove (set cs i n) i → x ≡ get_or (set cs i n) i x → true ≡ (vec_len x == 0) → chunk_entries ds ≡ chunk_entries (set cs i n)
   retired_chunk cs ds i n x lt ds_is x_is empty =
@@ -135,7 +140,7 @@ module _ {K X : Type 0} (R : K → K → Ordering) (o : IsTotalOrder R) where
     pub chunk_is_filled : (c : Vec (K × X) A) → IsChunk c → 0 < length c.items
     chunk_is_filled c h = let n = c.ok.0 in let f = h.filled in omega (arith, n, f)
 
-    pub chunks_are_partitioned : (cs : List (Vec (K × X) A)) (k : K) → T (is_sorted R (chunk_entries cs)) → All IsChunk cs → IsPartitionedBy (λ c. starts_by R k c.items) cs
+    chunks_are_partitioned : (cs : List (Vec (K × X) A)) (k : K) → T (is_sorted R (chunk_entries cs)) → All IsChunk cs → IsPartitionedBy (λ c. starts_by R k c.items) cs
     chunks_are_partitioned [] k s h i j d le lt t = absurd (omega (arith, lt))
     chunks_are_partitioned (c ∷ cs) k s h zero j d le lt t =
         elim (starts_by R k c.items) as (λ b. starts_by R k c.items ≡ b → b ≡ true) [
@@ -152,35 +157,53 @@ module _ {K X : Type 0} (R : K → K → Ordering) (o : IsTotalOrder R) where
     above_point (c ∷ cs) k (suc p) s h f =
         above_point cs k p (sorted_right R c.items (chunk_entries cs) s) (All-tail IsChunk c cs h) (λ j d a b. f (suc j) d (omega arith) (omega arith))
 
-    pub home_at_point : (cs : List (Vec (K × X) A)) (k : K) (p : ℕ) → 0 < length cs → p ≤ length cs → T (is_sorted R (chunk_entries cs)) → All IsChunk cs
-        → AllWithin (λ c. starts_by R k c.items ≡ true) cs 0 p → AllWithin (λ c. starts_by R k c.items ≡ false) cs p (length cs) → (i : ℕ) → i ≡ p - 1 → IsHome R cs k i
-    home_at_point [] k p some le s h t f i e = absurd (omega (arith, some))
-    home_at_point (c ∷ cs) k zero some le s h t f i e =
-        let same : i ≡ 0 = omega arith in
-        subst (IsHome R (c ∷ cs) k) (sym same) record { within = some; below = tt; above = (above_parts R c.items (chunk_entries cs) k (above_point (c ∷ cs) k 0 s h f)).1 }
-    home_at_point (c ∷ cs) k (suc p) some le s h t f i e =
+    -- so many chunks after the first start by k, and no more
+    home_at_point : (cs : List (Vec (K × X) A)) (k : K) (p : ℕ) → 0 < length cs → p ≤ length (drop 1 cs) → T (is_sorted R (chunk_entries cs)) → All IsChunk cs
+        → AllWithin (λ c. starts_by R k c.items ≡ true) (drop 1 cs) 0 p → AllWithin (λ c. starts_by R k c.items ≡ false) (drop 1 cs) p (length (drop 1 cs)) → IsHome R cs k p
+    home_at_point [] k p some le s h t f = absurd (omega (arith, some))
+    home_at_point (c ∷ cs) k zero some le s h t f = record { within = some; below = tt; above = above_point cs k 0 (sorted_right R c.items (chunk_entries cs) s) (All-tail IsChunk c cs h) f }
+    home_at_point (c ∷ cs) k (suc p) some le s h t f =
         let all = c ∷ cs in
-        let lt : p < length all = omega arith in
-        let same : i ≡ p = omega arith in
-        subst (IsHome R all k) (sym same) record {
+        let lt : suc p < length all = omega arith in
+        record {
           within = lt;
-          below = below_to_first (chunk_entries (take p all)) (get_or all p c).items (chunk_entries (drop (suc p) all)) k (subst (λ l. T (is_sorted R l)) (chunk_entries-split all p c lt) s) (t p c (omega arith) (omega arith));
-          above = above_point all k (suc p) s h f;
+          below = below_to_first (chunk_entries (take (suc p) all)) (get_or all (suc p) c).items (chunk_entries (drop (suc (suc p)) all)) k (subst (λ l. T (is_sorted R l)) (chunk_entries-split all (suc p) c lt) s) (t p c (omega arith) (omega arith));
+          above = above_point cs k (suc p) (sorted_right R c.items (chunk_entries cs) s) (All-tail IsChunk c cs h) f;
         }
 
-    -- the chunk at i starts by k, and the next one doesn't
-    pub home_between : (cs : List (Vec (K × X) A)) (k : K) (i : ℕ) → i < length cs → T (is_sorted R (chunk_entries cs)) → All IsChunk cs
-        → ((d : Vec (K × X) A) → starts_by R k (get_or cs i d).items ≡ true) → ((d : Vec (K × X) A) → i + 1 < length cs → starts_by R k (get_or cs (i + 1) d).items ≡ false) → IsHome R cs k i
-    home_between cs k i lt s h here next =
-        let parted : IsPartitionedBy (λ c. starts_by R k c.items) cs = chunks_are_partitioned cs k s h in
-        home_at_point cs k (i + 1) (omega arith) (omega arith) s h
-        (λ j d a b. parted j i d (omega arith) lt (here d))
-        (λ j d a b.
-        elim (starts_by R k (get_or cs j d).items) as (λ t. starts_by R k (get_or cs j d).items ≡ t → t ≡ false) [
-          | true ↦ λ e. absurd (cc (parted (i + 1) j d (omega arith) b e, next d (omega arith)))
-          | false ↦ λ e. refl
-        ] refl)
-        i (omega arith)
+    started_at_point : (cs : List (Vec (K × X) A)) (k : K) (p : ℕ) (d : Vec (K × X) A) → 0 < p → AllWithin (λ c. starts_by R k c.items ≡ true) (drop 1 cs) 0 p → starts_by R k (get_or cs p d).items ≡ true
+    started_at_point cs k zero d some t = absurd (omega (arith, some))
+    started_at_point [] k (suc p) d some t = t p d (omega arith) (omega arith)
+    started_at_point (c ∷ cs) k (suc p) d some t = t p d (omega arith) (omega arith)
+
+    sorted_after_first : (cs : List (Vec (K × X) A)) → T (is_sorted R (chunk_entries cs)) → T (is_sorted R (chunk_entries (drop 1 cs)))
+    sorted_after_first [] s = s
+    sorted_after_first (c ∷ cs) s = sorted_right R c.items (chunk_entries cs) s
+
+    module _ (cs xs : List (Vec (K × X) A)) (k : K) (e : xs ≡ drop 1 cs) where
+      pub rest_is_partitioned : T (is_sorted R (chunk_entries cs)) → All IsChunk cs → IsPartitionedBy (λ c. starts_by R k c.items) xs
+      rest_is_partitioned s h =
+          subst (λ (ys : List (Vec (K × X) A)). IsPartitionedBy (λ c. starts_by R k c.items) ys) (sym e) (chunks_are_partitioned (drop 1 cs) k (sorted_after_first cs s) (All-drop IsChunk 1 cs h))
+
+      pub home_at_rest : (p : ℕ) → 0 < length cs → p ≤ length xs → T (is_sorted R (chunk_entries cs)) → All IsChunk cs → AllWithin (λ c. starts_by R k c.items ≡ true) xs 0 p → AllWithin (λ c. starts_by R k c.items ≡ false) xs p (length xs) → IsHome R cs k p
+      home_at_rest p some le s h t f =
+          subst (λ (ys : List (Vec (K × X) A)). p ≤ length ys → AllWithin (λ c. starts_by R k c.items ≡ true) ys 0 p → AllWithin (λ c. starts_by R k c.items ≡ false) ys p (length ys) → IsHome R cs k p) (sym e)
+          (λ le' t' f'. home_at_point cs k p some le' s h t' f') le t f
+
+      pub started_at_rest : (p : ℕ) (d : Vec (K × X) A) → 0 < p → AllWithin (λ c. starts_by R k c.items ≡ true) xs 0 p → starts_by R k (get_or cs p d).items ≡ true
+      started_at_rest p d some t = started_at_point cs k p d some (subst (λ (ys : List (Vec (K × X) A)). AllWithin (λ c. starts_by R k c.items ≡ true) ys 0 p) e t)
+
+    -- what comes before a chunk that starts by k is below k
+    pub below_start : (cs : List (Vec (K × X) A)) (k : K) (i : ℕ) (m : Vec (K × X) A) → i < length cs → m ≡ get_or cs i m → T (is_sorted R (chunk_entries cs)) → starts_by R k m.items ≡ true → AreBelow R k (chunk_entries (take i cs))
+    below_start cs k i m lt e s t =
+        below_to_first (chunk_entries (take i cs)) (get_or cs i m).items (chunk_entries (drop (suc i) cs)) k (subst (λ l. T (is_sorted R l)) (chunk_entries-split cs i m lt) s)
+        (ap (λ (c : Vec (K × X) A). starts_by R k c.items) (sym e) ∙ t)
+
+    -- what stands from a chunk on that doesn't start by k is above k
+    pub above_start : (cs : List (Vec (K × X) A)) (k : K) (i : ℕ) (m : Vec (K × X) A) → i < length cs → m ≡ get_or cs i m → T (is_sorted R (chunk_entries cs)) → All IsChunk cs → starts_by R k m.items ≡ false → AreAbove R k (chunk_entries (drop i cs))
+    above_start [] k i m lt e s h f = absurd (omega (arith, lt))
+    above_start (c ∷ cs) k zero m lt e s h f = above_from_first c.items (chunk_entries cs) k (chunk_is_filled c (All-head IsChunk c cs h)) s (ap (λ (d : Vec (K × X) A). starts_by R k d.items) (sym e) ∙ f)
+    above_start (c ∷ cs) k (suc i) m lt e s h f = above_start cs k i m (omega arith) e (sorted_right R c.items (chunk_entries cs) s) (All-tail IsChunk c cs h) f
 
     -- ---- the list around the home of k
     pub around_home : (cs : List (Vec (K × X) A)) (k : K) (i : ℕ) (m : Vec (K × X) A) → IsHome R cs k i → m ≡ get_or cs i m → chunk_entries cs ≡ chunk_entries (take i cs) ++ (m.items ++ chunk_entries (drop (suc i) cs))

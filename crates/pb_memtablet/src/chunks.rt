@@ -5,7 +5,7 @@ ghost use Rattle.std.specs.Ordering.{eq_by_cmp};
 ghost use Rattle.std.specs.FinMap.{find, put, is_sorted};
 ghost use Rattle.std.specs.FinMap.Entries.{where_key};
 ghost use Rattle.pb_memtablet.specs.BlockCounts.{AreCounts};
-ghost use Rattle.pb_memtablet.specs.Chunks.{chunk_entries, IsChunk, IsHalf, IsSpare, AreChunks, IsHome, entries_up_to, entries_above, starts_by};
+ghost use Rattle.pb_memtablet.specs.Chunks.{chunk_entries, IsChunk, IsHalf, IsSpare, AreChunks, AreAbove, IsHome, entries_up_to, entries_above, starts_by};
 
 use crate::counts::{block_of, count_blocks};
 use crate::sorted::{look_up, place_above, put_both_in, put_in, replace_in, take_from};
@@ -40,20 +40,33 @@ fn does_start_by<K: Ord, V>(entries: &[(K, V)], key: &K) -> bool
     !entries.is_empty() && entries[0].0.cmp(key).is_le()
 }
 
-// Whether the key stands in the chunk at a place, or would stand there: the chunk starts by it, and the next one doesn't.
-fn is_home<K: Ord, V>(chunks: &[Chunk<K, V>], key: &K, place: usize) -> bool
-    requires { AreChunks K.cmp chunks.now }
-    ensures home { result ≡ true → IsHome K.cmp chunks.now key.now place }
-    ensures started { result ≡ true → HoldsAt
-        (λ c. starts_by K.cmp key.now c.items ≡ true) chunks.now place }
+// Whether the chunk after a place, if there is one, starts above the key.
+fn is_below_next<K: Ord, V>(chunks: &[Chunk<K, V>], key: &K, place: usize) -> bool
+    requires chunks { AreChunks K.cmp chunks.now }
+    requires within { place < length chunks.now }
+    ensures { result ≡ true → AreAbove K.cmp key.now (chunk_entries (drop (place + 1) chunks.now)) }
 {
-    if place >= chunks.len() || !does_start_by(&chunks[place], key) {
-        return false;
-    }
     if place + 1 == chunks.len() {
         return true;
     }
     !does_start_by(&chunks[place + 1], key)
+}
+
+// Whether the key stands in the chunk at a place, or would stand there: the chunk starts by it, and the next one doesn't.
+// The first chunk isn't asked, since a key below all belongs there too.
+fn is_home<K: Ord, V>(chunks: &[Chunk<K, V>], key: &K, place: usize) -> bool
+    requires { AreChunks K.cmp chunks.now }
+    ensures home { result ≡ true → IsHome K.cmp chunks.now key.now place }
+    ensures started { result ≡ true → 0 < place → HoldsAt
+        (λ c. starts_by K.cmp key.now c.items ≡ true) chunks.now place }
+{
+    if place >= chunks.len() || !is_below_next(chunks, key, place) {
+        return false;
+    }
+    if place == 0 {
+        return true;
+    }
+    does_start_by(&chunks[place], key)
 }
 
 // The place of the chunk where the key stands, or would stand. A place that is likely is tried first.
@@ -67,10 +80,8 @@ fn home_of<K: Ord, V>(chunks: &[Chunk<K, V>], key: &K, likely: usize) -> usize
     if is_home(chunks, key, likely) {
         return likely;
     }
-    // A key below all belongs into the first chunk, so that 0 stands for no chunk that starts by it, too.
-    chunks
-        .partition_point(|chunk| does_start_by(chunk, key))
-        .saturating_sub(1)
+    // As many chunks after the first start by the key as its place is.
+    chunks[1..].partition_point(|chunk| does_start_by(chunk, key))
 }
 
 // The place of the chunk where the key stands, or would stand, noted as the next likely one.
