@@ -16,12 +16,6 @@ use Rattle.pb_memtablet.proofs.Pieces.{length-chunk_entries, length-set_in}
 pub byte_of : (b : Bool) → bool_byte b ≡ cond b 1 0
 byte_of b = grind arith
 
-pub two_of : (b : Bool) → 2 * bool_byte b ≡ cond b 2 0
-two_of b = grind arith
-
-pub at_most_two : (b : Bool) → cond b 2 0 ≤ 2
-at_most_two b = grind arith
-
 -- the block of a chunk is its place divided by the length of a block
 block_with : (i : ℕ) → IsInBlock i (i / BLOCK)
 block_with i = record { from = omega arith; before = omega arith }

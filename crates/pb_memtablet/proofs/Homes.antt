@@ -132,6 +132,18 @@ module _ {K X : Type 0} (R : K → K → Ordering) where
     pub above_head : (y : K × X) (ys : List (K × X)) (k : K) → T (is_sorted R (y ∷ ys)) → R k y.0 ≡ Less → AreAbove R k (y ∷ ys)
     above_head y ys k s lt = (lt, above_from ys k y.0 lt (first _ _ s))
 
+    -- what is below a key is below all that come after its list
+    pub above_after : (es ys : List (K × X)) (k : K) (i : ℕ) (d : K × X) → T (is_sorted R (es ++ ys)) → i < length es → R k (get_or es i d).0 ≡ Less → AreAbove R k ys
+    above_after [] ys k i d s lt below = absurd (omega (arith, lt))
+    above_after (e ∷ es) ys k zero d s lt below = (above_parts es ys k (above_from (es ++ ys) k e.0 below (first _ _ s))).1
+    above_after (e ∷ es) ys k (suc i) d s lt below = above_after es ys k i d (second _ _ s) (omega arith) below
+
+    -- what is below a key is below each higher one
+    pub below_higher : (xs : List (K × X)) (k q : K) → R q k ≡ Greater → AreBelow R k xs → AreBelow R q xs
+    below_higher [] k q above b = tt
+    below_higher (x ∷ xs) k q above b =
+        (turned_order o x.0 q Less (o.trans x.0 k q (turned_order o k x.0 Greater b.0) (turned_order o q k Greater above)), below_higher xs k q above b.1)
+
     -- what comes before a key that is at most k is below k
     pub below_head : (xs : List (K × X)) (y : K × X) (ys : List (K × X)) (k : K) → T (is_sorted R (xs ++ y ∷ ys)) → R k y.0 ≢ Less → AreBelow R k xs
     below_head [] y ys k s ne = tt

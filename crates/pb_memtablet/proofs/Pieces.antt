@@ -1,17 +1,18 @@
 -- The chunks of a sorted list: what they are together after an edit, and which one a key belongs into.
-use Rattle.std.proofs.Common.{◌≡◌, ℕ, ◌<◌, ◌≤◌, ◌+◌, ◌-◌, Bool, true, false, cond, List, [], ◌∷◌, ◌++◌, None, Some, refl, sym, ap, ◌∙◌, subst, arith, zero, suc, length, take, drop, get_or, set, T, append_assoc, length-append, length-set, slice_get, vec_len, ◌==◌, ◌*◌, Ordering, Vec}
+use Rattle.std.proofs.Common.{◌≡◌, ℕ, ◌<◌, ◌≤◌, ◌+◌, ◌-◌, Bool, true, false, nat_lt, cond, List, [], ◌∷◌, ◌++◌, None, Some, refl, sym, ap, ◌∙◌, subst, arith, zero, suc, length, take, drop, get_or, set, T, append_assoc, length-append, length-set, slice_get, vec_len, ◌==◌, ◌*◌, Ordering, Vec}
 use Rattle.std.specs.Cmp.{IsTotalOrder}
 use Rattle.std.specs.List.{All, AllWithin, insert, remove, last_or}
 use Rattle.std.proofs.lemmas.Bool.{cases_order}
 use Rattle.std.proofs.lemmas.List.{get_or_read, take_all}
-use Rattle.pb_memtablet.specs.Places.{IsCut}
+use Rattle.pb_memtablet.specs.Places.{IsCut, IsGap}
 use Rattle.std.specs.List.Sorted.{IsPartitionedBy}
 use Rattle.std.proofs.lemmas.List.Elements.{All-cons, All-append, All-take, All-drop, All-head, All-tail}
 use Rattle.std.specs.FinMap.{find, put}
 use Rattle.std.specs.FinMap.Entries.{is_sorted}
 use Rattle.pb_memtablet.specs.declared.chunks.TheConstants.{CHUNK}
 use Rattle.pb_memtablet.specs.Chunks.{chunk_entries, IsChunk, IsHome, AreBelow, AreAbove, starts_by, entries_up_to, entries_above}
-use Rattle.pb_memtablet.proofs.Homes.{sorted_left, sorted_right, above_head, below_head, at_most, is_above, above_parts, find-home, put-home, without, without-home, entries_up_to-home, entries_above-home, entries_up_to-cut, entries_above-cut, last_of_take, last_or-append, first_of_drop, drop_past}
+use Rattle.pb_memtablet.proofs.Homes.{sorted_left, sorted_right, above_head, above_after, below_head, below_higher, at_most, is_above, above_parts, find-home, put-home, without, without-home, entries_up_to-home, entries_above-home, entries_up_to-cut, entries_above-cut, last_of_take, last_or-append, first_of_drop, drop_past}
+use Rattle.pb_memtablet.proofs.Spots.{above_first, below_here, put-both}
 use Rattle.pb_base.proofs.Logic.{empty_by_length}
 
 pub All-insert : {X : Type 0} (P : X → Type 0) (xs : List X) (i : ℕ) (x : X) → P x → All P xs → All P (insert xs i x)
@@ -31,6 +32,12 @@ is_zero n e = grind arith
 
 pub not_zero : (n : ℕ) → false ≡ (n == 0) → 0 < n
 not_zero n e = grind arith
+
+is_below : (i n : ℕ) → nat_lt i n ≡ true → i < n
+is_below i n t = grind arith
+
+is_past : (i n : ℕ) → nat_lt i n ≡ false → n ≤ i
+is_past i n f = grind arith
 
 -- a put makes at most one entry more
 pub at_most_one : (b : Bool) → cond b 1 0 ≤ 1
@@ -97,6 +104,12 @@ module _ {E A : Type 0} where
       let all : length (chunk_entries (set cs i n)) + cond b 1 0 ≡ length (chunk_entries cs) + 0 = length-set_in cs i m n 0 (cond b 1 0) lt e less in
       omega arith
 
+  -- a place in a chunk, read again
+  pub long_here : (cs : List (Vec E A)) (i p : ℕ) (x d : Vec E A) → i < length cs → x ≡ get_or cs i x → p < vec_len x → length (get_or cs i d).items ≤ p → ⊥
+  long_here cs i p x d lt x_is inside past =
+      let same : length x.items ≡ length (get_or cs i d).items = ap (λ (v : Vec E A). length v.items) (get_or_read cs i x lt x_is d) in
+      omega (arith, same, x.ok.0, inside, past)
+
   -- all after the first, as a slice has them
   pub rest_is : (cs : List (Vec E A)) → take (length cs - 1) (drop 1 cs) ≡ drop 1 cs
   rest_is [] = refl
@@ -113,6 +126,9 @@ module _ {E A : Type 0} where
   -- a chunk that is read twice
   pub read_again : (cs : List (Vec E A)) (i : ℕ) (m x : Vec E A) → i < length cs → m ≡ get_or cs i m → x ≡ get_or cs i x → vec_len x ≡ vec_len m
   read_again cs i m x lt m_is x_is = ap (λ (c : Vec E A). vec_len c) (get_or_read cs i x lt x_is m ∙ sym m_is)
+
+  pub same_again : (cs : List (Vec E A)) (i : ℕ) (m x : Vec E A) → i < length cs → m ≡ get_or cs i m → x ≡ get_or cs i x → x ≡ m
+  same_again cs i m x lt m_is x_is = get_or_read cs i x lt x_is m ∙ sym m_is
 
   pub still_filled : (cs : List (Vec E A)) (i : ℕ) (n x : Vec E A) → i < length cs → x ≡ get_or (set cs i n) i x → false ≡ (vec_len x == 0) → 0 < vec_len n
   still_filled cs i n x lt x_is some = not_zero (vec_len n) (some ∙ ap (λ (v : Vec E A). vec_len v == 0) (x_is ∙ at_set cs i n x lt))
@@ -230,6 +246,22 @@ module _ {K X : Type 0} (R : K → K → Ordering) (o : IsTotalOrder R) where
         ∙ sym (without-home R (chunk_entries (take i cs)) m.items (chunk_entries (drop (suc i) cs)) k h.below h.above)
         ∙ ap (without R k) (sym (around_home cs k i m h e))
 
+    -- a key that fits right after k, and before the next chunk, is at home where k is
+    home-behind : (cs : List (Vec (K × X) A)) (k q : K) (v : X) (p i : ℕ) (m : Vec (K × X) A) → IsHome R cs k i → m ≡ get_or cs i m → T (is_sorted R (chunk_entries cs)) → IsGap R m.items k p → IsGap R (insert m.items p (k, v)) q (suc p)
+        → (length m.items ≤ p → AreAbove R q (chunk_entries (drop (suc i) cs))) → IsHome R cs q i
+    home-behind cs k q v p i m h e s gap behind last =
+        let ys = chunk_entries (drop (suc i) cs) in
+        let sorted : T (is_sorted R (m.items ++ ys)) = sorted_right R (chunk_entries (take i cs)) _ (subst (λ l. T (is_sorted R l)) (around_home cs k i m h e) s) in
+        record {
+          within = h.within;
+          below = below_higher R o (chunk_entries (take i cs)) k q (above_first o m.items k q v p gap behind) h.below;
+          above =
+              elim (nat_lt p (length m.items)) as (λ b. nat_lt p (length m.items) ≡ b → AreAbove R q ys) [
+                | true ↦ λ t. let lt : p < length m.items = is_below p (length m.items) t in above_after R o m.items ys q p (k, v) sorted lt (below_here o m.items k q v p (k, v) lt behind)
+                | false ↦ λ f. last (is_past p (length m.items) f)
+              ] refl;
+        }
+
     -- ---- a change of one chunk alone
     changed_in : (cs : List (Vec (K × X) A)) (k : K) (i : ℕ) (m n : Vec (K × X) A) (f : List (K × X) → List (K × X)) → IsHome R cs k i → m ≡ get_or cs i m → n.items ≡ f m.items
         → f (chunk_entries (take i cs) ++ (m.items ++ chunk_entries (drop (suc i) cs))) ≡ chunk_entries (take i cs) ++ (f m.items ++ chunk_entries (drop (suc i) cs)) → chunk_entries (set cs i n) ≡ f (chunk_entries cs)
@@ -239,7 +271,7 @@ module _ {K X : Type 0} (R : K → K → Ordering) (o : IsTotalOrder R) where
         ∙ sym local
         ∙ ap f (sym (around_home cs k i m h e))
 
-    pub both-in_home : (cs : List (Vec (K × X) A)) (k q : K) (v w : X) (b : Bool) (i : ℕ) (m n : Vec (K × X) A) → IsHome R cs k i → IsHome R cs q i → m ≡ get_or cs i m
+    both-in_home : (cs : List (Vec (K × X) A)) (k q : K) (v w : X) (b : Bool) (i : ℕ) (m n : Vec (K × X) A) → IsHome R cs k i → IsHome R cs q i → m ≡ get_or cs i m
         → n.items ≡ cond b (put R q w (put R k v m.items)) m.items → chunk_entries (set cs i n) ≡ cond b (put R q w (put R k v (chunk_entries cs))) (chunk_entries cs)
     both-in_home cs k q v w b i m n h j e is =
         let xs = chunk_entries (take i cs) in
@@ -249,6 +281,17 @@ module _ {K X : Type 0} (R : K → K → Ordering) (o : IsTotalOrder R) where
           | true ↦ ap (put R q w) (put-home R xs m.items ys k v h.below h.above) ∙ put-home R xs (put R k v m.items) ys q w j.below j.above
           | false ↦ refl
         ])
+
+    -- two entries that come side by side where k belongs, before the next chunk
+    pub pair-in_home : (cs : List (Vec (K × X) A)) (k q : K) (v w : X) (i p : ℕ) (m n : Vec (K × X) A) → IsHome R cs k i → m ≡ get_or cs i m → T (is_sorted R (chunk_entries cs)) → IsGap R m.items k p → IsGap R (insert m.items p (k, v)) q (p + 1)
+        → ((d : Vec (K × X) A) → length (get_or cs i d).items ≤ p → AreAbove R q (chunk_entries (drop (i + 1) cs))) → n.items ≡ insert (insert m.items p (k, v)) (p + 1) (q, w) → chunk_entries (set cs i n) ≡ put R q w (put R k v (chunk_entries cs))
+    pair-in_home cs k q v w i p m n h e s gap behind last made =
+        let one : p + 1 ≡ suc p = omega arith in
+        let next : i + 1 ≡ suc i = omega arith in
+        let there : IsHome R cs q i =
+        home-behind cs k q v p i m h e s gap (subst (λ j. IsGap R (insert m.items p (k, v)) q j) one behind)
+        (λ past. subst (λ j. AreAbove R q (chunk_entries (drop j cs))) next (last m (subst (λ (c : Vec (K × X) A). length c.items ≤ p) e past))) in
+        both-in_home cs k q v w true i m n h there e (put-both o m.items n.items k q v w p (p + 1) gap behind made)
 
     pub replaced-in_home : (cs : List (Vec (K × X) A)) (g k : K) (v : X) (b : Bool) (i : ℕ) (m n : Vec (K × X) A) → IsHome R cs g i → IsHome R cs k i → m ≡ get_or cs i m
         → n.items ≡ cond b (put R k v (without R g m.items)) m.items → chunk_entries (set cs i n) ≡ cond b (put R k v (without R g (chunk_entries cs))) (chunk_entries cs)

@@ -177,6 +177,19 @@ module _ {K X : Type 0} {R : K → K → Ordering} (o : IsTotalOrder R) where
     gap_behind es k q v i gap.1 above (λ d lt. high d (omega arith)),
   )
 
+  -- the second of two keys that fit side by side is above the first
+  pub above_first : (es : List (K × X)) (k q : K) (v : X) (i : ℕ) → IsGap R es k i → IsGap R (insert es i (k, v)) q (suc i) → R q k ≡ Greater
+  above_first [] k q v zero gap behind = behind.0
+  above_first [] k q v (suc i) gap behind = absurd gap
+  above_first (e ∷ es) k q v zero gap behind = behind.0
+  above_first (e ∷ es) k q v (suc i) gap behind = above_first es k q v i gap.1 behind.1
+
+  -- and below what stands at their place
+  pub below_here : (es : List (K × X)) (k q : K) (v : X) (i : ℕ) (d : K × X) → i < length es → IsGap R (insert es i (k, v)) q (suc i) → R q (get_or es i d).0 ≡ Less
+  below_here [] k q v i d lt behind = absurd (omega (arith, lt))
+  below_here (e ∷ es) k q v zero d lt behind = behind.1
+  below_here (e ∷ es) k q v (suc i) d lt behind = below_here es k q v i d (omega arith) behind.1
+
   -- two keys come side by side
   pub put-both : (es hs : List (K × X)) (k q : K) (v w : X) (i j : ℕ) → IsGap R es k i → IsGap R (insert es i (k, v)) q j → hs ≡ insert (insert es i (k, v)) j (q, w) → hs ≡ put R q w (put R k v es)
   put-both es hs k q v w i j gap behind hs_is = grind (arith, put-gap)

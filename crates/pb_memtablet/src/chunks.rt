@@ -8,7 +8,9 @@ ghost use Rattle.pb_memtablet.specs.BlockCounts.{AreCounts};
 ghost use Rattle.pb_memtablet.specs.Chunks.{chunk_entries, IsChunk, IsHalf, IsSpare, AreChunks, AreAbove, IsHome, entries_up_to, entries_above, starts_by};
 
 use crate::counts::{block_of, count_blocks};
-use crate::sorted::{look_up, place_above, put_both_in, put_in, replace_in, take_from};
+use crate::sorted::{
+    gap_for_both, insert_both, look_up, place_above, put_in, replace_in, take_from,
+};
 use std::cell::Cell;
 
 // How many entries a chunk holds at most. Half as many were slower, since there are twice the chunks to move and to
@@ -331,6 +333,20 @@ pub(crate) fn put_among<K: Ord + Drop, V: Drop>(
     is_new
 }
 
+// Whether a key that fits in a chunk at a place is below the next chunk. It isn't compared with that where it wouldn't come
+// last, since the entry after it is above it.
+fn fits_before_next<K: Ord, V>(chunks: &[Chunk<K, V>], key: &K, home: usize, place: usize) -> bool
+    requires chunks { AreChunks K.cmp chunks.now }
+    requires within { home < length chunks.now }
+    ensures { result ≡ true → HoldsAt (λ c. length c.items ≤ place
+        → AreAbove K.cmp key.now (chunk_entries (drop (home + 1) chunks.now))) chunks.now home }
+{
+    if place < chunks[home].len() {
+        return true;
+    }
+    is_below_next(chunks, key, home)
+}
+
 // Puts two values at two keys side by side, and notes the place of their chunk as the next likely one. It answers whether
 // that could be done: both belong into one chunk, which has room for them, and no key stands between. Else nothing is changed.
 pub(crate) fn put_both_among<K: Ord + Copy + Drop, V: Copy + Drop>(
@@ -360,19 +376,19 @@ pub(crate) fn put_both_among<K: Ord + Copy + Drop, V: Copy + Drop>(
         return false;
     }
     let home = noted_home(chunks, &key, &likely.chunk);
-    if chunks[home].len() > CHUNK - 2 || !is_home(chunks, &next, home) {
+    if chunks[home].len() > CHUNK - 2 {
         return false;
     }
-    let are_put = put_both_in(
-        &mut chunks[home],
-        key,
-        value,
-        next,
-        next_value,
-        &likely.place,
-    );
-    counts[block_of(home)] += 2 * usize::from(are_put);
-    are_put
+    let Some(place) = gap_for_both(&chunks[home], &key, &next, &value, &likely.place) else {
+        return false;
+    };
+    if !fits_before_next(chunks, &next, home, place) {
+        return false;
+    }
+    insert_both(&mut chunks[home], place, (key, value), (next, next_value));
+    likely.place.set(place + 1);
+    counts[block_of(home)] += 2;
+    true
 }
 
 // Puts the value at the key where another one stands, which goes. It answers whether that could be done: both belong into the

@@ -1,5 +1,5 @@
 //! Lists of keys and values, sorted by key: the searches and changes of one chunk.
-ghost use Rattle.std.specs.Prelude.{◌≡◌, ◌<◌, ◌≤◌, ◌+◌, ◌-◌, true, IfOk, IfErr, length, IsTrue, cond, vec_len, vec_capacity, not};
+ghost use Rattle.std.specs.Prelude.{◌≡◌, ◌<◌, ◌≤◌, ◌+◌, ◌-◌, true, IfOk, IfErr, IfSome, length, IsTrue, cond, vec_len, vec_capacity, not};
 ghost use Rattle.std.specs.List.{HoldsAt, insert, remove};
 ghost use Rattle.std.specs.declared.cmp.Ordering.TheVariants.{Greater};
 ghost use Rattle.std.specs.Ordering.{eq_by_cmp};
@@ -213,7 +213,7 @@ fn fits_behind<K: Ord, V>(entries: &[(K, V)], place: usize, key: &K, next: &K, v
 }
 
 // Puts two elements in side by side, and moves what stands from there on once, where two inserts would move it twice.
-fn insert_both<T: Copy + Drop>(elements: &mut Vec<T>, place: usize, first: T, second: T)
+pub(crate) fn insert_both<T: Copy + Drop>(elements: &mut Vec<T>, place: usize, first: T, second: T)
     requires within { place ≤ vec_len elements.old }
     requires room { vec_len elements.old + 2 ≤ vec_capacity elements.old }
     ensures items { elements.new.items ≡ insert (insert elements.old.items place first)
@@ -230,30 +230,26 @@ fn insert_both<T: Copy + Drop>(elements: &mut Vec<T>, place: usize, first: T, se
     elements[place + 1] = second;
 }
 
-// Puts two values at two keys side by side. It answers whether that could be done: neither is there, and no key stands
-// between the two. Else nothing is changed. There is room for two entries more. It makes one search for both.
-pub(crate) fn put_both_in<K: Ord + Copy + Drop, V: Copy + Drop>(
-    entries: &mut Vec<(K, V)>,
-    key: K,
-    value: V,
-    next: K,
-    next_value: V,
+// Where two keys would stand side by side, if they would: neither is there, and no key stands between the two. It makes
+// one search for both.
+pub(crate) fn gap_for_both<K: Ord, V>(
+    entries: &[(K, V)],
+    key: &K,
+    next: &K,
+    value: &V,
     likely: &Cell<usize>,
-) -> bool
-    requires sorted { IsTrue (is_sorted K.cmp entries.old.items) }
-    requires room { vec_len entries.old + 2 ≤ vec_capacity entries.old }
-    ensures items { entries.new.items ≡ cond result
-        (put K.cmp next next_value (put K.cmp key value entries.old.items)) entries.old.items }
-    ensures capacity { vec_capacity entries.old ≤ vec_capacity entries.new }
-    ensures len { vec_len entries.new ≡ vec_len entries.old + cond result 2 0 }
+) -> Option<usize>
+    requires { IsTrue (is_sorted K.cmp entries.now) }
+    ensures first { IfSome result (IsGap K.cmp entries.now key.now) }
+    ensures second { IfSome result (λ i. IsGap K.cmp
+        (insert entries.now i (key.now, value.now)) next.now (i + 1)) }
+    ensures within { IfSome result (λ i. i ≤ length entries.now) }
 {
-    let Err(i) = spot(entries, &key, likely) else {
-        return false;
+    let Err(i) = spot(entries, key, likely) else {
+        return None;
     };
-    if !fits_behind(entries, i, &key, &next, &value) {
-        return false;
+    if !fits_behind(entries, i, key, next, value) {
+        return None;
     }
-    insert_both(entries, i, (key, value), (next, next_value));
-    likely.set(i + 1);
-    true
+    Some(i)
 }
