@@ -173,20 +173,22 @@ fn renew_entry(
     true
 }
 
-// Whether the slots differ, and neither has an entry: only then can two puts be done at once, since an item that is
-// replaced has to leave the slab.
+// Whether the first slot is below the second, and no entry stands at one of them or between: only then can two puts be
+// done at once, since an item that is replaced has to leave the slab. One look answers it, for the last entry up to the
+// second.
 fn are_free(keys: &SortedList<Slot, usize>, first: &Slot, second: &Slot) -> bool
+    requires { IsTrue (is_sorted slot_cmp keys.now.entries) }
     ensures apart { IsTrue result → eq_by_cmp slot_cmp second.now first.now ≡ false }
     ensures first { IsTrue result → find slot_cmp first.now keys.now.entries ≡ None }
     ensures second { IsTrue result → find slot_cmp second.now keys.now.entries ≡ None }
 {
-    if second == first {
+    if !first.cmp(second).is_lt() {
         return false;
     }
-    if keys.get(first).is_some() {
-        return false;
+    match keys.last_up_to(second) {
+        Some((last, _)) => last.cmp(first).is_lt(),
+        None => true,
     }
-    keys.get(second).is_none()
 }
 
 // Puts two entries in slots that have none, and differ.

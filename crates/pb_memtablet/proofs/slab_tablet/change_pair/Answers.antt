@@ -40,6 +40,9 @@ returns-then-renew_entry-clause-contents c =
     both_done (fs at) (without_gone at) (es at) c.args.marks.now.entries c.args.edits.now _ _ (edits_are at) (removal at) (put_after at (c.renew_entry.ensures.renewed c.if-renew_entry.true))
 
 -- ---- two puts
+pub are_free-requires : goal.are_free-requires
+are_free-requires c = sorted_keys c.args.items.now.slots c.args.keys.now.entries c.requires.kept.lists.entries
+
 abbrev listed : After-put_both → EntryList
 listed c = seen c.args.items.now.slots c.args.keys.now.entries
 
