@@ -10,12 +10,12 @@ ghost use Rattle.pb_memtablet.specs.Places.{IsFound, IsGap, IsCut};
 use std::cell::Cell;
 use std::cmp::Ordering;
 
-// How many places are looked at, one beside the other, before a search goes by halves. A few are enough, since the next
-// key mostly stands near the last; fewer send more searches through the halves.
-const NEAR: u32 = 8;
+// How many times as many places a search passes over at each further look: none at first, and then 1, 4 and 16, since the
+// next key mostly stands near the last. Steps that only double take more looks at a random place.
+const GROWTH: usize = 4;
 
-// Where the key stands, or where it would stand. The likely place is looked at first, and then those beside it, up to a few;
-// it can be any number.
+// Where the key stands, or where it would stand. The likely place, which can be any number, is looked at first. From there
+// the steps grow, but to half of what is left at most, so that the search ends by halves.
 fn search_from<K: Ord, V>(entries: &[(K, V)], key: &K, likely: usize) -> Result<usize, usize>
     requires { IsTrue (is_sorted K.cmp entries.now) }
     ensures found { IfOk result (IsFound K.cmp entries.now key.now) }
@@ -26,29 +26,20 @@ fn search_from<K: Ord, V>(entries: &[(K, V)], key: &K, likely: usize) -> Result<
     let mut low = 0;
     let mut high = entries.len();
     let mut next = likely.min(high.saturating_sub(1));
-    let mut near = NEAR;
-    while near > 0 && low < high {
-        near -= 1;
+    let mut passed = 0;
+    while low < high {
         match key.cmp(&entries[next].0) {
             Ordering::Equal => return Ok(next),
             Ordering::Greater => {
                 low = next + 1;
-                next = low;
+                next = low + passed.min((high - low) / 2);
             }
             Ordering::Less => {
                 high = next;
-                next = high.saturating_sub(1);
+                next = high.saturating_sub(1 + passed.min((high - low) / 2));
             }
         }
-    }
-    // In a loop of its own, since one loop for both ways would ask at each turn which it is in.
-    while low < high {
-        let middle = low + (high - low) / 2;
-        match key.cmp(&entries[middle].0) {
-            Ordering::Equal => return Ok(middle),
-            Ordering::Greater => low = middle + 1,
-            Ordering::Less => high = middle,
-        }
+        passed = passed.saturating_mul(GROWTH).max(1);
     }
     Err(low)
 }

@@ -5,13 +5,8 @@ use Rattle.pb_base.proofs.Logic.{turned_order}
 
 pub returns-in-Equal-clause-found : goal.returns-in-Equal-clause-found
 returns-in-Equal-clause-found g c =
-    found_at g.met.K.Ord.total c.args.entries.now c.args.key.now c.loop-near.next (true_holds _ c.requires) (omega arith)
-    (λ d. turned_order g.met.K.Ord.total c.args.key.now _ Equal (as_read g.met.K.Ord.total c.args.entries.now (g.K.Ord.cmp c.args.key.now) c.loop-near.next c.index-entries-next.result c.cmp.result Equal (omega arith) c.index-entries-next.is c.cmp.ensures c.in-Equal.is d))
-
-pub returns-in-Equal-cmp-clause-found : goal.returns-in-Equal-cmp-clause-found
-returns-in-Equal-cmp-clause-found g c =
-    found_at g.met.K.Ord.total c.args.entries.now c.args.key.now _ (true_holds _ c.requires) (omega arith)
-    (λ d. turned_order g.met.K.Ord.total c.args.key.now _ Equal (as_read g.met.K.Ord.total c.args.entries.now (g.K.Ord.cmp c.args.key.now) _ c.index-entries-middle.result c.cmp-in-loop-low.result Equal (omega arith) c.index-entries-middle.is c.cmp-in-loop-low.ensures c.in-Equal-cmp.is d))
+    found_at g.met.K.Ord.total c.args.entries.now c.args.key.now c.loop-low.next (true_holds _ c.requires) (omega arith)
+    (λ d. turned_order g.met.K.Ord.total c.args.key.now _ Equal (as_read g.met.K.Ord.total c.args.entries.now (g.K.Ord.cmp c.args.key.now) c.loop-low.next c.index-entries-next.result c.cmp.result Equal (omega arith) c.index-entries-next.is c.cmp.ensures c.in-Equal.is d))
 
 pub returns-clause-gap : goal.returns-clause-gap
 returns-clause-gap g c =
