@@ -2,6 +2,7 @@ pub mod Taking
 pub mod Rising
 pub mod Outcomes
 pub mod Newest
+pub mod FirstAfter
 pub mod NewState
 pub mod ItsDeclaration
 pub mod ReadsTaken

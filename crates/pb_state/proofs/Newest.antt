@@ -1,6 +1,6 @@
 -- What the newest entry shows of locks and write records.
-use Rattle.std.proofs.Common.{◌≡◌, ℕ, ◌≤◌, true, Option, Some, ap, ◌∙◌, arith, is_some}
-use Rattle.pb_state.specs.Words.{Cell, Ts, Item, Sort, Entries, IsNewest, IsOfSort, SomeLock, SomeWriteFrom, primary_of, start_of}
+use Rattle.std.proofs.Common.{◌≡◌, ℕ, ◌≤◌, Bool, true, false, Option, None, Some, ap, ◌∙◌, arith, is_some, inr, ◌⊎◌, MatchBool}
+use Rattle.pb_state.specs.Words.{Cell, Ts, Item, Sort, Entries, IsNewest, IsOfSort, NoLock, NoWriteFrom, SomeLock, SomeWriteFrom, primary_of, start_of}
 
 -- the timestamp up to which every entry is
 abbrev pub last : Ts
@@ -19,6 +19,16 @@ some_lock e x f h = let low = h.0 in (f.0.0, omega arith, ap (λ o. is_some (pri
 -- a newest write record from s on is one from s on
 pub later_write : (e : Entries) (x : Cell) (s : ℕ) (f : Ts × Item) → IsNewest e x Sort.Write last (Some f) → s ≤ f.0.0 → SomeWriteFrom e x s
 later_write e x s f h le = let low = h.0 in (f.0.0, le, omega arith, ap (λ o. is_some (start_of o)) h.1 ∙ write_item f.1 h.2)
+
+-- where no lock stands, a cell is taken if it is written
+pub unlocked : (e : Entries) (x : Cell) (s : ℕ) (b : Bool) → NoLock e x → MatchBool b (SomeWriteFrom e x s) (NoWriteFrom e x s) → MatchBool b (SomeLock e x ⊎ SomeWriteFrom e x s) (NoLock e x × NoWriteFrom e x s)
+unlocked e x s true none w = inr w
+unlocked e x s false none w = (none, w)
+
+-- without a newest lock none stands
+pub no_lock : (e : Entries) (x : Cell) (o : Option (Ts × Item)) → IsNewest e x Sort.Lock last o → is_some o ≡ false → NoLock e x
+no_lock e x None h is u lt = ap primary_of (h u (omega (arith, lt)))
+no_lock e x (Some f) h is u lt = cc
 
 -- where the newest lock is there, a lock stands
 pub lock_if : (e : Entries) (x : Cell) (o : Option (Ts × Item)) → IsNewest e x Sort.Lock last o → is_some o ≡ true → SomeLock e x

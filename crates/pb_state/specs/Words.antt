@@ -15,7 +15,8 @@ pub use Rattle.pb_isa.specs.Programs.{JudgedOf, judged_code}
 pub use Rattle.pb_helpers.specs.OldRecord.{record_by, tells_old}
 pub use Rattle.pb_verify.specs.Observers.{ObserverOf, acknowledgment, acknowledgment_at, observed_cell}
 pub use Rattle.pb_finished.specs.Finished.{Meant}
-pub use Rattle.pb_store.specs.Contents.{ComesAfter, Entries, IsNewest, IsNextMark, IsOfSort, Marks, entries_after}
+pub use Rattle.pb_store.specs.Contents.{ComesAfter, Entries, IsNewest, IsNextMark, IsOfSort, Marks, entries_after, slot_at}
+pub use Rattle.pb_store.specs.Slot.{slot_cmp, slot_cmp-IsAntisymmetric, slot_cmp_total, sort_rank}
 pub use Rattle.pb_store.specs.TableOf.{TableOf}
 pub use Rattle.pb_store.specs.declared.slot.Item.{Item}
 pub use Rattle.pb_store.specs.declared.slot.Slot.{Slot}
@@ -27,7 +28,7 @@ pub use Rattle.pb_steps.specs.Declarations.{AreReplies, IsItsRun, IsReadOf, MayD
 pub use Rattle.pb_steps.specs.Marks.{AllUpToDate, SomeBehind, is_marked, stamp_in, with_mark}
 pub use Rattle.pb_steps.specs.Phases.{is_reading}
 pub use Rattle.pb_steps.specs.Read.{ReadsAbsent, read_step, with_read}
-pub use Rattle.pb_steps.specs.Readings.{IsLockOn, IsNewestVersion, IsVersion, NoLock, NoLockUpTo, NoVersion, SomeLock, SomeWriteFrom, data_of, is_lock, last_timestamp, lock_at, primary_of, start_of, write_at}
+pub use Rattle.pb_steps.specs.Readings.{IsLockOn, IsNewestVersion, IsVersion, NoLock, NoLockUpTo, NoVersion, NoWriteFrom, SomeLock, SomeWriteFrom, data_of, is_lock, last_timestamp, lock_at, primary_of, start_of, write_at}
 pub use Rattle.pb_steps.specs.Reads.{acknowledged_in, asked_cell, found_answer, read_up_to, value_code, value_in, version_in}
 pub use Rattle.pb_steps.specs.Reasons.{IsOwn}
 pub use Rattle.pb_steps.specs.State.{StateOf, TransactionOf, Transactions, batch_in, cells_of, is_in, opening, with_transaction}

@@ -1,7 +1,8 @@
 //! What stands in a table, as transactions see it: locks, versions and write records, found by `newest`.
-ghost use Rattle.std.specs.Prelude.{◌≡◌, ◌<◌, ◌^◌, ◌⊎◌, is_some, Some, MatchBool, MatchOption};
+ghost use Rattle.std.specs.Prelude.{◌≡◌, ◌<◌, ◌^◌, ◌⊎◌, is_some, Some, IfNone, IfSome, MatchBool, MatchOption};
 ghost use Rattle.std.specs.FinMap as map;
 ghost use Rattle.pb_store.specs.Contents.{slot_at};
+ghost use Rattle.pb_store.specs.declared.slot.Sort.TheVariants.{Write};
 ghost use Rattle.pb_steps.specs.Readings.{SomeLock, SomeWriteFrom, NoLock, NoWriteFrom, IsLockUpTo, IsLockOn, IsVersion, NoVersion, lock_at, write_at, lock_count, is_lock, data_of};
 ghost use Rattle.pb_steps.specs.Clear.{NoWriteOf};
 ghost use Rattle.pb_history.specs.Sound.{HasData};
@@ -92,17 +93,28 @@ pub(crate) fn commit_of<T: Tablet>(table: &Table<T>, cell: &Cell, start: Ts) -> 
     None
 }
 
-// Whether a lock stands on the cell, or a write record of this timestamp or later.
-pub(crate) fn is_taken<T: Tablet>(table: &Table<T>, cell: &Cell, from: Ts) -> bool
-    ensures { MatchBool result
-        (SomeLock table.now.contents.entries cell.now
-        ⊎ SomeWriteFrom table.now.contents.entries cell.now from.0)
-        (NoLock table.now.contents.entries cell.now
-        × NoWriteFrom table.now.contents.entries cell.now from.0) }
+// The sort of the first entry of the cell after its data, if there is one. Locks stand before write records.
+fn first_after_data<T: Tablet>(table: &Table<T>, cell: &Cell) -> Option<Sort>
+    ensures none { IfNone result (NoLock table.now.contents.entries cell.now
+        × NoWriteFrom table.now.contents.entries cell.now 0) }
+    ensures write { IfSome result (λ s. s ≡ Write
+        → NoLock table.now.contents.entries cell.now) }
 {
-    if table.newest(*cell, Sort::Lock, LAST).is_some() {
-        return true;
+    let data = slot_of(cell, Sort::Data, LAST);
+    let Some((slot, _)) = table.next_entry(Some(data)) else {
+        return None;
+    };
+    if slot.cell != *cell {
+        return None;
     }
+    Some(slot.sort)
+}
+
+// Whether a write record of this timestamp or later stands on the cell.
+fn is_written<T: Tablet>(table: &Table<T>, cell: &Cell, from: Ts) -> bool
+    ensures { MatchBool result (SomeWriteFrom table.now.contents.entries cell.now from.0)
+        (NoWriteFrom table.now.contents.entries cell.now from.0) }
+{
     // The newest is enough, since all others are earlier.
     let Some((commit, _)) = table.newest(*cell, Sort::Write, LAST) else {
         return false;
@@ -111,6 +123,29 @@ pub(crate) fn is_taken<T: Tablet>(table: &Table<T>, cell: &Cell, from: Ts) -> bo
         return false;
     }
     true
+}
+
+// Whether a lock stands on the cell, or a write record of this timestamp or later. One look answers both where neither
+// stands, as on a cell that nobody wrote before, and shows where no lock does.
+pub(crate) fn is_taken<T: Tablet>(table: &Table<T>, cell: &Cell, from: Ts) -> bool
+    ensures { MatchBool result
+        (SomeLock table.now.contents.entries cell.now
+        ⊎ SomeWriteFrom table.now.contents.entries cell.now from.0)
+        (NoLock table.now.contents.entries cell.now
+        × NoWriteFrom table.now.contents.entries cell.now from.0) }
+{
+    let Some(first) = first_after_data(table, cell) else {
+        return false;
+    };
+    match first {
+        Sort::Write => is_written(table, cell, from),
+        _ => {
+            if table.newest(*cell, Sort::Lock, LAST).is_some() {
+                return true;
+            }
+            is_written(table, cell, from)
+        }
+    }
 }
 
 // Whether the lock of this start stands on the cell.
