@@ -19,6 +19,6 @@ pub use schedule::{
     schedule_faults_are_told_where_they_are, schedules_are_their_lines,
 };
 pub use script::{
-    ScriptCode, fault_is_first, operation_fault_is_first, parse_script, reads_batches,
-    reads_operations, value_of_word,
+    ScriptCode, batch_of, cell_of, fault_is_first, first_operation, operation_fault_is_first,
+    parse_script, reads_batches, reads_operations, value_of_word,
 };

@@ -5,6 +5,7 @@ mod words;
 
 pub use code::ScriptCode;
 pub use lines::{
-    fault_is_first, operation_fault_is_first, parse_script, reads_batches, reads_operations,
+    batch_of, fault_is_first, first_operation, operation_fault_is_first, parse_script,
+    reads_batches, reads_operations,
 };
-pub use words::value_of_word;
+pub use words::{cell_of, value_of_word};

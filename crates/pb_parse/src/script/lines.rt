@@ -1,9 +1,9 @@
 //! A line of operations, which is one transaction, and a text of lines, with the laws of what they are read as.
-ghost use Rattle.std.specs.Prelude.{◌≡◌, ◌==◌, ◌↔◌, true, is_some, ℕ, List, [], Ok, Err};
+ghost use Rattle.std.specs.Prelude.{◌≡◌, ◌==◌, ◌↔◌, ◌∷◌, true, is_some, ℕ, List, [], Ok, Err};
 ghost use Rattle.pb_base.specs.Batch.{Writes, writes_of, content_in, is_batch};
 ghost use Rattle.pb_reading.specs.Faults.{ReadsLine, ReadsText, StopsAt};
 ghost use Rattle.pb_parse.specs.Codes.{script_code};
-ghost use Rattle.pb_parse.specs.ScriptLines.{Batches, cut, with_operation, batch_of, with_line, script_of};
+ghost use Rattle.pb_parse.specs.ScriptLines.{Batches, cut, operations_left, with_operation, batch_of, with_line, script_of};
 ghost use Rattle.pb_parse.specs.Operations.{Say, StopsWith};
 ghost use Rattle.pb_parse.specs.Scripts.{AreBatches};
 
@@ -43,6 +43,16 @@ fn add(writes: &mut Vec<Change>, text: &str) -> Result<(), LineFault<ScriptCode>
     Ok(())
 }
 
+/// The first operation of a line, and what stands after its `; `, if it has one.
+pub fn first_operation(line: &str) -> (&str, Option<&str>)
+    ensures { cut line.now ≡ result.0.now ∷ operations_left result.1 }
+{
+    match line.split_once("; ") {
+        Some((operation, after)) => (operation, Some(after)),
+        None => (line, None),
+    }
+}
+
 // What its operations write, which are joined by `; `. Room is made for one, since most lines have no more.
 fn writes_in(alloc: Global, line: &str) -> Result<Vec<Change>, LineFault<ScriptCode>>
     ensures { ReadsLine (λ v. writes_of v.items) result (batch_of line.now) }
@@ -57,7 +67,8 @@ fn writes_in(alloc: Global, line: &str) -> Result<Vec<Change>, LineFault<ScriptC
     Ok(writes)
 }
 
-fn batch_of(alloc: Global, line: &str) -> Result<Batch, LineFault<ScriptCode>>
+/// The transaction that a line is, by its first operation at fault where it is none.
+pub fn batch_of(alloc: Global, line: &str) -> Result<Batch, LineFault<ScriptCode>>
     ensures { ReadsLine (λ b. b) result (batch_of line.now) }
 {
     match Batch::new(writes_in(alloc, line)?) {

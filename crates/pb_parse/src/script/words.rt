@@ -21,15 +21,23 @@ struct CellNumbers {
 }
 
 impl CellNumbers {
+    fn cell(self) -> (Row, Column)
+        requires { self.column < COLUMNS }
+        ensures { result ≡ (record { 0 = self.row }, self.column) }
+    {
+        match Column::new(self.column) {
+            Some(column) => (Row(self.row), column),
+            // Callers read a number up to 15, so that it is a column.
+            None => unreachable!(),
+        }
+    }
+
     fn with(self, content: Content) -> Change
         requires { self.column < COLUMNS }
         ensures { result ≡ (record { 0 = self.row }, self.column, content) }
     {
-        match Column::new(self.column) {
-            Some(column) => (Row(self.row), column, content),
-            // Callers read a number up to 15, so that it is a column.
-            None => unreachable!(),
-        }
+        let (row, column) = self.cell();
+        (row, column, content)
     }
 }
 
@@ -76,6 +84,14 @@ fn cell_at(words: &mut LineWords) -> Result<CellNumbers, ScriptCode>
         word,
     )? as u8;
     Ok(CellNumbers { row, column })
+}
+
+/// A row and a column, as an operation has them after its verb, by the first of them at fault where they are none.
+pub fn cell_of(words: &mut LineWords) -> Result<(Row, Column), ScriptCode>
+    ensures { Gives (λ _. false) (λ x. (Data x.0 x.1, words_left words.new.rest)) result
+        (cell_at (words_left words.old.rest)) }
+{
+    Ok(cell_at(words)?.cell())
 }
 
 #[tactic(auto, unfolding(crate::specs::ScriptWords::put_of))]
