@@ -25,13 +25,9 @@ with_operation before text = do
   w ← operation text
   if is_some (content_in before w.0) then Err ScriptCode.Twice else if nat_le MAX_CELLS (length before) then Err ScriptCode.Seventeenth else Ok (before ++ w ∷ [])
 
--- what operations write, in their order
-abbrev pub batch_in : List (List ℕ) → Result Writes ScriptCode
-batch_in operations = in_turn (λ _. with_operation) 0 [] operations
-
--- the transaction that a line is: what its operations write
+-- the transaction that a line is: what its operations write, in their order
 abbrev pub batch_of : List ℕ → Result Writes ScriptCode
-batch_of line = batch_in (cut line)
+batch_of line = in_turn (λ _. with_operation) 0 [] (cut line)
 
 -- what a script is read as: of each transaction what it writes, in the order of the lines
 abbrev pub Batches : Type 0

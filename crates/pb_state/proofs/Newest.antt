@@ -21,9 +21,9 @@ pub later_write : (e : Entries) (x : Cell) (s : ℕ) (f : Ts × Item) → IsNewe
 later_write e x s f h le = let low = h.0 in (f.0.0, le, omega arith, ap (λ o. is_some (start_of o)) h.1 ∙ write_item f.1 h.2)
 
 -- where no lock stands, a cell is taken if it is written
-pub unlocked : (e : Entries) (x : Cell) (s : ℕ) (b : Bool) → NoLock e x → MatchBool b (SomeWriteFrom e x s) (NoWriteFrom e x s) → MatchBool b (SomeLock e x ⊎ SomeWriteFrom e x s) (NoLock e x × NoWriteFrom e x s)
-unlocked e x s true none w = inr w
-unlocked e x s false none w = (none, w)
+pub is_unlocked : (e : Entries) (x : Cell) (s : ℕ) (b : Bool) → NoLock e x → MatchBool b (SomeWriteFrom e x s) (NoWriteFrom e x s) → MatchBool b (SomeLock e x ⊎ SomeWriteFrom e x s) (NoLock e x × NoWriteFrom e x s)
+is_unlocked e x s true none w = inr w
+is_unlocked e x s false none w = (none, w)
 
 -- without a newest lock none stands
 pub no_lock : (e : Entries) (x : Cell) (o : Option (Ts × Item)) → IsNewest e x Sort.Lock last o → is_some o ≡ false → NoLock e x
