@@ -1,0 +1,58 @@
+-- What was said goes on, and no step changes the observers.
+use Rattle.std.proofs.Common.{arith, ◌≡◌, ℕ, List, [], ◌∷◌, ◌++◌, refl, sym, ap, subst, ◌∙◌}
+use Rattle.pb_steps.specs.declared.step.Step.{Step}
+use Rattle.pb_steps.specs.declared.step.Answer.{Answer}
+use Rattle.pb_steps.specs.State.{StateOf}
+use Rattle.pb_steps.specs.Steps.{TableStep, StepCase}
+use Rattle.pb_history.specs.declared.entry.Entry.{Entry}
+use Rattle.pb_history.specs.declared.entry.Received.{Received}
+use Rattle.pb_history.specs.Journals.{JournalLeads}
+use Rattle.pb_txn.specs.Conversations.{told}
+use Rattle.pb_keeper.specs.Leads.{Leads, entries_by}
+
+pub append_assoc : {A : Type 0} (xs ys zs : List A) → (xs ++ ys) ++ zs ≡ xs ++ (ys ++ zs)
+append_assoc [] ys zs = refl
+append_assoc (x ∷ xs) ys zs = ap (λ l. x ∷ l) (append_assoc xs ys zs)
+
+pub append_nil : {A : Type 0} (xs : List A) → xs ++ [] ≡ xs
+append_nil [] = refl
+append_nil (x ∷ xs) = ap (λ l. x ∷ l) (append_nil xs)
+
+entries_on : (n : List Received) (m : List Received) → entries_by 0 (n ++ m) ≡ entries_by 0 n ++ entries_by 0 m
+entries_on [] m = refl
+entries_on (r ∷ n) m = ap (λ l. record { seat = 0; step = r.step; answer = r.answer } ∷ l) (entries_on n m)
+
+leads_then : (old mid new : StateOf) (es fs : List Entry) → JournalLeads old es mid → JournalLeads mid fs new → JournalLeads old (es ++ fs) new
+leads_then old mid new [] fs a b = subst (λ (s : StateOf). JournalLeads s fs new) a b
+leads_then old mid new (e ∷ es) fs a b = (a.0, a.1, leads_then a.0 mid new es fs a.2 b)
+
+case_observers : (old : StateOf) (seat : ℕ) (new : StateOf) (step : Step) (answer : Answer) → StepCase old seat step answer new → new.observers ≡ old.observers
+case_observers old seat new step answer m = grind arith
+
+journal_observers : (old : StateOf) (es : List Entry) (new : StateOf) → JournalLeads old es new → new.observers ≡ old.observers
+journal_observers old [] new r = ap (λ (z : StateOf). z.observers) r
+journal_observers old (e ∷ es) new r = journal_observers r.0 es new r.2 ∙ case_observers old e.seat r.0 e.step e.answer r.1.taken
+
+-- no step changes the observers
+pub leads_observers : {P : List Received → Type 0} (a b : StateOf) → Leads P a b → b.observers ≡ a.observers
+leads_observers a b g = journal_observers a (entries_by 0 g.said) b g.leads
+
+-- nothing was said
+pub leads_none : {P : List Received → Type 0} (a : StateOf) → P [] → Leads P a a
+leads_none a is = record { said = []; form = is; leads = refl }
+
+-- what was said may be said in other words
+pub leads_as : {P R : List Received → Type 0} (a b : StateOf) → ((said : List Received) → P said → R said) → Leads P a b → Leads R a b
+leads_as a b h g = record { said = g.said; form = h g.said g.form; leads = g.leads }
+
+-- one part, and then another
+pub leads_on : {P Q R : List Received → Type 0} (a b c : StateOf) → Leads P a b → Leads Q b c → ((said more : List Received) → P said → Q more → R (said ++ more)) → Leads R a c
+leads_on a b c g h join = record {
+  said = g.said ++ h.said;
+  form = join g.said h.said g.form h.form;
+  leads = subst (λ (es : List Entry). JournalLeads a es c) (sym (entries_on g.said h.said)) (leads_then a b c (entries_by 0 g.said) (entries_by 0 h.said) g.leads h.leads);
+}
+
+-- one answer
+pub leads_one : (a b : StateOf) (step : Step) (answer : Answer) → TableStep a 0 step answer b → Leads (λ said. said ≡ told step answer ∷ []) a b
+leads_one a b step answer taken = record { said = told step answer ∷ []; form = refl; leads = (b, taken, refl) }

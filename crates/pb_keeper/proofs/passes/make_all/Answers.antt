@@ -1,0 +1,16 @@
+use Rattle.std.proofs.Common.{arith, List, [], ◌∷◌, ◌++◌, subst}
+use Rattle.pb_base.specs.Batch.{Writes}
+use Rattle.pb_keeper.specs.Keeps.{Keeps}
+use Rattle.pb_keeper.proofs.Leading.{append_assoc}
+use Rattle.pb_keeper.proofs.passes.make_all.Goals as goal
+
+pub loop-batch-preserved : goal.loop-batch-preserved
+loop-batch-preserved g c = record {
+  can = tt;
+  ends = tt;
+  parts = grind (arith, append_assoc, c.loop-batch.invariant.parts, c.in-Some.ensures.steps);
+  counted = grind (arith, c.loop-batch.invariant.counted, c.in-Some.ensures.steps);
+  keeps = λ observers changes k.
+      subst (λ (l : List Writes). Keeps observers l c.make.new.state) (append_assoc changes c.loop-batch.yielded (c.in-Some.batch ∷ []))
+      (c.in_ok-make.ensures.keeps observers (changes ++ c.loop-batch.yielded) (c.loop-batch.invariant.keeps observers changes k));
+}

@@ -1,0 +1,37 @@
+use Rattle.std.proofs.Common.{◌≡◌, refl, sym, subst, ◌∙◌}
+use Rattle.pb_steps.specs.declared.step.Step.{Step}
+use Rattle.pb_steps.specs.declared.step.Answer.{Answer}
+use Rattle.pb_steps.specs.State.{StateOf}
+use Rattle.pb_steps.specs.Steps.{TableStep}
+use Rattle.pb_keeper.specs.Leads.{Leads}
+use Rattle.pb_keeper.specs.Passes.{IsAny}
+use Rattle.pb_keeper.proofs.Leading.{leads_observers, leads_one}
+use Rattle.pb_keeper.proofs.PassAlong.{no_walk, no_mark, no_cell_is_marked, walk_on, walk_ends, any_on, on_err}
+use Rattle.pb_keeper.proofs.passes.pass.Goals as goal
+
+pub loop-turn-init : goal.loop-turn-init
+loop-turn-init g c = record { leads = no_walk c.args.state.now.observers c.args.state.now; same = refl }
+
+pub returns-in_default : goal.returns-in_default
+returns-in_default g c =
+    let none : c.in_ok-next.next ≡ Answer.NoMark = no_mark c.loop-turn.last c.in_ok-next.next c.in_ok-next.ensures.can c.in_default.not-Marked in
+    let taken = subst (λ (a : Answer). TableStep c.loop-turn.state 0 (Step.NextMark c.loop-turn.last) a c.ask.new.state) none c.in_ok-next.ensures.taken in
+    record { ok = rw c.is_some.ensures (walk_ends c.args.state.now.observers c.loop-turn.last c.args.state.now c.loop-turn.state c.ask.new.state c.loop-turn.invariant.leads taken); quiet = λ e. no_cell_is_marked c.loop-turn.last c.loop-turn.state c.ask.new.state (sym c.is_some.ensures ∙ e) taken; err = tt }
+
+asked : (a b : StateOf) (step : Step) (answer : Answer) → TableStep a 0 step answer b → b.observers ≡ a.observers
+asked a b step answer taken = leads_observers a b (leads_one a b step answer taken)
+
+pub returns-in_err-more-clause-err : goal.returns-in_err-more-clause-err
+returns-in_err-more-clause-err g c =
+    on_err c.from_residual-in_err-more.result (Leads IsAny c.args.state.now c.run_all.new.state)
+    (any_on c.args.state.now c.ask.new.state c.run_all.new.state
+    (any_on c.args.state.now c.loop-turn.state c.ask.new.state c.loop-turn.invariant.leads (leads_one c.loop-turn.state c.ask.new.state (Step.NextMark c.loop-turn.last) c.in_ok-next.next c.in_ok-next.ensures.taken))
+    c.in_err-more.ensures.err)
+
+pub loop-turn-preserved : goal.loop-turn-preserved
+loop-turn-preserved g c =
+    let same = asked c.loop-turn.state c.ask.new.state (Step.NextMark c.loop-turn.last) c.in_ok-next.next c.in_ok-next.ensures.taken ∙ c.loop-turn.invariant.same in
+    record {
+      leads = walk_on c.args.state.now.observers c.loop-turn.last c.args.state.now c.loop-turn.state c.ask.new.state c.loop-turn.invariant.leads c.in-Marked.cell c.in_ok-next.next c.in-Marked.is c.in_ok-next.ensures.taken c.ask.new.state.observers same c.run_all.new.state c.in_ok-more.ensures.ok;
+      same = leads_observers c.ask.new.state c.run_all.new.state c.in_ok-more.ensures.ok ∙ same;
+    }

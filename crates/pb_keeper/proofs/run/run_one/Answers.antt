@@ -1,0 +1,15 @@
+use Rattle.std.proofs.Common.{Result, Ok, Err, OnErr}
+use Rattle.pb_keeper.specs.Leads.{Leads}
+use Rattle.pb_keeper.specs.Runs.{BeginsRun}
+use Rattle.pb_keeper.proofs.Reaching.{at_start, begins}
+use Rattle.pb_keeper.proofs.run.run_one.Goals as goal
+
+pub loop-turn-init : goal.loop-turn-init
+loop-turn-init g c = at_start c.args.job.now c.args.state.now c.requires
+
+on_err : {T E : Type 0} (r : Result T E) (P : Type 0) → P → OnErr r P
+on_err (Ok x) P p = tt
+on_err (Err e) P p = p
+
+pub returns-in_err-end-clause-err : goal.returns-in_err-end-clause-err
+returns-in_err-end-clause-err g c = on_err c.from_residual.result (Leads (BeginsRun c.args.job.now) c.args.state.now c.go_on.new.state) (begins c.args.job.now c.go_on.new.job c.args.state.now c.go_on.new.state c.jobs_converse.ensures.converses c.requires (c.go_on.ensures.on c.args.job.now c.args.state.now c.loop-turn.invariant))

@@ -1,0 +1,34 @@
+-- A run of an observer, by what the only seat said.
+use Rattle.std.specs.Prelude.{◌≡◌, List, ◌++◌, Option}
+use Rattle.pb_steps.specs.State.{StateOf}
+use Rattle.pb_history.specs.declared.entry.Received.{Received}
+use Rattle.pb_finished.specs.Finished.{Meant}
+use Rattle.pb_notify.specs.declared.need.JobEnd.{JobEnd}
+use Rattle.pb_notify.specs.declared.need.Need.{Need}
+use Rattle.pb_notify.specs.Runs.{RunOf, Watch, fresh, need_of}
+use Rattle.pb_notify.specs.Conversations.{Reaches}
+use Rattle.pb_notify.specs.Forms.{IsRunConversation, WasMeant}
+use Rattle.pb_keeper.specs.Leads.{Leads}
+
+-- before its first step
+abbrev pub IsFreshJob : RunOf → Type 0
+IsFreshJob job = (o : Watch) × (job ≡ fresh o)
+
+-- a whole conversation of its run, and what it declared, if it did, is what its program means
+pub record IsRunOf (first : RunOf) (end : JobEnd) (said : List Received) : Type 0 where
+  pub o : Watch
+  pub is : first ≡ fresh o
+  pub job : RunOf
+  pub reaches : Reaches first said job
+  pub over : need_of job ≡ Need.Over end
+  pub run : Option Meant
+  pub talk : IsRunConversation o said end run
+  pub meant : WasMeant run
+
+-- a beginning of one
+abbrev pub BeginsRun : RunOf → List Received → Type 0
+BeginsRun job said = (o : Watch) × (job ≡ fresh o) × ((rest : List Received) × (end : JobEnd) × (run : Option Meant) × IsRunConversation o (said ++ rest) end run)
+
+-- how far it has come
+abbrev pub RunsOn : RunOf → RunOf → StateOf → StateOf → Type 0
+RunsOn first job old new = Leads (λ said. Reaches first said job) old new
