@@ -1,9 +1,9 @@
 -- Passes over the marked cells on their way.
 use Rattle.std.proofs.Common.{arith, ◌≡◌, ◌≢◌, ℕ, ◌+◌, ◌<◌, Bool, true, false, List, [], ◌∷◌, ◌++◌, Option, Some, None, refl, sym, ap, subst, ◌∙◌, is_some}
 use Rattle.pb_threads.specs.Words.{Cell, Refusal, Step, Answer, CanAnswer, ObserverOf, Received, SeatOf, told}
-use Rattle.pb_threads.specs.declared.passes.TheConstants.{MAX_PASSES}
+use Rattle.pb_passes.specs.declared.passes.TheConstants.{MAX_PASSES}
 use Rattle.pb_threads.specs.Gains.{OpeningOf, Gains, Told, MayRefuse}
-use Rattle.pb_threads.specs.Passes.{IsRun, IsOfOther, AreRuns, before_all, runs as ran_then, passes_by, AreAllRuns, IsWalk, at_beginning, found as found_then, IsPass, IsPassThat, ArePasses, at_first, one_more, IsDrain}
+use Rattle.pb_passes.specs.Passes.{IsRun, IsOfOther, AreRuns, before_all, runs as ran_then, passes_by, AreAllRuns, IsWalk, at_beginning, found as found_then, IsPass, IsPassThat, ArePasses, at_first, one_more, IsDrain}
 use Rattle.pb_threads.specs.Stops.{RunStops, RunsStop, PassStops, at_a_mark, in_runs, DrainStops}
 use Rattle.pb_threads.proofs.Refusing.{stops_at}
 use Rattle.pb_threads.proofs.Gaining.{append_assoc, gains_none, gains_more, gains_on, gains_as, gains_renumbered}

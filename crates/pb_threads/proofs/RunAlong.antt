@@ -3,7 +3,8 @@ use Rattle.std.proofs.Common.{arith, ◌≡◌, ◌≢◌, ℕ, List, [], ◌∷
 use Rattle.pb_threads.specs.Words.{Cell, row_of, Refusal, Step, Answer, CanAnswer, ObserverOf, SeatOf, told, JobEnd, Need, RunOf, watch_of, need_of, HasNext, HearsLook, ComputesOn, Reaches, made, took, computed, JobsConverse, JobsEnd}
 use Rattle.pb_notify.specs.Runs.{next_of, answered, at_first, one_more}
 use Rattle.pb_threads.specs.Gains.{OpeningOf, Gains, Told, MayRefuse, IsSeatStop, IsWant}
-use Rattle.pb_threads.specs.Passes.{IsObserverOf, HasColumn, IsRun, IsJobOn, job_on, ReachesOn}
+use Rattle.pb_passes.specs.Passes.{IsObserverOf, HasColumn, IsRun, IsJobOn, job_on}
+use Rattle.pb_threads.specs.Runs.{ReachesOn}
 use Rattle.pb_threads.specs.Stops.{RunStops}
 use Rattle.pb_threads.proofs.Refusing.{stops_at}
 use Rattle.pb_threads.proofs.Gaining.{gains_none, gains_more, gains_as}

@@ -3,7 +3,7 @@ use Rattle.std.proofs.Common.{ℕ, Bool, List, refl, Option}
 use Rattle.pb_threads.specs.Words.{Refusal, Writes, ObserverOf, SeatOf}
 use Rattle.pb_threads.specs.Gains.{OpeningOf, Gains}
 use Rattle.pb_threads.specs.Tries.{AreAllTried}
-use Rattle.pb_threads.specs.Passes.{IsDrain}
+use Rattle.pb_passes.specs.Passes.{IsDrain}
 use Rattle.pb_threads.specs.Stops.{ChangesStop, DrainStops}
 use Rattle.pb_threads.specs.Work.{share_of, IsWorkDone, IsWorkBegun, in_changes, in_passes}
 use Rattle.pb_threads.proofs.Gaining.{gains_as, gains_on, gains_renumbered}

@@ -1,6 +1,6 @@
 pub mod Words
 pub mod Gains
-pub mod Passes
+pub mod Runs
 pub mod Tries
 pub mod Stops
 pub mod Swaps

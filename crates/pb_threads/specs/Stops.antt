@@ -5,10 +5,10 @@ use Rattle.pb_threads.specs.Words.{Cell, Ts, Refusal, Writes, row_of, Meant, Ste
 use Rattle.pb_txn.specs.Changes as changes
 use Rattle.pb_notify.specs.Runs as runs
 use Rattle.pb_threads.specs.declared.tries.TheConstants.{MAX_TRIES}
-use Rattle.pb_threads.specs.declared.passes.TheConstants.{MAX_PASSES}
+use Rattle.pb_passes.specs.declared.passes.TheConstants.{MAX_PASSES}
 use Rattle.pb_threads.specs.Gains.{OpeningOf, IsSeatStop}
 use Rattle.pb_threads.specs.Tries.{has_commit, AreVain, AreTried}
-use Rattle.pb_threads.specs.Passes.{IsObserverOf, job_on, AreRuns, IsWalk, ArePasses}
+use Rattle.pb_passes.specs.Passes.{IsObserverOf, job_on, AreRuns, IsWalk, ArePasses}
 
 -- in a try: a beginning of its conversation, and whether its transaction was committed by then
 pub record TryStops (opens : Option OpeningOf) (seat : ℕ) (batch : Writes) (committed : Bool) (r : Refusal) (said : List Received) : Type 0 where

@@ -7,7 +7,7 @@ use Rattle.pb_threads.specs.declared.worker.Worker.{Worker}
 use Rattle.pb_threads.specs.declared.run.Rooms.{Rooms}
 use Rattle.pb_threads.specs.Gains.{Gains, OpeningOf, opening_of}
 use Rattle.pb_threads.specs.Tries.{AreAllTried}
-use Rattle.pb_threads.specs.Passes.{IsDrain}
+use Rattle.pb_passes.specs.Passes.{IsDrain}
 use Rattle.pb_threads.specs.Stops.{ChangesStop, DrainStops}
 use Rattle.pb_threads.specs.Swaps.{Spare, AreSwapped}
 

@@ -1,7 +1,8 @@
 //! Runs of observers, each followed to its end.
 ghost use Rattle.std.specs.Prelude.{◌≡◌, ◌<◌, length, IfOk, IfErr, OnOk};
 ghost use Rattle.pb_threads.specs.Gains.{Gains, IsWant};
-ghost use Rattle.pb_threads.specs.Passes.{HasColumn, IsJobOn, IsComputed, IsRun, ReachesOn};
+ghost use Rattle.pb_passes.specs.Passes.{HasColumn, IsRun};
+ghost use Rattle.pb_threads.specs.Runs.{IsComputed, ReachesOn};
 ghost use Rattle.pb_threads.specs.Stops.{RunStops};
 
 use crate::desk::{Callee, ask};
@@ -10,19 +11,10 @@ use crate::waits::{turns_after, yield_for};
 use pb_base::{Cell, NoMemory, ObserverNo, Refusal};
 use pb_core::Seat;
 use pb_notify::{Need, ObserverJob, jobs_converse};
+use pb_passes::job_on;
 use pb_verify::Observer;
 use std::alloc::Global;
 use std::sync::{Arc, Mutex, Wait};
-
-// The run of an observer on a cell of its column, before its first step.
-fn job_on(observers: &[Observer], number: ObserverNo, cell: Cell) -> Result<ObserverJob, NoMemory>
-    requires { number < length observers.now }
-    ensures { IfOk result (IsJobOn observers.now number cell) }
-{
-    let observer = &observers[number.number() as usize];
-    let program = Arc::try_clone(&observer.program)?;
-    Ok(ObserverJob::new(number, program, cell.row(), observer.column))
-}
 
 // The instructions of its machine up to the next ask or the exit, if it is at one. They need no lock, so that others
 // call the table meanwhile. Refused for memory, it stands where one is next.

@@ -25,7 +25,7 @@ mod worker;
 pub use desk::{Callee, Desk};
 pub use gate::{Gate, Open};
 pub use named::{Held, Opening};
-pub use passes::{MAX_PASSES, worker_passes_limit_is_this};
+pub use pb_passes::MAX_PASSES;
 pub use run::{NotRun, Worked, run_workers};
 pub use spares::end_spares;
 pub use tries::{MAX_TRIES, tries_limit_is_this};

@@ -1,8 +1,8 @@
 //! Passes over the marked cells (OSDI 2010, section 2.4).
-ghost use Rattle.std.specs.Prelude.{◌≡◌, ◌<◌, ◌≤◌, true, false, length, IfOk, IfErr, OnOk};
+ghost use Rattle.std.specs.Prelude.{◌≤◌, length, IfOk, IfErr, OnOk};
 ghost use Rattle.pb_base.specs.declared.limits.TheConstants.{MAX_OBSERVERS};
 ghost use Rattle.pb_threads.specs.Gains.{Gains};
-ghost use Rattle.pb_threads.specs.Passes.{HasColumn, IsOfOther, AreAllRuns, IsPassThat, IsDrain};
+ghost use Rattle.pb_passes.specs.Passes.{AreAllRuns, IsPassThat, IsDrain};
 ghost use Rattle.pb_threads.specs.Stops.{RunsStop, PassStops, DrainStops};
 
 use crate::desk::{Callee, ask};
@@ -10,29 +10,11 @@ use crate::gate::Gate;
 use crate::job::run_one;
 use pb_base::{Cell, ObserverNo, Refusal};
 use pb_core::Seat;
+use pb_passes::{MAX_PASSES, is_observer_of};
 use pb_steps::{Answer, Step};
 use pb_verify::Observer;
 use std::alloc::Global;
 use std::sync::{Mutex, Wait};
-
-/// How many passes are made at most. There is a limit, since an observer that changes a cell which it observes is due
-/// again in each.
-pub const MAX_PASSES: u32 = 1000;
-
-/// The limit of a worker's passes has this value.
-pub fn worker_passes_limit_is_this()
-    ensures { MAX_PASSES ≡ 1000 }
-{}
-
-// Whether the observer of this number is one of the cell's column.
-fn is_observer_of(observers: &[Observer], place: usize, cell: &Cell) -> bool
-    requires { place < length observers.now }
-    ensures is { result ≡ true → HasColumn observers.now place cell.now }
-    ensures isnt { result ≡ false → IsOfOther observers.now place cell.now }
-{
-    let observer = &observers[place];
-    observer.column == cell.column()
-}
 
 // Runs each observer of the cell's column, in file order.
 fn run_all<R: Wait, C: Callee, G: Gate>(

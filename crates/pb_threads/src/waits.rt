@@ -2,7 +2,7 @@
 //! gets the lock isn't promised, and `bench/workers` measures the times.
 ghost use Rattle.std.specs.Prelude.{◌≡◌, ◌<◌, true, false};
 ghost use Rattle.pb_notify.specs.Runs.{need_of};
-ghost use Rattle.pb_threads.specs.Passes.{has_ran};
+ghost use Rattle.pb_threads.specs.Runs.{has_ran};
 
 use pb_notify::{JobEnd, Need, ObserverJob};
 use std::sync::{Mutex, MutexGuard, Wait};

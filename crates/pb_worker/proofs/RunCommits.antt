@@ -1,7 +1,7 @@
 -- What is committed in passes are runs of observers that began there.
 use Rattle.std.proofs.Common.{arith, ◌≡◌, ◌≢◌, ℕ, inl, inr, List, [], ◌∷◌, ◌++◌, Option, Some, None, refl, sym, ap, subst, ◌∙◌}
 use Rattle.pb_worker.specs.Words.{Cell, Row, Ts, Refusal, row_of, Work, Step, Answer, ObserverOf, Received, Has, told, watch_of, OpeningOf, IsRun, AreRuns, runs, passes_by, IsWalk, at_beginning, found, IsPass, ArePasses, IsDrain, RunStops, RunsStop, PassStops, at_a_mark, in_runs, DrainStops, Spare, IsDrainTo, IsLastDrain}
-use Rattle.pb_threads.specs.Passes.{before_all, at_first, one_more}
+use Rattle.pb_passes.specs.Passes.{before_all, at_first, one_more}
 use Rattle.pb_threads.proofs.Gaining.{append_nil}
 use Rattle.pb_ending.proofs.Walks.{same_first_received}
 use Rattle.pb_worker.proofs.Committing.{commit_of}

@@ -39,7 +39,7 @@ pub use Rattle.pb_notify.specs.Forms.{AreAsked, AreRounds, IsAcknowledged, IsLoo
 pub use Rattle.pb_notify.specs.Runs.{Watch, watch_of}
 pub use Rattle.pb_notify.specs.declared.need.JobEnd.{JobEnd}
 pub use Rattle.pb_threads.specs.Gains.{Gains, OpeningOf}
-pub use Rattle.pb_threads.specs.Passes.{ArePasses, AreRuns, IsDrain, IsPass, IsRun, IsWalk, at_beginning, found, passes_by, runs}
+pub use Rattle.pb_passes.specs.Passes.{ArePasses, AreRuns, IsDrain, IsPass, IsRun, IsWalk, at_beginning, found, passes_by, runs}
 pub use Rattle.pb_threads.specs.Stops.{ChangesStop, DrainStops, PassStops, RunStops, RunsStop, TriesStop, at_a_mark, in_runs}
 pub use Rattle.pb_threads.specs.Swaps.{Spare}
 pub use Rattle.pb_threads.specs.Tries.{AreTried, AreTries, AreVain, IsDone, IsTry, has_commit, is_commit, is_commit_outcome, tried}

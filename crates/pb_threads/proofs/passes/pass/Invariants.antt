@@ -1,5 +1,5 @@
 use Rattle.pb_threads.specs.Gains.{Gains}
-use Rattle.pb_threads.specs.Passes.{IsWalk}
+use Rattle.pb_passes.specs.Passes.{IsWalk}
 use Rattle.pb_threads.proofs.passes.pass.Given as goal
 
 abbrev pub invariant-loop-turn : goal.invariant-loop-turn

@@ -1,5 +1,5 @@
 use Rattle.pb_threads.specs.Gains.{Gains}
-use Rattle.pb_threads.specs.Passes.{AreRuns}
+use Rattle.pb_passes.specs.Passes.{AreRuns}
 use Rattle.pb_threads.proofs.passes.run_all.Given as goal
 
 abbrev pub invariant-loop-place : goal.invariant-loop-place

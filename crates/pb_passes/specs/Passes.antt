@@ -1,9 +1,8 @@
 -- Passes over the marked cells (OSDI 2010, section 2.4): each mark is found, and the observers of its column are run
 -- on it.
 use Rattle.std.specs.Prelude.{◌≡◌, ◌≢◌, ℕ, ◌+◌, ◌<◌, ◌⊎◌, Bool, true, false, List, [], ◌∷◌, ◌++◌, length, Option, Some, None, slice_get}
-use Rattle.pb_threads.specs.Words.{Cell, row_of, column_of, Meant, Step, Answer, ObserverOf, Received, told, JobEnd, Need, RunOf, watch_of, need_of, Reaches, IsRunConversation, WasMeant}
-use Rattle.pb_notify.specs.Runs.{fresh}
-use Rattle.pb_threads.specs.declared.passes.TheConstants.{MAX_PASSES}
+use Rattle.pb_passes.specs.Words.{Cell, row_of, column_of, Meant, Step, Answer, ObserverOf, Received, told, JobEnd, Need, RunOf, watch_of, fresh, need_of, Reaches, IsRunConversation, WasMeant}
+use Rattle.pb_passes.specs.declared.passes.TheConstants.{MAX_PASSES}
 
 -- the observer of this number is one of the cell's column
 pub record IsObserverOf (observers : List ObserverOf) (n : ℕ) (x : Cell) (o : ObserverOf) : Type 0 where
@@ -24,11 +23,6 @@ pub record IsJobOn (observers : List ObserverOf) (n : ℕ) (x : Cell) (job : Run
   pub there : slice_get observers n ≡ Some o
   pub job_is : job ≡ job_on n o x
 
--- it goes on by its machine's instructions alone, and isn't at one
-pub record IsComputed (j k : RunOf) : Type 0 where
-  pub reaches : (first : RunOf) (said : List Received) → Reaches first said j → Reaches first said k
-  pub calls : need_of k ≢ Need.Local
-
 -- what it declared, if it did, is what its program means, and this is a whole conversation of its run on the cell
 pub record IsRun (observers : List ObserverOf) (n : ℕ) (x : Cell) (said : List Received) : Type 0 where
   pub o : ObserverOf
@@ -40,16 +34,6 @@ pub record IsRun (observers : List ObserverOf) (n : ℕ) (x : Cell) (said : List
   pub run : Option Meant
   pub talk : IsRunConversation (watch_of n o (row_of x)) said end run
   pub meant : WasMeant run
-
--- the end of a run that committed
-abbrev pub is_ran_end : JobEnd → Bool
-is_ran_end (JobEnd.Ran r) = true
-is_ran_end _ = false
-
--- a run that needs this is over, and committed
-abbrev pub has_ran : Need → Bool
-has_ran (Need.Over end) = is_ran_end end
-has_ran _ = false
 
 -- the observer of this number is one of another column
 pub record IsOfOther (observers : List ObserverOf) (n : ℕ) (x : Cell) : Type 0 where
@@ -97,7 +81,3 @@ pub record IsDrain (observers : List ObserverOf) (said : List Received) : Type 0
   pub rest : List Received
   pub said_is : said ≡ before ++ rest
   pub ends : ((count < MAX_PASSES) × IsPass observers None rest) ⊎ ((count ≡ MAX_PASSES) × (rest ≡ []))
-
--- it goes on by its machine's instructions alone
-abbrev pub ReachesOn : RunOf → RunOf → Type 0
-ReachesOn j k = (first : RunOf) (said : List Received) → Reaches first said j → Reaches first said k

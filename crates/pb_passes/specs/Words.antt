@@ -1,0 +1,14 @@
+-- The words of the crates below, for this crate's definitions and proofs.
+pub use Rattle.pb_base.specs.Cell.{column_of, row_of}
+pub use Rattle.pb_base.specs.declared.cell.Cell.{Cell}
+pub use Rattle.pb_verify.specs.Observers.{ObserverOf}
+pub use Rattle.pb_finished.specs.Finished.{Meant}
+pub use Rattle.pb_steps.specs.declared.step.Answer.{Answer}
+pub use Rattle.pb_steps.specs.declared.step.Step.{Step}
+pub use Rattle.pb_history.specs.declared.entry.Received.{Received}
+pub use Rattle.pb_txn.specs.Conversations.{told}
+pub use Rattle.pb_notify.specs.Conversations.{Reaches}
+pub use Rattle.pb_notify.specs.Forms.{IsRunConversation, WasMeant}
+pub use Rattle.pb_notify.specs.Runs.{RunOf, fresh, need_of, watch_of}
+pub use Rattle.pb_notify.specs.declared.need.JobEnd.{JobEnd}
+pub use Rattle.pb_notify.specs.declared.need.Need.{Need}
