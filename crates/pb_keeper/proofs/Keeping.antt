@@ -4,8 +4,9 @@ use Rattle.pb_base.specs.Batch.{Writes}
 use Rattle.pb_base.specs.declared.names.Ts.{Ts}
 use Rattle.pb_verify.specs.Observers.{ObserverOf}
 use Rattle.pb_steps.specs.State.{StateOf, opening}
-use Rattle.pb_keeper.specs.Leads.{Leads, entries_by}
-use Rattle.pb_keeper.specs.Passes.{IsMade}
+use Rattle.pb_notify.specs.Allowed.{entries_by}
+use Rattle.pb_keeper.specs.Leads.{Leads}
+use Rattle.pb_keeper.specs.Made.{IsMade}
 use Rattle.pb_keeper.specs.Keeps.{none, one_more, Keeps, OpeningKeepsNone, KeptIsLegal}
 use Rattle.pb_keeper.proofs.Leading.{leads_none, leads_on, leads_observers}
 

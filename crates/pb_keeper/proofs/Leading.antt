@@ -8,7 +8,8 @@ use Rattle.pb_history.specs.declared.entry.Entry.{Entry}
 use Rattle.pb_history.specs.declared.entry.Received.{Received}
 use Rattle.pb_history.specs.Journals.{JournalLeads}
 use Rattle.pb_txn.specs.Conversations.{told}
-use Rattle.pb_keeper.specs.Leads.{Leads, entries_by}
+use Rattle.pb_notify.specs.Allowed.{entries_by}
+use Rattle.pb_keeper.specs.Leads.{Leads}
 
 pub append_assoc : {A : Type 0} (xs ys zs : List A) → (xs ++ ys) ++ zs ≡ xs ++ (ys ++ zs)
 append_assoc [] ys zs = refl

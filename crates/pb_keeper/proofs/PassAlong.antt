@@ -18,10 +18,11 @@ use Rattle.pb_notify.specs.declared.need.JobEnd.{JobEnd}
 use Rattle.pb_notify.specs.Runs.{RunOf, Watch, watch_of, fresh}
 use Rattle.pb_notify.specs.Conversations.{Reaches}
 use Rattle.pb_notify.specs.Forms.{IsRunConversation}
-use Rattle.pb_keeper.specs.declared.passes.TheConstants.{MAX_PASSES}
-use Rattle.pb_keeper.specs.Leads.{Leads, IsChange}
+use Rattle.pb_passes.specs.declared.passes.TheConstants.{MAX_PASSES}
+use Rattle.pb_keeper.specs.Leads.{Leads, IsAny, IsChange}
 use Rattle.pb_keeper.specs.Runs.{IsFreshJob, IsRunOf}
-use Rattle.pb_keeper.specs.Passes.{HasColumn, IsJobOn, job_on, IsRun, IsOfOther, AreRuns, before_all, runs as ran_then, passes_by, AreAllRuns, IsWalk, at_beginning, found as found_then, IsPass, IsPassThat, ArePasses, at_first, one_more, IsDrain, IsPart, IsMade, IsAny}
+use Rattle.pb_passes.specs.Passes.{HasColumn, IsJobOn, job_on, IsRun, IsOfOther, AreRuns, before_all, runs as ran_then, passes_by, AreAllRuns, IsWalk, at_beginning, found as found_then, IsPass, IsPassThat, ArePasses, at_first, one_more, IsDrain}
+use Rattle.pb_keeper.specs.Made.{IsPart, IsMade}
 use Rattle.pb_keeper.proofs.Leading.{append_assoc, append_nil, leads_none, leads_as, leads_on, leads_one}
 
 pub is_fresh : (observers : List ObserverOf) (n : ℕ) (x : Cell) (job : RunOf) → IsJobOn observers n x job → IsFreshJob job

@@ -15,7 +15,8 @@ use Rattle.pb_notify.specs.declared.need.JobEnd.{JobEnd}
 use Rattle.pb_notify.specs.Runs.{RunOf, next_of, need_of, answered, HearsLook, ComputesOn, at_first, one_more}
 use Rattle.pb_notify.specs.Conversations.{Reaches, made, took, computed}
 use Rattle.pb_notify.specs.Forms.{JobsConverse, JobsEnd}
-use Rattle.pb_keeper.specs.Leads.{Leads, entries_by}
+use Rattle.pb_notify.specs.Allowed.{entries_by}
+use Rattle.pb_keeper.specs.Leads.{Leads}
 use Rattle.pb_keeper.specs.Runs.{IsFreshJob, IsRunOf, BeginsRun, RunsOn}
 use Rattle.pb_keeper.proofs.Pushes.{leads-push}
 

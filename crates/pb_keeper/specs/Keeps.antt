@@ -8,7 +8,8 @@ use Rattle.pb_history.specs.declared.entry.Entry.{Entry}
 use Rattle.pb_history.specs.declared.entry.Received.{Received}
 use Rattle.pb_history.specs.Journals.{IsLegal}
 use Rattle.pb_keeper.specs.Leads.{Leads}
-use Rattle.pb_keeper.specs.Passes.{IsMade}
+use Rattle.pb_keeper.specs.Made.{IsMade}
+use Rattle.pb_keeper.specs.Stops.{IsUnlocked}
 
 -- these changes, each once and in order, each with the drain that follows it
 pub data AreMade (observers : List ObserverOf) : List Writes → List Received → Type 0 where
@@ -26,3 +27,7 @@ OpeningKeepsNone = (observers : List ObserverOf) → Keeps observers [] (opening
 -- all laws of journals hold of what is kept, since a legal journal leads to it
 abbrev pub KeptIsLegal : Type 0
 KeptIsLegal = (observers : List ObserverOf) (changes : List Writes) (state : StateOf) → Keeps observers changes state → (journal : List Entry) × IsLegal observers 1 0 journal state
+
+-- no lock stands in a table that keeps changes
+abbrev pub KeptIsUnlocked : Type 0
+KeptIsUnlocked = (observers : List ObserverOf) (changes : List Writes) (state : StateOf) → Keeps observers changes state → IsUnlocked state

@@ -1,6 +1,7 @@
 use Rattle.std.proofs.Common.{arith, List, [], ◌∷◌, ◌++◌, subst}
 use Rattle.pb_base.specs.Batch.{Writes}
 use Rattle.pb_keeper.specs.Keeps.{Keeps}
+use Rattle.std.proofs.lemmas.Result.{err_from_is_err_and}
 use Rattle.pb_keeper.proofs.Leading.{append_assoc}
 use Rattle.pb_keeper.proofs.passes.make_all.Goals as goal
 
@@ -14,3 +15,8 @@ loop-batch-preserved g c = record {
       subst (λ (l : List Writes). Keeps observers l c.make.new.state) (append_assoc changes c.loop-batch.yielded (c.in-Some.batch ∷ []))
       (c.in_ok-make.ensures.keeps observers (changes ++ c.loop-batch.yielded) (c.loop-batch.invariant.keeps observers changes k));
 }
+
+pub returns-in_err-make-clause-stops : goal.returns-in_err-make-clause-stops
+returns-in_err-make-clause-stops g c observers changes k =
+    let p = err_from_is_err_and c.from_residual.result c.from_residual.ensures.1 in
+    rw (p.1, p.2) (c.in_err-make.ensures.stops observers (changes ++ c.loop-batch.yielded) (c.loop-batch.invariant.keeps observers changes k))

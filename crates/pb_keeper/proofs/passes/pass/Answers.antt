@@ -3,8 +3,9 @@ use Rattle.pb_steps.specs.declared.step.Step.{Step}
 use Rattle.pb_steps.specs.declared.step.Answer.{Answer}
 use Rattle.pb_steps.specs.State.{StateOf}
 use Rattle.pb_steps.specs.Steps.{TableStep}
-use Rattle.pb_keeper.specs.Leads.{Leads}
-use Rattle.pb_keeper.specs.Passes.{IsAny}
+use Rattle.pb_keeper.specs.Leads.{Leads, IsAny}
+use Rattle.std.proofs.lemmas.Result.{err_from_is_err_and}
+use Rattle.pb_keeper.proofs.InTime.{mark_stops, opened_on}
 use Rattle.pb_keeper.proofs.Leading.{leads_observers, leads_one}
 use Rattle.pb_keeper.proofs.PassAlong.{no_walk, no_mark, no_cell_is_marked, walk_on, walk_ends, any_on, on_err}
 use Rattle.pb_keeper.proofs.passes.pass.Goals as goal
@@ -16,7 +17,7 @@ pub returns-in_default : goal.returns-in_default
 returns-in_default g c =
     let none : c.in_ok-next.next ≡ Answer.NoMark = no_mark c.loop-turn.last c.in_ok-next.next c.in_ok-next.ensures.can c.in_default.not-Marked in
     let taken = subst (λ (a : Answer). TableStep c.loop-turn.state 0 (Step.NextMark c.loop-turn.last) a c.ask.new.state) none c.in_ok-next.ensures.taken in
-    record { ok = rw c.is_some.ensures (walk_ends c.args.state.now.observers c.loop-turn.last c.args.state.now c.loop-turn.state c.ask.new.state c.loop-turn.invariant.leads taken); quiet = λ e. no_cell_is_marked c.loop-turn.last c.loop-turn.state c.ask.new.state (sym c.is_some.ensures ∙ e) taken; err = tt }
+    record { ok = rw c.is_some.ensures (walk_ends c.args.state.now.observers c.loop-turn.last c.args.state.now c.loop-turn.state c.ask.new.state c.loop-turn.invariant.leads taken); quiet = λ e. no_cell_is_marked c.loop-turn.last c.loop-turn.state c.ask.new.state (sym c.is_some.ensures ∙ e) taken; err = tt; stops = λ opened. tt }
 
 asked : (a b : StateOf) (step : Step) (answer : Answer) → TableStep a 0 step answer b → b.observers ≡ a.observers
 asked a b step answer taken = leads_observers a b (leads_one a b step answer taken)
@@ -35,3 +36,14 @@ loop-turn-preserved g c =
       leads = walk_on c.args.state.now.observers c.loop-turn.last c.args.state.now c.loop-turn.state c.ask.new.state c.loop-turn.invariant.leads c.in-Marked.cell c.in_ok-next.next c.in-Marked.is c.in_ok-next.ensures.taken c.ask.new.state.observers same c.run_all.new.state c.in_ok-more.ensures.ok;
       same = leads_observers c.ask.new.state c.run_all.new.state c.in_ok-more.ensures.ok ∙ same;
     }
+
+pub returns-in_err-next-clause-stops : goal.returns-in_err-next-clause-stops
+returns-in_err-next-clause-stops g c opened =
+    let p = err_from_is_err_and c.from_residual.result c.from_residual.ensures.1 in
+    rw (p.1, p.2) (mark_stops c.loop-turn.state c.ask.new.state c.loop-turn.last c.in_err-next.field-0.0 (opened_on c.args.state.now c.loop-turn.state opened c.loop-turn.invariant.leads) c.in_err-next.ensures.same c.in_err-next.ensures.why)
+
+pub returns-in_err-more-clause-stops : goal.returns-in_err-more-clause-stops
+returns-in_err-more-clause-stops g c opened =
+    let p = err_from_is_err_and c.from_residual-in_err-more.result c.from_residual-in_err-more.ensures.1 in
+    let before = opened_on c.args.state.now c.loop-turn.state opened c.loop-turn.invariant.leads in
+    rw (p.1, p.2) (c.in_err-more.ensures.stops (opened_on c.loop-turn.state c.ask.new.state before (leads_one c.loop-turn.state c.ask.new.state (Step.NextMark c.loop-turn.last) c.in_ok-next.next c.in_ok-next.ensures.taken)))

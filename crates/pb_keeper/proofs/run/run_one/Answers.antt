@@ -1,4 +1,5 @@
 use Rattle.std.proofs.Common.{Result, Ok, Err, OnErr}
+use Rattle.std.proofs.lemmas.Result.{err_from_is_err_and}
 use Rattle.pb_keeper.specs.Leads.{Leads}
 use Rattle.pb_keeper.specs.Runs.{BeginsRun}
 use Rattle.pb_keeper.proofs.Reaching.{at_start, begins}
@@ -13,3 +14,8 @@ on_err (Err e) P p = p
 
 pub returns-in_err-end-clause-err : goal.returns-in_err-end-clause-err
 returns-in_err-end-clause-err g c = on_err c.from_residual.result (Leads (BeginsRun c.args.job.now) c.args.state.now c.go_on.new.state) (begins c.args.job.now c.go_on.new.job c.args.state.now c.go_on.new.state c.jobs_converse.ensures.converses c.requires (c.go_on.ensures.on c.args.job.now c.args.state.now c.loop-turn.invariant))
+
+pub returns-in_err-end-clause-stops : goal.returns-in_err-end-clause-stops
+returns-in_err-end-clause-stops g c opened is =
+    let p = err_from_is_err_and c.from_residual.result c.from_residual.ensures.1 in
+    rw (p.1, p.2) (c.in_err-end.ensures.stops c.args.job.now c.args.state.now opened is c.loop-turn.invariant)
