@@ -1,0 +1,4 @@
+pub mod Words
+pub mod Seen
+pub mod Records
+pub mod Values

@@ -1,0 +1,21 @@
+//! The texts that answer questions of a table: what a cell holds, what was written since a commit, the report, and whether
+//! it is quiet.
+//!
+//! A table that is kept on a log answers from a `State`, which has entries and marks and no journal. So each answer is
+//! defined by what the entries have, with the words of the report, and the report's lines are those of `pb_script`. It
+//! stands above the state, so that no step knows of texts, and below the program, which reads the questions and prints.
+//! The promise: an answer is exactly what its definition says of the state, whole before the caller has it; refused for
+//! memory, there is none, and the state, which is lent, is as it was. After `put 7 0 2a` alone, `get 7 0` is answered
+//! `value 2a commit 2`, and `quiet?` by `quiet`.
+#![tactic(auto)]
+
+mod get;
+mod lines;
+mod newest;
+mod quiet;
+mod records;
+
+pub use get::answer_get;
+pub use newest::newest_of;
+pub use pb_script::Newest;
+pub use quiet::answer_quiet;
