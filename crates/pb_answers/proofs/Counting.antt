@@ -1,5 +1,5 @@
 -- Marks counted along a walk, and entries that can be counted.
-use Rattle.std.proofs.Common.{◌≡◌, ℕ, ◌+◌, ◌-◌, ◌<◌, ◌≤◌, Bool, true, false, cond, List, Option, Some, None, length, is_some, slice_get, sym, ap, ◌∙◌, arith}
+use Rattle.std.proofs.Common.{◌≡◌, ℕ, ◌+◌, ◌-◌, ◌<◌, ◌≤◌, Bool, true, false, cond, Option, Some, is_some, slice_get, sym, ap, ◌∙◌, arith}
 use Rattle.std.specs.FinMap as map
 use Rattle.pb_answers.specs.Words.{Cell, cell_cmp_total, Entries, Marks, IsNextMark}
 use Rattle.pb_base.proofs.Logic.{none_is, none_past}

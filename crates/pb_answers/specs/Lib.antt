@@ -1,4 +1,5 @@
 pub mod Words
 pub mod Seen
-pub mod Records
 pub mod Values
+pub mod Writes
+pub mod Records

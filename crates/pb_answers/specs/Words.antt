@@ -2,7 +2,6 @@
 pub use Rattle.pb_base.specs.Cell.{cell_cmp, cell_cmp-IsAntisymmetric, cell_cmp_total, is_data}
 pub use Rattle.pb_base.specs.declared.cell.Cell.{Cell}
 pub use Rattle.pb_base.specs.declared.content.Content.{Content}
-pub use Rattle.pb_base.specs.declared.names.Row.{Row}
 pub use Rattle.pb_base.specs.declared.names.Ts.{Ts}
 pub use Rattle.pb_base.specs.declared.refusal.NoMemory.{NoMemory}
 pub use Rattle.pb_verify.specs.Observers.{ObserverOf}
@@ -11,9 +10,9 @@ pub use Rattle.pb_store.specs.Slot.{slot_cmp, slot_cmp-IsAntisymmetric, slot_cmp
 pub use Rattle.pb_store.specs.declared.slot.Item.{Item}
 pub use Rattle.pb_store.specs.declared.slot.Slot.{Slot}
 pub use Rattle.pb_store.specs.declared.slot.Sort.{Sort}
-pub use Rattle.pb_steps.specs.Readings.{data_at, data_of, lock_count, start_of, write_at}
+pub use Rattle.pb_steps.specs.Readings.{data_at, lock_count, start_of, write_at}
 pub use Rattle.pb_steps.specs.State.{StateOf}
-pub use Rattle.pb_script.specs.ReportLines.{Tallies, cell_line, last_line, trimmed}
-pub use Rattle.pb_script.specs.Reports.{AreNewest, IsNewestPut, IsReport, IsReportOf, IsTold, newest_in}
+pub use Rattle.pb_script.specs.ReportLines.{Tallies, cell_line, trimmed}
+pub use Rattle.pb_script.specs.Reports.{AreNewest, IsNewestPut, IsReport, IsReportOf, IsTold}
 pub use Rattle.pb_script.specs.declared.reports.lines.Newest.{Newest}
 pub use Rattle.pb_script.specs.declared.reports.newest.Put.{Put}

@@ -14,8 +14,10 @@ mod lines;
 mod newest;
 mod quiet;
 mod records;
+mod writes;
 
 pub use get::answer_get;
 pub use newest::newest_of;
 pub use pb_script::Newest;
 pub use quiet::answer_quiet;
+pub use writes::answer_since;

@@ -9,8 +9,8 @@ use pb_script::Newest;
 use pb_state::State;
 use pb_store::{Item, Sort, Table, Tablet};
 
-// The newest write of the cell with a commit at most this one. Data stand beside each write record of a state, but its
-// type doesn't say so to callers: a record without them would be passed over, as it tells of no content.
+// The newest write of the cell with a commit at most this one. In every state a write record has its data, but callers of
+// `State` don't know that: a record without them is passed over, since it leaves no content.
 fn newest_up_to<T: Tablet>(table: &Table<T>, cell: &Cell, last: Ts) -> Option<Newest>
     ensures { IsSeenIn table.now.contents.entries last.0 cell.now result }
 {

@@ -1,7 +1,7 @@
-use Rattle.std.proofs.Common.{◌≡◌, ◌+◌, ◌<◌, ◌-◌, Some, sym, ap, ◌∙◌, subst, arith}
+use Rattle.std.proofs.Common.{sym, ap, ◌∙◌, arith}
 use Rattle.std.specs.FinMap as map
-use Rattle.pb_answers.specs.Words.{cell_cmp, Marks}
-use Rattle.pb_store.proofs.Copied.{marks_up_to, no_marks_yet, all_marks_of}
+use Rattle.pb_answers.specs.Words.{cell_cmp}
+use Rattle.pb_store.proofs.Copied.{no_marks_yet, all_marks_of}
 use Rattle.pb_answers.proofs.Counting.{one_counted, one_less_left}
 use Rattle.pb_answers.proofs.quiet.count_marks.Goals as goal
 
