@@ -3,3 +3,4 @@ pub mod Seen
 pub mod Values
 pub mod Writes
 pub mod Records
+pub mod Lists

@@ -11,12 +11,15 @@
 
 mod get;
 mod lines;
+mod list;
 mod newest;
 mod quiet;
 mod records;
+mod runs;
 mod writes;
 
 pub use get::answer_get;
+pub use list::answer_list;
 pub use newest::newest_of;
 pub use pb_script::Newest;
 pub use quiet::answer_quiet;

@@ -1,0 +1,30 @@
+use Rattle.std.proofs.Common.{◌≡◌, [], ◌∙◌, List, sym, subst, Some}
+use Rattle.std.specs.FinMap as map
+use Rattle.pb_answers.specs.Words.{Slot, Item, entries_after}
+use Rattle.pb_answers.specs.Records.{HasNewestUpTo}
+use Rattle.pb_answers.proofs.Walks.{opened, shorter, ended, stands_there}
+use Rattle.pb_answers.proofs.Newests.{none_noted}
+use Rattle.pb_answers.proofs.list.newest_cells.Goals as goal
+
+pub loop-slot-init : goal.loop-slot-init
+loop-slot-init g c = none_noted c.args.table.now.contents.entries c.args.last.0 c.new-newest.result c.new-newest.ensures.empty c.new-newest.ensures.ordered
+
+pub loop-slot-smaller : goal.loop-slot-smaller
+loop-slot-smaller g c =
+    let es = map.entries c.args.table.now.contents.entries in
+    shorter (entries_after c.loop-slot.after es) _ (c.in-Some.slot, c.in-Some.item) (opened _ _ _ (sym c.in-Some.is ∙ c.next_entry.ensures.entry) c.in-Some.ensures.rest)
+
+pub loop-slot-preserved : goal.loop-slot-preserved
+loop-slot-preserved g c =
+    let e = c.args.table.now.contents.entries in
+    let x : Slot × Item = (c.in-Some.slot, c.in-Some.item) in
+    let first : Some x ≡ _ = sym c.in-Some.is ∙ c.next_entry.ensures.entry in
+    let left = entries_after (Some c.in-Some.slot) (map.entries e) in
+    c.in_ok-note_newest.ensures (stands_there e c.loop-slot.after x first) left
+    (subst (λ (xs : List (Slot × Item)). HasNewestUpTo e c.args.last.0 xs c.loop-slot.newest) (opened (entries_after c.loop-slot.after (map.entries e)) left x first c.in-Some.ensures.rest) c.loop-slot.invariant)
+
+pub returns : goal.returns
+returns g c =
+    let e = c.args.table.now.contents.entries in
+    let none : entries_after c.loop-slot.after (map.entries e) ≡ [] = ended _ (sym c.in_default.is ∙ c.next_entry.ensures.entry) in
+    subst (λ (xs : List (Slot × Item)). HasNewestUpTo e c.args.last.0 xs c.loop-slot.newest) none c.loop-slot.invariant
