@@ -4,3 +4,4 @@ pub mod Values
 pub mod Writes
 pub mod Records
 pub mod Lists
+pub mod SeenHistory
