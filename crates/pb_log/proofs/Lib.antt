@@ -1,0 +1,5 @@
+pub mod Bodies
+pub mod Blocks
+pub mod OneReading
+pub mod TornBlocks
+pub mod ReadableFiles

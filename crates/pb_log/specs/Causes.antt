@@ -1,0 +1,59 @@
+-- Why a call of a log may fail.
+use Rattle.std.specs.Prelude.{◌≡◌, ℕ, ◌≤◌, ◌<◌, ◌^◌, List, ◌∷◌, length}
+use Rattle.sqlite_disk.specs.Disk.{MoreFaults}
+use Rattle.pb_log.specs.declared.fault.LogFault.{LogFault}
+use Rattle.pb_log.specs.declared.fault.LogFault.TheVariants.{NoMemory, Disk, Full, Damaged, OtherManifest, NewerVersion, NoHeader}
+use Rattle.pb_log.specs.Records.{blocks, IsLog, IsReadable}
+use Rattle.pb_log.specs.Header.{WhyNotOurs}
+
+-- the call did nothing
+abbrev pub IsNotBegun : LogFault → Type 0
+IsNotBegun (NoMemory n) = Unit {0}
+IsNotBegun Full = Unit {0}
+IsNotBegun _ = ⊥
+
+-- what the file holds is the cause
+abbrev pub IsOfTheFile : LogFault → Type 0
+IsOfTheFile (Damaged at) = Unit {0}
+IsOfTheFile OtherManifest = Unit {0}
+IsOfTheFile NewerVersion = Unit {0}
+IsOfTheFile NoHeader = Unit {0}
+IsOfTheFile _ = ⊥
+
+-- a growth was refused, or the disk failed
+abbrev pub WhyNotRead : ℕ → ℕ → LogFault → Type 0
+WhyNotRead old new (NoMemory n) = Unit {0}
+WhyNotRead old new (Disk e) = MoreFaults old new
+WhyNotRead old new _ = ⊥
+
+-- the same, or the log has 2^62 bytes
+abbrev pub WhyNotPut : ℕ → ℕ → ℕ → LogFault → Type 0
+WhyNotPut old new end (NoMemory n) = Unit {0}
+WhyNotPut old new end (Disk e) = MoreFaults old new
+WhyNotPut old new end Full = 2 ^ 62 ≤ end
+WhyNotPut old new end _ = ⊥
+
+-- no file that a put leaves is damaged, and the place is where the records end
+pub record IsDamaged (file : List ℕ) (at : ℕ) : Type 0 where
+  pub unreadable : (rs : List (List ℕ)) → IsReadable file rs → ⊥
+  pub place : (rs : List (List ℕ)) → IsLog file rs → at ≡ length (blocks 0 rs)
+
+abbrev pub WhyNotRecovered : ℕ → ℕ → List ℕ → LogFault → Type 0
+WhyNotRecovered old new file (NoMemory n) = Unit {0}
+WhyNotRecovered old new file (Disk e) = MoreFaults old new
+WhyNotRecovered old new file (Damaged at) = IsDamaged file at
+WhyNotRecovered old new file _ = ⊥
+
+-- the first record isn't the header
+pub record HasOther (manifest file : List ℕ) (e : LogFault) : Type 0 where
+  pub first : List ℕ
+  pub others : List (List ℕ)
+  pub is : IsLog file (first ∷ others)
+  pub why : WhyNotOurs manifest first e
+
+abbrev pub WhyNotOpened : List ℕ → ℕ → ℕ → List ℕ → LogFault → Type 0
+WhyNotOpened manifest old new file (NoMemory n) = Unit {0}
+WhyNotOpened manifest old new file (Disk e) = MoreFaults old new
+WhyNotOpened manifest old new file Full = ⊥
+WhyNotOpened manifest old new file (Damaged at) = IsDamaged file at
+WhyNotOpened manifest old new file e = HasOther manifest file e

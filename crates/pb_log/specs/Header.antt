@@ -1,0 +1,28 @@
+-- The first record of a log, which names its version and has its manifest.
+use Rattle.std.specs.Prelude.{◌≡◌, ◌≢◌, ◌⊎◌, ℕ, List, [], ◌∷◌, ◌++◌, codes}
+use Rattle.pb_log.specs.declared.fault.LogFault.{LogFault}
+use Rattle.pb_log.specs.declared.fault.LogFault.TheVariants.{NoMemory, Disk, Full, Damaged, OtherManifest, NewerVersion, NoHeader}
+use Rattle.pb_log.specs.Records.{IsLog}
+
+-- how the header of each version begins
+abbrev pub magic : List ℕ
+magic = codes "percobpf log "
+
+-- version 1, and the end of its line
+abbrev pub version : List ℕ
+version = 49 ∷ 10 ∷ []
+
+-- the header of a log of this manifest
+abbrev pub header : List ℕ → List ℕ
+header manifest = magic ++ version ++ manifest
+
+-- The file's records are the header and these. One without a record is a log of none.
+abbrev pub HasRecords : List ℕ → List (List ℕ) → List ℕ → Type 0
+HasRecords manifest rs file = IsLog file (header manifest ∷ rs) ⊎ ((rs ≡ []) × IsLog file [])
+
+-- why a record isn't the header of a log of this manifest
+abbrev pub WhyNotOurs : List ℕ → List ℕ → LogFault → Type 0
+WhyNotOurs manifest first NoHeader = (rest : List ℕ) → first ≢ magic ++ rest
+WhyNotOurs manifest first NewerVersion = (rest : List ℕ) × (first ≡ magic ++ rest) × ((own : List ℕ) → rest ≢ version ++ own)
+WhyNotOurs manifest first OtherManifest = (own : List ℕ) × (first ≡ header own) × (own ≢ manifest)
+WhyNotOurs manifest first _ = ⊥

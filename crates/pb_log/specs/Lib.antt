@@ -1,0 +1,4 @@
+pub mod Records
+pub mod Header
+pub mod Causes
+pub mod Laws

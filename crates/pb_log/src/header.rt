@@ -1,0 +1,33 @@
+//! The first record of a log.
+ghost use Rattle.std.specs.Prelude.{◌≡◌, ◌+◌, ◌<◌, ◌^◌, length, IfOk, OnOk, IfErr};
+ghost use Rattle.pb_log.specs.Header.{header, WhyNotOurs};
+
+use crate::fault::LogFault;
+use std::alloc::{AllocError, Global};
+
+// The header of a log of this manifest.
+pub fn header_of(alloc: Global, manifest: &[u8]) -> Result<Vec<u8>, AllocError>
+    ensures { IfOk result (λ v. v.items ≡ header manifest.now) }
+{
+    let mut bytes = Vec::new(alloc);
+    bytes.extend_from_slice(b"percobpf log 1\n")?;
+    bytes.extend_from_slice(manifest)?;
+    Ok(bytes)
+}
+
+// Whether the first record is the header of a log of this manifest, and what it is if not.
+pub fn compare_header(first: &[u8], manifest: &[u8]) -> Result<(), LogFault>
+    ensures ok { OnOk result (first.now ≡ header manifest.now) }
+    ensures err { IfErr result (WhyNotOurs manifest.now first.now) }
+{
+    let Some(rest) = first.strip_prefix(b"percobpf log ") else {
+        return Err(LogFault::NoHeader);
+    };
+    let Some(own) = rest.strip_prefix(b"1\n") else {
+        return Err(LogFault::NewerVersion);
+    };
+    if own != manifest {
+        return Err(LogFault::OtherManifest);
+    }
+    Ok(())
+}

@@ -1,0 +1,12 @@
+//! What holds of all logs.
+ghost use Rattle.pb_log.specs.Laws.{FilesHaveOneReading, TurnedGatesShow};
+
+/// Any bytes of a file stand for one list of records.
+pub fn files_have_one_reading()
+    ensures { FilesHaveOneReading }
+{}
+
+/// A log in which the gate of any record but the last is closed isn't readable, so that `recover` reports damage.
+pub fn turned_gates_show()
+    ensures { TurnedGatesShow }
+{}
