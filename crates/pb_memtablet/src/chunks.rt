@@ -43,6 +43,7 @@ fn does_start_by<K: Ord, V>(entries: &[(K, V)], key: &K) -> bool
 }
 
 // Whether the chunk after a place, if there is one, starts above the key.
+#[inline(always)]
 fn is_below_next<K: Ord, V>(chunks: &[Chunk<K, V>], key: &K, place: usize) -> bool
     requires chunks { AreChunks K.cmp chunks.now }
     requires within { place < length chunks.now }
@@ -56,6 +57,7 @@ fn is_below_next<K: Ord, V>(chunks: &[Chunk<K, V>], key: &K, place: usize) -> bo
 
 // Whether the key stands in the chunk at a place, or would stand there: the chunk starts by it, and the next one doesn't.
 // The first chunk isn't asked, since a key below all belongs there too.
+#[inline(always)]
 fn is_home<K: Ord, V>(chunks: &[Chunk<K, V>], key: &K, place: usize) -> bool
     requires { AreChunks K.cmp chunks.now }
     ensures home { result ≡ true → IsHome K.cmp chunks.now key.now place }
@@ -72,6 +74,7 @@ fn is_home<K: Ord, V>(chunks: &[Chunk<K, V>], key: &K, place: usize) -> bool
 }
 
 // The place of the chunk where the key stands, or would stand. A place that is likely is tried first.
+#[inline(always)]
 fn home_of<K: Ord, V>(chunks: &[Chunk<K, V>], key: &K, likely: usize) -> usize
     requires chunks { AreChunks K.cmp chunks.now }
     requires some { 0 < length chunks.now }
@@ -87,6 +90,7 @@ fn home_of<K: Ord, V>(chunks: &[Chunk<K, V>], key: &K, likely: usize) -> usize
 }
 
 // The place of the chunk where the key stands, or would stand, noted as the next likely one.
+#[inline(always)]
 fn noted_home<K: Ord, V>(chunks: &[Chunk<K, V>], key: &K, likely: &Cell<usize>) -> usize
     requires chunks { AreChunks K.cmp chunks.now }
     requires some { 0 < length chunks.now }
