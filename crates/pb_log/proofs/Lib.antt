@@ -3,3 +3,4 @@ pub mod Blocks
 pub mod OneReading
 pub mod TornBlocks
 pub mod ReadableFiles
+pub mod OpenedFiles

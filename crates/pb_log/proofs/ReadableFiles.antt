@@ -63,12 +63,6 @@ sound_is_log f rs s = record {
   short = s.short;
 }
 
-pub readable_is_log : (f : List ℕ) (rs : List (List ℕ)) → IsReadable f rs → IsLog f rs
-readable_is_log f rs readable = elim readable [
-  | inl sound ↦ sound_is_log f rs sound
-  | inr new ↦ subst (λ (l : List (List ℕ)). IsLog f l) (sym new.1) (new_is_log f new.0)
-]
-
 pub sound_at_rest : (f : List ℕ) (rs : List (List ℕ)) (end : ℕ) (may_leave : List ℕ → Type 0) → IsSound f rs → end ≡ length (blocks 0 rs) → Only f may_leave → IsAtRest f may_leave end rs
 sound_at_rest f rs end may_leave s ends_at only = record {
   torn = s.shut.torn;

@@ -6,7 +6,7 @@ pub fn files_have_one_reading()
     ensures { FilesHaveOneReading }
 {}
 
-/// A log in which the gate of any record but the last is closed isn't readable, so that `recover` reports damage.
+/// A log in which the gate of any record but the last is closed isn't readable, so that `Log::open` reports damage.
 pub fn turned_gates_show()
     ensures { TurnedGatesShow }
 {}

@@ -6,13 +6,15 @@
 //! where it begins, shows damage. The contracts promise that a file stands for one list of records. They promise that a crash
 //! at any moment of a call leaves the records of before, with the new one or without it. They also promise that a file that
 //! is damaged is reported, with the place, and that each fault has a cause: a failed call of the disk, a refused growth, or
-//! what the file holds.
+//! what the file holds. The first record is the header, with the version of the log and the manifest, byte by byte. So a log
+//! of the manifest `{}` begins with the byte `0xa5`, and its first record is `percobpf log 1`, a line feed and `{}`.
 #![tactic(auto)]
 
 mod fault;
 mod header;
 mod laws;
 mod log;
+mod opening;
 mod reading;
 mod recovery;
 
@@ -20,4 +22,3 @@ pub use fault::LogFault;
 pub use laws::{files_have_one_reading, turned_gates_show};
 pub use log::Log;
 pub use reading::read_records;
-pub use recovery::recover;

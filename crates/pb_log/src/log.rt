@@ -32,7 +32,7 @@ fn after_gate(alloc: Global, at: usize, item: &[u8]) -> Result<Vec<u8>, AllocErr
 }
 
 impl<D: Disk> Log<D> {
-    /// A log over a disk, before `recover` has found where its records end.
+    /// A log over a disk, which isn't opened yet: `open` finds where its records end.
     pub fn new(disk: D) -> Log<D>
         ensures { result.disk ≡ disk }
     {

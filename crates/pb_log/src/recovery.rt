@@ -1,5 +1,5 @@
 //! The records of a disk that a crash may have left.
-ghost use Rattle.std.specs.Prelude.{◌≡◌, ℕ, List, map, IfOk, OnOk, IfErr, IsTrue};
+ghost use Rattle.std.specs.Prelude.{◌≡◌, ◌<◌, ℕ, List, map, vec_len, IfOk, OnOk, IfErr, IsTrue};
 ghost use Rattle.sqlite_disk.specs.Disk.{Only};
 ghost use Rattle.pb_log.specs.Records.{IsLog, IsAtRest, IsReadable};
 ghost use Rattle.pb_log.specs.Causes.{WhyNotRead, WhyNotRecovered, IsOfTheFile};
@@ -48,6 +48,7 @@ pub fn recover<D: Disk>(alloc: Global, disk: &mut D) -> Result<(Vec<Vec<u8>>, us
     ensures cause { IfErr result (λ e. IsTrue (D.is_clean disk.new)
         → WhyNotRecovered (D.faults disk.old) (D.faults disk.new) (D.seen disk.old) e) }
     ensures kept { IfErr result (λ e. IsOfTheFile e → D.seen disk.new ≡ D.seen disk.old) }
+    ensures read_alone { IfOk result (λ r. 0 < vec_len r.0 → D.seen disk.new ≡ D.seen disk.old) }
     ensures faultless { OnOk result (D.faults disk.new ≡ D.faults disk.old) }
 {
     let bytes = read_all(alloc, disk)?;
