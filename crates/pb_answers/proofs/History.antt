@@ -9,7 +9,7 @@ use Rattle.pb_history.specs.Sound.{IsSoundTable, KeepsData}
 use Rattle.pb_history.specs.TableView.{declared_by}
 use Rattle.pb_history.specs.declared.entry.Entry.{Entry}
 use Rattle.pb_steps.specs.State.{TransactionOf}
-use Rattle.pb_script.specs.Committed.{IsSeenAt}
+use Rattle.pb_script.specs.Committed.{IsSeenAt, IsWrite}
 use Rattle.pb_answers.specs.Words.{Cell, Content, Newest, NoLock, StateOf, data_at, lock_at, write_at}
 use Rattle.pb_answers.specs.Seen.{written_at, IsSeenIn}
 
@@ -79,3 +79,15 @@ module _ (journal : List Entry) (state : StateOf) (sound : IsSoundTable state) (
           greatest = λ m k i w le. at_most s n.commit.0 m x k i w le h.2;
         },
       )
+
+  -- what the entries have of a commit was written by a committed transaction
+  pub is_write : (x : Cell) (c : ℕ) (k : Content) → written_at state.entries x c ≡ Some k → IsWrite state.observers journal x c k
+  is_write x c k h =
+      let start = named (data_at state.entries x) (write_at state.entries x c) k h in
+      let it = records.written x c start.0 start.1 in
+      let content : it.content ≡ k = same_content (written_at state.entries x c) it.content k (ap (written_at state.entries x) (sym it.commit_is) ∙ recorded it.m x it.content it.in_history it.writes) h in
+      record { m = it.m; in_history = it.in_history; commit_is = it.commit_is; writes = subst (WritesTo it.m x) content it.writes }
+
+  -- and they have what such a transaction wrote
+  pub is_written : (x : Cell) (c : ℕ) (k : Content) → IsWrite state.observers journal x c k → written_at state.entries x c ≡ Some k
+  is_written x c k w = ap (written_at state.entries x) (sym w.commit_is) ∙ recorded w.m x k w.in_history w.writes
