@@ -49,11 +49,11 @@ use Rattle.pb_notify.proofs.OwnSteps.{declares_in_time, goes_in_time, no_transac
 use Rattle.pb_notify.proofs.PlanEntries.{has_said}
 use Rattle.pb_notify.proofs.PlanSteps.{declaring_said_nothing, plan_step, plan_keeps}
 use Rattle.pb_notify.proofs.RecordedReads.{after, after_is}
-use Rattle.pb_keeper.specs.Leads.{Leads, IsAny, GoesOn}
-use Rattle.pb_keeper.specs.Runs.{RunsOn}
+use Rattle.pb_keeper.specs.Leads.{SaidLeads, IsAny, ChangedSoFar}
+use Rattle.pb_keeper.specs.Runs.{RanSoFar}
 use Rattle.pb_passes.specs.Passes.{HasColumn, IsJobOn}
 use Rattle.pb_keeper.specs.declared.change.Stopped.{Stopped}
-use Rattle.pb_keeper.specs.Stops.{IsOpened, IsRefusal, IsStop, IsJobOf}
+use Rattle.pb_keeper.specs.Stops.{WasOpened, IsLeftFor, IsStop, IsKnownJob}
 use Rattle.pb_keeper.proofs.Leading.{leads_on, leads_observers}
 
 -- ---- what no step changes
@@ -84,9 +84,9 @@ record SaidSince (P : List Received → Type 0) (state : StateOf) : Type 0 where
   pub observers_are : state.observers ≡ observers
   pub seated : 0 < state.seats
 
-said_since : {P : List Received → Type 0} (start state : StateOf) → IsOpened start → Leads P start state → SaidSince P state
+said_since : {P : List Received → Type 0} (start state : StateOf) → WasOpened start → SaidLeads P start state → SaidSince P state
 said_since {P} start state opened g =
-    let both : Leads (λ said. said ≡ opened.1.said ++ g.said) (opening opened.0 1 0) state = leads_on {P = λ said. said ≡ opened.1.said} {Q = λ said. said ≡ g.said} (opening opened.0 1 0) start state (record { said = opened.1.said; form = refl; leads = opened.1.leads }) (record { said = g.said; form = refl; leads = g.leads }) (λ a b p q. λ i. p i ++ q i) in
+    let both : SaidLeads (λ said. said ≡ opened.1.said ++ g.said) (opening opened.0 1 0) state = leads_on {P = λ said. said ≡ opened.1.said} {Q = λ said. said ≡ g.said} (opening opened.0 1 0) start state (record { said = opened.1.said; form = refl; leads = opened.1.leads }) (record { said = g.said; form = refl; leads = g.leads }) (λ a b p q. λ i. p i ++ q i) in
     record {
       observers = opened.0;
       before = opened.1.said;
@@ -147,12 +147,12 @@ at_last state step why e is = (is, out_is_last state 0 step (subst (λ w. step_r
 
 -- ---- a mark
 
-pub mark_in_time : (state : StateOf) (x : Option Cell) (why : Reason) → IsOpened state → step_reason state 0 (Step.NextMark x) ≡ Some why → ⊥
+pub mark_in_time : (state : StateOf) (x : Option Cell) (why : Reason) → WasOpened state → step_reason state 0 (Step.NextMark x) ≡ Some why → ⊥
 mark_in_time state x why opened e = no_transaction state 0 why (said_since {P = IsAny} state state opened (record { said = []; form = tt; leads = refl })).seated e
 
 -- ---- a run
 
-pub run_in_time : RunsAreKept → JobsAreAllowed → (first job : RunOf) (start state : StateOf) (step : Step) (why : Reason) → IsOpened start → IsJobOf start.observers first → RunsOn first job start state → next_of job ≡ Some step → step_reason state 0 step ≡ Some why → IsOutAt why state
+pub run_in_time : RunsAreKept → JobsAreAllowed → (first job : RunOf) (start state : StateOf) (step : Step) (why : Reason) → WasOpened start → IsKnownJob start.observers first → RanSoFar first job start state → next_of job ≡ Some step → step_reason state 0 step ≡ Some why → IsOutAt why state
 run_in_time kept allowed first job start state step why opened is so_far next refused =
     let since = said_since start state opened so_far in
     let has = kept since.observers 1 0 (entries_by 0 (since.before ++ since.said)) state since.legal 0 is.n is.row since.before since.said (entries_back (since.before ++ since.said)) in
@@ -263,33 +263,33 @@ module _ (allowed : PlansAreAllowed) (told_by : TransactionsAreTold) (state : St
       let b = answered_has_begun batch r rest job talk in
       plan_in_time observers batch before rest b.s b.plan b.said (subst (λ (z : Received). IsLegal observers 1 0 (entries_by 0 (before ++ z ∷ rest)) state) b.first legal) seated (ap change_next (sym b.q_is) ∙ next)
 
-  pub change_in_time : (start : StateOf) (batch : Writes) (job : ChangeOf) → IsOpened start → GoesOn batch job start state → change_next job ≡ Some step → IsOutAt why state
+  pub change_in_time : (start : StateOf) (batch : Writes) (job : ChangeOf) → WasOpened start → ChangedSoFar batch job start state → change_next job ≡ Some step → IsOutAt why state
   change_in_time start batch job opened so_far next =
       let since = said_since start state opened so_far in
       at_last state step why refused (by_said since.observers batch since.before since.said job since.legal since.seated since.form next)
 
 -- ---- so it stops for nothing else
 
-pub opened_on : {P : List Received → Type 0} (a b : StateOf) → IsOpened a → Leads P a b → IsOpened b
+pub opened_on : {P : List Received → Type 0} (a b : StateOf) → WasOpened a → SaidLeads P a b → WasOpened b
 opened_on a b opened g = (opened.0, leads_on (opening opened.0 1 0) a b opened.1 g (λ said more p q. tt))
 
 -- a step that was refused has changed nothing
-stops_by : (state new : StateOf) (step : Step) (e : Stopped) → new ≡ state → IsRefusal state step e → ((why : Reason) → step_reason state 0 step ≡ Some why → IsOutAt why state) → IsStop e new
+stops_by : (state new : StateOf) (step : Step) (e : Stopped) → new ≡ state → IsLeftFor state step e → ((why : Reason) → step_reason state 0 step ≡ Some why → IsOutAt why state) → IsStop e new
 stops_by state new step (Stopped.NoMemory n) same is out = tt
 stops_by state new step (Stopped.Refused why) same is out = subst (IsOutAt why) (sym same) (out why is)
 stops_by state new step Stopped.Conflict same is out = absurd is
 
-pub mark_stops : (state new : StateOf) (x : Option Cell) (e : Stopped) → IsOpened state → new ≡ state → IsRefusal state (Step.NextMark x) e → IsStop e new
+pub mark_stops : (state new : StateOf) (x : Option Cell) (e : Stopped) → WasOpened state → new ≡ state → IsLeftFor state (Step.NextMark x) e → IsStop e new
 mark_stops state new x e opened same is = stops_by state new (Step.NextMark x) e same is (λ why refused. absurd (mark_in_time state x why opened refused))
 
-pub run_stops : RunsAreKept → JobsAreAllowed → (first job : RunOf) (start state new : StateOf) (step : Step) (e : Stopped) → IsOpened start → IsJobOf start.observers first → RunsOn first job start state → next_of job ≡ Some step → new ≡ state → IsRefusal state step e → IsStop e new
+pub run_stops : RunsAreKept → JobsAreAllowed → (first job : RunOf) (start state new : StateOf) (step : Step) (e : Stopped) → WasOpened start → IsKnownJob start.observers first → RanSoFar first job start state → next_of job ≡ Some step → new ≡ state → IsLeftFor state step e → IsStop e new
 run_stops kept allowed first job start state new step e opened is so_far next same refusal = stops_by state new step e same refusal (λ why refused. run_in_time kept allowed first job start state step why opened is so_far next refused)
 
-pub change_stops : PlansAreAllowed → TransactionsAreTold → (batch : Writes) (job : ChangeOf) (start state new : StateOf) (step : Step) (e : Stopped) → IsOpened start → GoesOn batch job start state → change_next job ≡ Some step → new ≡ state → IsRefusal state step e → IsStop e new
+pub change_stops : PlansAreAllowed → TransactionsAreTold → (batch : Writes) (job : ChangeOf) (start state new : StateOf) (step : Step) (e : Stopped) → WasOpened start → ChangedSoFar batch job start state → change_next job ≡ Some step → new ≡ state → IsLeftFor state step e → IsStop e new
 change_stops allowed told_by batch job start state new step e opened so_far next same refusal = stops_by state new step e same refusal (λ why refused. change_in_time allowed told_by state step why refused start batch job opened so_far next)
 
 -- the job of an observer on a cell of its column
-pub job_is_of : (observers : List ObserverOf) (n : ℕ) (x : Cell) (job : RunOf) → (row_of x).0 < 2 ^ 64 → column_of x < 2 ^ 64 → HasColumn observers n x → IsJobOn observers n x job → IsJobOf observers job
+pub job_is_of : (observers : List ObserverOf) (n : ℕ) (x : Cell) (job : RunOf) → (row_of x).0 < 2 ^ 64 → column_of x < 2 ^ 64 → HasColumn observers n x → IsJobOn observers n x job → IsKnownJob observers job
 job_is_of observers n x job row column known on =
     let same : known.0 ≡ on.o = one_value (slice_get observers n) known.0 on.o known.1.there on.there in
     record {

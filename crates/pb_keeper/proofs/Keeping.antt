@@ -5,16 +5,16 @@ use Rattle.pb_base.specs.declared.names.Ts.{Ts}
 use Rattle.pb_verify.specs.Observers.{ObserverOf}
 use Rattle.pb_steps.specs.State.{StateOf, opening}
 use Rattle.pb_notify.specs.Allowed.{entries_by}
-use Rattle.pb_keeper.specs.Leads.{Leads}
+use Rattle.pb_keeper.specs.Leads.{SaidLeads}
 use Rattle.pb_keeper.specs.Made.{IsMade}
 use Rattle.pb_keeper.specs.Keeps.{none, one_more, Keeps, OpeningKeepsNone, KeptIsLegal}
 use Rattle.pb_keeper.proofs.Leading.{leads_none, leads_on, leads_observers}
 
 -- one more change
-pub kept_on : (observers : List ObserverOf) (changes : List Writes) (batch : Writes) (commit : Ts) (old new : StateOf) → Keeps observers changes old → Leads (IsMade old.observers batch commit) old new → Keeps observers (changes ++ batch ∷ []) new
+pub kept_on : (observers : List ObserverOf) (changes : List Writes) (batch : Writes) (commit : Ts) (old new : StateOf) → Keeps observers changes old → SaidLeads (IsMade old.observers batch commit) old new → Keeps observers (changes ++ batch ∷ []) new
 kept_on observers changes batch commit old new k h =
     let same : old.observers ≡ observers = leads_observers (opening observers 1 0) old k in
-    leads_on (opening observers 1 0) old new k (subst (λ (l : List ObserverOf). Leads (IsMade l batch commit) old new) same h) (λ said more p q. one_more changes said more batch commit p q)
+    leads_on (opening observers 1 0) old new k (subst (λ (l : List ObserverOf). SaidLeads (IsMade l batch commit) old new) same h) (λ said more p q. one_more changes said more batch commit p q)
 
 pub opening_keeps_none : OpeningKeepsNone
 opening_keeps_none observers = leads_none (opening observers 1 0) none

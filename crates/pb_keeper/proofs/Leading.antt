@@ -9,7 +9,7 @@ use Rattle.pb_history.specs.declared.entry.Received.{Received}
 use Rattle.pb_history.specs.Journals.{JournalLeads}
 use Rattle.pb_txn.specs.Conversations.{told}
 use Rattle.pb_notify.specs.Allowed.{entries_by}
-use Rattle.pb_keeper.specs.Leads.{Leads}
+use Rattle.pb_keeper.specs.Leads.{SaidLeads}
 
 pub append_assoc : {A : Type 0} (xs ys zs : List A) → (xs ++ ys) ++ zs ≡ xs ++ (ys ++ zs)
 append_assoc [] ys zs = refl
@@ -35,19 +35,19 @@ journal_observers old [] new r = ap (λ (z : StateOf). z.observers) r
 journal_observers old (e ∷ es) new r = journal_observers r.0 es new r.2 ∙ case_observers old e.seat r.0 e.step e.answer r.1.taken
 
 -- no step changes the observers
-pub leads_observers : {P : List Received → Type 0} (a b : StateOf) → Leads P a b → b.observers ≡ a.observers
+pub leads_observers : {P : List Received → Type 0} (a b : StateOf) → SaidLeads P a b → b.observers ≡ a.observers
 leads_observers a b g = journal_observers a (entries_by 0 g.said) b g.leads
 
 -- nothing was said
-pub leads_none : {P : List Received → Type 0} (a : StateOf) → P [] → Leads P a a
+pub leads_none : {P : List Received → Type 0} (a : StateOf) → P [] → SaidLeads P a a
 leads_none a is = record { said = []; form = is; leads = refl }
 
 -- what was said may be said in other words
-pub leads_as : {P R : List Received → Type 0} (a b : StateOf) → ((said : List Received) → P said → R said) → Leads P a b → Leads R a b
+pub leads_as : {P R : List Received → Type 0} (a b : StateOf) → ((said : List Received) → P said → R said) → SaidLeads P a b → SaidLeads R a b
 leads_as a b h g = record { said = g.said; form = h g.said g.form; leads = g.leads }
 
 -- one part, and then another
-pub leads_on : {P Q R : List Received → Type 0} (a b c : StateOf) → Leads P a b → Leads Q b c → ((said more : List Received) → P said → Q more → R (said ++ more)) → Leads R a c
+pub leads_on : {P Q R : List Received → Type 0} (a b c : StateOf) → SaidLeads P a b → SaidLeads Q b c → ((said more : List Received) → P said → Q more → R (said ++ more)) → SaidLeads R a c
 leads_on a b c g h join = record {
   said = g.said ++ h.said;
   form = join g.said h.said g.form h.form;
@@ -55,5 +55,5 @@ leads_on a b c g h join = record {
 }
 
 -- one answer
-pub leads_one : (a b : StateOf) (step : Step) (answer : Answer) → TableStep a 0 step answer b → Leads (λ said. said ≡ told step answer ∷ []) a b
+pub leads_one : (a b : StateOf) (step : Step) (answer : Answer) → TableStep a 0 step answer b → SaidLeads (λ said. said ≡ told step answer ∷ []) a b
 leads_one a b step answer taken = record { said = told step answer ∷ []; form = refl; leads = (b, taken, refl) }

@@ -19,10 +19,10 @@ use Rattle.pb_notify.specs.Runs.{RunOf, Watch, watch_of, fresh}
 use Rattle.pb_notify.specs.Conversations.{Reaches}
 use Rattle.pb_notify.specs.Forms.{IsRunConversation}
 use Rattle.pb_passes.specs.declared.passes.TheConstants.{MAX_PASSES}
-use Rattle.pb_keeper.specs.Leads.{Leads, IsAny, IsChange}
-use Rattle.pb_keeper.specs.Runs.{IsFreshJob, IsRunOf}
+use Rattle.pb_keeper.specs.Leads.{SaidLeads, IsAny, IsEndedChange}
+use Rattle.pb_keeper.specs.Runs.{IsFreshJob, IsWholeRunOf}
 use Rattle.pb_passes.specs.Passes.{HasColumn, IsJobOn, job_on, IsRun, IsOfOther, AreRuns, before_all, runs as ran_then, passes_by, AreAllRuns, IsWalk, at_beginning, found as found_then, IsPass, IsPassThat, ArePasses, at_first, one_more, IsDrain}
-use Rattle.pb_keeper.specs.Made.{IsPart, IsMade}
+use Rattle.pb_keeper.specs.Made.{IsItsTurn, IsMade}
 use Rattle.pb_keeper.proofs.Leading.{append_assoc, append_nil, leads_none, leads_as, leads_on, leads_one}
 
 pub is_fresh : (observers : List ObserverOf) (n : ℕ) (x : Cell) (job : RunOf) → IsJobOn observers n x job → IsFreshJob job
@@ -32,7 +32,7 @@ same_watch : (a b : Watch) → fresh a ≡ fresh b → a ≡ b
 same_watch a b e = ap (λ (j : RunOf). j.watch) e
 
 -- a run of a job on a cell
-pub is_run : (observers : List ObserverOf) (n : ℕ) (x : Cell) (job : RunOf) (end : JobEnd) (said : List Received) → HasColumn observers n x → IsJobOn observers n x job → IsRunOf job end said → IsRun observers n x said
+pub is_run : (observers : List ObserverOf) (n : ℕ) (x : Cell) (job : RunOf) (end : JobEnd) (said : List Received) → HasColumn observers n x → IsJobOn observers n x job → IsWholeRunOf job end said → IsRun observers n x said
 is_run observers n x job end said known on r =
     let same : known.0 ≡ on.o = grind arith in
     let is : job ≡ job_on n known.0 x = on.job_is ∙ ap (λ (o : ObserverOf). job_on n o x) (sym same) in
@@ -49,29 +49,29 @@ is_run observers n x job end said known on r =
       meant = r.meant;
     }
 
-pub run_is_part : (observers : List ObserverOf) (n : ℕ) (x : Cell) (job : RunOf) (end : JobEnd) (a b : StateOf) → HasColumn observers n x → IsJobOn observers n x job → Leads (IsRunOf job end) a b → Leads (IsPart observers n x) a b
+pub run_is_part : (observers : List ObserverOf) (n : ℕ) (x : Cell) (job : RunOf) (end : JobEnd) (a b : StateOf) → HasColumn observers n x → IsJobOn observers n x job → SaidLeads (IsWholeRunOf job end) a b → SaidLeads (IsItsTurn observers n x) a b
 run_is_part observers n x job end a b known on g = leads_as a b (λ said r. inl (is_run observers n x job end said known on r)) g
 
-pub other_is_part : (observers : List ObserverOf) (n : ℕ) (x : Cell) (a : StateOf) → IsOfOther observers n x → Leads (IsPart observers n x) a a
+pub other_is_part : (observers : List ObserverOf) (n : ℕ) (x : Cell) (a : StateOf) → IsOfOther observers n x → SaidLeads (IsItsTurn observers n x) a a
 other_is_part observers n x a other = leads_none a (inr (other, refl))
 
-pub any : {P : List Received → Type 0} (a b : StateOf) → Leads P a b → Leads IsAny a b
+pub any : {P : List Received → Type 0} (a b : StateOf) → SaidLeads P a b → SaidLeads IsAny a b
 any a b g = leads_as a b (λ said p. tt) g
 
-pub any_on : {P Q : List Received → Type 0} (a b c : StateOf) → Leads P a b → Leads Q b c → Leads IsAny a c
+pub any_on : {P Q : List Received → Type 0} (a b c : StateOf) → SaidLeads P a b → SaidLeads Q b c → SaidLeads IsAny a c
 any_on a b c g h = leads_on a b c g h (λ said more p q. tt)
 
 -- ---- the observers of a cell, one after another
 
-part_on : (observers : List ObserverOf) (x : Cell) (i : ℕ) (said more : List Received) → AreRuns observers x i said → IsPart observers i x more → AreRuns observers x (i + 1) (said ++ more)
+part_on : (observers : List ObserverOf) (x : Cell) (i : ℕ) (said more : List Received) → AreRuns observers x i said → IsItsTurn observers i x more → AreRuns observers x (i + 1) (said ++ more)
 part_on observers x i said more before (inl r) = ran_then i said more before r
 part_on observers x i said more before (inr o) = subst (λ (l : List Received). AreRuns observers x (i + 1) l) (sym (ap (λ l. said ++ l) o.1 ∙ append_nil said)) (passes_by i said before o.0)
 
-pub no_runs : (observers : List ObserverOf) (x : Cell) (a : StateOf) → Leads (AreRuns observers x 0) a a
+pub no_runs : (observers : List ObserverOf) (x : Cell) (a : StateOf) → SaidLeads (AreRuns observers x 0) a a
 no_runs observers x a = leads_none a before_all
 
-pub one_part : (observers seen : List ObserverOf) (x : Cell) (i : ℕ) (a b c : StateOf) → seen ≡ observers → Leads (AreRuns observers x i) a b → Leads (IsPart seen i x) b c → Leads (AreRuns observers x (i + 1)) a c
-one_part observers seen x i a b c same g h = leads_on a b c g (subst (λ (l : List ObserverOf). Leads (IsPart l i x) b c) same h) (part_on observers x i)
+pub one_part : (observers seen : List ObserverOf) (x : Cell) (i : ℕ) (a b c : StateOf) → seen ≡ observers → SaidLeads (AreRuns observers x i) a b → SaidLeads (IsItsTurn seen i x) b c → SaidLeads (AreRuns observers x (i + 1)) a c
+one_part observers seen x i a b c same g h = leads_on a b c g (subst (λ (l : List ObserverOf). SaidLeads (IsItsTurn l i x) b c) same h) (part_on observers x i)
 
 -- ---- from mark to mark
 
@@ -79,7 +79,7 @@ one_part observers seen x i a b c same g h = leads_on a b c g (subst (λ (l : Li
 pub no_mark : (after : Option Cell) (a : Answer) → CanAnswer (Step.NextMark after) a → ((x : Cell) → a ≢ Answer.Marked x) → a ≡ Answer.NoMark
 no_mark after a can isnt = grind arith
 
-pub no_walk : (observers : List ObserverOf) (a : StateOf) → Leads (λ said. IsWalk observers said None) a a
+pub no_walk : (observers : List ObserverOf) (a : StateOf) → SaidLeads (λ said. IsWalk observers said None) a a
 no_walk observers a = leads_none a at_beginning
 
 -- a walk, and the mark that it found then
@@ -88,42 +88,42 @@ record Found (observers : List ObserverOf) (last : Option Cell) (x : Cell) (said
   pub walk : IsWalk observers before last
   pub said_is : said ≡ before ++ told (Step.NextMark last) (Answer.Marked x) ∷ []
 
-module _ (observers : List ObserverOf) (last : Option Cell) (a b b1 : StateOf) (walk : Leads (λ said. IsWalk observers said last) a b) where
-  found : (x : Cell) → TableStep b 0 (Step.NextMark last) (Answer.Marked x) b1 → Leads (Found observers last x) a b1
+module _ (observers : List ObserverOf) (last : Option Cell) (a b b1 : StateOf) (walk : SaidLeads (λ said. IsWalk observers said last) a b) where
+  found : (x : Cell) → TableStep b 0 (Step.NextMark last) (Answer.Marked x) b1 → SaidLeads (Found observers last x) a b1
   found x t = leads_on a b b1 walk (leads_one b b1 (Step.NextMark last) (Answer.Marked x) t) (λ said more w is. record { before = said; walk = w; said_is = ap (λ l. said ++ l) is })
 
-  pub walk_on : (x : Cell) (answer : Answer) → answer ≡ Answer.Marked x → TableStep b 0 (Step.NextMark last) answer b1 → (seen : List ObserverOf) → seen ≡ observers → (c : StateOf) → Leads (AreAllRuns seen x) b1 c → Leads (λ said. IsWalk observers said (Some x)) a c
+  pub walk_on : (x : Cell) (answer : Answer) → answer ≡ Answer.Marked x → TableStep b 0 (Step.NextMark last) answer b1 → (seen : List ObserverOf) → seen ≡ observers → (c : StateOf) → SaidLeads (AreAllRuns seen x) b1 c → SaidLeads (λ said. IsWalk observers said (Some x)) a c
   walk_on x answer is t seen same c h =
-      leads_on a b1 c (found x (subst (λ (y : Answer). TableStep b 0 (Step.NextMark last) y b1) is t)) (subst (λ (l : List ObserverOf). Leads (AreAllRuns l x) b1 c) same h)
+      leads_on a b1 c (found x (subst (λ (y : Answer). TableStep b 0 (Step.NextMark last) y b1) is t)) (subst (λ (l : List ObserverOf). SaidLeads (AreAllRuns l x) b1 c) same h)
       (λ said more w r. subst (λ l. IsWalk observers l (Some x)) (sym (ap (λ l. l ++ more) w.said_is ∙ append_assoc w.before (told (Step.NextMark last) (Answer.Marked x) ∷ []) more)) (found_then w.before last x more w.walk r))
 
   pass_that : (o : Option Cell) (said : List Received) → IsPass observers o said → IsPassThat observers (is_some o) said
   pass_that o said p = grind arith
 
-  pub walk_ends : TableStep b 0 (Step.NextMark last) Answer.NoMark b1 → Leads (IsPassThat observers (is_some last)) a b1
+  pub walk_ends : TableStep b 0 (Step.NextMark last) Answer.NoMark b1 → SaidLeads (IsPassThat observers (is_some last)) a b1
   walk_ends t = leads_on a b b1 walk (leads_one b b1 (Step.NextMark last) Answer.NoMark t) (λ said more w is. pass_that last (said ++ more) (record { before = said; walk = w; said_is = ap (λ l. said ++ l) is }))
 
 -- ---- pass after pass
 
-pub no_passes : (observers : List ObserverOf) (a : StateOf) → Leads (ArePasses observers 0) a a
+pub no_passes : (observers : List ObserverOf) (a : StateOf) → SaidLeads (ArePasses observers 0) a a
 no_passes observers a = leads_none a at_first
 
-module _ (observers seen : List ObserverOf) (count : ℕ) (a b c : StateOf) (same : seen ≡ observers) (before : Leads (ArePasses observers count) a b) where
-  pub pass_on : (marked : Bool) → marked ≡ true → Leads (IsPassThat seen marked) b c → Leads (ArePasses observers (count + 1)) a c
-  pass_on true is h = leads_on a b c before (subst (λ (l : List ObserverOf). Leads (IsPassThat l true) b c) same h) (λ said more p r. one_more count said more r.0 p r.1)
+module _ (observers seen : List ObserverOf) (count : ℕ) (a b c : StateOf) (same : seen ≡ observers) (before : SaidLeads (ArePasses observers count) a b) where
+  pub pass_on : (marked : Bool) → marked ≡ true → SaidLeads (IsPassThat seen marked) b c → SaidLeads (ArePasses observers (count + 1)) a c
+  pass_on true is h = leads_on a b c before (subst (λ (l : List ObserverOf). SaidLeads (IsPassThat l true) b c) same h) (λ said more p r. one_more count said more r.0 p r.1)
   pass_on false is h = cc
 
-  pub last_pass : count < MAX_PASSES → (marked : Bool) → marked ≡ false → Leads (IsPassThat seen marked) b c → Leads (IsDrain observers) a c
-  last_pass few false is h = leads_on a b c before (subst (λ (l : List ObserverOf). Leads (IsPassThat l false) b c) same h) (λ said more p r. record { count = count; before = said; passes = p; rest = more; said_is = refl; ends = inl (few, r) })
+  pub last_pass : count < MAX_PASSES → (marked : Bool) → marked ≡ false → SaidLeads (IsPassThat seen marked) b c → SaidLeads (IsDrain observers) a c
+  last_pass few false is h = leads_on a b c before (subst (λ (l : List ObserverOf). SaidLeads (IsPassThat l false) b c) same h) (λ said more p r. record { count = count; before = said; passes = p; rest = more; said_is = refl; ends = inl (few, r) })
   last_pass few true is h = cc
 
-pub most_passes : (observers : List ObserverOf) (a b : StateOf) → Leads (ArePasses observers MAX_PASSES) a b → Leads (IsDrain observers) a b
+pub most_passes : (observers : List ObserverOf) (a b : StateOf) → SaidLeads (ArePasses observers MAX_PASSES) a b → SaidLeads (IsDrain observers) a b
 most_passes observers a b g = leads_as a b (λ said p. record { count = MAX_PASSES; before = said; passes = p; rest = []; said_is = sym (append_nil said); ends = inr (refl, refl) }) g
 
 -- ---- a change, and a drain
 
-pub made : (observers seen : List ObserverOf) (batch : Writes) (commit : Ts) (a b c : StateOf) → seen ≡ observers → Leads (IsChange batch (Outcome.Committed commit)) a b → Leads (IsDrain seen) b c → Leads (IsMade observers batch commit) a c
-made observers seen batch commit a b c same g h = leads_on a b c g (subst (λ (l : List ObserverOf). Leads (IsDrain l) b c) same h) (λ said more p q. record { change = said; changed = p; drain = more; drained = q; said_is = refl })
+pub made : (observers seen : List ObserverOf) (batch : Writes) (commit : Ts) (a b c : StateOf) → seen ≡ observers → SaidLeads (IsEndedChange batch (Outcome.Committed commit)) a b → SaidLeads (IsDrain seen) b c → SaidLeads (IsMade observers batch commit) a c
+made observers seen batch commit a b c same g h = leads_on a b c g (subst (λ (l : List ObserverOf). SaidLeads (IsDrain l) b c) same h) (λ said more p q. record { change = said; changed = p; drain = more; drained = q; said_is = refl })
 
 -- what is said of an error holds of one
 pub on_err : {T E : Type 0} (r : Result T E) (P : Type 0) → P → OnErr r P

@@ -16,21 +16,21 @@ use Rattle.pb_notify.specs.Runs.{RunOf, next_of, need_of, answered, HearsLook, C
 use Rattle.pb_notify.specs.Conversations.{Reaches, made, took, computed}
 use Rattle.pb_notify.specs.Forms.{JobsConverse, JobsEnd}
 use Rattle.pb_notify.specs.Allowed.{entries_by}
-use Rattle.pb_keeper.specs.Leads.{Leads}
-use Rattle.pb_keeper.specs.Runs.{IsFreshJob, IsRunOf, BeginsRun, RunsOn}
+use Rattle.pb_keeper.specs.Leads.{SaidLeads}
+use Rattle.pb_keeper.specs.Runs.{IsFreshJob, IsWholeRunOf, BeginsRun, RanSoFar}
 use Rattle.pb_keeper.proofs.Pushes.{leads-push}
 
 reaches_on : (j k first : RunOf) (said : List Received) → ComputesOn j k → Reaches first said j → Reaches first said k
 reaches_on j k first said at_first h = h
 reaches_on j k first said (one_more l m on is_next last) h = computed said l m (reaches_on j l first said on h) is_next last
 
-pub at_start : (job : RunOf) (s : StateOf) → IsFreshJob job → RunsOn job job s s
+pub at_start : (job : RunOf) (s : StateOf) → IsFreshJob job → RanSoFar job job s s
 at_start job s is = record { said = []; form = subst (λ (j : RunOf). Reaches j [] j) (sym is.1) made; leads = refl }
 
-pub computes : (first job next : RunOf) (old new : StateOf) → RunsOn first job old new → ComputesOn job next → RunsOn first next old new
+pub computes : (first job next : RunOf) (old new : StateOf) → RanSoFar first job old new → ComputesOn job next → RanSoFar first next old new
 computes first job next old new so_far on = record { said = so_far.said; form = reaches_on job next first so_far.said on so_far.form; leads = so_far.leads }
 
-pub hears : (first job next : RunOf) (old mid new : StateOf) (step : Step) (answer : Answer) → RunsOn first job old mid → next_of job ≡ Some step → CanAnswer step answer → TableStep mid 0 step answer new → next ≡ answered job answer → HearsLook job answer next → RunsOn first next old new
+pub hears : (first job next : RunOf) (old mid new : StateOf) (step : Step) (answer : Answer) → RanSoFar first job old mid → next_of job ≡ Some step → CanAnswer step answer → TableStep mid 0 step answer new → next ≡ answered job answer → HearsLook job answer next → RanSoFar first next old new
 hears first job next old mid new step answer so_far is_next can taken is look =
     let r : Received = told step answer in
     let e : Entry = record { seat = 0; step = step; answer = answer } in
@@ -40,10 +40,10 @@ hears first job next old mid new step answer so_far is_next can taken is look =
       leads = subst (λ (es : List Entry). JournalLeads old es new) (sym (map_push (λ (x : Received). record { seat = 0; step = x.step; answer = x.answer }) so_far.said r)) (leads-push old mid new (entries_by 0 so_far.said) e so_far.leads taken);
     }
 
-pub begins : (first job : RunOf) (old new : StateOf) → JobsConverse → IsFreshJob first → RunsOn first job old new → Leads (BeginsRun first) old new
+pub begins : (first job : RunOf) (old new : StateOf) → JobsConverse → IsFreshJob first → RanSoFar first job old new → SaidLeads (BeginsRun first) old new
 begins first job old new law is so_far = record { said = so_far.said; form = (is.0, is.1, law is.0 so_far.said job (subst (λ (j : RunOf). Reaches j so_far.said job) is.1 so_far.form)); leads = so_far.leads }
 
-pub ended : (first job : RunOf) (end : JobEnd) (old new : StateOf) → JobsEnd → IsFreshJob first → need_of job ≡ Need.Over end → RunsOn first job old new → Leads (IsRunOf first end) old new
+pub ended : (first job : RunOf) (end : JobEnd) (old new : StateOf) → JobsEnd → IsFreshJob first → need_of job ≡ Need.Over end → RanSoFar first job old new → SaidLeads (IsWholeRunOf first end) old new
 ended first job end old new law is over so_far =
     let whole = law is.0 so_far.said job end (subst (λ (j : RunOf). Reaches j so_far.said job) is.1 so_far.form) over in
     record { said = so_far.said; form = record { o = is.0; is = is.1; job = job; reaches = so_far.form; over = over; run = whole.0; talk = whole.1; meant = whole.2 }; leads = so_far.leads }

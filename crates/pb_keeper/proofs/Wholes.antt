@@ -29,7 +29,7 @@ use Rattle.pb_notify.specs.Allowed.{entries_by}
 use Rattle.pb_notify.specs.Forms.{IsRound, cleared, settled, AreRounds, at_first, one_more, IsLooked, IsObserved, IsAcknowledged, IsRecalled, AreAsked, dirty, asked, its_begin, LooksFrom, at_cell, at_acknowledgment, at_old, at_ask, IsRunConversation, absent, clean, ran, conflicted, lost as lost_run, blocked}
 use Rattle.pb_notify.specs.Runs.{Watch}
 use Rattle.pb_notify.specs.declared.need.JobEnd.{JobEnd}
-use Rattle.pb_keeper.specs.Leads.{Leads, IsChange}
+use Rattle.pb_keeper.specs.Leads.{SaidLeads, IsEndedChange}
 use Rattle.pb_keeper.specs.Stops.{IsUnlocked}
 use Rattle.pb_keeper.proofs.Alone.{IsAlone, AreLeft, declared_alone, prewritten_alone, meets_nothing, stamped_alone, loses_not, committed_alone, secondary_alone, true_false}
 use Rattle.pb_keeper.proofs.Leading.{append_assoc, append_nil}
@@ -102,7 +102,7 @@ module _ (keeps : StepsKeepSound) (start : Ts) where
       absurd (loses_not start w.2.0 w.2.2.0 (x ∷ others) b w.2.2.1.taken)
 
 -- a change commits
-pub change_commits : StepsKeepSound → (batch : Writes) (o : Outcome) (m n : StateOf) → IsSoundTable m → IsUnlocked m → Leads (IsChange batch o) m n → ((c : Ts) × (o ≡ Outcome.Committed c)) × IsUnlocked n
+pub change_commits : StepsKeepSound → (batch : Writes) (o : Outcome) (m n : StateOf) → IsSoundTable m → IsUnlocked m → SaidLeads (IsEndedChange batch o) m n → ((c : Ts) × (o ≡ Outcome.Committed c)) × IsUnlocked n
 change_commits keeps batch o m n sound free g =
     let start = g.form.0 in
     let w = g.form.1 in

@@ -7,7 +7,7 @@ use Rattle.pb_steps.specs.State.{StateOf, opening}
 use Rattle.pb_history.specs.declared.entry.Entry.{Entry}
 use Rattle.pb_history.specs.declared.entry.Received.{Received}
 use Rattle.pb_history.specs.Journals.{IsLegal}
-use Rattle.pb_keeper.specs.Leads.{Leads}
+use Rattle.pb_keeper.specs.Leads.{SaidLeads}
 use Rattle.pb_keeper.specs.Made.{IsMade}
 use Rattle.pb_keeper.specs.Stops.{IsUnlocked}
 
@@ -18,7 +18,7 @@ pub data AreMade (observers : List ObserverOf) : List Writes → List Received �
 
 -- they led from the state as opened to this one, by steps of its only seat
 abbrev pub Keeps : List ObserverOf → List Writes → StateOf → Type 0
-Keeps observers changes state = Leads (AreMade observers changes) (opening observers 1 0) state
+Keeps observers changes state = SaidLeads (AreMade observers changes) (opening observers 1 0) state
 
 -- a state as opened keeps no change
 abbrev pub OpeningKeepsNone : Type 0

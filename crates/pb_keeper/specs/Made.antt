@@ -7,16 +7,16 @@ use Rattle.pb_verify.specs.Observers.{ObserverOf}
 use Rattle.pb_history.specs.declared.entry.Received.{Received}
 use Rattle.pb_txn.specs.declared.place.Outcome.{Outcome}
 use Rattle.pb_passes.specs.Passes.{IsRun, IsOfOther, IsDrain}
-use Rattle.pb_keeper.specs.Leads.{IsChange}
+use Rattle.pb_keeper.specs.Leads.{IsEndedChange}
 
 -- what is said for the observer of this number: its run, or nothing where its column is another
-abbrev pub IsPart : List ObserverOf → ℕ → Cell → List Received → Type 0
-IsPart observers n x said = IsRun observers n x said ⊎ (IsOfOther observers n x × (said ≡ []))
+abbrev pub IsItsTurn : List ObserverOf → ℕ → Cell → List Received → Type 0
+IsItsTurn observers n x said = IsRun observers n x said ⊎ (IsOfOther observers n x × (said ≡ []))
 
 -- a whole change of this batch, committed so, and then a drain
 pub record IsMade (observers : List ObserverOf) (batch : Writes) (commit : Ts) (said : List Received) : Type 0 where
   pub change : List Received
-  pub changed : IsChange batch (Outcome.Committed commit) change
+  pub changed : IsEndedChange batch (Outcome.Committed commit) change
   pub drain : List Received
   pub drained : IsDrain observers drain
   pub said_is : said ≡ change ++ drain

@@ -8,14 +8,14 @@ use Rattle.pb_notify.specs.declared.need.Need.{Need}
 use Rattle.pb_notify.specs.Runs.{RunOf, Watch, fresh, need_of}
 use Rattle.pb_notify.specs.Conversations.{Reaches}
 use Rattle.pb_notify.specs.Forms.{IsRunConversation, WasMeant}
-use Rattle.pb_keeper.specs.Leads.{Leads}
+use Rattle.pb_keeper.specs.Leads.{SaidLeads}
 
 -- before its first step
 abbrev pub IsFreshJob : RunOf → Type 0
 IsFreshJob job = (o : Watch) × (job ≡ fresh o)
 
 -- a whole conversation of its run, and what it declared, if it did, is what its program means
-pub record IsRunOf (first : RunOf) (end : JobEnd) (said : List Received) : Type 0 where
+pub record IsWholeRunOf (first : RunOf) (end : JobEnd) (said : List Received) : Type 0 where
   pub o : Watch
   pub is : first ≡ fresh o
   pub job : RunOf
@@ -30,5 +30,5 @@ abbrev pub BeginsRun : RunOf → List Received → Type 0
 BeginsRun job said = (o : Watch) × (job ≡ fresh o) × ((rest : List Received) × (end : JobEnd) × (run : Option Meant) × IsRunConversation o (said ++ rest) end run)
 
 -- how far it has come
-abbrev pub RunsOn : RunOf → RunOf → StateOf → StateOf → Type 0
-RunsOn first job old new = Leads (λ said. Reaches first said job) old new
+abbrev pub RanSoFar : RunOf → RunOf → StateOf → StateOf → Type 0
+RanSoFar first job old new = SaidLeads (λ said. Reaches first said job) old new

@@ -10,27 +10,27 @@ use Rattle.pb_steps.specs.State.{StateOf, opening}
 use Rattle.pb_steps.specs.Steps.{step_reason}
 use Rattle.pb_steps.specs.declared.step.Step.{Step}
 use Rattle.pb_notify.specs.Runs.{RunOf, watch_of, fresh}
-use Rattle.pb_keeper.specs.Leads.{Leads, IsAny}
+use Rattle.pb_keeper.specs.Leads.{SaidLeads, IsAny}
 use Rattle.pb_keeper.specs.declared.change.Stopped.{Stopped}
 
 -- steps of its only seat led here from a state as opened
-abbrev pub IsOpened : StateOf → Type 0
-IsOpened state = (observers : List ObserverOf) × Leads IsAny (opening observers 1 0) state
+abbrev pub WasOpened : StateOf → Type 0
+WasOpened state = (observers : List ObserverOf) × SaidLeads IsAny (opening observers 1 0) state
 
 -- no lock stands in the table
 abbrev pub IsUnlocked : StateOf → Type 0
 IsUnlocked state = (x : Cell) (start : ℕ) → lock_at state.entries x start ≡ None
 
 -- a step was left for want of memory, or for the reason that the table has to refuse it
-abbrev pub IsRefusal : StateOf → Step → Stopped → Type 0
-IsRefusal state step (Stopped.NoMemory e) = Unit {0}
-IsRefusal state step (Stopped.Refused why) = step_reason state 0 step ≡ Some why
-IsRefusal state step Stopped.Conflict = ⊥
+abbrev pub IsLeftFor : StateOf → Step → Stopped → Type 0
+IsLeftFor state step (Stopped.NoMemory e) = Unit {0}
+IsLeftFor state step (Stopped.Refused why) = step_reason state 0 step ≡ Some why
+IsLeftFor state step Stopped.Conflict = ⊥
 
 -- memory was refused
-abbrev pub IsWant : Stopped → Type 0
-IsWant (Stopped.NoMemory e) = Unit {0}
-IsWant _ = ⊥
+abbrev pub WantsMemory : Stopped → Type 0
+WantsMemory (Stopped.NoMemory e) = Unit {0}
+WantsMemory _ = ⊥
 
 -- want of memory, or of a timestamp after the last was given out
 abbrev pub IsStop : Stopped → StateOf → Type 0
@@ -39,7 +39,7 @@ IsStop (Stopped.Refused why) state = (why ≡ Reason.OutOfTimestamps) × (state.
 IsStop Stopped.Conflict state = ⊥
 
 -- a run of one of these observers before its first step, on a row and a column that a record has room for
-pub record IsJobOf (observers : List ObserverOf) (first : RunOf) : Type 0 where
+pub record IsKnownJob (observers : List ObserverOf) (first : RunOf) : Type 0 where
   pub n : ℕ
   pub o : ObserverOf
   pub row : Row

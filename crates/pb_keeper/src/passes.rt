@@ -6,9 +6,9 @@ ghost use Rattle.pb_store.specs.Contents.{IsNextMark};
 ghost use Rattle.pb_verify.specs.Observers.{ObserverOf};
 ghost use Rattle.pb_keeper.specs.Keeps.{Keeps};
 ghost use Rattle.pb_passes.specs.Passes.{AreAllRuns, IsPassThat, IsDrain};
-ghost use Rattle.pb_keeper.specs.Leads.{Leads, IsAny};
-ghost use Rattle.pb_keeper.specs.Made.{IsMade, IsPart};
-ghost use Rattle.pb_keeper.specs.Stops.{IsOpened, IsStop};
+ghost use Rattle.pb_keeper.specs.Leads.{SaidLeads, IsAny};
+ghost use Rattle.pb_keeper.specs.Made.{IsMade, IsItsTurn};
+ghost use Rattle.pb_keeper.specs.Stops.{WasOpened, IsStop};
 
 use crate::change::{Stopped, ask, commit};
 use crate::run::run_one;
@@ -55,9 +55,9 @@ fn run_place<R: Wait, T: Tablet>(
     cell: &Cell,
 ) -> Result<u32, Stopped>
     requires { place < length state.old.observers }
-    ensures ok { OnOk result (Leads (IsPart state.old.observers place cell.now) state.old state.new) }
-    ensures err { OnErr result (Leads IsAny state.old state.new) }
-    ensures stops { IsOpened state.old → IfErr result (λ e. IsStop e state.new) }
+    ensures ok { OnOk result (SaidLeads (IsItsTurn state.old.observers place cell.now) state.old state.new) }
+    ensures err { OnErr result (SaidLeads IsAny state.old state.new) }
+    ensures stops { WasOpened state.old → IfErr result (λ e. IsStop e state.new) }
 {
     let observers = state.observers();
     if !is_observer_of(observers, place, cell) {
@@ -87,9 +87,9 @@ fn run_all<R: Wait, T: Tablet>(
     state: &mut State<T>,
     cell: &Cell,
 ) -> Result<u32, Stopped>
-    ensures ok { OnOk result (Leads (AreAllRuns state.old.observers cell.now) state.old state.new) }
-    ensures err { OnErr result (Leads IsAny state.old state.new) }
-    ensures stops { IsOpened state.old → IfErr result (λ e. IsStop e state.new) }
+    ensures ok { OnOk result (SaidLeads (AreAllRuns state.old.observers cell.now) state.old state.new) }
+    ensures err { OnErr result (SaidLeads IsAny state.old state.new) }
+    ensures stops { WasOpened state.old → IfErr result (λ e. IsStop e state.new) }
 {
     let mut runs = 0u32;
     let many = state.observers().len();
@@ -108,10 +108,10 @@ fn pass<R: Wait, T: Tablet>(
     state: &mut State<T>,
     runs: &mut u32,
 ) -> Result<bool, Stopped>
-    ensures ok { IfOk result (λ marked. Leads (IsPassThat state.old.observers marked) state.old state.new) }
+    ensures ok { IfOk result (λ marked. SaidLeads (IsPassThat state.old.observers marked) state.old state.new) }
     ensures quiet { IfOk result (λ marked. marked ≡ false → IsNextMark state.new.marks None None) }
-    ensures err { OnErr result (Leads IsAny state.old state.new) }
-    ensures stops { IsOpened state.old → IfErr result (λ e. IsStop e state.new) }
+    ensures err { OnErr result (SaidLeads IsAny state.old state.new) }
+    ensures stops { WasOpened state.old → IfErr result (λ e. IsStop e state.new) }
 {
     let mut last = None;
     for _turn in rt.forever() {
@@ -132,11 +132,11 @@ pub fn drain<R: Wait, T: Tablet>(
     alloc: Global,
     state: &mut State<T>,
 ) -> Result<Drained, Stopped>
-    ensures ok { OnOk result (Leads (IsDrain state.old.observers) state.old state.new) }
+    ensures ok { OnOk result (SaidLeads (IsDrain state.old.observers) state.old state.new) }
     // Where it rests no cell is marked.
     ensures quiet { IfOk result (λ d. d.rests ≡ true → IsNextMark state.new.marks None None) }
-    ensures err { OnErr result (Leads IsAny state.old state.new) }
-    ensures stops { IsOpened state.old → IfErr result (λ e. IsStop e state.new) }
+    ensures err { OnErr result (SaidLeads IsAny state.old state.new) }
+    ensures stops { WasOpened state.old → IfErr result (λ e. IsStop e state.new) }
 {
     let mut runs = 0u32;
     for _count in 0..MAX_PASSES {
@@ -155,12 +155,12 @@ pub fn make<R: Wait, T: Tablet>(
     state: &mut State<T>,
     batch: Batch,
 ) -> Result<Made, Stopped>
-    ensures ok { IfOk result (λ m. Leads (IsMade state.old.observers batch m.commit) state.old state.new) }
+    ensures ok { IfOk result (λ m. SaidLeads (IsMade state.old.observers batch m.commit) state.old state.new) }
     ensures quiet { IfOk result (λ m. m.drained.rests ≡ true → IsNextMark state.new.marks None None) }
     // Behind the changes that are kept it is one more.
     ensures keeps { (observers : List ObserverOf) (changes : List Writes) → Keeps observers changes state.old
         → OnOk result (Keeps observers (changes ++ batch ∷ []) state.new) }
-    ensures err { OnErr result (Leads IsAny state.old state.new) }
+    ensures err { OnErr result (SaidLeads IsAny state.old state.new) }
     // On a table that keeps changes it conflicts with nothing.
     ensures stops { (observers : List ObserverOf) (changes : List Writes) → Keeps observers changes state.old
         → IfErr result (λ e. IsStop e state.new) }

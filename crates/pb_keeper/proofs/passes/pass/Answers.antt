@@ -3,7 +3,7 @@ use Rattle.pb_steps.specs.declared.step.Step.{Step}
 use Rattle.pb_steps.specs.declared.step.Answer.{Answer}
 use Rattle.pb_steps.specs.State.{StateOf}
 use Rattle.pb_steps.specs.Steps.{TableStep}
-use Rattle.pb_keeper.specs.Leads.{Leads, IsAny}
+use Rattle.pb_keeper.specs.Leads.{SaidLeads, IsAny}
 use Rattle.std.proofs.lemmas.Result.{err_from_is_err_and}
 use Rattle.pb_keeper.proofs.InTime.{mark_stops, opened_on}
 use Rattle.pb_keeper.proofs.Leading.{leads_observers, leads_one}
@@ -24,7 +24,7 @@ asked a b step answer taken = leads_observers a b (leads_one a b step answer tak
 
 pub returns-in_err-more-clause-err : goal.returns-in_err-more-clause-err
 returns-in_err-more-clause-err g c =
-    on_err c.from_residual-in_err-more.result (Leads IsAny c.args.state.now c.run_all.new.state)
+    on_err c.from_residual-in_err-more.result (SaidLeads IsAny c.args.state.now c.run_all.new.state)
     (any_on c.args.state.now c.ask.new.state c.run_all.new.state
     (any_on c.args.state.now c.loop-turn.state c.ask.new.state c.loop-turn.invariant.leads (leads_one c.loop-turn.state c.ask.new.state (Step.NextMark c.loop-turn.last) c.in_ok-next.next c.in_ok-next.ensures.taken))
     c.in_err-more.ensures.err)

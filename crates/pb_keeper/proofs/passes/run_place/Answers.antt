@@ -2,7 +2,7 @@ use Rattle.std.proofs.lemmas.Result.{err_from_is_err_and}
 use Rattle.std.proofs.Common.{List, ◌≡◌, sym, subst}
 use Rattle.pb_verify.specs.Observers.{ObserverOf}
 use Rattle.pb_passes.specs.Passes.{HasColumn}
-use Rattle.pb_keeper.specs.Stops.{IsJobOf}
+use Rattle.pb_keeper.specs.Stops.{IsKnownJob}
 use Rattle.pb_keeper.proofs.InTime.{job_is_of}
 use Rattle.pb_keeper.proofs.passes.run_place.Goals as goal
 
@@ -11,5 +11,5 @@ returns-in_err-end-clause-stops g c opened =
     let p = err_from_is_err_and c.from_residual.result c.from_residual.ensures.1 in
     let same : c.args.place ≡ c.in-Some.number = sym c.in-Some.ensures.some in
     let known = subst (λ n. HasColumn c.observers-observers.result.now n c.args.cell.now) same (c.is_observer_of.ensures.is c.if-not-is_observer_of.false) in
-    let of : IsJobOf c.observers-observers.result.now c.in-Ok.job = job_is_of c.observers-observers.result.now c.in-Some.number c.args.cell.now c.in-Ok.job c.fits.ensures.row c.fits.ensures.column known c.in-Ok.ensures in
-    rw (p.1, p.2) (c.in_err-end.ensures.stops opened (subst (λ (l : List ObserverOf). IsJobOf l c.in-Ok.job) c.observers-observers.ensures.observers of))
+    let of : IsKnownJob c.observers-observers.result.now c.in-Ok.job = job_is_of c.observers-observers.result.now c.in-Some.number c.args.cell.now c.in-Ok.job c.fits.ensures.row c.fits.ensures.column known c.in-Ok.ensures in
+    rw (p.1, p.2) (c.in_err-end.ensures.stops opened (subst (λ (l : List ObserverOf). IsKnownJob l c.in-Ok.job) c.observers-observers.ensures.observers of))
