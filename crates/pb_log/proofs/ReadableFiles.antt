@@ -1,8 +1,8 @@
 -- What a file that is opened holds, and what becomes of a new one.
-use Rattle.std.proofs.Common.{◌≡◌, ◌⊎◌, ℕ, ◌+◌, ◌<◌, ◌≤◌, ◌-◌, List, [], ◌∷◌, ◌++◌, inl, inr, length, get_or, take, drop, refl, sym, ◌∙◌, ap, subst, arith, length-append, length-drop}
+use Rattle.std.proofs.Common.{◌≡◌, ℕ, ◌+◌, ◌<◌, ◌≤◌, ◌-◌, List, [], ◌∷◌, ◌++◌, inl, inr, length, get_or, take, drop, refl, sym, ◌∙◌, ap, subst, arith, length-append, length-drop}
 use Rattle.std.proofs.lemmas.List.{append-nil, take_at, drop_at}
 use Rattle.sqlite_disk.specs.Disk.{Holds, Torn, Follows, Only}
-use Rattle.pb_log.specs.Records.{StandsOpen, Hides, EndsShut, IsLog, IsSound, IsReadable, IsAtRest, block, blocks}
+use Rattle.pb_log.specs.Records.{StandsOpen, EndsShut, IsLog, IsSound, IsReadable, IsAtRest, block, blocks}
 use Rattle.pb_log.specs.Causes.{IsDamaged}
 use Rattle.pb_log.proofs.Blocks.{nothing_begins, length-block}
 use Rattle.pb_log.proofs.OneReading.{one_reading, same_tail}

@@ -3,7 +3,7 @@ use Rattle.std.proofs.Common.{◌≡◌, ◌≢◌, ℕ, ◌+◌, ◌<◌, ◌�
 use Rattle.std.proofs.lemmas.List.{length-take-le, get_or-take, get_or-drop, drop-drop, ext_get_or, length-set, get_or-set_same, get_or-set_other, set_at, get_or_append_left}
 use Rattle.std.proofs.lemmas.Bool.{cases_lt, cases_eq}
 use Rattle.sqlite_disk.specs.Disk.{Holds, Torn, Follows, Only}
-use Rattle.pb_log.specs.Records.{AreShort, IsLog, IsBeforeOrAfter, IsAtRest, body, block, blocks}
+use Rattle.pb_log.specs.Records.{AreShort, IsLog, IsBeforeOrAfter, IsAtRest, body, blocks}
 use Rattle.pb_log.proofs.Blocks.{blocks-push, short-push, length-body}
 
 -- ---- lists

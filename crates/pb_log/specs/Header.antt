@@ -1,7 +1,7 @@
 -- The first record of a log, which names its version and has its manifest.
 use Rattle.std.specs.Prelude.{◌≡◌, ◌≢◌, ◌⊎◌, ℕ, List, [], ◌∷◌, ◌++◌, codes}
 use Rattle.pb_log.specs.declared.fault.LogFault.{LogFault}
-use Rattle.pb_log.specs.declared.fault.LogFault.TheVariants.{NoMemory, Disk, Full, Damaged, OtherManifest, NewerVersion, NoHeader}
+use Rattle.pb_log.specs.declared.fault.LogFault.TheVariants.{OtherManifest, NewerVersion, NoHeader}
 use Rattle.pb_log.specs.Records.{IsLog}
 
 -- how the header of each version begins

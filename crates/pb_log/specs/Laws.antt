@@ -1,5 +1,5 @@
 -- What holds of all logs.
-use Rattle.std.specs.Prelude.{◌≡◌, ℕ, ◌+◌, ◌<◌, ◌^◌, List, [], ◌∷◌, ◌++◌, length}
+use Rattle.std.specs.Prelude.{◌≡◌, ℕ, ◌+◌, ◌<◌, ◌^◌, List, ◌∷◌, ◌++◌, length}
 use Rattle.pb_log.specs.Records.{AreShort, body, block, blocks, IsLog, IsReadable}
 
 -- a file has one list of records

@@ -1,5 +1,5 @@
 //! The first record of a log.
-ghost use Rattle.std.specs.Prelude.{◌≡◌, ◌+◌, ◌<◌, ◌^◌, length, IfOk, OnOk, IfErr};
+ghost use Rattle.std.specs.Prelude.{◌≡◌, IfOk, OnOk, IfErr};
 ghost use Rattle.pb_log.specs.Header.{header, WhyNotOurs};
 
 use crate::fault::LogFault;

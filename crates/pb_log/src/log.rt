@@ -1,6 +1,6 @@
 //! A log over a disk, and how a record is put into it.
 ghost use Rattle.std.specs.Prelude.{◌≡◌, ◌++◌, ◌∷◌, [], ◌<◌, ◌^◌, ℕ, List, length, IfOk, OnOk, IfErr, IsTrue};
-ghost use Rattle.pb_log.specs.Records.{body, IsLog, IsBeforeOrAfter, IsAtRest};
+ghost use Rattle.pb_log.specs.Records.{body, IsBeforeOrAfter, IsAtRest};
 ghost use Rattle.pb_log.specs.Causes.{WhyNotPut, IsNotBegun};
 
 use crate::fault::LogFault;

@@ -1,6 +1,5 @@
 use Rattle.std.proofs.Common.{◌≡◌, ◌+◌, ◌++◌, ◌∷◌, ℕ, List, inl, inr, length, drop, refl, sym, ◌∙◌, ap, subst, arith, length-append}
-use Rattle.pb_log.specs.Records.{Hides, IsLog, IsReadable, body, block, blocks}
-use Rattle.pb_log.specs.Laws.{with_turned_gate}
+use Rattle.pb_log.specs.Records.{Hides, body, block, blocks}
 use Rattle.pb_log.proofs.Blocks.{length-body}
 use Rattle.pb_log.proofs.OneReading.{one_reading, same_tail}
 use Rattle.pb_log.proofs.TornBlocks.{closed_is_log}

@@ -1,5 +1,5 @@
 use Rattle.std.proofs.Common.{◌≡◌, ◌++◌, ◌+◌, ◌<◌, ◌^◌, length, Bool, true, false, IsTrue, IfSome, is_some, Option, Some, None, ℕ, List, Bor, ap, sym, ◌∙◌, refl, subst, arith}
-use Rattle.pb_log.specs.Records.{Stands, StandsOpen, Hides, body, block}
+use Rattle.pb_log.specs.Records.{StandsOpen, Hides, body, block}
 use Rattle.pb_log.proofs.Bodies.{one_body}
 use Rattle.pb_log.proofs.reading.hides_record.Goals as goal
 

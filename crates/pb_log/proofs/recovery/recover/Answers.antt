@@ -1,5 +1,4 @@
-use Rattle.std.proofs.Common.{◌≡◌, ◌<◌, ◌≤◌, ◌-◌, ℕ, List, [], IsTrue, true, inl, length, take, drop, map, ap, sym, ◌∙◌, subst, arith, Vec, Global}
-use Rattle.sqlite_disk.specs.Disk.{Only}
+use Rattle.std.proofs.Common.{◌≡◌, ◌<◌, ◌≤◌, ◌-◌, ℕ, List, [], IsTrue, inl, length, take, drop, map, ap, sym, ◌∙◌, subst, arith, Vec, Global}
 use Rattle.pb_log.specs.Records.{EndsShut, IsAtRest, IsSound}
 use Rattle.pb_log.proofs.ReadableFiles.{whole_rest, new_crash, new_at_rest, sound_at_rest, found_sound, found_damaged}
 use Rattle.pb_log.proofs.recovery.recover.Goals as goal

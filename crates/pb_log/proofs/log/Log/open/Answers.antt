@@ -1,4 +1,4 @@
-use Rattle.std.proofs.Common.{◌≡◌, ◌++◌, ◌∷◌, ◌<◌, [], ℕ, List, IsTrue, length, map, ap, sym, ◌∙◌, subst, arith, Vec, Global}
+use Rattle.std.proofs.Common.{◌≡◌, ◌∷◌, ◌<◌, [], ℕ, List, IsTrue, length, map, ap, sym, ◌∙◌, subst, arith, Vec, Global}
 use Rattle.pb_log.specs.declared.fault.LogFault.{LogFault}
 use Rattle.pb_log.specs.Records.{IsLog, IsAtRest}
 use Rattle.pb_log.specs.Header.{header, WhyNotOurs}
