@@ -7,7 +7,7 @@ use Rattle.std.specs.FinMap as map
 use Rattle.std.specs.FinMap.Entries.{find}
 use Rattle.pb_answers.specs.Words.{Cell, Content, Ts, Slot, Item, Sort, Entries, Put, data_at, start_of, slot_at, slot_cmp, slot_cmp-IsAntisymmetric}
 use Rattle.pb_answers.specs.Seen.{written_at}
-use Rattle.pb_answers.specs.Records.{is_record, put_with, put_in, IsPutIn, record_slot, Gathers}
+use Rattle.pb_answers.specs.Records.{is_record, put_with, put_in, IsPutIn, record_slot, HasGathered}
 
 record_is : (s : Sort) → is_record s ≡ true → s ≡ Sort.Write
 record_is Sort.Data e = cc
@@ -76,9 +76,9 @@ module _ (e : Entries) (slot : Slot) (item : Item) (stands : map.get e slot ≡ 
         | false ↦ λ _ k. inr k
       ] refl h
 
-  module _ (wanted : Put → Bool) (rest : List (Slot × Item)) (old : Put → Type 0) (so : Gathers e wanted ((slot, item) ∷ rest) old) where
+  module _ (wanted : Put → Bool) (rest : List (Slot × Item)) (old : Put → Type 0) (so : HasGathered e wanted ((slot, item) ∷ rest) old) where
     -- an entry without a write that is wanted is passed over
-    pub passed_over : ((p : Put) → put_in e slot item ≡ Some p → wanted p ≡ false) → Gathers e wanted rest old
+    pub passed_over : ((p : Put) → put_in e slot item ≡ Some p → wanted p ≡ false) → HasGathered e wanted rest old
     passed_over none = record {
       sound = so.sound;
       whole = λ p w is. elim (so.whole p w is) [
@@ -91,9 +91,9 @@ module _ (e : Entries) (slot : Slot) (item : Item) (stands : map.get e slot ≡ 
     }
 
     -- the write of an entry is taken, beside those that were
-    pub taken : (new : Put → Type 0) (p : Put) → put_in e slot item ≡ Some p → wanted p ≡ true → new p → ((q : Put) → new q → old q ⊎ (p ≡ q)) → ((q : Put) → IsPutIn e q → old q → new q)
-        → Gathers e wanted rest new
-    taken new p is ok now back keeps = record {
+    pub one_taken : (new : Put → Type 0) (p : Put) → put_in e slot item ≡ Some p → wanted p ≡ true → new p → ((q : Put) → new q → old q ⊎ (p ≡ q)) → ((q : Put) → IsPutIn e q → old q → new q)
+        → HasGathered e wanted rest new
+    one_taken new p is ok now back keeps = record {
       sound = λ q g. elim (back q g) [
         | inl was ↦ so.sound q was
         | inr same ↦ subst (λ (r : Put). IsPutIn e r × (wanted r ≡ true)) same ((put_is p is).0, ok)

@@ -7,8 +7,8 @@ use Rattle.std.specs.FinMap as map
 use Rattle.std.specs.Map.{lookup}
 use Rattle.pb_answers.specs.Words.{Cell, Content, Slot, Item, Entries, Newest, Put, cell_cmp, Tallies, AreNewest, IsNewestPut, IsReport, IsReportOf, IsTold}
 use Rattle.pb_answers.specs.Seen.{written_at, IsSeenIn}
-use Rattle.pb_answers.specs.Records.{put_in, Gathers, is_up_to, HasNewestUpTo}
-use Rattle.pb_answers.proofs.Gathering.{all_left, passed_over, taken}
+use Rattle.pb_answers.specs.Records.{put_in, HasGathered, is_up_to, HasNewestUpTo}
+use Rattle.pb_answers.proofs.Gathering.{all_left, passed_over, one_taken}
 
 -- ---- a walk
 
@@ -45,7 +45,7 @@ module _ (e : Entries) (last : ℕ) where
     pub one_noted : (p : Put) → put_in e slot item ≡ Some p → is_up_to last p ≡ true → (new : BTreeMap Cell Newest) → ((puts : List Put) → AreNewest puts old → AreNewest (puts ++ p ∷ []) new) → HasNewestUpTo e last rest new
     one_noted p is ok new noted = record {
       puts = so.puts ++ p ∷ [];
-      gathered = taken e slot item stands (is_up_to last) rest (Contains so.puts) so.gathered (Contains (so.puts ++ p ∷ [])) p is ok (Contains-push so.puts p) (λ q c. Contains-push_cases so.puts p q c)
+      gathered = one_taken e slot item stands (is_up_to last) rest (Contains so.puts) so.gathered (Contains (so.puts ++ p ∷ [])) p is ok (Contains-push so.puts p) (λ q c. Contains-push_cases so.puts p q c)
           (λ q _ c. Contains-append_left so.puts (p ∷ []) q c);
       newest = noted so.puts so.newest;
     }
@@ -62,7 +62,7 @@ module _ (e : Entries) (last : ℕ) where
   found_or_left (inl a) = a
   found_or_left (inr h) = absurd cc
 
-  module _ (puts : List Put) (g : Gathers e (is_up_to last) [] (Contains puts)) where
+  module _ (puts : List Put) (g : HasGathered e (is_up_to last) [] (Contains puts)) where
     has : (x : Cell) (c : ℕ) (k : Content) → written_at e x c ≡ Some k → c ≤ last → Contains puts (record { cell = x; commit = record { 0 = c }; content = k })
     has x c k w le = found_or_left (g.whole (record { cell = x; commit = record { 0 = c }; content = k }) w (up_to c le))
 

@@ -15,7 +15,7 @@ use Rattle.pb_base.proofs.Logic.{and_true}
 use Rattle.pb_answers.specs.Words.{Content, Slot, Item, Entries, Put, cell_cmp_total, cell_cmp-IsAntisymmetric, is_data}
 use Rattle.pb_answers.specs.Writes.{WriteKey, key_cmp, IsWriteSince, AreWritesSince}
 use Rattle.pb_answers.specs.Records.{put_in, IsPutIn, is_since, HasPut, HasWritesSince, key_of}
-use Rattle.pb_answers.proofs.Gathering.{all_left, put_is, passed_over, taken}
+use Rattle.pb_answers.proofs.Gathering.{all_left, put_is, passed_over, one_taken}
 
 key_total : IsTotalOrder key_cmp
 key_total = then_total (on_total (λ k. k.0.0) nat_cmp_total) (on_total (λ k. k.1) cell_cmp_total)
@@ -97,7 +97,7 @@ module _ (e : Entries) (above : ℕ) where
 
       pub one_noted : tree.IsOrdered key_cmp new → HasWritesSince e above rest new
       one_noted rising = record {
-        gathered = taken e slot item stands (is_since above) rest (HasPut old) so.gathered (HasPut new) p is ok now back keeps;
+        gathered = one_taken e slot item stands (is_since above) rest (HasPut old) so.gathered (HasPut new) p is ok now back keeps;
         rising = rising;
       }
 

@@ -9,18 +9,18 @@ use Rattle.pb_answers.specs.Words.{Slot, Item, Entries, entries_after, slot_cmp,
 use Rattle.pb_base.proofs.Logic.{less_if as less, first_holds as first, second_holds as second}
 
 -- a list whose first item and rest are known
-pub opened : {E : Type 0} (xs ys : List E) (e : E) → Some e ≡ slice_get xs 0 → ys ≡ drop 1 xs → xs ≡ e ∷ ys
-opened [] ys e p r = cc
-opened (x ∷ xs) ys e p r = let same : e ≡ x = cc in ap (λ y. y ∷ xs) (sym same) ∙ ap (λ zs. e ∷ zs) (sym r)
+pub first_and_rest : {E : Type 0} (xs ys : List E) (e : E) → Some e ≡ slice_get xs 0 → ys ≡ drop 1 xs → xs ≡ e ∷ ys
+first_and_rest [] ys e p r = cc
+first_and_rest (x ∷ xs) ys e p r = let same : e ≡ x = cc in ap (λ y. y ∷ xs) (sym same) ∙ ap (λ zs. e ∷ zs) (sym r)
 
 -- the rest is shorter
-pub shorter : {E : Type 0} (xs ys : List E) (e : E) → xs ≡ e ∷ ys → length ys < length xs
-shorter xs ys e is = let more = ap length is in omega (arith, more)
+pub rest_shorter : {E : Type 0} (xs ys : List E) (e : E) → xs ≡ e ∷ ys → length ys < length xs
+rest_shorter xs ys e is = let more = ap length is in omega (arith, more)
 
 -- one with no first item is empty
-pub ended : {E : Type 0} (xs : List E) → None ≡ slice_get xs 0 → xs ≡ []
-ended [] p = refl
-ended (x ∷ xs) p = cc
+pub none_left : {E : Type 0} (xs : List E) → None ≡ slice_get xs 0 → xs ≡ []
+none_left [] p = refl
+none_left (x ∷ xs) p = cc
 
 module _ {K X : Type 0} {R : K → K → Ordering} (o : IsTotalOrder R) (exact : IsAntisymmetric R) where
   first_found : (es : List (K × X)) (e : K × X) → Some e ≡ slice_get es 0 → find R e.0 es ≡ Some e.1

@@ -1,5 +1,5 @@
 -- The write that an entry records, and what a walk over entries has gathered of them. The functions of src that walk cite
--- these; what they gather is said by `written_at` alone.
+-- these; `written_at` alone defines what they gather.
 use Rattle.std.specs.Prelude.{◌≡◌, ℕ, ◌&&◌, ◌⊎◌, Bool, true, false, nat_lt, nat_le, if◌then◌else◌, List, Contains, Option, Some, None, is_some}
 use Rattle.std.specs.BTreeMap as tree
 use Rattle.std.specs.BTreeMap.{BTreeMap}
@@ -33,7 +33,7 @@ abbrev pub record_slot : Put → Slot
 record_slot p = slot_at p.cell Sort.Write p.commit.0
 
 -- of the writes that are wanted, those of the entries up to the rest are gathered
-pub record Gathers (e : Entries) (wanted : Put → Bool) (rest : List (Slot × Item)) (gathered : Put → Type 0) : Type 0 where
+pub record HasGathered (e : Entries) (wanted : Put → Bool) (rest : List (Slot × Item)) (gathered : Put → Type 0) : Type 0 where
   pub sound : (p : Put) → gathered p → IsPutIn e p × (wanted p ≡ true)
   pub whole : (p : Put) → IsPutIn e p → wanted p ≡ true → gathered p ⊎ (is_some (find slot_cmp (record_slot p) rest) ≡ true)
 
@@ -55,11 +55,11 @@ HasPut m p = tree.get key_cmp m (key_of p) ≡ Some p.content
 
 -- a map has those above a commit, of the entries up to the rest
 pub record HasWritesSince (e : Entries) (above : ℕ) (rest : List (Slot × Item)) (writes : BTreeMap WriteKey Content) : Type 0 where
-  pub gathered : Gathers e (is_since above) rest (HasPut writes)
+  pub gathered : HasGathered e (is_since above) rest (HasPut writes)
   pub rising : tree.IsOrdered key_cmp writes
 
 -- a map has the newest of those up to a commit, of the entries up to the rest
 pub record HasNewestUpTo (e : Entries) (last : ℕ) (rest : List (Slot × Item)) (table : BTreeMap Cell Newest) : Type 0 where
   pub puts : List Put
-  pub gathered : Gathers e (is_up_to last) rest (Contains puts)
+  pub gathered : HasGathered e (is_up_to last) rest (Contains puts)
   pub newest : AreNewest puts table

@@ -1,5 +1,5 @@
--- What a table has of a cell, by its entries alone: the write records and the data beside them (OSDI 2010, section 2.2). An
--- answer is said by these, since a table that was kept has entries and no journal.
+-- What a table has of a cell, by its entries alone: the write records and the data beside them (OSDI 2010, section 2.2). These
+-- define the answers, since a table that was kept has entries and no journal.
 use Rattle.std.specs.Prelude.{◌≡◌, ℕ, ◌<◌, ◌≤◌, Option, Some, None}
 use Rattle.std.specs.Option.{option_and_then}
 use Rattle.pb_answers.specs.Words.{Cell, Content, Entries, Newest, data_at, write_at}

@@ -28,11 +28,11 @@ pub record AreWritesSince (e : Entries) (above : ℕ) (writes : List (WriteKey �
   pub whole : (k : WriteKey) (content : Content) → IsWriteSince e above k content → Contains writes (k, content)
 
 -- the line of a write, as a report has it
-abbrev pub write_line : WriteKey × Content → List ℕ
-write_line w = cell_line w.0.1 (record { commit = w.0.0; content = w.1 })
+abbrev pub since_line : WriteKey × Content → List ℕ
+since_line w = cell_line w.0.1 (record { commit = w.0.0; content = w.1 })
 
 -- the answer to `since`: the lines of these writes, and a last line
 pub record IsWritesAnswer (state : StateOf) (above : ℕ) (text : List ℕ) : Type 0 where
   pub writes : List (WriteKey × Content)
   pub these : AreWritesSince state.entries above writes
-  pub lines : text ≡ flat_map write_line writes ++ codes "end\n"
+  pub lines : text ≡ flat_map since_line writes ++ codes "end\n"

@@ -5,7 +5,7 @@
 //! defined by what the entries have, with the words of the report, and the report's lines are those of `pb_script`. Where no
 //! lock stands, that is what the history has (`answers_show_history`). The crate stands above the state, so that no step
 //! knows of texts, and below the program, which reads the questions and prints. The promise: an answer is exactly what its
-//! definition says of the state, whole before the caller has it; refused for memory, there is none, and the state, which is
+//! definition gives for the state, whole before the caller has it; refused for memory, there is none, and the state, which is
 //! lent, is as it was. A body that refuses at once meets every contract here but that of `newest_of`, so that tests at the
 //! top have to pin that answers come. After `put 7 0 2a` alone, `get 7 0` is answered `value 2a commit 2`, and `quiet?`
 //! by `quiet`.

@@ -5,7 +5,7 @@ ghost use Rattle.std.specs.FinMap as map;
 ghost use Rattle.pb_store.specs.declared.slot.Item.{Item};
 ghost use Rattle.pb_store.specs.declared.slot.Slot.{Slot};
 ghost use Rattle.pb_answers.specs.Records.{HasWritesSince, is_since};
-ghost use Rattle.pb_answers.specs.Writes.{AreWritesSince, IsWritesAnswer, write_line};
+ghost use Rattle.pb_answers.specs.Writes.{AreWritesSince, IsWritesAnswer, since_line};
 
 use crate::lines::add_write_line;
 use crate::records::put_in;
@@ -64,7 +64,7 @@ fn writes_since<T: Tablet>(
 }
 
 fn write_lines(alloc: Global, writes: &BTreeMap<(Ts, Cell), Content>) -> Result<String, AllocError>
-    ensures { IfOk result (λ s. string_bytes s ≡ flat_map write_line writes.now.entries) }
+    ensures { IfOk result (λ s. string_bytes s ≡ flat_map since_line writes.now.entries) }
 {
     let mut text = String::new(alloc);
     for (key, content) in writes {

@@ -1,5 +1,5 @@
 use Rattle.std.proofs.Common.{◌<◌, ◌∙◌, refl, sym, subst}
-use Rattle.pb_answers.proofs.Walks.{opened, shorter, ended}
+use Rattle.pb_answers.proofs.Walks.{first_and_rest, rest_shorter, none_left}
 use Rattle.pb_answers.proofs.Tallying.{counted_on, all_counted}
 use Rattle.pb_answers.proofs.runs.count_runs.Goals as goal
 
@@ -7,11 +7,11 @@ pub loop-slot-init : goal.loop-slot-init
 loop-slot-init g c = record { same_length = refl; counted = λ o lt. refl }
 
 pub loop-slot-smaller : goal.loop-slot-smaller
-loop-slot-smaller g c = shorter _ _ _ (opened _ _ _ (sym c.in-Some.is ∙ c.next_entry.ensures.entry) c.in-Some.ensures.rest)
+loop-slot-smaller g c = rest_shorter _ _ _ (first_and_rest _ _ _ (sym c.in-Some.is ∙ c.next_entry.ensures.entry) c.in-Some.ensures.rest)
 
 pub loop-slot-preserved : goal.loop-slot-preserved
 loop-slot-preserved g c =
-    let is = opened _ _ _ (sym c.in-Some.is ∙ c.next_entry.ensures.entry) c.in-Some.ensures.rest in
+    let is = first_and_rest _ _ _ (sym c.in-Some.is ∙ c.next_entry.ensures.entry) c.in-Some.ensures.rest in
     let same = c.loop-slot.invariant.same_length in
     record {
       same_length = c.in_ok-note_run.ensures.length ∙ same;
@@ -21,5 +21,5 @@ loop-slot-preserved g c =
 pub returns : goal.returns
 returns g c = record {
   length = c.loop-slot.invariant.same_length;
-  counted = λ o lt. all_counted o _ (ended _ (sym c.in_default.is ∙ c.next_entry.ensures.entry)) _ _ (c.loop-slot.invariant.counted o lt);
+  counted = λ o lt. all_counted o _ (none_left _ (sym c.in_default.is ∙ c.next_entry.ensures.entry)) _ _ (c.loop-slot.invariant.counted o lt);
 }
