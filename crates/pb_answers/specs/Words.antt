@@ -10,7 +10,7 @@ pub use Rattle.pb_store.specs.Slot.{slot_cmp, slot_cmp-IsAntisymmetric, slot_cmp
 pub use Rattle.pb_store.specs.declared.slot.Item.{Item}
 pub use Rattle.pb_store.specs.declared.slot.Slot.{Slot}
 pub use Rattle.pb_store.specs.declared.slot.Sort.{Sort}
-pub use Rattle.pb_steps.specs.Readings.{NoLock, data_at, lock_at, lock_count, start_of, write_at}
+pub use Rattle.pb_steps.specs.Readings.{NoLock, data_at, is_lock, lock_at, lock_count, start_of, write_at}
 pub use Rattle.pb_steps.specs.State.{StateOf}
 pub use Rattle.pb_script.specs.ReportLines.{Tallies, cell_line, trimmed}
 pub use Rattle.pb_script.specs.Reports.{AreNewest, IsNewestPut, IsReport, IsReportOf, IsTold}

@@ -70,8 +70,8 @@ pub fn answer_list<T: Tablet>(alloc: Global, state: &State<T>) -> Result<String,
 {
     let newest = newest_cells(alloc, state.table(), state.clock())?;
     let tallies = tallies_of(alloc, state)?;
-    let marks = marks_of(state)?;
-    let locks = locks_of(state)?;
+    let marks = marks_of(alloc, state)?;
+    let locks = locks_of(alloc, state)?;
     let mut text = report_of(alloc, &newest, tallies.as_slice(), marks, locks)?;
     text.push_str("end\n")?;
     Ok(text)

@@ -1,53 +1,65 @@
 //! The answer to `quiet?`, and what it counts.
-ghost use Rattle.std.specs.Prelude.{◌≡◌, ◌+◌, IfOk, string_bytes};
+ghost use Rattle.std.specs.Prelude.{◌≡◌, ◌+◌, IfOk, OnOk, length, string_bytes, if◌then◌else◌};
 ghost use Rattle.std.specs.FinMap as map;
-ghost use Rattle.pb_steps.specs.Readings.{lock_count};
+ghost use Rattle.pb_steps.specs.Readings.{is_lock, lock_count};
 ghost use Rattle.pb_script.specs.ReportLines.{last_line};
 
 use crate::lines::last_line;
 use pb_base::NoMemory;
 use pb_state::State;
-use pb_store::{Table, Tablet};
-use std::alloc::{AllocError, Global};
+use pb_store::{Slot, Sort, Table, Tablet};
+use std::alloc::Global;
 
-/// One more. A count beyond that of a `usize` is refused as memory is, since no memory has that many.
-pub(crate) fn one_more(count: usize) -> Result<usize, AllocError>
-    ensures { IfOk result (λ n. n ≡ count + 1) }
-{
-    match count.checked_add(1) {
-        Some(more) => Ok(more),
-        None => Err(AllocError),
-    }
-}
-
-// How many cells are marked. It walks, as `State::marks` does, since that asks for a table whose marks can be counted.
-fn count_marks<T: Tablet>(table: &Table<T>) -> Result<usize, NoMemory>
+// How many cells are marked, with a unit for each. Units have no bytes, but room for one is asked for as for anything else,
+// and is refused where there would be more than can be counted.
+fn count_marks<T: Tablet>(alloc: Global, table: &Table<T>) -> Result<usize, NoMemory>
     ensures { IfOk result (λ n. n ≡ map.len table.now.contents.marks) }
 {
-    let mut count = 0;
+    let mut marked = Vec::new(alloc);
     let mut last = None;
     while let Some(cell) = table.next_mark(last) {
-        count = one_more(count)?;
+        marked.push(())?;
         last = Some(cell);
     }
-    Ok(count)
+    Ok(marked.len())
+}
+
+// Adds a unit if an entry is a lock.
+fn note_lock(locks: &mut Vec<()>, slot: &Slot) -> Result<(), NoMemory>
+    ensures { OnOk result (length locks.new.items
+        ≡ length locks.old.items + (if is_lock slot.now.sort then 1 else 0)) }
+{
+    if slot.sort == Sort::Lock {
+        locks.push(())?;
+    }
+    Ok(())
+}
+
+// How many locks stand, with a unit for each.
+fn count_locks<T: Tablet>(alloc: Global, table: &Table<T>) -> Result<usize, NoMemory>
+    ensures { IfOk result (λ n. n ≡ lock_count table.now.contents.entries) }
+{
+    let mut locks = Vec::new(alloc);
+    let mut after = None;
+    while let Some((slot, _)) = table.next_entry(after) {
+        note_lock(&mut locks, &slot)?;
+        after = Some(slot);
+    }
+    Ok(locks.len())
 }
 
 /// How many cells are marked.
-pub(crate) fn marks_of<T: Tablet>(state: &State<T>) -> Result<usize, NoMemory>
+pub(crate) fn marks_of<T: Tablet>(alloc: Global, state: &State<T>) -> Result<usize, NoMemory>
     ensures { IfOk result (λ n. n ≡ map.len state.now.marks) }
 {
-    count_marks(state.table())
+    count_marks(alloc, state.table())
 }
 
-/// How many locks stand. The table's entries can be counted where there is none at the greatest place.
-pub(crate) fn locks_of<T: Tablet>(state: &State<T>) -> Result<usize, NoMemory>
+/// How many locks stand.
+pub(crate) fn locks_of<T: Tablet>(alloc: Global, state: &State<T>) -> Result<usize, NoMemory>
     ensures { IfOk result (λ n. n ≡ lock_count state.now.entries) }
 {
-    if state.table().at(usize::MAX).is_some() {
-        return Err(NoMemory::from(AllocError));
-    }
-    Ok(state.locks())
+    count_locks(alloc, state.table())
 }
 
 /// The answer to `quiet?`: `quiet`, or how many cells are marked and how many locks stand.
@@ -55,6 +67,6 @@ pub fn answer_quiet<T: Tablet>(alloc: Global, state: &State<T>) -> Result<String
     ensures { IfOk result (λ s. string_bytes s
         ≡ last_line (map.len state.now.marks) (lock_count state.now.entries)) }
 {
-    let text = last_line(alloc, marks_of(state)?, locks_of(state)?)?;
+    let text = last_line(alloc, marks_of(alloc, state)?, locks_of(alloc, state)?)?;
     Ok(text)
 }

@@ -1,8 +1,7 @@
 //! How often each observer ran: by the write records of its acknowledgments, since each run that is committed leaves one.
-ghost use Rattle.std.specs.Prelude.{◌≡◌, ◌+◌, ◌==◌, ◌<◌, ℕ, IfOk, OnOk, length, replicate, slice_index_or, if◌then◌else◌};
+ghost use Rattle.std.specs.Prelude.{◌≡◌, ◌+◌, ◌==◌, ◌<◌, ◌^◌, ℕ, IfOk, OnOk, length, replicate, slice_index_or, if◌then◌else◌};
 ghost use Rattle.pb_answers.specs.Lists.{records_run, run_records, tallies_by, tallies_in};
 
-use crate::quiet::one_more;
 use pb_base::{Cell, NoMemory};
 use pb_script::Tally;
 use pb_state::State;
@@ -11,45 +10,52 @@ use pb_verify::Observer;
 use std::alloc::{AllocError, Global};
 
 // One run more of the observer of this number, if it is one of those that are counted.
-fn add_run(counts: &mut [usize], number: usize) -> Result<(), AllocError>
+fn add_run(counts: &mut [usize], number: usize)
+    requires { (o : ℕ) → o < length counts.old → slice_index_or counts.old o 0 + 1 < 2 ^ 64 }
     ensures length { length counts.new ≡ length counts.old }
-    ensures counted { OnOk result ((o : ℕ) → o < length counts.old
+    ensures counted { (o : ℕ) → o < length counts.old
         → slice_index_or counts.new o 0
-        ≡ slice_index_or counts.old o 0 + (if number == o then 1 else 0)) }
+        ≡ slice_index_or counts.old o 0 + (if number == o then 1 else 0) }
 {
     if number < counts.len() {
-        let more = one_more(counts[number])?;
-        counts[number] = more;
+        counts[number] += 1;
     }
-    Ok(())
 }
 
 // Counts the run that an entry records, if it records one.
-fn note_run(counts: &mut [usize], slot: &Slot) -> Result<(), AllocError>
+fn note_run(counts: &mut [usize], slot: &Slot)
+    requires { (o : ℕ) → o < length counts.old → slice_index_or counts.old o 0 + 1 < 2 ^ 64 }
     ensures length { length counts.new ≡ length counts.old }
-    ensures counted { OnOk result ((o : ℕ) → o < length counts.old
+    ensures counted { (o : ℕ) → o < length counts.old
         → slice_index_or counts.new o 0
-        ≡ slice_index_or counts.old o 0 + (if records_run o slot.now then 1 else 0)) }
+        ≡ slice_index_or counts.old o 0 + (if records_run o slot.now then 1 else 0) }
 {
     let Cell::Ack(observer, ..) = slot.cell else {
-        return Ok(());
+        return;
     };
     if slot.sort != Sort::Write {
-        return Ok(());
+        return;
     }
-    add_run(counts, usize::from(observer.number()))
+    add_run(counts, usize::from(observer.number()));
 }
 
-// Counts the runs that the entries record, in one walk.
-fn count_runs<T: Tablet>(table: &Table<T>, counts: &mut [usize]) -> Result<(), AllocError>
+// Counts the runs that the entries record, in one walk. It has a unit for each entry, whose room is refused where there
+// would be more than can be counted. No observer has more runs than there are units.
+fn count_runs<T: Tablet>(
+    alloc: Global,
+    table: &Table<T>,
+    counts: &mut [usize],
+) -> Result<(), NoMemory>
+    requires { (o : ℕ) → o < length counts.old → slice_index_or counts.old o 0 ≡ 0 }
     ensures length { length counts.new ≡ length counts.old }
     ensures counted { OnOk result ((o : ℕ) → o < length counts.old
-        → slice_index_or counts.new o 0
-        ≡ slice_index_or counts.old o 0 + run_records table.now.contents.entries o) }
+        → slice_index_or counts.new o 0 ≡ run_records table.now.contents.entries o) }
 {
+    let mut walked = Vec::new(alloc);
     let mut after = None;
     while let Some((slot, _)) = table.next_entry(after) {
-        note_run(counts, &slot)?;
+        walked.push(())?;
+        note_run(counts, &slot);
         after = Some(slot);
     }
     Ok(())
@@ -66,13 +72,13 @@ fn runs_of<T: Tablet>(
     alloc: Global,
     table: &Table<T>,
     observers: usize,
-) -> Result<Vec<usize>, AllocError>
+) -> Result<Vec<usize>, NoMemory>
     ensures length { IfOk result (λ v. length v.items ≡ observers) }
     ensures counted { IfOk result (λ v. (o : ℕ) → o < observers
         → slice_index_or v.items o 0 ≡ run_records table.now.contents.entries o) }
 {
     let mut counts = zeros(alloc, observers)?;
-    count_runs(table, counts.as_mut_slice())?;
+    count_runs(alloc, table, counts.as_mut_slice())?;
     Ok(counts)
 }
 
