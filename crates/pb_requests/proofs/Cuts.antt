@@ -1,7 +1,7 @@
 -- A line has an operation, though it may be one of no form.
 use Rattle.std.proofs.Common.{◌≡◌, ℕ, Bool, true, false, List, [], ◌∷◌, length, refl, ◌==◌, ◌&&◌, if◌then◌else◌, arith}
 use Rattle.std.specs.List.{onto_first}
-use Rattle.pb_parse.specs.ScriptLines.{cut}
+use Rattle.pb_requests.specs.Words.{cut}
 
 -- a byte goes onto the first of texts, and there are as many then
 onto_has : (b : ℕ) (xs : List (List ℕ)) → (length xs == 0) ≡ false → (length (onto_first b xs) == 0) ≡ false

@@ -1,4 +1,4 @@
--- A line of the standard input of percobpf_keep, and what it asks for. `parse_request` cites it.
+-- A line of the standard input of `percobpf_keep`, and what it asks for. `parse_request` cites it.
 use Rattle.std.specs.Prelude.{ℕ, ◌^◌, ◌-◌, nat_lt, ◌==◌, ◌||◌, if◌then◌else◌, List, [], ◌∷◌, length, codes, Result, Ok, Err, bytes_eq}
 use Rattle.pb_requests.specs.Words.{Ts, column_of, row_of, next_word, no_word, words_of, ◌>>=◌, cut, cell_at, number_upto, ScriptCode}
 use Rattle.pb_requests.specs.declared.parse.TheConstants.{MAX_LINE}
@@ -13,8 +13,8 @@ commit_of words = do
   Ok (commit, word.1)
 
 -- a line that is its verb alone
-unfoldable pub alone : Request → List (List ℕ) → Result Request ScriptCode
-alone request words = do
+unfoldable pub alone_in : Request → List (List ℕ) → Result Request ScriptCode
+alone_in request words = do
   end ← no_word ScriptCode.Form words
   Ok request
 
@@ -57,11 +57,11 @@ unfoldable pub question_of : List ℕ → List (List ℕ) → Result Request Scr
 question_of verb words =
     if bytes_eq verb (codes "get") then get_of words
     else if bytes_eq verb (codes "since") then since_of words
-    else if bytes_eq verb (codes "list") then alone Request.List words
-    else if bytes_eq verb (codes "begin") then alone Request.Begin words
-    else if bytes_eq verb (codes "end") then alone Request.End words
-    else if bytes_eq verb (codes "quiet?") then alone Request.IsQuiet words
-    else if bytes_eq verb (codes "stats") then alone Request.Stats words
+    else if bytes_eq verb (codes "list") then alone_in Request.List words
+    else if bytes_eq verb (codes "begin") then alone_in Request.Begin words
+    else if bytes_eq verb (codes "end") then alone_in Request.End words
+    else if bytes_eq verb (codes "quiet?") then alone_in Request.IsQuiet words
+    else if bytes_eq verb (codes "stats") then alone_in Request.Stats words
     else Err ScriptCode.Form
 
 -- a line by its verb and the words after it
@@ -72,7 +72,7 @@ request_by line verb words =
     else question_of verb words
 
 -- a line; one that is too long, or empty, or of another verb is of no form
-unfoldable pub request_of : List ℕ → Result Request ScriptCode
-request_of line = if nat_lt MAX_LINE (length line) then Err ScriptCode.Form else do
+unfoldable pub asked_by : List ℕ → Result Request ScriptCode
+asked_by line = if nat_lt MAX_LINE (length line) then Err ScriptCode.Form else do
   verb ← next_word ScriptCode.Form (words_of line)
   request_by line verb.0 verb.1

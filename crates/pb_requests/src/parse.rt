@@ -2,7 +2,7 @@
 ghost use Rattle.std.specs.Prelude.{◌≡◌, false};
 ghost use Rattle.pb_reading.specs.Reading.{Gives, words_left};
 ghost use Rattle.pb_parse.specs.ScriptLines.{cut};
-ghost use Rattle.pb_requests.specs.Requests.{commit_of, alone, get_of, since_of, condition_in, condition_of, conditional, question_of, request_by, request_of};
+ghost use Rattle.pb_requests.specs.Requests.{commit_of, alone_in, get_of, since_of, condition_in, condition_of, conditional, question_of, request_by, asked_by};
 
 use crate::request::{Condition, Request};
 use pb_base::Ts;
@@ -22,9 +22,9 @@ fn commit_of(words: &mut LineWords) -> Result<Ts, ScriptCode>
 }
 
 // A line of this word alone.
-#[tactic(auto, unfolding(crate::specs::Requests::alone))]
-fn alone(request: Request, words: &LineWords) -> Result<Request, ScriptCode>
-    ensures { Gives (λ _. false) (λ r. r) result (alone request (words_left words.now.rest)) }
+#[tactic(auto, unfolding(crate::specs::Requests::alone_in))]
+fn alone_in(request: Request, words: &LineWords) -> Result<Request, ScriptCode>
+    ensures { Gives (λ _. false) (λ r. r) result (alone_in request (words_left words.now.rest)) }
 {
     words.no_word(ScriptCode::Form)?;
     Ok(request)
@@ -86,16 +86,17 @@ fn conditional(line: &str) -> Result<Request, ScriptCode>
 // A question, or a line around changes, by its verb.
 #[tactic(auto, unfolding(crate::specs::Requests::question_of))]
 fn question_of(verb: &str, words: &mut LineWords) -> Result<Request, ScriptCode>
-    ensures { Gives (λ _. false) (λ r. r) result (question_of verb.now (words_left words.old.rest)) }
+    ensures { Gives (λ _. false) (λ r. r) result
+        (question_of verb.now (words_left words.old.rest)) }
 {
     match verb {
         "get" => get_of(words),
         "since" => since_of(words),
-        "list" => alone(Request::List, words),
-        "begin" => alone(Request::Begin, words),
-        "end" => alone(Request::End, words),
-        "quiet?" => alone(Request::IsQuiet, words),
-        "stats" => alone(Request::Stats, words),
+        "list" => alone_in(Request::List, words),
+        "begin" => alone_in(Request::Begin, words),
+        "end" => alone_in(Request::End, words),
+        "quiet?" => alone_in(Request::IsQuiet, words),
+        "stats" => alone_in(Request::Stats, words),
         _ => Err(ScriptCode::Form),
     }
 }
@@ -117,9 +118,9 @@ fn request_by(line: &str, verb: &str, words: &mut LineWords) -> Result<Request, 
 
 /// What a line asks for, by its first word at fault where that isn't known: 70 not of the form, or of over 4,096 bytes; 71 a
 /// row, a column or a commit out of range. The operations of a change aren't read here.
-#[tactic(auto, unfolding(crate::specs::Requests::request_of))]
+#[tactic(auto, unfolding(crate::specs::Requests::asked_by))]
 pub fn parse_request(line: &str) -> Result<Request, ScriptCode>
-    ensures { Gives (λ _. false) (λ r. r) result (request_of line.now) }
+    ensures { Gives (λ _. false) (λ r. r) result (asked_by line.now) }
 {
     if line.len() > MAX_LINE {
         return Err(ScriptCode::Form);
