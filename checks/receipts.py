@@ -44,6 +44,8 @@ ASKS_FOR_ALL = "test_fixtures", "refused"
 # The types with a member that holds a receipt, or a type that does: what a call returns, which the caller takes apart.
 HOLDERS = {
     "pb_log": {"LogFault"},
+    "pb_keeper": {"Stopped"},
+    "pb_keep": {"KeepFault"},
     "pb_reading": {"LineFault", "TextFault"},
     "pb_isa": {"NoProgram"},
     "pb_decode": {"DecodeFault"},

@@ -1,0 +1,15 @@
+use Rattle.std.proofs.Common.{◌≡◌, ◌++◌, ℕ, List, length}
+use Rattle.std.specs.Prelude.{string_bytes}
+use Rattle.std.specs.Vec.Iter.{into_iter_items, into_iter_len}
+use Rattle.pb_keep.specs.Words.{Writes, ObserverOf, Keeps}
+use Rattle.pb_keep.specs.Waits.{changes_in, AreAnswers}
+use Rattle.pb_keep.proofs.made.make_and_answer.Given as goal
+
+-- the lines so far are answered
+abbrev pub invariant-loop-item : goal.invariant-loop-item
+invariant-loop-item g l = record {
+  parts : l.fn.items.items ≡ l.yielded ++ into_iter_items l.item-iterator;
+  counted : into_iter_len l.item-iterator ≡ length (into_iter_items l.item-iterator);
+  answers : (more : List ℕ) × (string_bytes l.text ≡ string_bytes l.initial.text ++ more) × AreAnswers l.yielded l.initial.state l.state more;
+  keeps : (observers : List ObserverOf) (changes : List Writes) → Keeps observers changes l.initial.state → Keeps observers (changes ++ changes_in l.yielded) l.state;
+}

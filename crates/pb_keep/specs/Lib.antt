@@ -1,0 +1,3 @@
+pub mod Words
+pub mod Kept
+pub mod Waits

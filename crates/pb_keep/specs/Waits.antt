@@ -1,0 +1,105 @@
+-- The lines that wait, and how they are answered.
+use Rattle.std.specs.Prelude.{◌≡◌, ℕ, ◌+◌, ◌<◌, ◌≤◌, Bool, true, false, ◌==◌, List, [], ◌∷◌, ◌++◌, length, None, Ok, codes, decimal, string_bytes}
+use Rattle.std.specs.List.{join_with_byte, list_any}
+use Rattle.pb_keep.specs.Words.{Writes, MAX_CHANGES, IsNextMark, StateOf, is_skipped, batch_of, SaidLeads, IsMade, Made}
+use Rattle.pb_keep.specs.declared.waiting.TheConstants.{MAX_RECORD}
+use Rattle.pb_keep.specs.declared.waiting.Waits.{Waits}
+use Rattle.pb_keep.specs.declared.waiting.Waiting.{Waiting}
+
+-- ---- what a record of the log has
+
+-- lines, each with its newline
+abbrev pub script_lines : List (List ℕ) → List ℕ
+script_lines lines = join_with_byte 10 (lines ++ [] ∷ [])
+
+-- a line that is read as this change, neither empty nor a remark, and with no newline in it
+pub record IsScriptLine (line : List ℕ) (batch : Writes) : Type 0 where
+  pub read : batch_of line ≡ Ok batch
+  pub shown : is_skipped line ≡ false
+  pub whole : list_any (λ b. b == 10) line ≡ false
+
+-- each line is read as the change in its place
+abbrev pub AreScriptLines : List (List ℕ) → List Writes → Type 0
+AreScriptLines [] [] = Unit {0}
+AreScriptLines [] (batch ∷ batches) = ⊥
+AreScriptLines (line ∷ lines) [] = ⊥
+AreScriptLines (line ∷ lines) (batch ∷ batches) = IsScriptLine line batch × AreScriptLines lines batches
+
+-- the changes among lines that wait, in order
+abbrev pub changes_in : List Waits → List Writes
+changes_in [] = []
+changes_in (Waits.Change batch ∷ items) = batch ∷ changes_in items
+changes_in (Waits.Unmade newest ∷ items) = changes_in items
+changes_in (Waits.Refused code ∷ items) = changes_in items
+changes_in (Waits.Begun ∷ items) = changes_in items
+changes_in (Waits.Ended ∷ items) = changes_in items
+
+-- the record has room for a line of so many bytes more
+pub record HasLineRoom (waiting : Waiting) (bytes : ℕ) : Type 0 where
+  pub one_more : waiting.changes < MAX_CHANGES
+  pub more : length (string_bytes waiting.script) + (bytes + 1) ≤ MAX_RECORD
+
+-- the next record has the lines of the changes that wait, and those alone
+pub record IsWaiting (waiting : Waiting) : Type 0 where
+  pub lines : List (List ℕ)
+  pub script : string_bytes waiting.script ≡ script_lines lines
+  pub read : AreScriptLines lines (changes_in waiting.items.items)
+  pub count : waiting.changes ≡ length (changes_in waiting.items.items)
+  pub few : waiting.changes ≤ MAX_CHANGES
+  pub bytes : length (string_bytes waiting.script) ≤ MAX_RECORD
+
+-- nothing waits, and no group has begun
+pub record IsNoLine (waiting : Waiting) : Type 0 where
+  pub items : waiting.items.items ≡ []
+  pub script : string_bytes waiting.script ≡ []
+  pub changes : waiting.changes ≡ 0
+  pub alone : waiting.is_group ≡ false
+
+-- ---- answers
+
+-- how the line of a change ends: how many runs followed it, or that some cell is still marked after all passes
+abbrev pub after_commit : Bool → ℕ → List ℕ
+after_commit true runs = codes " runs " ++ (decimal runs ++ codes "\n")
+after_commit false runs = codes " unquiet\n"
+
+-- the answer to a change
+abbrev pub made_line : Made → List ℕ
+made_line m = codes "made " ++ (decimal m.commit.0 ++ after_commit m.drained.rests m.drained.runs)
+
+-- the answer to a line that changes nothing
+abbrev pub other_line : Waits → List ℕ
+other_line (Waits.Change batch) = []
+other_line (Waits.Unmade newest) = codes "unmade commit " ++ (decimal newest.0 ++ codes "\n")
+other_line (Waits.Refused code) = codes "refused " ++ (decimal code ++ codes "\n")
+other_line Waits.Begun = codes "begun\n"
+other_line Waits.Ended = codes "ended\n"
+
+-- a change was made, and is answered so: the commit is its transaction's, and where it says how many runs followed, no cell is marked
+pub record IsMadeAs (batch : Writes) (old new : StateOf) (text : List ℕ) : Type 0 where
+  pub made : Made
+  pub leads : SaidLeads (IsMade old.observers batch made.commit) old new
+  pub quiet : made.drained.rests ≡ true → IsNextMark new.marks None None
+  pub line : text ≡ made_line made
+
+-- a line that waited is answered by this text: a change is made, and nothing else is done
+abbrev pub IsAnswer : Waits → StateOf → StateOf → List ℕ → Type 0
+IsAnswer (Waits.Change batch) old new text = IsMadeAs batch old new text
+IsAnswer (Waits.Unmade newest) old new text = (new ≡ old) × (text ≡ other_line (Waits.Unmade newest))
+IsAnswer (Waits.Refused code) old new text = (new ≡ old) × (text ≡ other_line (Waits.Refused code))
+IsAnswer Waits.Begun old new text = (new ≡ old) × (text ≡ other_line Waits.Begun)
+IsAnswer Waits.Ended old new text = (new ≡ old) × (text ≡ other_line Waits.Ended)
+
+-- lines are answered one after the other, by this text
+pub data AreAnswers : List Waits → StateOf → StateOf → List ℕ → Type 0 where
+  none : (state : StateOf) → AreAnswers [] state state []
+  one_more : (items : List Waits) (item : Waits) (old between new : StateOf) (text more : List ℕ) → AreAnswers items old between text → IsAnswer item between new more → AreAnswers (items ++ item ∷ []) old new (text ++ more)
+
+-- some lines in front are answered, and what is added to a text is these answers
+pub record AreSomeAnswers (items : List Waits) (old : StateOf) (before after : List ℕ) : Type 0 where
+  pub front : List Waits
+  pub rest : List Waits
+  pub parts : items ≡ front ++ rest
+  pub now : StateOf
+  pub text : List ℕ
+  pub answers : AreAnswers front old now text
+  pub added : after ≡ before ++ text

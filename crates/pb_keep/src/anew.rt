@@ -1,0 +1,70 @@
+//! The changes of a log, made again when it is opened.
+ghost use Rattle.std.specs.Prelude.{◌≡◌, ◌++◌, ℕ, List, map, IfOk, OnOk, Ok};
+ghost use Rattle.pb_base.specs.Batch.{Writes};
+ghost use Rattle.pb_verify.specs.Observers.{ObserverOf};
+ghost use Rattle.pb_parse.specs.ScriptLines.{script_of};
+ghost use Rattle.pb_keeper.specs.Keeps.{Keeps};
+ghost use Rattle.pb_keep.specs.Kept.{changes_of};
+
+use crate::fault::KeepFault;
+use pb_base::Batch;
+use pb_keeper::make_all;
+use pb_parse::parse_script;
+use pb_reading::TextFault;
+use pb_state::State;
+use pb_store::Tablet;
+use std::alloc::Global;
+use std::sync::Wait;
+
+// The changes of a record.
+fn batches_of(alloc: Global, record: &[u8]) -> Result<Vec<Batch>, KeepFault>
+    ensures { IfOk result (λ v. script_of record.now ≡ Ok v.items) }
+{
+    let Ok(text) = std::str::from_utf8(record) else {
+        return Err(KeepFault::Record);
+    };
+    match parse_script(alloc, text) {
+        Ok(batches) => Ok(batches),
+        Err(TextFault::NoMemory(refused)) => Err(KeepFault::NoMemory(refused)),
+        Err(TextFault::At { .. }) => Err(KeepFault::Record),
+    }
+}
+
+// Makes the changes of a record, in order, each with its observers, and returns how many they are.
+fn make_anew<R: Wait, T: Tablet>(
+    rt: &R,
+    alloc: Global,
+    state: &mut State<T>,
+    record: &[u8],
+) -> Result<usize, KeepFault>
+    ensures { (observers : List ObserverOf) (changes : List Writes)
+        → Keeps observers changes state.old
+        → OnOk result ((script : List Writes) × (script_of record.now ≡ Ok script)
+        × Keeps observers (changes ++ script) state.new) }
+{
+    let batches = batches_of(alloc, record)?;
+    let count = batches.len();
+    make_all(rt, alloc, state, batches)?;
+    Ok(count)
+}
+
+/// Makes the changes of records, in order, each with its observers, and returns how many they are.
+pub fn make_records_anew<R: Wait, T: Tablet>(
+    rt: &R,
+    alloc: Global,
+    state: &mut State<T>,
+    records: Vec<Vec<u8>>,
+) -> Result<u64, KeepFault>
+    ensures { (observers : List ObserverOf) (changes : List Writes)
+        → Keeps observers changes state.old
+        → OnOk result ((more : List Writes)
+        × (changes_of (map (λ v. v.items) records.items) ≡ Ok more)
+        × Keeps observers (changes ++ more) state.new) }
+{
+    let mut count = 0u64;
+    for record in records {
+        let made = make_anew(rt, alloc, state, &record)?;
+        count = count.saturating_add(made as u64);
+    }
+    Ok(count)
+}

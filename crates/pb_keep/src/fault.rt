@@ -1,0 +1,71 @@
+//! Why a table is kept no longer.
+ghost use Rattle.std.specs.Prelude.{◌≡◌};
+ghost use Rattle.pb_base.specs.Growths.{refused_growth};
+ghost use Rattle.pb_keep.specs.declared.fault.KeepFault.TheVariants as ends;
+
+use pb_base::NoMemory;
+use pb_keeper::Stopped;
+use pb_log::LogFault;
+use std::alloc::{AllocError, AllocFailed};
+use thiserror::Error;
+
+/// Why a table is kept no longer. What was answered stands; of what was sent and not answered a beginning is made, each
+/// record of the log whole, when it is opened again.
+#[derive(Debug, Drop, Error)]
+pub enum KeepFault {
+    #[error("{0}")]
+    NoMemory(NoMemory),
+    /// The log failed, or is damaged.
+    #[error("{0}")]
+    Log(LogFault),
+    /// A record of the log is no script: another program wrote it.
+    #[error("a record of the log can't be read")]
+    Record,
+    /// A change of the log was stopped: it is made when the log is opened again.
+    #[error("a change was stopped")]
+    Stopped,
+    #[error("cannot write the output")]
+    Output,
+    #[error("cannot read the input")]
+    Input,
+}
+
+impl From<NoMemory> for KeepFault {
+    ghost from_gives = { λ e f. f ≡ ends.NoMemory e };
+
+    fn from(e: NoMemory) -> KeepFault {
+        KeepFault::NoMemory(e)
+    }
+}
+
+impl From<AllocError> for KeepFault {
+    ghost from_gives = { λ _ f. f ≡ ends.NoMemory refused_growth };
+
+    fn from(e: AllocError) -> KeepFault {
+        KeepFault::NoMemory(e.into())
+    }
+}
+
+impl<T: Drop> From<AllocFailed<T>> for KeepFault {
+    ghost from_gives = { λ _ f. f ≡ ends.NoMemory refused_growth };
+
+    fn from(e: AllocFailed<T>) -> KeepFault {
+        KeepFault::NoMemory(e.into())
+    }
+}
+
+impl From<LogFault> for KeepFault {
+    ghost from_gives = { λ e f. f ≡ ends.Log e };
+
+    fn from(e: LogFault) -> KeepFault {
+        KeepFault::Log(e)
+    }
+}
+
+impl From<Stopped> for KeepFault {
+    ghost from_gives = { λ _ f. f ≡ ends.Stopped };
+
+    fn from(_e: Stopped) -> KeepFault {
+        KeepFault::Stopped
+    }
+}

@@ -1,0 +1,144 @@
+//! A table, its log, and the lines that wait.
+ghost use Rattle.std.specs.Prelude.{◌≡◌, ◌⊎◌, ◌++◌, ◌<◌, ◌^◌, ℕ, List, [], length, OnOk, IsTrue};
+ghost use Rattle.sqlite_disk.specs.Disk.{Only};
+ghost use Rattle.pb_base.specs.Batch.{Writes};
+ghost use Rattle.std.specs.Io.KnownBytes.{Appends};
+ghost use Rattle.pb_verify.specs.Observers.{ObserverOf};
+ghost use Rattle.pb_keeper.specs.Keeps.{Keeps};
+ghost use Rattle.pb_keep.specs.Kept.{HasChanges, IsLogOf};
+ghost use Rattle.pb_keep.specs.Waits.{changes_in, AreAnswers, IsNoLine, IsWaiting};
+
+use crate::anew::make_records_anew;
+use crate::fault::KeepFault;
+use crate::made::make_and_answer;
+use crate::waiting::Waiting;
+use pb_base::Sink;
+use pb_log::Log;
+use pb_state::State;
+use pb_store::Tablet;
+use sqlite_disk::Disk;
+use std::alloc::Global;
+use std::mem;
+use std::sync::Wait;
+
+/// A table that is kept: its log, its state, and the lines that wait. It ends by `close` alone.
+pub struct Keeper<T: Tablet, D: Disk + Drop> {
+    pub log: Log<D>,
+    pub state: State<T>,
+    pub waiting: Waiting,
+}
+
+// Puts the changes that wait into the log, if there are any.
+fn put_script<D: Disk + Drop>(
+    alloc: Global,
+    log: &mut Log<D>,
+    waiting: &Waiting,
+) -> Result<(), KeepFault>
+    requires usable { IsTrue (D.is_usable log.old.disk) }
+    requires waiting { IsWaiting waiting.now }
+    ensures usable { OnOk result (IsTrue (D.is_usable log.new.disk)) }
+    ensures put { (manifest : List ℕ) (changes : List Writes)
+        → IsLogOf manifest changes (D.seen log.old.disk) (D.may_leave log.old.disk) log.old.end
+        → OnOk result (IsLogOf manifest (changes ++ changes_in waiting.now.items.items)
+        (D.seen log.new.disk) (D.may_leave log.new.disk) log.new.end) }
+    ensures crash { (manifest : List ℕ) (changes : List Writes)
+        → IsLogOf manifest changes (D.seen log.old.disk) (D.may_leave log.old.disk) log.old.end
+        → (c : List ℕ) → D.may_leave log.new.disk c
+        → HasChanges manifest changes c
+        ⊎ HasChanges manifest (changes ++ changes_in waiting.now.items.items) c }
+{
+    if waiting.changes > 0 {
+        log.put(alloc, waiting.script.as_bytes())?;
+    }
+    Ok(())
+}
+
+impl<T: Tablet, D: Disk + Drop> Keeper<T, D> {
+    /// A table that isn't opened yet: its log is on this disk, and nothing was done to its state.
+    pub fn new(alloc: Global, disk: D, state: State<T>) -> Keeper<T, D>
+        ensures disk { result.log.disk ≡ disk }
+        ensures state { result.state ≡ state }
+        ensures idle { IsNoLine result.waiting }
+        ensures waiting { IsWaiting result.waiting }
+    {
+        Keeper {
+            log: Log::new(disk),
+            state,
+            waiting: Waiting::new(alloc),
+        }
+    }
+
+    /// Opens the log of this manifest, or makes it, and makes its changes again, in order. Returns how many they are. The
+    /// manifest has less than 2^31 bytes.
+    pub fn open<R: Wait>(
+        &mut self,
+        rt: &R,
+        alloc: Global,
+        manifest: &[u8],
+    ) -> Result<u64, KeepFault>
+        requires usable { IsTrue (D.is_usable self.old.log.disk) }
+        requires restarted { Only (D.seen self.old.log.disk) (D.may_leave self.old.log.disk) }
+        requires short { length manifest.now < 2 ^ 31 }
+        ensures usable { OnOk result (IsTrue (D.is_usable self.new.log.disk)) }
+        ensures waiting { self.new.waiting ≡ self.old.waiting }
+        ensures kept { (observers : List ObserverOf) → Keeps observers [] self.old.state
+            → OnOk result (IsTrue (D.is_clean self.new.log.disk)
+            → (changes : List Writes) × HasChanges manifest.now changes (D.seen self.old.log.disk)
+            × IsLogOf manifest.now changes (D.seen self.new.log.disk)
+            (D.may_leave self.new.log.disk) self.new.log.end
+            × Keeps observers changes self.new.state) }
+    {
+        let records = self.log.open(alloc, manifest)?;
+        make_records_anew(rt, alloc, &mut self.state, records)
+    }
+
+    /// Keeps what waits: its changes by one record of the log, if there are any, which is on the disk before the first of
+    /// them is made; then each is made with its observers; then all lines are answered, in their order.
+    pub fn keep<R: Wait, S: Sink>(
+        &mut self,
+        rt: &R,
+        alloc: Global,
+        out: &mut S,
+    ) -> Result<(), KeepFault>
+        requires usable { IsTrue (D.is_usable self.old.log.disk) }
+        requires waiting { IsWaiting self.old.waiting }
+        ensures usable { OnOk result (IsTrue (D.is_usable self.new.log.disk)) }
+        ensures idle { OnOk result (IsNoLine self.new.waiting) }
+        ensures kept { (manifest : List ℕ) (observers : List ObserverOf) (changes : List Writes)
+            → IsLogOf manifest changes (D.seen self.old.log.disk)
+            (D.may_leave self.old.log.disk) self.old.log.end
+            → Keeps observers changes self.old.state
+            → OnOk result (IsLogOf manifest (changes ++ changes_in self.old.waiting.items.items)
+            (D.seen self.new.log.disk) (D.may_leave self.new.log.disk) self.new.log.end
+            × Keeps observers (changes ++ changes_in self.old.waiting.items.items) self.new.state) }
+        ensures crash { (manifest : List ℕ) (changes : List Writes)
+            → IsLogOf manifest changes (D.seen self.old.log.disk)
+            (D.may_leave self.old.log.disk) self.old.log.end
+            → (c : List ℕ) → D.may_leave self.new.log.disk c
+            → HasChanges manifest changes c
+            ⊎ HasChanges manifest (changes ++ changes_in self.old.waiting.items.items) c }
+        ensures answers { OnOk result ((text : List ℕ)
+            × AreAnswers self.old.waiting.items.items self.old.state self.new.state text
+            × Appends (S.taken out.old) (S.taken out.new) text) }
+    {
+        put_script(alloc, &mut self.log, &self.waiting)?;
+        let Waiting { items, .. } = mem::replace(&mut self.waiting, Waiting::new(alloc));
+        let mut text = String::new(alloc);
+        let done = make_and_answer(rt, alloc, &mut self.state, items, &mut text);
+        // Also where a change was stopped: those before it are made.
+        match out.write_all(text.as_bytes()) {
+            Ok(()) => done,
+            Err(_) => Err(KeepFault::Output),
+        }
+    }
+
+    /// Ends it, with its table.
+    pub fn close(self) {
+        let Keeper {
+            log: _,
+            state,
+            waiting: _,
+        } = self;
+        state.close();
+    }
+}

@@ -1,0 +1,26 @@
+//! A table that lasts: its changes are on a disk before they are made, and are made again when it is opened.
+//!
+//! `percobpf_keep` reads lines and answers each; this crate says what it does for one. A change is put into the log with
+//! those that wait with it, made, and the observers run until nothing is left for them; then it is answered. So an answer
+//! says that the change is on the disk, and a change without one is made whole or not at all when the log is opened again.
+//! The log has the lines themselves, so that replay reads what was kept by the same reader. The crates below know one
+//! thing each: `pb_log` records on a disk, `pb_keeper` changes of a table, `pb_requests` and `pb_answers` lines. Where
+//! `put 7 0 2a` and `put 8 0 2b` wait together, both are in one record, and are answered `made 2 runs 1` and
+//! `made 6 runs 1` with the observer of examples/copy.json.
+#![tactic(auto)]
+
+mod anew;
+mod fault;
+mod keeper;
+mod lines;
+mod made;
+mod service;
+mod take;
+mod waiting;
+
+pub use anew::make_records_anew;
+pub use fault::KeepFault;
+pub use keeper::Keeper;
+pub use lines::{Line, read_line};
+pub use service::serve;
+pub use waiting::{MAX_RECORD, Waiting, Waits};

@@ -1,0 +1,102 @@
+//! Changes made one after the other, and the answers to lines that waited.
+ghost use Rattle.std.specs.Prelude.{◌≡◌, ◌++◌, ◌∷◌, [], ℕ, List, IfOk, OnOk, OnErr, string_bytes, codes, decimal};
+ghost use Rattle.pb_base.specs.Batch.{Writes};
+ghost use Rattle.pb_verify.specs.Observers.{ObserverOf};
+ghost use Rattle.pb_keeper.specs.Keeps.{Keeps};
+ghost use Rattle.pb_keep.specs.Waits.{changes_in, made_line, AreAnswers, AreSomeAnswers, IsAnswer};
+
+use crate::fault::KeepFault;
+use crate::waiting::Waits;
+use pb_base::{NoMemory, Ts};
+use pb_keeper::{Made, make};
+use pb_state::State;
+use pb_store::Tablet;
+use std::alloc::Global;
+use std::sync::Wait;
+
+// Adds the answer of a change that was made: `made C runs N`, or `made C unquiet` where its observers didn't come to rest.
+fn push_made(alloc: Global, text: &mut String, made: &Made) -> Result<(), NoMemory>
+    ensures line { OnOk result (string_bytes text.new
+        ≡ string_bytes text.old ++ made_line made.now) }
+    ensures same { OnErr result (string_bytes text.new ≡ string_bytes text.old) }
+{
+    let line = if made.drained.rests {
+        format!(in alloc; "made {} runs {}\n", made.commit.0, made.drained.runs)?
+    } else {
+        format!(in alloc; "made {} unquiet\n", made.commit.0)?
+    };
+    text.push_str(line.as_str())?;
+    Ok(())
+}
+
+fn push_refused(alloc: Global, text: &mut String, code: u8) -> Result<(), NoMemory>
+    ensures line { OnOk result (string_bytes text.new
+        ≡ string_bytes text.old ++ (codes "refused " ++ (decimal code ++ codes "\n"))) }
+    ensures same { OnErr result (string_bytes text.new ≡ string_bytes text.old) }
+{
+    let line = format!(in alloc; "refused {code}\n")?;
+    text.push_str(line.as_str())?;
+    Ok(())
+}
+
+fn push_unmade(alloc: Global, text: &mut String, newest: Ts) -> Result<(), NoMemory>
+    ensures line { OnOk result (string_bytes text.new
+        ≡ string_bytes text.old ++ (codes "unmade commit " ++ (decimal newest.0 ++ codes "\n"))) }
+    ensures same { OnErr result (string_bytes text.new ≡ string_bytes text.old) }
+{
+    let line = format!(in alloc; "unmade commit {}\n", newest.0)?;
+    text.push_str(line.as_str())?;
+    Ok(())
+}
+
+// Answers a line that waited, and makes its change, if it is one, before.
+fn answer<R: Wait, T: Tablet>(
+    rt: &R,
+    alloc: Global,
+    state: &mut State<T>,
+    item: Waits,
+    text: &mut String,
+) -> Result<(), KeepFault>
+    ensures answer { OnOk result ((more : List ℕ)
+        × (string_bytes text.new ≡ string_bytes text.old ++ more)
+        × IsAnswer item state.old state.new more) }
+    ensures keeps { (observers : List ObserverOf) (changes : List Writes)
+        → Keeps observers changes state.old
+        → OnOk result (Keeps observers (changes ++ changes_in (item ∷ [])) state.new) }
+    ensures unanswered { OnErr result (string_bytes text.new ≡ string_bytes text.old) }
+{
+    match item {
+        Waits::Change(batch) => {
+            let made = make(rt, alloc, state, batch)?;
+            push_made(alloc, text, &made)?;
+        }
+        Waits::Unmade(newest) => push_unmade(alloc, text, newest)?,
+        Waits::Refused(code) => push_refused(alloc, text, code)?,
+        Waits::Begun => text.push_str("begun\n")?,
+        Waits::Ended => text.push_str("ended\n")?,
+    }
+    Ok(())
+}
+
+// Makes the changes of lines that waited, each with its observers, and adds the answers to all of the lines.
+pub(crate) fn make_and_answer<R: Wait, T: Tablet>(
+    rt: &R,
+    alloc: Global,
+    state: &mut State<T>,
+    items: Vec<Waits>,
+    text: &mut String,
+) -> Result<(), KeepFault>
+    ensures answers { OnOk result ((more : List ℕ)
+        × (string_bytes text.new ≡ string_bytes text.old ++ more)
+        × AreAnswers items.items state.old state.new more) }
+    ensures keeps { (observers : List ObserverOf) (changes : List Writes)
+        → Keeps observers changes state.old
+        → OnOk result (Keeps observers (changes ++ changes_in items.items) state.new) }
+    ensures some { OnErr result (AreSomeAnswers items.items state.old
+        (string_bytes text.old) (string_bytes text.new)) }
+{
+    for item in items {
+        answer(rt, alloc, state, item, text)?;
+    }
+    Ok(())
+}
