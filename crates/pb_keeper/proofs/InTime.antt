@@ -49,12 +49,13 @@ use Rattle.pb_notify.proofs.OwnSteps.{declares_in_time, goes_in_time, no_transac
 use Rattle.pb_notify.proofs.PlanEntries.{has_said}
 use Rattle.pb_notify.proofs.PlanSteps.{declaring_said_nothing, plan_step, plan_keeps}
 use Rattle.pb_notify.proofs.RecordedReads.{after, after_is}
-use Rattle.pb_keeper.specs.Leads.{SaidLeads, IsAny, ChangedSoFar}
+use Rattle.pb_keeper.specs.Leads.{SaidLeads, IsAny}
 use Rattle.pb_keeper.specs.Runs.{RanSoFar}
 use Rattle.pb_passes.specs.Passes.{HasColumn, IsJobOn}
 use Rattle.pb_keeper.specs.declared.change.Stopped.{Stopped}
 use Rattle.pb_keeper.specs.Stops.{WasOpened, IsLeftFor, IsStop, IsKnownJob}
 use Rattle.pb_keeper.proofs.Leading.{leads_on, leads_observers}
+use Rattle.pb_keeper.proofs.Pushes.{ChangedSoFar}
 
 -- ---- what no step changes
 
@@ -65,7 +66,7 @@ journal_seats : (old : StateOf) (es : List Entry) (new : StateOf) → JournalLea
 journal_seats old [] new r = ap (λ (z : StateOf). z.seats) r
 journal_seats old (e ∷ es) new r = journal_seats r.0 es new r.2 ∙ case_seats old e.seat r.0 e.step e.answer r.1.taken
 
--- ---- the journal of what was said
+-- ---- the journal of a seat's conversation
 
 entries_back : (said : List Received) → entries_of 0 (entries_by 0 said) ≡ said
 entries_back [] = refl
@@ -74,7 +75,7 @@ entries_back (r ∷ rs) = ap (λ l. r ∷ l) (entries_back rs)
 small : 0 < 2 ^ 64
 small = grind arith
 
--- what was said since the state was opened
+-- the seat's conversation since the state was opened
 record SaidSince (P : List Received → Type 0) (state : StateOf) : Type 0 where
   pub observers : List ObserverOf
   pub before : List Received
@@ -254,7 +255,7 @@ module _ (allowed : PlansAreAllowed) (told_by : TransactionsAreTold) (state : St
         let same = keeps_start_and_what (fresh_plan s what) p rest said_is in
         by_place p.place refl ((λ i. places.step_at (sym same.0 i) (sym same.1 i) p.place) ∙ next)
 
-  -- a change's next step, of which so much was said
+  -- a change's next step, after this part of its conversation
   by_said : (observers : List ObserverOf) (batch : Writes) (before said : List Received) (job : ChangeOf) → IsLegal observers 1 0 (entries_by 0 (before ++ said)) state → 0 < state.seats → Converses (new_change batch) said job → change_next job ≡ Some step → why ≡ Reason.OutOfTimestamps
   by_said observers batch before [] job legal seated talk next = begin_in_time seated (first_step (ap change_next (sym talk) ∙ next)) where
     first_step : Some (Step.Begin Work.Script) ≡ Some step → Step.Begin Work.Script ≡ step

@@ -1,4 +1,4 @@
--- What was said goes on, and no step changes the observers.
+-- A seat's conversation goes on, and no step changes the observers.
 use Rattle.std.proofs.Common.{arith, ◌≡◌, ℕ, List, [], ◌∷◌, ◌++◌, refl, sym, ap, subst, ◌∙◌}
 use Rattle.pb_steps.specs.declared.step.Step.{Step}
 use Rattle.pb_steps.specs.declared.step.Answer.{Answer}
@@ -10,14 +10,6 @@ use Rattle.pb_history.specs.Journals.{JournalLeads}
 use Rattle.pb_txn.specs.Conversations.{told}
 use Rattle.pb_notify.specs.Allowed.{entries_by}
 use Rattle.pb_keeper.specs.Leads.{SaidLeads}
-
-pub append_assoc : {A : Type 0} (xs ys zs : List A) → (xs ++ ys) ++ zs ≡ xs ++ (ys ++ zs)
-append_assoc [] ys zs = refl
-append_assoc (x ∷ xs) ys zs = ap (λ l. x ∷ l) (append_assoc xs ys zs)
-
-pub append_nil : {A : Type 0} (xs : List A) → xs ++ [] ≡ xs
-append_nil [] = refl
-append_nil (x ∷ xs) = ap (λ l. x ∷ l) (append_nil xs)
 
 entries_on : (n : List Received) (m : List Received) → entries_by 0 (n ++ m) ≡ entries_by 0 n ++ entries_by 0 m
 entries_on [] m = refl
@@ -38,13 +30,9 @@ journal_observers old (e ∷ es) new r = journal_observers r.0 es new r.2 ∙ ca
 pub leads_observers : {P : List Received → Type 0} (a b : StateOf) → SaidLeads P a b → b.observers ≡ a.observers
 leads_observers a b g = journal_observers a (entries_by 0 g.said) b g.leads
 
--- nothing was said
+-- no step was made
 pub leads_none : {P : List Received → Type 0} (a : StateOf) → P [] → SaidLeads P a a
 leads_none a is = record { said = []; form = is; leads = refl }
-
--- what was said may be said in other words
-pub leads_as : {P R : List Received → Type 0} (a b : StateOf) → ((said : List Received) → P said → R said) → SaidLeads P a b → SaidLeads R a b
-leads_as a b h g = record { said = g.said; form = h g.said g.form; leads = g.leads }
 
 -- one part, and then another
 pub leads_on : {P Q R : List Received → Type 0} (a b c : StateOf) → SaidLeads P a b → SaidLeads Q b c → ((said more : List Received) → P said → Q more → R (said ++ more)) → SaidLeads R a c

@@ -1,12 +1,11 @@
--- Passes over the marked cells on their way, as pb_worker/proofs/PassAlong.antt has them for seats.
-use Rattle.std.proofs.Common.{arith, Result, Ok, Err, OnErr, ◌≡◌, ◌≢◌, ℕ, ◌+◌, ◌<◌, inl, inr, Bool, true, false, List, [], ◌∷◌, ◌++◌, Option, Some, None, refl, sym, ap, subst, ◌∙◌, is_some}
+-- Passes over the marked cells on their way, as `pb_threads/proofs/PassAlong.antt` has them for seats.
+use Rattle.std.proofs.lemmas.List.{append_assoc, append-nil}
+use Rattle.std.proofs.Common.{arith, Result, Ok, Err, OnErr, ◌≡◌, ℕ, ◌+◌, ◌<◌, inl, inr, Bool, true, false, List, [], ◌∷◌, ◌++◌, Option, Some, None, refl, sym, ap, subst, ◌∙◌, is_some}
 use Rattle.pb_base.specs.Batch.{Writes}
 use Rattle.pb_base.specs.declared.cell.Cell.{Cell}
 use Rattle.pb_base.specs.declared.names.Ts.{Ts}
-use Rattle.pb_base.specs.Cell.{row_of}
 use Rattle.pb_steps.specs.declared.step.Step.{Step}
 use Rattle.pb_steps.specs.declared.step.Answer.{Answer}
-use Rattle.pb_steps.specs.Answers.{CanAnswer}
 use Rattle.pb_steps.specs.State.{StateOf}
 use Rattle.pb_steps.specs.Steps.{TableStep}
 use Rattle.pb_store.specs.Contents.{IsNextMark}
@@ -14,49 +13,12 @@ use Rattle.pb_verify.specs.Observers.{ObserverOf}
 use Rattle.pb_history.specs.declared.entry.Received.{Received}
 use Rattle.pb_txn.specs.declared.place.Outcome.{Outcome}
 use Rattle.pb_txn.specs.Conversations.{told}
-use Rattle.pb_notify.specs.declared.need.JobEnd.{JobEnd}
-use Rattle.pb_notify.specs.Runs.{RunOf, Watch, watch_of, fresh}
-use Rattle.pb_notify.specs.Conversations.{Reaches}
-use Rattle.pb_notify.specs.Forms.{IsRunConversation}
 use Rattle.pb_passes.specs.declared.passes.TheConstants.{MAX_PASSES}
 use Rattle.pb_keeper.specs.Leads.{SaidLeads, IsAny, IsEndedChange}
-use Rattle.pb_keeper.specs.Runs.{IsFreshJob, IsWholeRunOf}
-use Rattle.pb_passes.specs.Passes.{HasColumn, IsJobOn, job_on, IsRun, IsOfOther, AreRuns, before_all, runs as ran_then, passes_by, AreAllRuns, IsWalk, at_beginning, found as found_then, IsPass, IsPassThat, ArePasses, at_first, one_more, IsDrain}
+use Rattle.pb_passes.specs.Passes.{AreRuns, before_all, runs as ran_then, passes_by, AreAllRuns, IsWalk, at_beginning, found as found_then, IsPass, IsPassThat, ArePasses, at_first, one_more, IsDrain}
+use Rattle.pb_passes.proofs.Marks.{Found}
 use Rattle.pb_keeper.specs.Made.{IsItsTurn, IsMade}
-use Rattle.pb_keeper.proofs.Leading.{append_assoc, append_nil, leads_none, leads_as, leads_on, leads_one}
-
-pub is_fresh : (observers : List ObserverOf) (n : ℕ) (x : Cell) (job : RunOf) → IsJobOn observers n x job → IsFreshJob job
-is_fresh observers n x job is = (watch_of n is.o (row_of x), is.job_is)
-
-same_watch : (a b : Watch) → fresh a ≡ fresh b → a ≡ b
-same_watch a b e = ap (λ (j : RunOf). j.watch) e
-
--- a run of a job on a cell
-pub is_run : (observers : List ObserverOf) (n : ℕ) (x : Cell) (job : RunOf) (end : JobEnd) (said : List Received) → HasColumn observers n x → IsJobOn observers n x job → IsWholeRunOf job end said → IsRun observers n x said
-is_run observers n x job end said known on r =
-    let same : known.0 ≡ on.o = grind arith in
-    let is : job ≡ job_on n known.0 x = on.job_is ∙ ap (λ (o : ObserverOf). job_on n o x) (sym same) in
-    let watch : r.o ≡ watch_of n known.0 (row_of x) = same_watch r.o (watch_of n known.0 (row_of x)) (sym r.is ∙ is) in
-    record {
-      o = known.0;
-      observer = known.1;
-      job = r.job;
-      reaches = subst (λ (j : RunOf). Reaches j said r.job) is r.reaches;
-      end = end;
-      over = r.over;
-      run = r.run;
-      talk = subst (λ (w : Watch). IsRunConversation w said end r.run) watch r.talk;
-      meant = r.meant;
-    }
-
-pub run_is_part : (observers : List ObserverOf) (n : ℕ) (x : Cell) (job : RunOf) (end : JobEnd) (a b : StateOf) → HasColumn observers n x → IsJobOn observers n x job → SaidLeads (IsWholeRunOf job end) a b → SaidLeads (IsItsTurn observers n x) a b
-run_is_part observers n x job end a b known on g = leads_as a b (λ said r. inl (is_run observers n x job end said known on r)) g
-
-pub other_is_part : (observers : List ObserverOf) (n : ℕ) (x : Cell) (a : StateOf) → IsOfOther observers n x → SaidLeads (IsItsTurn observers n x) a a
-other_is_part observers n x a other = leads_none a (inr (other, refl))
-
-pub any : {P : List Received → Type 0} (a b : StateOf) → SaidLeads P a b → SaidLeads IsAny a b
-any a b g = leads_as a b (λ said p. tt) g
+use Rattle.pb_keeper.proofs.Leading.{leads_none, leads_on, leads_one}
 
 pub any_on : {P Q : List Received → Type 0} (a b c : StateOf) → SaidLeads P a b → SaidLeads Q b c → SaidLeads IsAny a c
 any_on a b c g h = leads_on a b c g h (λ said more p q. tt)
@@ -65,7 +27,7 @@ any_on a b c g h = leads_on a b c g h (λ said more p q. tt)
 
 part_on : (observers : List ObserverOf) (x : Cell) (i : ℕ) (said more : List Received) → AreRuns observers x i said → IsItsTurn observers i x more → AreRuns observers x (i + 1) (said ++ more)
 part_on observers x i said more before (inl r) = ran_then i said more before r
-part_on observers x i said more before (inr o) = subst (λ (l : List Received). AreRuns observers x (i + 1) l) (sym (ap (λ l. said ++ l) o.1 ∙ append_nil said)) (passes_by i said before o.0)
+part_on observers x i said more before (inr o) = subst (λ (l : List Received). AreRuns observers x (i + 1) l) (sym (ap (λ l. said ++ l) o.1 ∙ append-nil said)) (passes_by i said before o.0)
 
 pub no_runs : (observers : List ObserverOf) (x : Cell) (a : StateOf) → SaidLeads (AreRuns observers x 0) a a
 no_runs observers x a = leads_none a before_all
@@ -75,18 +37,8 @@ one_part observers seen x i a b c same g h = leads_on a b c g (subst (λ (l : Li
 
 -- ---- from mark to mark
 
--- an answer that tells no cell tells that there is no mark
-pub no_mark : (after : Option Cell) (a : Answer) → CanAnswer (Step.NextMark after) a → ((x : Cell) → a ≢ Answer.Marked x) → a ≡ Answer.NoMark
-no_mark after a can isnt = grind arith
-
 pub no_walk : (observers : List ObserverOf) (a : StateOf) → SaidLeads (λ said. IsWalk observers said None) a a
 no_walk observers a = leads_none a at_beginning
-
--- a walk, and the mark that it found then
-record Found (observers : List ObserverOf) (last : Option Cell) (x : Cell) (said : List Received) : Type 0 where
-  pub before : List Received
-  pub walk : IsWalk observers before last
-  pub said_is : said ≡ before ++ told (Step.NextMark last) (Answer.Marked x) ∷ []
 
 module _ (observers : List ObserverOf) (last : Option Cell) (a b b1 : StateOf) (walk : SaidLeads (λ said. IsWalk observers said last) a b) where
   found : (x : Cell) → TableStep b 0 (Step.NextMark last) (Answer.Marked x) b1 → SaidLeads (Found observers last x) a b1
@@ -117,15 +69,12 @@ module _ (observers seen : List ObserverOf) (count : ℕ) (a b c : StateOf) (sam
   last_pass few false is h = leads_on a b c before (subst (λ (l : List ObserverOf). SaidLeads (IsPassThat l false) b c) same h) (λ said more p r. record { count = count; before = said; passes = p; rest = more; said_is = refl; ends = inl (few, r) })
   last_pass few true is h = cc
 
-pub most_passes : (observers : List ObserverOf) (a b : StateOf) → SaidLeads (ArePasses observers MAX_PASSES) a b → SaidLeads (IsDrain observers) a b
-most_passes observers a b g = leads_as a b (λ said p. record { count = MAX_PASSES; before = said; passes = p; rest = []; said_is = sym (append_nil said); ends = inr (refl, refl) }) g
-
 -- ---- a change, and a drain
 
-pub made : (observers seen : List ObserverOf) (batch : Writes) (commit : Ts) (a b c : StateOf) → seen ≡ observers → SaidLeads (IsEndedChange batch (Outcome.Committed commit)) a b → SaidLeads (IsDrain seen) b c → SaidLeads (IsMade observers batch commit) a c
-made observers seen batch commit a b c same g h = leads_on a b c g (subst (λ (l : List ObserverOf). SaidLeads (IsDrain l) b c) same h) (λ said more p q. record { change = said; changed = p; drain = more; drained = q; said_is = refl })
+pub change_is_made : (observers seen : List ObserverOf) (batch : Writes) (commit : Ts) (a b c : StateOf) → seen ≡ observers → SaidLeads (IsEndedChange batch (Outcome.Committed commit)) a b → SaidLeads (IsDrain seen) b c → SaidLeads (IsMade observers batch commit) a c
+change_is_made observers seen batch commit a b c same g h = leads_on a b c g (subst (λ (l : List ObserverOf). SaidLeads (IsDrain l) b c) same h) (λ said more p q. record { change = said; changed = p; drain = more; drained = q; said_is = refl })
 
--- what is said of an error holds of one
+-- what is so whatever is returned is so on an error
 pub on_err : {T E : Type 0} (r : Result T E) (P : Type 0) → P → OnErr r P
 on_err (Ok x) P p = tt
 on_err (Err e) P p = p

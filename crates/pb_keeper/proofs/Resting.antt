@@ -25,7 +25,7 @@ use Rattle.pb_keeper.specs.Stops.{WasOpened, IsUnlocked}
 use Rattle.pb_keeper.specs.Keeps.{AreMade, none, one_more as one_more_change, Keeps, KeptIsUnlocked}
 use Rattle.pb_keeper.proofs.Wholes.{leads_parts, stays_sound, plain_walk, run_rests, change_commits, free_after}
 
--- what is said so leaves no lock where there was none
+-- a conversation that leaves no lock where there was none
 abbrev pub Rests : List Received → Type 0
 Rests said = (m n : StateOf) → IsSoundTable m → IsUnlocked m → JournalLeads m (entries_by 0 said) n → IsUnlocked n
 

@@ -1,5 +1,6 @@
 -- Whole conversations on a table without locks, of which only one seat knows: a transaction commits, and a run meets no lock.
 use Rattle.std.proofs.Common.{arith, ◌≡◌, ℕ, ◌<◌, Bool, true, false, inr, List, [], ◌∷◌, ◌++◌, Option, Some, None, refl, sym, ap, subst, ◌∙◌}
+use Rattle.std.proofs.lemmas.List.{append_assoc, append-nil}
 use Rattle.pb_base.specs.Batch.{Writes}
 use Rattle.pb_base.specs.declared.cell.Cell.{Cell}
 use Rattle.pb_base.specs.declared.content.Revision.{Revision}
@@ -32,15 +33,14 @@ use Rattle.pb_notify.specs.declared.need.JobEnd.{JobEnd}
 use Rattle.pb_keeper.specs.Leads.{SaidLeads, IsEndedChange}
 use Rattle.pb_keeper.specs.Stops.{IsUnlocked}
 use Rattle.pb_keeper.proofs.Alone.{IsAlone, AreLeft, declared_alone, prewritten_alone, meets_nothing, stamped_alone, loses_not, committed_alone, secondary_alone, true_false}
-use Rattle.pb_keeper.proofs.Leading.{append_assoc, append_nil}
 
--- ---- parts of what was said
+-- ---- parts of a seat's conversation
 
 pub leads_parts : (m n : StateOf) (a b : List Received) → JournalLeads m (entries_by 0 (a ++ b)) n → (mid : StateOf) × JournalLeads m (entries_by 0 a) mid × JournalLeads mid (entries_by 0 b) n
 leads_parts m n [] b r = (m, refl, r)
 leads_parts m n (x ∷ a) b r = let p = leads_parts r.0 n a b r.2 in (p.0, (r.0, r.1, p.1), p.2)
 
--- what was said leaves a sound table sound
+-- it leaves a sound table sound
 pub stays_sound : StepsKeepSound → (m n : StateOf) (said : List Received) → IsSoundTable m → JournalLeads m (entries_by 0 said) n → IsSoundTable n
 stays_sound keeps m n [] sound r = subst IsSoundTable (sym r) sound
 stays_sound keeps m n (x ∷ said) sound r = stays_sound keeps r.0 n said (keeps m 0 x.step x.answer r.0 sound r.1) r.2
@@ -65,7 +65,7 @@ begun_unlocked m n work s free b x u = ap (λ (z : StateOf). lock_at z.entries x
 module _ (keeps : StepsKeepSound) (start : Ts) where
   prewrites_walk : (xs : List Cell) (rest : List Received) (done : List Cell) (m n : StateOf) → IsAlone start.0 done m → JournalLeads m (entries_by 0 (prewrites start xs ++ rest)) n
       → (mid : StateOf) × IsAlone start.0 (done ++ xs) mid × JournalLeads mid (entries_by 0 rest) n
-  prewrites_walk [] rest done m n a r = (m, subst (λ l. IsAlone start.0 l m) (sym (append_nil done)) a, r)
+  prewrites_walk [] rest done m n a r = (m, subst (λ l. IsAlone start.0 l m) (sym (append-nil done)) a, r)
   prewrites_walk (x ∷ xs) rest done m n a r =
       let next = prewritten_alone start m r.0 done x a (keeps m 0 (Step.Prewrite start x) Answer.Done r.0 a.sound r.1) r.1.taken in
       let on = prewrites_walk xs rest (done ++ x ∷ []) r.0 n next r.2 in

@@ -9,7 +9,7 @@ use Rattle.pb_txn.specs.declared.place.Outcome.{Outcome}
 use Rattle.pb_passes.specs.Passes.{IsRun, IsOfOther, IsDrain}
 use Rattle.pb_keeper.specs.Leads.{IsEndedChange}
 
--- what is said for the observer of this number: its run, or nothing where its column is another
+-- the part of the observer of this number: its run, or nothing where its column is another
 abbrev pub IsItsTurn : List ObserverOf → ℕ → Cell → List Received → Type 0
 IsItsTurn observers n x said = IsRun observers n x said ⊎ (IsOfOther observers n x × (said ≡ []))
 

@@ -46,7 +46,7 @@ fn fits(cell: &Cell)
     let _column = cell.column();
 }
 
-// Runs the observer of this number on the cell, if that is of its column, and tells how many runs were committed.
+// Runs the observer of this number on the cell, if that is of its column, and returns how many runs were committed.
 fn run_place<R: Wait, T: Tablet>(
     rt: &R,
     alloc: Global,
@@ -55,7 +55,8 @@ fn run_place<R: Wait, T: Tablet>(
     cell: &Cell,
 ) -> Result<u32, Stopped>
     requires { place < length state.old.observers }
-    ensures ok { OnOk result (SaidLeads (IsItsTurn state.old.observers place cell.now) state.old state.new) }
+    ensures ok { OnOk result
+        (SaidLeads (IsItsTurn state.old.observers place cell.now) state.old state.new) }
     ensures err { OnErr result (SaidLeads IsAny state.old state.new) }
     ensures stops { WasOpened state.old → IfErr result (λ e. IsStop e state.new) }
 {
@@ -87,7 +88,8 @@ fn run_all<R: Wait, T: Tablet>(
     state: &mut State<T>,
     cell: &Cell,
 ) -> Result<u32, Stopped>
-    ensures ok { OnOk result (SaidLeads (AreAllRuns state.old.observers cell.now) state.old state.new) }
+    ensures ok { OnOk result
+        (SaidLeads (AreAllRuns state.old.observers cell.now) state.old state.new) }
     ensures err { OnErr result (SaidLeads IsAny state.old state.new) }
     ensures stops { WasOpened state.old → IfErr result (λ e. IsStop e state.new) }
 {
@@ -108,7 +110,8 @@ fn pass<R: Wait, T: Tablet>(
     state: &mut State<T>,
     runs: &mut u32,
 ) -> Result<bool, Stopped>
-    ensures ok { IfOk result (λ marked. SaidLeads (IsPassThat state.old.observers marked) state.old state.new) }
+    ensures ok { IfOk result
+        (λ marked. SaidLeads (IsPassThat state.old.observers marked) state.old state.new) }
     ensures quiet { IfOk result (λ marked. marked ≡ false → IsNextMark state.new.marks None None) }
     ensures err { OnErr result (SaidLeads IsAny state.old state.new) }
     ensures stops { WasOpened state.old → IfErr result (λ e. IsStop e state.new) }
@@ -155,14 +158,18 @@ pub fn make<R: Wait, T: Tablet>(
     state: &mut State<T>,
     batch: Batch,
 ) -> Result<Made, Stopped>
-    ensures ok { IfOk result (λ m. SaidLeads (IsMade state.old.observers batch m.commit) state.old state.new) }
-    ensures quiet { IfOk result (λ m. m.drained.rests ≡ true → IsNextMark state.new.marks None None) }
+    ensures ok { IfOk result
+        (λ m. SaidLeads (IsMade state.old.observers batch m.commit) state.old state.new) }
+    ensures quiet { IfOk result
+        (λ m. m.drained.rests ≡ true → IsNextMark state.new.marks None None) }
     // Behind the changes that are kept it is one more.
-    ensures keeps { (observers : List ObserverOf) (changes : List Writes) → Keeps observers changes state.old
+    ensures keeps { (observers : List ObserverOf) (changes : List Writes)
+        → Keeps observers changes state.old
         → OnOk result (Keeps observers (changes ++ batch ∷ []) state.new) }
     ensures err { OnErr result (SaidLeads IsAny state.old state.new) }
     // On a table that keeps changes it conflicts with nothing.
-    ensures stops { (observers : List ObserverOf) (changes : List Writes) → Keeps observers changes state.old
+    ensures stops { (observers : List ObserverOf) (changes : List Writes)
+        → Keeps observers changes state.old
         → IfErr result (λ e. IsStop e state.new) }
 {
     // For the proof: on a table without locks a change commits.
@@ -182,9 +189,11 @@ pub fn make_all<R: Wait, T: Tablet>(
     state: &mut State<T>,
     batches: Vec<Batch>,
 ) -> Result<(), Stopped>
-    ensures keeps { (observers : List ObserverOf) (changes : List Writes) → Keeps observers changes state.old
+    ensures keeps { (observers : List ObserverOf) (changes : List Writes)
+        → Keeps observers changes state.old
         → OnOk result (Keeps observers (changes ++ batches.items) state.new) }
-    ensures stops { (observers : List ObserverOf) (changes : List Writes) → Keeps observers changes state.old
+    ensures stops { (observers : List ObserverOf) (changes : List Writes)
+        → Keeps observers changes state.old
         → IfErr result (λ e. IsStop e state.new) }
 {
     for batch in batches {

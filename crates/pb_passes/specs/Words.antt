@@ -3,6 +3,7 @@ pub use Rattle.pb_base.specs.Cell.{column_of, row_of}
 pub use Rattle.pb_base.specs.declared.cell.Cell.{Cell}
 pub use Rattle.pb_verify.specs.Observers.{ObserverOf}
 pub use Rattle.pb_finished.specs.Finished.{Meant}
+pub use Rattle.pb_steps.specs.Answers.{CanAnswer}
 pub use Rattle.pb_steps.specs.declared.step.Answer.{Answer}
 pub use Rattle.pb_steps.specs.declared.step.Step.{Step}
 pub use Rattle.pb_history.specs.declared.entry.Received.{Received}

@@ -1,9 +1,10 @@
 -- Passes over the marked cells on their way.
-use Rattle.std.proofs.Common.{arith, ◌≡◌, ◌≢◌, ℕ, ◌+◌, ◌<◌, Bool, true, false, List, [], ◌∷◌, ◌++◌, Option, Some, None, refl, sym, ap, subst, ◌∙◌, is_some}
-use Rattle.pb_threads.specs.Words.{Cell, Refusal, Step, Answer, CanAnswer, ObserverOf, Received, SeatOf, told}
+use Rattle.std.proofs.Common.{arith, ◌≡◌, ℕ, ◌+◌, ◌<◌, Bool, true, false, List, [], ◌∷◌, ◌++◌, Option, Some, None, refl, sym, ap, subst, ◌∙◌, is_some}
+use Rattle.pb_threads.specs.Words.{Cell, Refusal, Step, Answer, ObserverOf, Received, SeatOf, told}
 use Rattle.pb_passes.specs.declared.passes.TheConstants.{MAX_PASSES}
 use Rattle.pb_threads.specs.Gains.{OpeningOf, Gains, Told, MayRefuse}
 use Rattle.pb_passes.specs.Passes.{IsRun, IsOfOther, AreRuns, before_all, runs as ran_then, passes_by, AreAllRuns, IsWalk, at_beginning, found as found_then, IsPass, IsPassThat, ArePasses, at_first, one_more, IsDrain}
+use Rattle.pb_passes.proofs.Marks.{Found}
 use Rattle.pb_threads.specs.Stops.{RunStops, RunsStop, PassStops, at_a_mark, in_runs, DrainStops}
 use Rattle.pb_threads.proofs.Refusing.{stops_at}
 use Rattle.pb_threads.proofs.Gaining.{append_assoc, gains_none, gains_more, gains_on, gains_as, gains_renumbered}
@@ -25,16 +26,6 @@ module _ (observers : List ObserverOf) (x : Cell) (i : ℕ) (a b : SeatOf) (runs
   runs_stop {opens} c r h = gains_on a b c runs (gains_renumbered (λ m. RunStops opens m observers i x r) b c b.number a.number runs.number h) (λ said more p s. record { i = i; before = said; runs = p; part = more; stops = s; said_is = refl })
 
 -- ---- from mark to mark
-
--- an answer that names no cell reports that there is no mark
-pub no_mark : (after : Option Cell) (a : Answer) → CanAnswer (Step.NextMark after) a → ((x : Cell) → a ≢ Answer.Marked x) → a ≡ Answer.NoMark
-no_mark after a can isnt = grind arith
-
--- a walk, and the mark that it found then
-record Found (observers : List ObserverOf) (last : Option Cell) (x : Cell) (said : List Received) : Type 0 where
-  pub before : List Received
-  pub walk : IsWalk observers before last
-  pub said_is : said ≡ before ++ told (Step.NextMark last) (Answer.Marked x) ∷ []
 
 -- a pass begins before all cells
 pub no_walk : (observers : List ObserverOf) (a : SeatOf) → Gains (λ said. IsWalk observers said None) a a

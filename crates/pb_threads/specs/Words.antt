@@ -1,6 +1,6 @@
 -- The words of the crates below, for this crate's definitions and proofs.
 pub use Rattle.pb_base.specs.Batch.{Writes}
-pub use Rattle.pb_base.specs.Cell.{column_of, row_of}
+pub use Rattle.pb_base.specs.Cell.{row_of}
 pub use Rattle.pb_base.specs.Reasons.{memory_refusal, refusal_by}
 pub use Rattle.pb_base.specs.declared.cell.Cell.{Cell}
 pub use Rattle.pb_base.specs.declared.names.Ts.{Ts}
@@ -24,7 +24,7 @@ pub use Rattle.pb_txn.specs.Conversations.{told}
 pub use Rattle.pb_txn.specs.Forms.{PlansStop}
 pub use Rattle.pb_txn.specs.declared.place.Outcome.{Outcome}
 pub use Rattle.pb_notify.specs.Conversations.{Reaches, computed, made, took}
-pub use Rattle.pb_notify.specs.Forms.{IsRunConversation, JobsConverse, JobsEnd, WasMeant}
+pub use Rattle.pb_notify.specs.Forms.{IsRunConversation, JobsConverse, JobsEnd}
 pub use Rattle.pb_notify.specs.Runs.{ComputesOn, HasNext, HearsLook, RunOf, need_of, watch_of}
 pub use Rattle.pb_notify.specs.declared.need.JobEnd.{JobEnd}
 pub use Rattle.pb_notify.specs.declared.need.Need.{Need}

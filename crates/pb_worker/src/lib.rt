@@ -10,7 +10,7 @@ mod laws;
 
 pub use laws::changes_are_made;
 pub use pb_ending::{Ended, finish};
+pub use pb_passes::MAX_PASSES;
 pub use pb_threads::{
-    Callee, Desk, Gate, Held, MAX_PASSES, MAX_TRIES, NotRun, Open, Opening, Worked, end_spares,
-    run_workers,
+    Callee, Desk, Gate, Held, MAX_TRIES, NotRun, Open, Opening, Worked, end_spares, run_workers,
 };

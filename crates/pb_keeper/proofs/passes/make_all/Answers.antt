@@ -1,8 +1,8 @@
 use Rattle.std.proofs.Common.{arith, List, [], ◌∷◌, ◌++◌, subst}
 use Rattle.pb_base.specs.Batch.{Writes}
 use Rattle.pb_keeper.specs.Keeps.{Keeps}
+use Rattle.std.proofs.lemmas.List.{append_assoc}
 use Rattle.std.proofs.lemmas.Result.{err_from_is_err_and}
-use Rattle.pb_keeper.proofs.Leading.{append_assoc}
 use Rattle.pb_keeper.proofs.passes.make_all.Goals as goal
 
 pub loop-batch-preserved : goal.loop-batch-preserved

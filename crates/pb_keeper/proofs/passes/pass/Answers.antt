@@ -7,7 +7,8 @@ use Rattle.pb_keeper.specs.Leads.{SaidLeads, IsAny}
 use Rattle.std.proofs.lemmas.Result.{err_from_is_err_and}
 use Rattle.pb_keeper.proofs.InTime.{mark_stops, opened_on}
 use Rattle.pb_keeper.proofs.Leading.{leads_observers, leads_one}
-use Rattle.pb_keeper.proofs.PassAlong.{no_walk, no_mark, no_cell_is_marked, walk_on, walk_ends, any_on, on_err}
+use Rattle.pb_keeper.proofs.PassAlong.{no_walk, no_cell_is_marked, walk_on, walk_ends, any_on, on_err}
+use Rattle.pb_passes.proofs.Marks.{no_mark}
 use Rattle.pb_keeper.proofs.passes.pass.Goals as goal
 
 pub loop-turn-init : goal.loop-turn-init

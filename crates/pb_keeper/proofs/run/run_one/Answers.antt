@@ -2,7 +2,7 @@ use Rattle.std.proofs.Common.{Result, Ok, Err, OnErr}
 use Rattle.std.proofs.lemmas.Result.{err_from_is_err_and}
 use Rattle.pb_keeper.specs.Leads.{SaidLeads}
 use Rattle.pb_keeper.specs.Runs.{BeginsRun}
-use Rattle.pb_keeper.proofs.Reaching.{at_start, begins}
+use Rattle.pb_keeper.proofs.Reaching.{at_start, run_begins}
 use Rattle.pb_keeper.proofs.run.run_one.Goals as goal
 
 pub loop-turn-init : goal.loop-turn-init
@@ -13,7 +13,7 @@ on_err (Ok x) P p = tt
 on_err (Err e) P p = p
 
 pub returns-in_err-end-clause-err : goal.returns-in_err-end-clause-err
-returns-in_err-end-clause-err g c = on_err c.from_residual.result (SaidLeads (BeginsRun c.args.job.now) c.args.state.now c.go_on.new.state) (begins c.args.job.now c.go_on.new.job c.args.state.now c.go_on.new.state c.jobs_converse.ensures.converses c.requires (c.go_on.ensures.on c.args.job.now c.args.state.now c.loop-turn.invariant))
+returns-in_err-end-clause-err g c = on_err c.from_residual.result (SaidLeads (BeginsRun c.args.job.now) c.args.state.now c.go_on.new.state) (run_begins c.args.job.now c.go_on.new.job c.args.state.now c.go_on.new.state c.jobs_converse.ensures.converses c.requires (c.go_on.ensures.on c.args.job.now c.args.state.now c.loop-turn.invariant))
 
 pub returns-in_err-end-clause-stops : goal.returns-in_err-end-clause-stops
 returns-in_err-end-clause-stops g c opened is =

@@ -2,7 +2,8 @@ use Rattle.std.proofs.Common.{◌≡◌, subst}
 use Rattle.std.proofs.lemmas.Result.{err_from_is_err_and}
 use Rattle.pb_threads.specs.Words.{Step, Answer}
 use Rattle.pb_threads.specs.Gains.{Told}
-use Rattle.pb_threads.proofs.PassAlong.{no_walk, walk_on, walk_stops, walk_stops_at, walk_ends, no_mark}
+use Rattle.pb_passes.proofs.Marks.{no_mark}
+use Rattle.pb_threads.proofs.PassAlong.{no_walk, walk_on, walk_stops, walk_stops_at, walk_ends}
 use Rattle.pb_threads.proofs.passes.pass.Goals as goal
 
 pub loop-turn-init : goal.loop-turn-init
