@@ -1,4 +1,4 @@
-mod Machines
+pub mod Machines
 mod Jobs
 mod Events
 mod Runs

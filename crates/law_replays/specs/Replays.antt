@@ -1,0 +1,15 @@
+-- Tables that keep the same changes are the same. The law `replay_has_one_outcome` cites it.
+use Rattle.std.specs.Prelude.{◌≡◌, ℕ, ◌≤◌, List, Some, slice_get}
+use Rattle.pb_base.specs.Batch.{Writes}
+use Rattle.pb_isa.specs.declared.limits.TheConstants.{MAX_RECORD_BYTES}
+use Rattle.pb_verify.specs.Observers.{ObserverOf}
+use Rattle.pb_steps.specs.State.{StateOf}
+use Rattle.pb_keeper.specs.Keeps.{Keeps}
+
+-- the program of each is judged for a record of a size that there is, as every accepted one is
+abbrev pub AreJudged : List ObserverOf → Type 0
+AreJudged observers = (n : ℕ) (o : ObserverOf) → slice_get observers n ≡ Some o → o.program.record_size ≤ MAX_RECORD_BYTES
+
+-- entries, marks, clock and transactions follow from the changes
+abbrev pub ReplayHasOneOutcome : Type 0
+ReplayHasOneOutcome = (observers : List ObserverOf) (changes : List Writes) (a b : StateOf) → AreJudged observers → Keeps observers changes a → Keeps observers changes b → a ≡ b
