@@ -29,6 +29,4 @@ pub enum Request {
     End,
     /// What is left to do.
     IsQuiet,
-    /// What was done, and what it takes.
-    Stats,
 }
