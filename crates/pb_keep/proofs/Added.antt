@@ -1,11 +1,9 @@
 -- A line more that waits.
-use Rattle.std.proofs.Common.{◌≡◌, inl, inr, ℕ, List, [], ◌∷◌, ◌++◌, length, refl, ap, sym, subst, ◌∙◌, arith}
+use Rattle.std.proofs.Common.{◌≡◌, ℕ, List, [], ◌∷◌, ◌++◌, length, refl, ap, sym, subst, ◌∙◌, arith}
 use Rattle.pb_keep.specs.Words.{Writes}
 use Rattle.pb_keep.specs.declared.waiting.Waits.{Waits}
 use Rattle.pb_keep.specs.declared.waiting.Waiting.{Waiting}
-use Rattle.pb_keep.specs.Kept.{AddsChange, AddsLine}
 use Rattle.pb_keep.specs.Waits.{changes_in, AreScriptLines, IsNoLine, IsScriptLine, IsWaiting}
-use Rattle.std.proofs.lemmas.List.{append_assoc}
 
 pub changes_of_both : (xs ys : List Waits) → changes_in (xs ++ ys) ≡ changes_in xs ++ changes_in ys
 changes_of_both [] ys = refl
@@ -31,12 +29,3 @@ none_waits w h = record {
   few = rw (h.changes) (omega arith);
   bytes = rw (h.script) (omega arith);
 }
-
--- what is added to the changes that wait is added to all that were sent
-adds_change : (operations : List ℕ) (made old new : List Writes) → AddsChange operations old new → AddsChange operations (made ++ old) (made ++ new)
-adds_change operations made old new (inl e) = inl (ap (λ l. made ++ l) e)
-adds_change operations made old new (inr p) = inr (p.0, p.1, ap (λ l. made ++ l) p.2 ∙ sym (append_assoc made old (p.0 ∷ [])))
-
-pub adds_line : (line : List ℕ) (made old new : List Writes) → AddsLine line old new → AddsLine line (made ++ old) (made ++ new)
-adds_line line made old new (inl p) = inl (adds_change line made old new p)
-adds_line line made old new (inr p) = inr (p.0, p.1, p.2, adds_change p.1 made old new p.3)

@@ -2,4 +2,12 @@ pub mod Scripts
 pub mod Records
 pub mod Added
 pub mod Putting
+pub mod Lasts
+pub mod Answering
+pub mod Serving
+pub mod Conditions
+pub mod Holding
+pub mod Reading
 pub mod Mapping
+pub mod Leaving
+pub mod Pieces

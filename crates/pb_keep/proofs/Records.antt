@@ -1,8 +1,10 @@
 -- What a record more makes.
-use Rattle.std.proofs.Common.{◌≡◌, ℕ, List, [], ◌∷◌, ◌++◌, Ok, map, refl, sym, ap, ◌∙◌}
-use Rattle.pb_keep.specs.Words.{Writes, script_of, ◌>>=◌}
+use Rattle.std.proofs.Common.{arith, ◌≡◌, inl, inr, ℕ, ◌+◌, List, [], ◌∷◌, ◌++◌, Ok, map, refl, sym, ap, ◌∙◌}
+use Rattle.pb_log.specs.Laws.{FilesHaveOneReading}
+use Rattle.pb_keep.specs.Words.{HasRecords, Writes, header, script_of, ◌>>=◌}
 use Rattle.pb_reading.proofs.Readings.{ok_is, then_ok}
-use Rattle.pb_keep.specs.Kept.{changes_of}
+use Rattle.pb_keep.specs.Kept.{changes_of, reported_count}
+use Rattle.pb_keep.specs.Laws.{FilesHaveOneList}
 use Rattle.std.proofs.lemmas.List.{append_assoc, append-nil}
 
 -- the changes of the first record, and of the others
@@ -38,3 +40,24 @@ records_more (x ∷ rs) r cs ds h s =
 pub map_more : {A B : Type 0} (f : A → B) (xs : List A) (x : A) → map f (xs ++ x ∷ []) ≡ map f xs ++ f x ∷ []
 map_more f [] x = refl
 map_more f (y ∷ ys) x = ap (λ l. f y ∷ l) (map_more f ys x)
+
+pub reported_on : (n m : ℕ) → reported_count (reported_count n + m) ≡ reported_count (n + m)
+reported_on n m = grind arith
+
+-- ---- the changes of a file
+
+rest_of : (a b : List ℕ) (rs ss : List (List ℕ)) → a ∷ rs ≡ b ∷ ss → rs ≡ ss
+rest_of a b rs ss e = cc
+
+none_or_some : (a : List ℕ) (rs : List (List ℕ)) → a ∷ rs ≡ [] → ⊥
+none_or_some a rs e = absurd cc
+
+same_records : FilesHaveOneReading → (manifest : List ℕ) (rs ss : List (List ℕ)) (file : List ℕ) → HasRecords manifest rs file → HasRecords manifest ss file → rs ≡ ss
+same_records one manifest rs ss file (inl l) (inl m) = rest_of (header manifest) (header manifest) rs ss (one file (header manifest ∷ rs) (header manifest ∷ ss) l m)
+same_records one manifest rs ss file (inl l) (inr m) = absurd (none_or_some (header manifest) rs (one file (header manifest ∷ rs) [] l m.1))
+same_records one manifest rs ss file (inr l) (inl m) = absurd (none_or_some (header manifest) ss (one file (header manifest ∷ ss) [] m l.1))
+same_records one manifest rs ss file (inr l) (inr m) = l.0 ∙ sym m.0
+
+pub one_list : FilesHaveOneReading → FilesHaveOneList
+one_list one manifest changes others file h k =
+    ok_is changes others (sym h.make ∙ ap changes_of (same_records one manifest h.records k.records file h.has k.has) ∙ k.make)

@@ -20,7 +20,7 @@ one_line_more [] l = refl
 one_line_more (a ∷ []) l = grind (arith, append_assoc)
 one_line_more (a ∷ b ∷ ls) l = grind (arith, append_assoc, one_line_more (b ∷ ls) l)
 
-neither : (a b : Bool) → (a || b) ≡ false → (a ≡ false) × (b ≡ false)
+pub neither : (a b : Bool) → (a || b) ≡ false → (a ≡ false) × (b ≡ false)
 neither true b h = absurd cc
 neither false b h = (refl, h)
 

@@ -1,3 +1,10 @@
 pub mod Words
 pub mod Kept
 pub mod Waits
+pub mod Held
+pub mod Taken
+pub mod Conversations
+pub mod Left
+pub mod Input
+pub mod Served
+pub mod Laws

@@ -1,5 +1,5 @@
 -- The lines that wait, and how they are answered.
-use Rattle.std.specs.Prelude.{◌≡◌, ℕ, ◌+◌, ◌<◌, ◌≤◌, Bool, true, false, ◌==◌, List, [], ◌∷◌, ◌++◌, length, None, Ok, codes, decimal, string_bytes}
+use Rattle.std.specs.Prelude.{◌≡◌, ℕ, ◌+◌, ◌≤◌, Bool, true, false, ◌&&◌, ◌==◌, nat_le, nat_lt, List, [], ◌∷◌, ◌++◌, length, None, Ok, codes, decimal, string_bytes}
 use Rattle.std.specs.List.{join_with_byte, list_any}
 use Rattle.pb_keep.specs.Words.{Writes, MAX_CHANGES, IsNextMark, StateOf, is_skipped, batch_of, SaidLeads, IsMade, Made}
 use Rattle.pb_keep.specs.declared.waiting.TheConstants.{MAX_RECORD}
@@ -34,10 +34,9 @@ changes_in (Waits.Refused code ∷ items) = changes_in items
 changes_in (Waits.Begun ∷ items) = changes_in items
 changes_in (Waits.Ended ∷ items) = changes_in items
 
--- the record has room for a line of so many bytes more
-pub record HasLineRoom (waiting : Waiting) (bytes : ℕ) : Type 0 where
-  pub one_more : waiting.changes < MAX_CHANGES
-  pub more : length (string_bytes waiting.script) + (bytes + 1) ≤ MAX_RECORD
+-- a record of so many changes and bytes has room for a line of this length more
+abbrev pub has_line_room : ℕ → ℕ → ℕ → Bool
+has_line_room changes bytes line = nat_lt changes MAX_CHANGES && nat_le (bytes + (line + 1)) MAX_RECORD
 
 -- the next record has the lines of the changes that wait, and those alone
 pub record IsWaiting (waiting : Waiting) : Type 0 where
@@ -47,6 +46,39 @@ pub record IsWaiting (waiting : Waiting) : Type 0 where
   pub count : waiting.changes ≡ length (changes_in waiting.items.items)
   pub few : waiting.changes ≤ MAX_CHANGES
   pub bytes : length (string_bytes waiting.script) ≤ MAX_RECORD
+
+-- what a line waits as may be added: the record has room for its change, and has nothing where a group begins
+abbrev pub FitsIn : Waiting → List ℕ → Waits → Type 0
+FitsIn waiting operations (Waits.Change batch) = (has_line_room waiting.changes (length (string_bytes waiting.script)) (length operations) ≡ true) × IsScriptLine operations batch
+FitsIn waiting operations Waits.Begun = (waiting.changes ≡ 0) × (string_bytes waiting.script ≡ [])
+FitsIn waiting operations item = Unit {0}
+
+-- ---- groups
+
+-- whether lines stand in a group, and what its record has so far: how many changes, and how many bytes
+pub data Group : Type 0 where
+  alone : Group
+  within : (changes bytes : ℕ) → Group
+
+abbrev pub grouped : Bool → ℕ → ℕ → Group
+grouped true changes bytes = Group.within changes bytes
+grouped false changes bytes = Group.alone
+
+-- the group in which the next line stands
+abbrev pub group_of : Waiting → Group
+group_of waiting = grouped waiting.is_group waiting.changes (length (string_bytes waiting.script))
+
+-- a change more in a group
+abbrev pub with_change : ℕ → Group → Group
+with_change line Group.alone = Group.alone
+with_change line (Group.within changes bytes) = Group.within (changes + 1) (bytes + (line + 1))
+
+-- the group after a line of this length, which waits as this
+abbrev pub group_after : Group → ℕ → Waits → Group
+group_after group line (Waits.Change batch) = with_change line group
+group_after group line Waits.Begun = Group.within 0 0
+group_after group line Waits.Ended = Group.alone
+group_after group line item = group
 
 -- nothing waits, and no group has begun
 pub record IsNoLine (waiting : Waiting) : Type 0 where

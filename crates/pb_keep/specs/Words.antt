@@ -1,11 +1,26 @@
 -- The words of the crates below, for this crate's definitions and proofs.
 pub use Rattle.pb_base.specs.Batch.{Writes}
+pub use Rattle.pb_base.specs.Sink.{AppendsPart}
+pub use Rattle.pb_base.specs.declared.cell.Cell.{Cell}
 pub use Rattle.pb_base.specs.declared.limits.TheConstants.{MAX_CHANGES}
+pub use Rattle.pb_base.specs.declared.names.Ts.{Ts}
 pub use Rattle.pb_store.specs.Contents.{IsNextMark}
 pub use Rattle.pb_verify.specs.Observers.{ObserverOf}
+pub use Rattle.pb_steps.specs.Readings.{lock_count}
 pub use Rattle.pb_steps.specs.State.{StateOf}
 pub use Rattle.pb_reading.specs.Reading.{is_skipped, ◌>>=◌}
+pub use Rattle.pb_parse.specs.Codes.{script_code}
 pub use Rattle.pb_parse.specs.ScriptLines.{batch_of, cut, script_of}
+pub use Rattle.pb_parse.specs.declared.script.code.ScriptCode.{ScriptCode}
+pub use Rattle.pb_script.specs.ReportLines.{last_line}
+pub use Rattle.pb_script.specs.declared.reports.lines.Newest.{Newest}
+pub use Rattle.pb_requests.specs.Requests.{asked_by}
+pub use Rattle.pb_requests.specs.declared.request.Condition.{Condition}
+pub use Rattle.pb_requests.specs.declared.request.Request.{Request}
+pub use Rattle.pb_answers.specs.Lists.{IsListAnswer}
+pub use Rattle.pb_answers.specs.Seen.{IsSeenIn}
+pub use Rattle.pb_answers.specs.Values.{IsValueAnswer}
+pub use Rattle.pb_answers.specs.Writes.{IsWritesAnswer}
 pub use Rattle.pb_keeper.specs.Keeps.{Keeps}
 pub use Rattle.pb_keeper.specs.Leads.{SaidLeads}
 pub use Rattle.pb_keeper.specs.Made.{IsMade}

@@ -1,10 +1,10 @@
 //! The changes of a log, made again when it is opened.
-ghost use Rattle.std.specs.Prelude.{◌≡◌, ◌++◌, ℕ, List, map, IfOk, OnOk, Ok};
+ghost use Rattle.std.specs.Prelude.{◌≡◌, ◌++◌, List, length, map, IfOk, Ok};
 ghost use Rattle.pb_base.specs.Batch.{Writes};
 ghost use Rattle.pb_verify.specs.Observers.{ObserverOf};
 ghost use Rattle.pb_parse.specs.ScriptLines.{script_of};
 ghost use Rattle.pb_keeper.specs.Keeps.{Keeps};
-ghost use Rattle.pb_keep.specs.Kept.{changes_of};
+ghost use Rattle.pb_keep.specs.Kept.{changes_of, reported_count};
 
 use crate::fault::KeepFault;
 use pb_base::Batch;
@@ -18,7 +18,7 @@ use std::sync::Wait;
 
 // The changes of a record.
 fn batches_of(alloc: Global, record: &[u8]) -> Result<Vec<Batch>, KeepFault>
-    ensures { IfOk result (λ v. script_of record.now ≡ Ok v.items) }
+    ensures { IfOk result (λ v. script_of «record».now ≡ Ok v.items) }
 {
     let Ok(text) = std::str::from_utf8(record) else {
         return Err(KeepFault::Record);
@@ -39,8 +39,8 @@ fn make_anew<R: Wait, T: Tablet>(
 ) -> Result<usize, KeepFault>
     ensures { (observers : List ObserverOf) (changes : List Writes)
         → Keeps observers changes state.old
-        → OnOk result ((script : List Writes) × (script_of record.now ≡ Ok script)
-        × Keeps observers (changes ++ script) state.new) }
+        → IfOk result (λ n. (script : List Writes) × (script_of «record».now ≡ Ok script)
+        × Keeps observers (changes ++ script) state.new × (n ≡ length script)) }
 {
     let batches = batches_of(alloc, record)?;
     let count = batches.len();
@@ -48,7 +48,8 @@ fn make_anew<R: Wait, T: Tablet>(
     Ok(count)
 }
 
-/// Makes the changes of records, in order, each with its observers, and returns how many they are.
+/// Makes the changes of records, in order, each with its observers, and returns how many they are, or the greatest `u64`
+/// where they are more.
 pub fn make_records_anew<R: Wait, T: Tablet>(
     rt: &R,
     alloc: Global,
@@ -57,9 +58,9 @@ pub fn make_records_anew<R: Wait, T: Tablet>(
 ) -> Result<u64, KeepFault>
     ensures { (observers : List ObserverOf) (changes : List Writes)
         → Keeps observers changes state.old
-        → OnOk result ((more : List Writes)
+        → IfOk result (λ n. (more : List Writes)
         × (changes_of (map (λ v. v.items) records.items) ≡ Ok more)
-        × Keeps observers (changes ++ more) state.new) }
+        × Keeps observers (changes ++ more) state.new × (n ≡ reported_count (length more))) }
 {
     let mut count = 0u64;
     for record in records {

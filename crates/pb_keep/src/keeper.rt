@@ -1,16 +1,19 @@
 //! A table, its log, and the lines that wait.
-ghost use Rattle.std.specs.Prelude.{◌≡◌, ◌⊎◌, ◌++◌, ◌<◌, ◌^◌, ℕ, List, [], length, OnOk, IsTrue};
+ghost use Rattle.std.specs.Prelude.{◌≡◌, ◌⊎◌, ◌++◌, ◌<◌, ◌^◌, ℕ, List, Option, [], false, length, OnOk, IfOk, IfErr, IsTrue};
 ghost use Rattle.sqlite_disk.specs.Disk.{Only};
 ghost use Rattle.pb_base.specs.Batch.{Writes};
 ghost use Rattle.std.specs.Io.KnownBytes.{Appends};
 ghost use Rattle.pb_verify.specs.Observers.{ObserverOf};
 ghost use Rattle.pb_keeper.specs.Keeps.{Keeps};
-ghost use Rattle.pb_keep.specs.Kept.{HasChanges, IsLogOf};
+ghost use Rattle.pb_keep.specs.Kept.{reported_count, HasChanges, IsLogOf};
 ghost use Rattle.pb_keep.specs.Waits.{changes_in, AreAnswers, IsNoLine, IsWaiting};
+ghost use Rattle.pb_keep.specs.Conversations.{beginning, Beginning, LeavesFirst, Serves};
+ghost use Rattle.pb_keep.specs.Left.{IsLeftBy, IsOfLog};
 
 use crate::anew::make_records_anew;
 use crate::fault::KeepFault;
 use crate::made::make_and_answer;
+use crate::take::write;
 use crate::waiting::Waiting;
 use pb_base::Sink;
 use pb_log::Log;
@@ -46,6 +49,7 @@ fn put_script<D: Disk + Drop>(
         → (c : List ℕ) → D.may_leave log.new.disk c
         → HasChanges manifest changes c
         ⊎ HasChanges manifest (changes ++ changes_in waiting.now.items.items) c }
+    ensures why { IfErr result IsOfLog }
 {
     if waiting.changes > 0 {
         log.put(alloc, waiting.script.as_bytes())?;
@@ -82,19 +86,26 @@ impl<T: Tablet, D: Disk + Drop> Keeper<T, D> {
         ensures usable { OnOk result (IsTrue (D.is_usable self.new.log.disk)) }
         ensures waiting { self.new.waiting ≡ self.old.waiting }
         ensures kept { (observers : List ObserverOf) → Keeps observers [] self.old.state
-            → OnOk result (IsTrue (D.is_clean self.new.log.disk)
+            → IfOk result (λ n. IsTrue (D.is_clean self.new.log.disk)
             → (changes : List Writes) × HasChanges manifest.now changes (D.seen self.old.log.disk)
             × IsLogOf manifest.now changes (D.seen self.new.log.disk)
             (D.may_leave self.new.log.disk) self.new.log.end
-            × Keeps observers changes self.new.state) }
+            × Keeps observers changes self.new.state × (n ≡ reported_count (length changes))) }
+        // Then no line is served yet.
+        ensures serves { (observers : List ObserverOf) (written : Option (List ℕ))
+            → Keeps observers [] self.old.state → IsNoLine self.old.waiting
+            → OnOk result (IsTrue (D.is_clean self.new.log.disk)
+            → (changes : List Writes) × HasChanges manifest.now changes (D.seen self.old.log.disk)
+            × Serves (beginning manifest.now observers changes self.new.state written) []
+            (D.seen self.new.log.disk) (D.may_leave self.new.log.disk) self.new.log.end
+            self.new.state self.new.waiting written) }
     {
         let records = self.log.open(alloc, manifest)?;
         make_records_anew(rt, alloc, &mut self.state, records)
     }
 
-    /// Keeps what waits: its changes by one record of the log, if there are any, which is on the disk before the first of
-    /// them is made; then each is made with its observers; then all lines are answered, in their order.
-    pub fn keep<R: Wait, S: Sink>(
+    // Puts what waits into the log, makes its changes, and writes the answers.
+    fn put_and_make<R: Wait, S: Sink>(
         &mut self,
         rt: &R,
         alloc: Global,
@@ -111,25 +122,57 @@ impl<T: Tablet, D: Disk + Drop> Keeper<T, D> {
             → OnOk result (IsLogOf manifest (changes ++ changes_in self.old.waiting.items.items)
             (D.seen self.new.log.disk) (D.may_leave self.new.log.disk) self.new.log.end
             × Keeps observers (changes ++ changes_in self.old.waiting.items.items) self.new.state) }
-        ensures crash { (manifest : List ℕ) (changes : List Writes)
-            → IsLogOf manifest changes (D.seen self.old.log.disk)
-            (D.may_leave self.old.log.disk) self.old.log.end
-            → (c : List ℕ) → D.may_leave self.new.log.disk c
-            → HasChanges manifest changes c
-            ⊎ HasChanges manifest (changes ++ changes_in self.old.waiting.items.items) c }
         ensures answers { OnOk result ((text : List ℕ)
             × AreAnswers self.old.waiting.items.items self.old.state self.new.state text
             × Appends (S.taken out.old) (S.taken out.new) text) }
+        ensures err { (manifest : List ℕ) (changes : List Writes)
+            → IsLogOf manifest changes (D.seen self.old.log.disk)
+            (D.may_leave self.old.log.disk) self.old.log.end
+            → IfErr result (IsLeftBy manifest changes self.old.waiting.items.items self.old.state
+            self.new.state (S.taken out.old) (S.taken out.new) (D.may_leave self.new.log.disk)) }
+        ensures unmade { IfErr result (λ e. IsOfLog e
+            → (self.new.state ≡ self.old.state) × (S.taken out.new ≡ S.taken out.old)) }
     {
         put_script(alloc, &mut self.log, &self.waiting)?;
         let Waiting { items, .. } = mem::replace(&mut self.waiting, Waiting::new(alloc));
         let mut text = String::new(alloc);
         let done = make_and_answer(rt, alloc, &mut self.state, items, &mut text);
         // Also where a change was stopped: those before it are made.
-        match out.write_all(text.as_bytes()) {
-            Ok(()) => done,
-            Err(_) => Err(KeepFault::Output),
-        }
+        write(out, text.as_str())?;
+        done
+    }
+
+    /// Keeps what waits, which is no group without its `end`: its changes by one record of the log, if there are any, which
+    /// is on the disk before the first of them is made; then each is made with its observers; then all lines are answered, in
+    /// their order.
+    pub fn keep<R: Wait, S: Sink>(
+        &mut self,
+        rt: &R,
+        alloc: Global,
+        out: &mut S,
+    ) -> Result<(), KeepFault>
+        requires usable { IsTrue (D.is_usable self.old.log.disk) }
+        requires waiting { IsWaiting self.old.waiting }
+        requires alone { self.old.waiting.is_group ≡ false }
+        ensures usable { OnOk result (IsTrue (D.is_usable self.new.log.disk)) }
+        ensures idle { OnOk result (IsNoLine self.new.waiting) }
+        ensures serves { (b : Beginning) (lines : List (List ℕ))
+            → Serves b lines (D.seen self.old.log.disk) (D.may_leave self.old.log.disk)
+            self.old.log.end self.old.state self.old.waiting (S.taken out.old)
+            → OnOk result (Serves b lines (D.seen self.new.log.disk)
+            (D.may_leave self.new.log.disk) self.new.log.end self.new.state self.new.waiting
+            (S.taken out.new)) }
+        // On every path a crash leaves the changes of the first lines, with all that are answered.
+        ensures crash { (b : Beginning) (lines : List (List ℕ))
+            → Serves b lines (D.seen self.old.log.disk) (D.may_leave self.old.log.disk)
+            self.old.log.end self.old.state self.old.waiting (S.taken out.old)
+            → (c : List ℕ) → D.may_leave self.new.log.disk c
+            → LeavesFirst b lines (S.taken out.new) c }
+        // Where the log failed, nothing is made, and nothing is written.
+        ensures unmade { IfErr result (λ e. IsOfLog e
+            → (self.new.state ≡ self.old.state) × (S.taken out.new ≡ S.taken out.old)) }
+    {
+        self.put_and_make(rt, alloc, out)
     }
 
     /// Ends it, with its table.

@@ -12,6 +12,7 @@
 mod anew;
 mod fault;
 mod keeper;
+mod laws;
 mod lines;
 mod made;
 mod service;
@@ -21,6 +22,7 @@ mod waiting;
 pub use anew::make_records_anew;
 pub use fault::KeepFault;
 pub use keeper::Keeper;
+pub use laws::files_have_one_list;
 pub use lines::{Line, read_line};
 pub use service::serve;
 pub use waiting::{MAX_RECORD, Waiting, Waits};

@@ -1,8 +1,13 @@
 //! Lines of an input, as they come.
-ghost use Rattle.std.specs.Prelude.{◌≤◌, length};
+ghost use Rattle.std.specs.Prelude.{◌≡◌, ◌≤◌, ◌<◌, length, nat_lt, IfOk, OnOk, OnErr};
+ghost use Rattle.std.specs.List.{position_or_len};
+ghost use Rattle.std.specs.Io.KnownBytes.{Keeps};
+ghost use Rattle.pb_keep.specs.Input.{is_newline, IsLineRead, HoldsMore, TakesPiece, TakesPartOfLine};
+ghost use Rattle.pb_requests.specs.declared.parse.TheConstants.{MAX_LINE};
 
 use pb_requests::MAX_LINE;
 use std::io::{self, BufRead};
+use std::sync::Wait;
 
 /// What was read of an input.
 #[derive(Clone, Copy, PartialEq, Eq, Debug, Drop)]
@@ -15,9 +20,21 @@ pub enum Line {
     End,
 }
 
+// What was taken of an input at once.
+#[derive(Clone, Copy, Drop)]
+enum Piece {
+    // Bytes of a line that goes on.
+    Part,
+    // The last bytes of a line, and its newline.
+    Last,
+    // Nothing, since the input has ended.
+    End,
+}
+
 // How many bytes of a line stand here, and whether its newline follows them.
 fn front_of(bytes: &[u8]) -> (usize, bool)
-    ensures { result.0 ≤ length bytes.now }
+    ensures count { result.0 ≡ position_or_len is_newline bytes.now }
+    ensures whole { result.1 ≡ nat_lt result.0 (length bytes.now) }
 {
     match bytes.iter().position(|b| *b == b'\n') {
         Some(place) => (place, true),
@@ -25,34 +42,65 @@ fn front_of(bytes: &[u8]) -> (usize, bool)
     }
 }
 
+// Holds more of a line, or none of it once it is too long.
+fn add_bytes(line: &mut Vec<u8>, is_long: &mut bool, more: &[u8]) -> io::Result<()>
+    ensures held { OnOk result (HoldsMore more.now line.old.items is_long.old
+        line.new.items is_long.new) }
+    ensures short { length line.old.items ≤ MAX_LINE → length line.new.items ≤ MAX_LINE }
+{
+    if more.len().saturating_add(line.len()) > MAX_LINE {
+        *is_long = true;
+        line.clear();
+    }
+    if !*is_long {
+        line.extend_from_slice(more)?;
+    }
+    Ok(())
+}
+
+// Takes what an input has at hand of a line.
+fn take_piece<I: BufRead>(
+    input: &mut I,
+    line: &mut Vec<u8>,
+    is_long: &mut bool,
+) -> io::Result<Piece>
+    ensures took { IfOk result (λ piece. TakesPiece piece (I.remaining input.old)
+        (I.remaining input.new) line.old.items is_long.old line.new.items is_long.new) }
+    ensures short { length line.old.items ≤ MAX_LINE → length line.new.items ≤ MAX_LINE }
+    ensures err { OnErr result (Keeps (I.remaining input.old) (I.remaining input.new)) }
+{
+    let bytes = input.fill_buf()?;
+    if bytes.is_empty() {
+        return Ok(Piece::End);
+    }
+    let (count, is_whole) = front_of(bytes);
+    add_bytes(line, is_long, &bytes[..count])?;
+    if is_whole {
+        input.consume(count + 1);
+        return Ok(Piece::Last);
+    }
+    input.consume(count);
+    Ok(Piece::Part)
+}
+
 /// Reads a line, of which no more is held than one may have. A last line without a newline is a line.
-pub fn read_line<I: BufRead>(input: &mut I, line: &mut Vec<u8>) -> io::Result<Line> {
+pub fn read_line<R: Wait, I: BufRead>(rt: &R, input: &mut I, line: &mut Vec<u8>) -> io::Result<Line>
+    ensures read { IfOk result
+        (λ r. IsLineRead r line.new.items (I.remaining input.old) (I.remaining input.new)) }
+    ensures short { length line.new.items ≤ MAX_LINE }
+    ensures err { OnErr result (TakesPartOfLine (I.remaining input.old) (I.remaining input.new)) }
+{
     line.clear();
     let mut is_long = false;
-    for _turn in 0..u64::MAX {
-        let bytes = input.fill_buf()?;
-        if bytes.is_empty() {
-            let ended = if is_long {
-                Line::TooLong
-            } else if line.is_empty() {
-                Line::End
-            } else {
-                Line::Read
-            };
-            return Ok(ended);
-        }
-        let (count, is_whole) = front_of(bytes);
-        if count.saturating_add(line.len()) > MAX_LINE {
-            is_long = true;
-            line.clear();
-        }
-        if !is_long {
-            line.extend_from_slice(&bytes[..count])?;
-        }
-        input.consume(if is_whole { count + 1 } else { count });
-        if is_whole {
-            return Ok(if is_long { Line::TooLong } else { Line::Read });
+    for _turn in rt.forever() {
+        match take_piece(input, line, &mut is_long)? {
+            Piece::Part => {}
+            Piece::Last if is_long => return Ok(Line::TooLong),
+            Piece::Last => return Ok(Line::Read),
+            Piece::End if is_long => return Ok(Line::TooLong),
+            Piece::End if line.is_empty() => return Ok(Line::End),
+            Piece::End => return Ok(Line::Read),
         }
     }
-    Ok(Line::End)
+    unreachable!()
 }

@@ -1,8 +1,9 @@
 //! Changes made one after the other, and the answers to lines that waited.
-ghost use Rattle.std.specs.Prelude.{◌≡◌, ◌++◌, ◌∷◌, [], ℕ, List, IfOk, OnOk, OnErr, string_bytes, codes, decimal};
+ghost use Rattle.std.specs.Prelude.{◌≡◌, ◌++◌, ◌∷◌, [], ℕ, List, IfOk, OnOk, IfErr, OnErr, string_bytes, codes, decimal};
 ghost use Rattle.pb_base.specs.Batch.{Writes};
 ghost use Rattle.pb_verify.specs.Observers.{ObserverOf};
 ghost use Rattle.pb_keeper.specs.Keeps.{Keeps};
+ghost use Rattle.pb_keep.specs.Left.{IsOfMaking};
 ghost use Rattle.pb_keep.specs.Waits.{changes_in, made_line, AreAnswers, AreSomeAnswers, IsAnswer};
 
 use crate::fault::KeepFault;
@@ -64,6 +65,7 @@ fn answer<R: Wait, T: Tablet>(
         → Keeps observers changes state.old
         → OnOk result (Keeps observers (changes ++ changes_in (item ∷ [])) state.new) }
     ensures unanswered { OnErr result (string_bytes text.new ≡ string_bytes text.old) }
+    ensures why { IfErr result IsOfMaking }
 {
     match item {
         Waits::Change(batch) => {
@@ -94,6 +96,7 @@ pub(crate) fn make_and_answer<R: Wait, T: Tablet>(
         → OnOk result (Keeps observers (changes ++ changes_in items.items) state.new) }
     ensures some { OnErr result (AreSomeAnswers items.items state.old
         (string_bytes text.old) (string_bytes text.new)) }
+    ensures why { IfErr result IsOfMaking }
 {
     for item in items {
         answer(rt, alloc, state, item, text)?;

@@ -1,17 +1,24 @@
 //! One line: a change waits, and a question is answered after what waits.
-ghost use Rattle.std.specs.Prelude.{◌≡◌, ◌==◌, ℕ, List, true, false, OnOk, IfOk, IsTrue};
+ghost use Rattle.std.specs.Prelude.{◌≡◌, ◌==◌, ◌∷◌, ◌++◌, [], ℕ, List, Option, None, Ok, true, false, length, string_bytes, OnOk, IfOk, OnErr, IfErr, IfSome, IsTrue};
 ghost use Rattle.std.specs.List.{list_any};
-ghost use Rattle.pb_base.specs.Batch.{Writes};
-ghost use Rattle.pb_verify.specs.Observers.{ObserverOf};
-ghost use Rattle.pb_reading.specs.Reading.{is_skipped};
-ghost use Rattle.pb_keep.specs.Kept.{AddsChange, AddsLine, Serves};
-ghost use Rattle.pb_keep.specs.Waits.{changes_in, IsScriptLine, IsWaiting};
+ghost use Rattle.std.specs.Io.KnownBytes.{Appends};
+ghost use Rattle.pb_base.specs.Sink.{AppendsPart};
+ghost use Rattle.pb_base.specs.declared.cell.Cell.TheVariants.{Data};
+ghost use Rattle.pb_answers.specs.Seen.{IsSeenIn};
+ghost use Rattle.pb_requests.specs.Requests.{asked_by};
+ghost use Rattle.pb_requests.specs.declared.request.Request.TheVariants.{Change, ChangeIf};
+ghost use Rattle.pb_script.specs.declared.reports.lines.Newest.{Newest};
+ghost use Rattle.pb_keep.specs.declared.fault.KeepFault.TheVariants as ends;
+ghost use Rattle.pb_keep.specs.Conversations.{Beginning, LeavesFirst, Serves};
+ghost use Rattle.pb_keep.specs.Held.{change_in, commit_of, waits_for, waits_within, IsAnswerTo, IsHeldIf};
+ghost use Rattle.pb_keep.specs.Taken.{is_question, IsReady, IsReadyFor, IsToWait, MayHaveAnswered, WaitsNow};
+ghost use Rattle.pb_keep.specs.Waits.{IsNoLine, IsWaiting};
 
 use crate::fault::KeepFault;
 use crate::keeper::Keeper;
 use crate::waiting::{Waiting, Waits};
 use pb_answers::{answer_get, answer_list, answer_quiet, answer_since, newest_of};
-use pb_base::{Batch, NoMemory, Sink, Ts};
+use pb_base::{NoMemory, Sink, Ts};
 use pb_parse::{ScriptCode, batch_of, first_operation};
 use pb_reading::{LineFault, is_skipped};
 use pb_requests::{Condition, Request, parse_request};
@@ -24,14 +31,6 @@ use std::sync::Wait;
 /// The code of a line that may not stand in a group, and of an `end` without its `begin`.
 pub const OUT_OF_PLACE: u8 = 76;
 
-// The commit of a cell's newest write, 0 where it has none.
-fn newest_commit<T: Tablet>(state: &State<T>, condition: &Condition) -> Ts {
-    match newest_of(state, condition.row, condition.column) {
-        Some(newest) => newest.commit,
-        None => Ts(0),
-    }
-}
-
 // Whether a text has a newline.
 fn has_newline(text: &str) -> bool
     ensures { result ≡ list_any (λ b. b == 10) text.now }
@@ -39,122 +38,193 @@ fn has_newline(text: &str) -> bool
     text.as_bytes().iter().any(|b| *b == b'\n')
 }
 
-// Whether a record can have this text as a line: it is neither empty nor a remark, and has no newline in it.
-fn is_script_line(text: &str) -> bool
-    ensures shown { result ≡ true → is_skipped text.now ≡ false }
-    ensures whole { result ≡ true → list_any (λ b. b == 10) text.now ≡ false }
+// As what a change of these operations waits: a record has them as a line.
+fn change_of(alloc: Global, operations: &str) -> Result<Waits, NoMemory>
+    ensures { IfOk result (λ item. item ≡ waits_for (change_in operations.now)) }
 {
-    !is_skipped(text) && !has_newline(text)
-}
-
-// The operations of a change, as a line of a script.
-fn operations_of(alloc: Global, text: &str) -> Result<Batch, LineFault<ScriptCode>>
-    ensures { IfOk result (IsScriptLine text.now) }
-{
-    if !is_script_line(text) {
-        return Err(LineFault::Code(ScriptCode::Form));
+    if is_skipped(operations) || has_newline(operations) {
+        return Ok(Waits::Refused(ScriptCode::Form.code()));
     }
-    batch_of(alloc, text)
-}
-
-// A line that is refused waits for its turn.
-pub(crate) fn refuse(waiting: &mut Waiting, code: u8) -> Result<(), KeepFault>
-    requires { IsWaiting waiting.old }
-    ensures waiting { OnOk result (IsWaiting waiting.new) }
-    ensures changes { OnOk result
-        (changes_in waiting.new.items.items ≡ changes_in waiting.old.items.items) }
-{
-    waiting.push_other(Waits::Refused(code))?;
-    Ok(())
-}
-
-// A change waits, if the record has room for it; that of a group may have none, so that the change is refused.
-fn push_batch(waiting: &mut Waiting, operations: &str, batch: Batch) -> Result<(), KeepFault>
-    requires waiting { IsWaiting waiting.old }
-    requires read { IsScriptLine operations.now batch }
-    ensures waiting { OnOk result (IsWaiting waiting.new) }
-    ensures changes { OnOk result (AddsChange operations.now
-        (changes_in waiting.old.items.items) (changes_in waiting.new.items.items)) }
-{
-    if !waiting.has_room(operations.len()) {
-        return refuse(waiting, ScriptCode::TooMany.code());
-    }
-    waiting.push_change(operations, batch)?;
-    Ok(())
-}
-
-// A change of these operations waits, if they are some.
-fn add_change(alloc: Global, waiting: &mut Waiting, operations: &str) -> Result<(), KeepFault>
-    requires { IsWaiting waiting.old }
-    ensures waiting { OnOk result (IsWaiting waiting.new) }
-    ensures changes { OnOk result (AddsChange operations.now
-        (changes_in waiting.old.items.items) (changes_in waiting.new.items.items)) }
-{
-    match operations_of(alloc, operations) {
-        Ok(batch) => push_batch(waiting, operations, batch),
-        Err(LineFault::Code(code)) => refuse(waiting, code.code()),
-        Err(LineFault::NoMemory(refused)) => Err(refused.into()),
+    match batch_of(alloc, operations) {
+        Ok(batch) => Ok(Waits::Change(batch)),
+        Err(LineFault::Code(code)) => Ok(Waits::Refused(code.code())),
+        Err(LineFault::NoMemory(refused)) => Err(refused),
     }
 }
 
-// A change waits if its condition holds of the table, in which all that waited is made.
-fn push_if<T: Tablet>(
-    state: &State<T>,
-    waiting: &mut Waiting,
-    condition: &Condition,
-    operations: &str,
-    batch: Batch,
-) -> Result<(), KeepFault>
-    requires waiting { IsWaiting waiting.old }
-    requires read { IsScriptLine operations.now batch }
-    ensures waiting { OnOk result (IsWaiting waiting.new) }
-    ensures changes { OnOk result (AddsChange operations.now
-        (changes_in waiting.old.items.items) (changes_in waiting.new.items.items)) }
+// The commit of a cell's newest write, 0 where it has none.
+fn newest_commit<T: Tablet>(state: &State<T>, condition: &Condition) -> Ts
+    ensures { (newest : Option Newest)
+        × IsSeenIn state.now.entries state.now.clock
+        (Data condition.now.row condition.now.column) newest
+        × (result ≡ commit_of newest) }
 {
-    let newest = newest_commit(state, condition);
-    if newest == condition.commit {
-        return push_batch(waiting, operations, batch);
+    match newest_of(state, condition.row, condition.column) {
+        Some(newest) => newest.commit,
+        None => Ts(0),
     }
-    waiting.push_other(Waits::Unmade(newest))?;
-    Ok(())
 }
 
-// The operations are read before the condition is looked at, so that a line of no form is refused in any case.
-fn add_if<T: Tablet>(
+// As what operations on a condition wait. They are read before the condition is looked at, so that a line of no form is
+// refused in any case.
+fn change_if<T: Tablet>(
     alloc: Global,
     state: &State<T>,
-    waiting: &mut Waiting,
     condition: &Condition,
     operations: &str,
-) -> Result<(), KeepFault>
-    requires { IsWaiting waiting.old }
-    ensures waiting { OnOk result (IsWaiting waiting.new) }
-    ensures changes { OnOk result (AddsChange operations.now
-        (changes_in waiting.old.items.items) (changes_in waiting.new.items.items)) }
+) -> Result<Waits, NoMemory>
+    ensures { IfOk result (IsHeldIf state.now condition.now operations.now) }
 {
-    match operations_of(alloc, operations) {
-        Ok(batch) => push_if(state, waiting, condition, operations, batch),
-        Err(LineFault::Code(code)) => refuse(waiting, code.code()),
-        Err(LineFault::NoMemory(refused)) => Err(refused.into()),
+    let item = change_of(alloc, operations)?;
+    let newest = newest_commit(state, condition);
+    match item {
+        Waits::Change(_) if newest != condition.commit => Ok(Waits::Unmade(newest)),
+        item => Ok(item),
     }
 }
 
-// A line with a condition. Its first operation is the condition.
-fn add_conditional<T: Tablet>(
+// As what a change in a group waits, whose record may have no room for it.
+fn change_within(alloc: Global, waiting: &Waiting, line: &str) -> Result<Waits, NoMemory>
+    ensures { IfOk result (λ item. item ≡ waits_within waiting.now.changes
+        (length (string_bytes waiting.now.script)) line.now Change) }
+{
+    let item = change_of(alloc, line)?;
+    match item {
+        Waits::Change(_) if !waiting.has_room(line.len()) => {
+            Ok(Waits::Refused(ScriptCode::TooMany.code()))
+        }
+        item => Ok(item),
+    }
+}
+
+// As what a line waits in a group.
+fn item_within(
+    alloc: Global,
+    waiting: &Waiting,
+    line: &str,
+    request: Request,
+) -> Result<Waits, NoMemory>
+    ensures { IfOk result (λ item. item ≡ waits_within waiting.now.changes
+        (length (string_bytes waiting.now.script)) line.now request) }
+{
+    match request {
+        Request::Change => change_within(alloc, waiting, line),
+        Request::End => Ok(Waits::Ended),
+        _ => Ok(Waits::Refused(OUT_OF_PLACE)),
+    }
+}
+
+// A line with a condition waits. Its first operation is the condition.
+fn hold_if<T: Tablet>(
     alloc: Global,
     state: &State<T>,
     waiting: &mut Waiting,
     condition: &Condition,
     line: &str,
-) -> Result<(), KeepFault>
-    requires { IsWaiting waiting.old }
+) -> Result<(), NoMemory>
+    requires waiting { IsWaiting waiting.old }
+    requires first { IsNoLine waiting.old }
+    requires read { asked_by line.now ≡ Ok (ChangeIf condition.now) }
     ensures waiting { OnOk result (IsWaiting waiting.new) }
-    ensures changes { OnOk result (AddsLine line.now
-        (changes_in waiting.old.items.items) (changes_in waiting.new.items.items)) }
+    ensures held { OnOk result (WaitsNow state.now line.now (Ok (ChangeIf condition.now))
+        waiting.old waiting.new) }
 {
-    match first_operation(line) {
-        (_, Some(operations)) => add_if(alloc, state, waiting, condition, operations),
-        (_, None) => refuse(waiting, ScriptCode::Form.code()),
+    let (_, after) = first_operation(line);
+    match after {
+        Some(operations) => {
+            let item = change_if(alloc, state, condition, operations)?;
+            waiting.push(operations, item)
+        }
+        None => unreachable!(),
+    }
+}
+
+// A line that is no question waits.
+fn hold_request<T: Tablet>(
+    alloc: Global,
+    state: &State<T>,
+    waiting: &mut Waiting,
+    line: &str,
+    request: Request,
+) -> Result<(), NoMemory>
+    requires waiting { IsWaiting waiting.old }
+    requires read { asked_by line.now ≡ Ok request }
+    requires ready { IsReadyFor waiting.old (length line.now) request }
+    requires alone { waiting.old.is_group ≡ false }
+    requires no_question { is_question request ≡ false }
+    ensures waiting { OnOk result (IsWaiting waiting.new) }
+    ensures held { OnOk result
+        (WaitsNow state.now line.now (Ok request) waiting.old waiting.new) }
+{
+    match request {
+        Request::Change => {
+            let item = change_of(alloc, line)?;
+            waiting.push(line, item)
+        }
+        Request::ChangeIf(condition) => hold_if(alloc, state, waiting, &condition, line),
+        Request::Begin => waiting.push(line, Waits::Begun),
+        Request::End => waiting.push(line, Waits::Refused(OUT_OF_PLACE)),
+        _ => unreachable!(),
+    }
+}
+
+// A line waits.
+fn hold<T: Tablet>(
+    alloc: Global,
+    state: &State<T>,
+    waiting: &mut Waiting,
+    line: &str,
+    read: Result<Request, ScriptCode>,
+) -> Result<(), NoMemory>
+    requires waiting { IsWaiting waiting.old }
+    requires read { asked_by line.now ≡ read }
+    requires ready { IsReady waiting.old (length line.now) read }
+    requires no_question { IsToWait waiting.old read }
+    ensures waiting { OnOk result (IsWaiting waiting.new) }
+    ensures held { OnOk result (WaitsNow state.now line.now read waiting.old waiting.new) }
+{
+    let request = match read {
+        Ok(request) => request,
+        Err(code) => return waiting.push(line, Waits::Refused(code.code())),
+    };
+    if !waiting.is_group {
+        return hold_request(alloc, state, waiting, line, request);
+    }
+    let item = item_within(alloc, waiting, line, request)?;
+    waiting.push(line, item)
+}
+
+// Writes an answer.
+pub(crate) fn write<S: Sink>(out: &mut S, text: &str) -> Result<(), KeepFault>
+    ensures ok { OnOk result (Appends (S.taken out.old) (S.taken out.new) text.now) }
+    ensures err { OnErr result (AppendsPart (S.taken out.old) (S.taken out.new) text.now) }
+    ensures why { IfErr result (λ e. e ≡ ends.Output) }
+{
+    match out.write_all(text.as_bytes()) {
+        Ok(()) => Ok(()),
+        Err(_) => Err(KeepFault::Output),
+    }
+}
+
+// Whether a line is answered at once.
+fn is_question(request: &Request) -> bool
+    ensures { result ≡ is_question request.now }
+{
+    matches!(
+        request,
+        Request::Get(..) | Request::Since(_) | Request::List | Request::IsQuiet
+    )
+}
+
+// The question that a line asks, which is none in a group.
+fn question_in(waiting: &Waiting, read: &Result<Request, ScriptCode>) -> Option<Request>
+    ensures some { IfSome result (λ q. (read.now ≡ Ok q) × (is_question q ≡ true)
+        × (waiting.now.is_group ≡ false)) }
+    ensures none { result ≡ None → IsToWait waiting.now read.now }
+{
+    match read {
+        Ok(request) if !waiting.is_group && is_question(request) => Some(*request),
+        _ => None,
     }
 }
 
@@ -163,104 +233,42 @@ fn answer_to<T: Tablet>(
     alloc: Global,
     state: &State<T>,
     question: Request,
-) -> Result<String, NoMemory> {
+) -> Result<String, NoMemory>
+    requires { is_question question ≡ true }
+    ensures { IfOk result (λ s. IsAnswerTo question state.now (string_bytes s)) }
+{
     match question {
         Request::Get(row, column) => answer_get(alloc, state, row, column),
         Request::Since(above) => answer_since(alloc, state, above),
         Request::List => answer_list(alloc, state),
-        _ => answer_quiet(alloc, state),
+        Request::IsQuiet => answer_quiet(alloc, state),
+        _ => unreachable!(),
     }
 }
 
-// Answers a question.
+// Answers a question. Where that fails, a beginning of the answer may be written.
 fn answer<T: Tablet, S: Sink>(
     alloc: Global,
     state: &State<T>,
     out: &mut S,
     question: Request,
-) -> Result<(), KeepFault> {
-    let text = answer_to(alloc, state, question)?;
-    match out.write_all(text.as_bytes()) {
-        Ok(()) => Ok(()),
-        Err(_) => Err(KeepFault::Output),
-    }
-}
-
-// Takes a line within a group, and answers whether the group ends with it.
-fn add_in_group(
-    alloc: Global,
-    waiting: &mut Waiting,
-    line: &str,
-    request: Request,
-) -> Result<bool, KeepFault>
-    requires { IsWaiting waiting.old }
-    ensures waiting { OnOk result (IsWaiting waiting.new) }
-    ensures changes { OnOk result (AddsLine line.now
-        (changes_in waiting.old.items.items) (changes_in waiting.new.items.items)) }
-{
-    match request {
-        Request::Change => add_change(alloc, waiting, line)?,
-        Request::End => {
-            waiting.push_other(Waits::Ended)?;
-            return Ok(true);
-        }
-        _ => refuse(waiting, OUT_OF_PLACE)?,
-    }
-    Ok(false)
-}
-
-// Takes a line that stands in no group.
-fn add_alone<T: Tablet, S: Sink>(
-    alloc: Global,
-    state: &State<T>,
-    waiting: &mut Waiting,
-    out: &mut S,
-    line: &str,
-    request: Request,
 ) -> Result<(), KeepFault>
-    requires { IsWaiting waiting.old }
-    ensures waiting { OnOk result (IsWaiting waiting.new) }
-    ensures changes { OnOk result (AddsLine line.now
-        (changes_in waiting.old.items.items) (changes_in waiting.new.items.items)) }
+    requires { is_question question ≡ true }
+    ensures ok { OnOk result ((text : List ℕ) × IsAnswerTo question state.now text
+        × Appends (S.taken out.old) (S.taken out.new) text) }
+    ensures err { OnErr result (MayHaveAnswered question state.now
+        (S.taken out.old) (S.taken out.new)) }
 {
-    match request {
-        Request::Change => add_change(alloc, waiting, line),
-        Request::ChangeIf(condition) => add_conditional(alloc, state, waiting, &condition, line),
-        Request::Begin => {
-            waiting.push_other(Waits::Begun)?;
-            waiting.is_group = true;
-            Ok(())
-        }
-        Request::End => refuse(waiting, OUT_OF_PLACE),
-        question => answer(alloc, state, out, question),
-    }
-}
-
-// Takes a line as it is read, and answers whether a group ends with it.
-fn add_line<T: Tablet, S: Sink>(
-    alloc: Global,
-    state: &State<T>,
-    waiting: &mut Waiting,
-    out: &mut S,
-    line: &str,
-    read: Result<Request, ScriptCode>,
-) -> Result<bool, KeepFault>
-    requires { IsWaiting waiting.old }
-    ensures waiting { OnOk result (IsWaiting waiting.new) }
-    ensures changes { OnOk result (AddsLine line.now
-        (changes_in waiting.old.items.items) (changes_in waiting.new.items.items)) }
-{
-    match read {
-        Err(code) => refuse(waiting, code.code())?,
-        Ok(request) if waiting.is_group => return add_in_group(alloc, waiting, line, request),
-        Ok(request) => add_alone(alloc, state, waiting, out, line, request)?,
-    }
-    Ok(false)
+    let text = answer_to(alloc, state, question)?;
+    write(out, text.as_str())
 }
 
 // Whether what waits is kept before this line is taken: it speaks of the table in which all of that is made, or the record has
-// no room for it. A group is kept by its `end` alone.
-fn is_kept_before(waiting: &Waiting, line: &str, read: &Result<Request, ScriptCode>) -> bool {
+// no room for it. A group is kept after its `end` alone.
+fn is_kept_before(waiting: &Waiting, line: &str, read: &Result<Request, ScriptCode>) -> bool
+    ensures not_in_group { result ≡ true → waiting.now.is_group ≡ false }
+    ensures ready { result ≡ false → IsReady waiting.now (length line.now) read.now }
+{
     if waiting.is_group {
         return false;
     }
@@ -274,7 +282,7 @@ fn is_kept_before(waiting: &Waiting, line: &str, read: &Result<Request, ScriptCo
 
 impl<T: Tablet, D: Disk + Drop> Keeper<T, D> {
     // Keeps what waits, where that is asked for.
-    fn keep_if<R: Wait, S: Sink>(
+    pub(crate) fn keep_if<R: Wait, S: Sink>(
         &mut self,
         rt: &R,
         alloc: Global,
@@ -283,15 +291,22 @@ impl<T: Tablet, D: Disk + Drop> Keeper<T, D> {
     ) -> Result<(), KeepFault>
         requires usable { IsTrue (D.is_usable self.old.log.disk) }
         requires waiting { IsWaiting self.old.waiting }
+        requires alone { is_asked ≡ true → self.old.waiting.is_group ≡ false }
         ensures usable { OnOk result (IsTrue (D.is_usable self.new.log.disk)) }
         ensures waiting { OnOk result (IsWaiting self.new.waiting) }
-        ensures serves { (manifest : List ℕ) (observers : List ObserverOf) (sent : List Writes)
-            → Serves manifest observers sent (D.seen self.old.log.disk)
-            (D.may_leave self.old.log.disk) self.old.log.end self.old.state
-            self.old.waiting.items.items
-            → OnOk result (Serves manifest observers sent (D.seen self.new.log.disk)
-            (D.may_leave self.new.log.disk) self.new.log.end self.new.state
-            self.new.waiting.items.items) }
+        ensures kept { OnOk result (is_asked ≡ true → IsNoLine self.new.waiting) }
+        ensures same { is_asked ≡ false → self.new ≡ self.old }
+        ensures serves { (b : Beginning) (lines : List (List ℕ))
+            → Serves b lines (D.seen self.old.log.disk) (D.may_leave self.old.log.disk)
+            self.old.log.end self.old.state self.old.waiting (S.taken out.old)
+            → OnOk result (Serves b lines (D.seen self.new.log.disk)
+            (D.may_leave self.new.log.disk) self.new.log.end self.new.state self.new.waiting
+            (S.taken out.new)) }
+        ensures crash { (b : Beginning) (lines : List (List ℕ))
+            → Serves b lines (D.seen self.old.log.disk) (D.may_leave self.old.log.disk)
+            self.old.log.end self.old.state self.old.waiting (S.taken out.old)
+            → (c : List ℕ) → D.may_leave self.new.log.disk c
+            → LeavesFirst b lines (S.taken out.new) c }
     {
         if is_asked {
             self.keep(rt, alloc, out)?;
@@ -299,8 +314,8 @@ impl<T: Tablet, D: Disk + Drop> Keeper<T, D> {
         Ok(())
     }
 
-    /// Takes one line. A change waits, and so does the answer to a line that is refused; a question is answered, and a group
-    /// kept, after all that waits is kept.
+    /// Takes one line. A change waits, and so does the answer to a line that is refused; a question is answered after all that
+    /// waits is kept.
     pub fn take<R: Wait, S: Sink>(
         &mut self,
         rt: &R,
@@ -312,19 +327,28 @@ impl<T: Tablet, D: Disk + Drop> Keeper<T, D> {
         requires waiting { IsWaiting self.old.waiting }
         ensures usable { OnOk result (IsTrue (D.is_usable self.new.log.disk)) }
         ensures waiting { OnOk result (IsWaiting self.new.waiting) }
-        ensures serves { (manifest : List ℕ) (observers : List ObserverOf) (sent : List Writes)
-            → Serves manifest observers sent (D.seen self.old.log.disk)
-            (D.may_leave self.old.log.disk) self.old.log.end self.old.state
-            self.old.waiting.items.items
-            → OnOk result ((now : List Writes) × AddsLine line.now sent now
-            × Serves manifest observers now (D.seen self.new.log.disk)
-            (D.may_leave self.new.log.disk) self.new.log.end self.new.state
-            self.new.waiting.items.items) }
+        ensures serves { (b : Beginning) (lines : List (List ℕ))
+            → Serves b lines (D.seen self.old.log.disk) (D.may_leave self.old.log.disk)
+            self.old.log.end self.old.state self.old.waiting (S.taken out.old)
+            → OnOk result (Serves b (lines ++ line.now ∷ []) (D.seen self.new.log.disk)
+            (D.may_leave self.new.log.disk) self.new.log.end self.new.state self.new.waiting
+            (S.taken out.new)) }
+        // Whenever it stops, the log has the changes of the first lines.
+        ensures crash { (b : Beginning) (lines : List (List ℕ))
+            → Serves b lines (D.seen self.old.log.disk) (D.may_leave self.old.log.disk)
+            self.old.log.end self.old.state self.old.waiting (S.taken out.old)
+            → (c : List ℕ) → D.may_leave self.new.log.disk c
+            → LeavesFirst b (lines ++ line.now ∷ []) (S.taken out.new) c }
     {
         let read = parse_request(line);
         let before = is_kept_before(&self.waiting, line, &read);
         self.keep_if(rt, alloc, out, before)?;
-        let ends = add_line(alloc, &self.state, &mut self.waiting, out, line, read)?;
-        self.keep_if(rt, alloc, out, ends)
+        match question_in(&self.waiting, &read) {
+            Some(question) => answer(alloc, &self.state, out, question),
+            None => {
+                hold(alloc, &self.state, &mut self.waiting, line, read)?;
+                Ok(())
+            }
+        }
     }
 }

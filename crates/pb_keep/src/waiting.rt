@@ -32,8 +32,8 @@ pub struct Waiting {
 }
 
 impl Waiting {
-    ghost use Rattle.std.specs.Prelude.{◌≡◌, ◌∷◌, ◌++◌, [], OnOk, true, length};
-    ghost use Rattle.pb_keep.specs.Waits.{changes_in, HasLineRoom, IsNoLine, IsScriptLine, IsWaiting};
+    ghost use Rattle.std.specs.Prelude.{◌≡◌, ◌+◌, ◌∷◌, ◌++◌, [], OnOk, true, length, string_bytes};
+    ghost use Rattle.pb_keep.specs.Waits.{changes_in, has_line_room, group_after, group_of, FitsIn, IsNoLine, IsScriptLine, IsWaiting};
     ghost use Rattle.pb_keep.specs.declared.waiting.Waits.TheVariants.{Change};
 
     /// No lines.
@@ -50,41 +50,68 @@ impl Waiting {
 
     /// Whether the record has room for one more line of so many bytes.
     pub fn has_room(&self, bytes: usize) -> bool
-        ensures { result ≡ true → HasLineRoom self.now bytes }
+        ensures { result ≡ has_line_room self.now.changes
+            (length (string_bytes self.now.script)) bytes }
     {
         self.changes < MAX_CHANGES && bytes < MAX_RECORD && self.script.len() < MAX_RECORD - bytes
     }
 
-    /// The answer to a line that changes nothing waits.
-    pub fn push_other(&mut self, item: Waits) -> Result<(), NoMemory>
+    // The answer to a line that changes nothing waits.
+    fn push_other(&mut self, item: Waits) -> Result<(), NoMemory>
         requires waiting { IsWaiting self.old }
         requires other { changes_in (item ∷ []) ≡ [] }
         ensures waiting { OnOk result (IsWaiting self.new) }
         ensures items { OnOk result (self.new.items.items ≡ self.old.items.items ++ item ∷ []) }
-        ensures changes { OnOk result
-            (changes_in self.new.items.items ≡ changes_in self.old.items.items) }
+        ensures script { self.new.script ≡ self.old.script }
+        ensures changes { self.new.changes ≡ self.old.changes }
         ensures group { self.new.is_group ≡ self.old.is_group }
     {
         self.items.push(item)?;
         Ok(())
     }
 
-    /// A change waits, by its line of a script. Refused for memory, the waiting lines are of no use.
-    pub fn push_change(&mut self, line: &str, batch: Batch) -> Result<(), NoMemory>
+    // A change waits, by its line of a script.
+    fn push_change(&mut self, line: &str, batch: Batch) -> Result<(), NoMemory>
         requires waiting { IsWaiting self.old }
-        requires room { HasLineRoom self.old (length line.now) }
+        requires room { has_line_room self.old.changes (length (string_bytes self.old.script))
+            (length line.now) ≡ true }
         requires line { IsScriptLine line.now batch }
         ensures waiting { OnOk result (IsWaiting self.new) }
         ensures items { OnOk result
             (self.new.items.items ≡ self.old.items.items ++ Change batch ∷ []) }
-        ensures changes { OnOk result (changes_in self.new.items.items
-            ≡ changes_in self.old.items.items ++ batch ∷ []) }
+        ensures script { OnOk result (length (string_bytes self.new.script)
+            ≡ length (string_bytes self.old.script) + (length line.now + 1)) }
+        ensures changes { OnOk result (self.new.changes ≡ self.old.changes + 1) }
         ensures group { self.new.is_group ≡ self.old.is_group }
     {
         self.items.push(Waits::Change(batch))?;
         self.script.push_str(line)?;
         self.script.push_str("\n")?;
         self.changes += 1;
+        Ok(())
+    }
+
+    /// A line of these operations waits. Refused for memory, the waiting lines are of no use.
+    pub fn push(&mut self, operations: &str, item: Waits) -> Result<(), NoMemory>
+        requires waiting { IsWaiting self.old }
+        requires fits { FitsIn self.old operations.now item }
+        ensures waiting { OnOk result (IsWaiting self.new) }
+        ensures items { OnOk result (self.new.items.items ≡ self.old.items.items ++ item ∷ []) }
+        ensures group { OnOk result (group_of self.new
+            ≡ group_after (group_of self.old) (length operations.now) item) }
+    {
+        match item {
+            Waits::Change(batch) => self.push_change(operations, batch)?,
+            Waits::Begun => {
+                self.push_other(Waits::Begun)?;
+                self.is_group = true;
+            }
+            Waits::Ended => {
+                self.push_other(Waits::Ended)?;
+                self.is_group = false;
+            }
+            other => self.push_other(other)?,
+        }
         Ok(())
     }
 }

@@ -1,17 +1,17 @@
-use Rattle.std.proofs.Common.{◌≡◌, ◌++◌, [], map, ap, sym, subst, ◌∙◌, arith}
+use Rattle.std.proofs.Common.{◌≡◌, ◌+◌, ◌++◌, length, [], map, ap, sym, subst, ◌∙◌, arith}
 use Rattle.std.specs.Vec.Iter.{into_iter_items}
 use Rattle.pb_keep.specs.Words.{Keeps, script_of}
-use Rattle.pb_keep.specs.Kept.{changes_of}
-use Rattle.std.proofs.lemmas.List.{append_assoc, append-nil}
+use Rattle.pb_keep.specs.Kept.{changes_of, reported_count}
+use Rattle.std.proofs.lemmas.List.{append_assoc, append-nil, length-append}
 use Rattle.pb_keep.proofs.Scripts.{empty_list}
-use Rattle.pb_keep.proofs.Records.{map_more, no_changes, records_more}
+use Rattle.pb_keep.proofs.Records.{reported_on, map_more, no_changes, records_more}
 use Rattle.pb_keep.proofs.anew.make_records_anew.Goals as goal
 
 pub loop-record-init : goal.loop-record-init
 loop-record-init g c = record {
   parts = grind (arith, c.into_iter-record-iterator.ensures.into_iter_gives);
   counted = grind (arith, c.into_iter-record-iterator.ensures.into_iter_gives);
-  keeps = λ observers changes k. ([], no_changes, subst (λ l. Keeps observers l c.args.state.now) (sym (append-nil changes)) k);
+  keeps = λ observers changes k. ([], no_changes, subst (λ l. Keeps observers l c.args.state.now) (sym (append-nil changes)) k, grind arith);
 }
 
 pub loop-record-preserved : goal.loop-record-preserved
@@ -24,6 +24,7 @@ loop-record-preserved g c = record {
         i.0 ++ m.0,
         ap changes_of (map_more (λ v. v.items) c.loop-record.yielded c.in-Some.record) ∙ records_more (map (λ v. v.items) c.loop-record.yielded) c.in-Some.record.items i.0 m.0 i.1 (ap script_of (sym c.deref.ensures.value) ∙ m.1),
         subst (λ l. Keeps observers l c.make_anew.new.state) (append_assoc changes i.0 m.0) m.2,
+        c.saturating_add-count.ensures ∙ ap (λ n. reported_count (c.loop-record.count + n)) m.3 ∙ ap (λ n. reported_count (n + length m.0)) i.3 ∙ reported_on (length i.0) (length m.0) ∙ ap reported_count (sym (length-append i.0 m.0)),
       );
 }
 
@@ -32,4 +33,4 @@ returns g c = λ observers changes k.
     let i = c.loop-record.invariant.keeps observers changes k in
     let none : into_iter_items c.loop-record.record-iterator ≡ [] = empty_list (into_iter_items c.loop-record.record-iterator) (sym c.loop-record.invariant.counted ∙ c.in-None.ensures.steps.0) in
     let e : c.args.records.items ≡ c.loop-record.yielded = c.loop-record.invariant.parts ∙ ap (λ l. c.loop-record.yielded ++ l) none ∙ append-nil c.loop-record.yielded in
-    (i.0, ap (λ l. changes_of (map (λ v. v.items) l)) e ∙ i.1, i.2)
+    (i.0, ap (λ l. changes_of (map (λ v. v.items) l)) e ∙ i.1, i.2, i.3)

@@ -1,7 +1,7 @@
 use Rattle.std.proofs.Common.{◌≡◌, ◌++◌, List, map, Ok, length}
 use Rattle.std.specs.Vec.Iter.{into_iter_items, into_iter_len}
 use Rattle.pb_keep.specs.Words.{Writes, ObserverOf, Keeps}
-use Rattle.pb_keep.specs.Kept.{changes_of}
+use Rattle.pb_keep.specs.Kept.{changes_of, reported_count}
 use Rattle.pb_keep.proofs.anew.make_records_anew.Given as goal
 
 -- the changes of the records so far are made
@@ -10,5 +10,5 @@ invariant-loop-record g l = record {
   parts : l.fn.records.items ≡ l.yielded ++ into_iter_items l.record-iterator;
   counted : into_iter_len l.record-iterator ≡ length (into_iter_items l.record-iterator);
   keeps : (observers : List ObserverOf) (changes : List Writes) → Keeps observers changes l.initial.state
-      → (more : List Writes) × (changes_of (map (λ v. v.items) l.yielded) ≡ Ok more) × Keeps observers (changes ++ more) l.state;
+      → (more : List Writes) × (changes_of (map (λ v. v.items) l.yielded) ≡ Ok more) × Keeps observers (changes ++ more) l.state × (l.count ≡ reported_count (length more));
 }

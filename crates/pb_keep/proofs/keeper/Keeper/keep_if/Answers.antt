@@ -1,19 +1,7 @@
-use Rattle.std.proofs.Common.{◌++◌, ap, sym, ◌∙◌}
-use Rattle.pb_keep.specs.Waits.{changes_in}
-use Rattle.std.proofs.lemmas.List.{append-nil}
-use Rattle.pb_keep.proofs.Added.{none_waits}
+use Rattle.pb_keep.proofs.Serving.{leaves_served}
 use Rattle.pb_keep.proofs.keeper.Keeper.keep_if.Goals as goal
 
-pub returns-in_ok-keep-clause-waiting : goal.returns-in_ok-keep-clause-waiting
-returns-in_ok-keep-clause-waiting g c = none_waits c.keep.new.self.waiting c.in_ok-keep.ensures.idle
-
-pub returns-in_ok-keep-clause-serves : goal.returns-in_ok-keep-clause-serves
-returns-in_ok-keep-clause-serves g c = λ manifest observers sent s.
-    let all = s.made ++ changes_in c.args.self.now.waiting.items.items in
-    let k = c.in_ok-keep.ensures.kept manifest observers s.made s.log s.keeps in
-    record {
-      made = all;
-      log = k.0;
-      keeps = k.1;
-      waits = s.waits ∙ sym (append-nil all) ∙ ap (λ items. all ++ changes_in items) (sym c.in_ok-keep.ensures.idle.items);
-    }
+pub returns-else-is_asked-clause-crash : goal.returns-else-is_asked-clause-crash
+returns-else-is_asked-clause-crash g c = λ b lines s file m.
+    let old = c.args.self.now in
+    leaves_served b lines (g.D.Disk.seen old.log.disk) (g.D.Disk.may_leave old.log.disk) old.log.end old.state old.waiting (g.S.Sink.taken c.args.out.now) s file m

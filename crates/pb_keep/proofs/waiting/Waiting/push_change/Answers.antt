@@ -18,11 +18,6 @@ returns-clause-waiting c =
       script = grind (arith, append_assoc, one_line_more, w.script, c.in_ok-push_str.ensures.bytes, c.in_ok-push_str-2.ensures.bytes);
       read = subst (λ bs. AreScriptLines (w.lines ++ line ∷ []) bs) (sym are) (line_is_added w.lines (changes_in old) line c.args.batch w.read c.requires.line);
       count = rw (are, length_push (changes_in old) c.args.batch, w.count) refl;
-      few = omega (arith, c.requires.room.one_more);
-      bytes = grind (arith, c.requires.room.more, c.in_ok-push_str.ensures.bytes, c.in_ok-push_str-2.ensures.bytes);
+      few = grind (arith, c.requires.room);
+      bytes = grind (arith, c.requires.room, c.in_ok-push_str.ensures.bytes, c.in_ok-push_str-2.ensures.bytes);
     }
-
-pub returns-clause-changes : goal.returns-clause-changes
-returns-clause-changes c =
-    let old = c.args.self.now.items.items in
-    ap changes_in c.in_ok-push.ensures.items ∙ changes_of_both old (Waits.Change c.args.batch ∷ [])

@@ -4,11 +4,6 @@ use Rattle.std.proofs.lemmas.List.{append-nil}
 use Rattle.pb_keep.proofs.Added.{changes_of_both}
 use Rattle.pb_keep.proofs.waiting.Waiting.push_other.Goals as goal
 
-pub returns-clause-changes : goal.returns-clause-changes
-returns-clause-changes c =
-    let old = c.args.self.now.items.items in
-    ap changes_in c.in_ok-push.ensures.items ∙ changes_of_both old (c.args.item ∷ []) ∙ ap (λ l. changes_in old ++ l) c.requires.other ∙ append-nil (changes_in old)
-
 pub returns-clause-waiting : goal.returns-clause-waiting
 returns-clause-waiting c =
     let w = c.requires.waiting in

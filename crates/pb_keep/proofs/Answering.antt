@@ -1,0 +1,72 @@
+-- Lines that waited are answered.
+use Rattle.std.proofs.Common.{◌≡◌, ℕ, List, [], ◌∷◌, ◌++◌, length, refl, ap, sym, subst, ◌∙◌}
+use Rattle.pb_keep.specs.Words.{StateOf, Writes}
+use Rattle.pb_keep.specs.declared.waiting.Waits.{Waits}
+use Rattle.pb_keep.specs.Waits.{changes_in, none, one_more, AreAnswers, Group, group_after, IsAnswer}
+use Rattle.pb_keep.specs.Held.{IsHeld}
+use Rattle.pb_keep.specs.Conversations.{one_answered, AreAnswered, none_held, one_held, AreHeld}
+use Rattle.std.proofs.lemmas.List.{append_assoc, append-nil}
+use Rattle.pb_keep.proofs.Added.{changes_of_both}
+use Rattle.pb_keep.proofs.Lasts.{last_is_some, one_last}
+
+-- no line is answered by nothing
+pub none_answered : (items : List Waits) (old new : StateOf) (text : List ℕ) → AreAnswers items old new text → items ≡ [] → (new ≡ old) × (text ≡ [])
+none_answered items old new text (none state) e = (refl, refl)
+none_answered items old new text (one_more is item o b n t more a last) e = absurd (last_is_some is item e)
+
+-- the last line, and those before it
+record LastAnswer (items : List Waits) (item : Waits) (old new : StateOf) (text : List ℕ) : Type 0 where
+  between : StateOf
+  before : List ℕ
+  after : List ℕ
+  front : AreAnswers items old between before
+  last : IsAnswer item between new after
+  text_is : text ≡ before ++ after
+
+last_answer : (all : List Waits) (old new : StateOf) (text : List ℕ) → AreAnswers all old new text → (items : List Waits) (item : Waits) → all ≡ items ++ item ∷ [] → LastAnswer items item old new text
+last_answer all old new text (none state) items item e = absurd (last_is_some items item (sym e))
+last_answer all old new text (one_more is i o b n t more a last) items item e =
+    let same = one_last is items i item e in
+    record {
+      between = b;
+      before = t;
+      after = more;
+      front = subst (λ l. AreAnswers l o b t) same.0 a;
+      last = subst (λ w. IsAnswer w b n more) same.1 last;
+      text_is = refl;
+    }
+
+-- lines that wait, and none waits
+pub none_waited : (state : StateOf) (lines : List (List ℕ)) (items : List Waits) (group : Group) → AreHeld state lines items group → items ≡ [] → lines ≡ []
+none_waited state lines items group none_held e = refl
+none_waited state lines items group (one_held ls l is i g h any) e = absurd (last_is_some is i e)
+
+same_answered : (start now : StateOf) (group : Group) (lines lines2 : List (List ℕ)) (made made2 : List Writes) (text text2 : List ℕ) → lines ≡ lines2 → made ≡ made2 → text ≡ text2 → AreAnswered start lines made group now text → AreAnswered start lines2 made2 group now text2
+same_answered start now group lines lines2 made made2 text text2 e f g a =
+    subst (λ t. AreAnswered start lines2 made2 group now t) g (subst (λ m. AreAnswered start lines2 m group now text) f (subst (λ l. AreAnswered start l made group now text) e a))
+
+module _ (start old : StateOf) (answered : List (List ℕ)) (made : List Writes) (text : List ℕ) (told : AreAnswered start answered made Group.alone old text) where
+  one_held_answered : (lines : List (List ℕ)) (line : List ℕ) (items : List Waits) (item : Waits) (group : Group) (new : StateOf) (more : List ℕ)
+      → ((between : StateOf) (before : List ℕ) → AreAnswers items old between before → AreAnswered start (answered ++ lines) (made ++ changes_in items) group between (text ++ before))
+      → ((s : StateOf) → (items ≡ [] → s ≡ old) → IsHeld group s line item) → LastAnswer items item old new more
+      → AreAnswered start (answered ++ (lines ++ line ∷ [])) (made ++ changes_in (items ++ item ∷ [])) (group_after group (length line) item) new (text ++ more)
+  one_held_answered lines line items item group new more first any l =
+      let held = any l.between (λ none_before. (none_answered items old l.between l.before l.front none_before).0) in
+      same_answered start new (group_after group (length line) item)
+      ((answered ++ lines) ++ line ∷ []) (answered ++ (lines ++ line ∷ []))
+      ((made ++ changes_in items) ++ changes_in (item ∷ [])) (made ++ changes_in (items ++ item ∷ []))
+      ((text ++ l.before) ++ l.after) (text ++ more)
+      (append_assoc answered lines (line ∷ []))
+      (append_assoc made (changes_in items) (changes_in (item ∷ [])) ∙ ap (λ m. made ++ m) (sym (changes_of_both items (item ∷ []))))
+      (append_assoc text l.before l.after ∙ ap (λ t. text ++ t) (sym l.text_is))
+      (one_answered (answered ++ lines) line (made ++ changes_in items) group item l.between new (text ++ l.before) l.after (first l.between l.before l.front) held l.last)
+
+  -- lines that wait behind lines that are answered, and now are answered too
+  pub held_answered : (pending : List (List ℕ)) (items : List Waits) (group : Group) (new : StateOf) (more : List ℕ) → AreHeld old pending items group → AreAnswers items old new more
+      → AreAnswered start (answered ++ pending) (made ++ changes_in items) group new (text ++ more)
+  held_answered pending items group new more none_held a =
+      let e = none_answered [] old new more a refl in
+      subst (λ s. AreAnswered start (answered ++ []) (made ++ []) Group.alone s (text ++ more)) (sym e.0)
+      (same_answered start old Group.alone answered (answered ++ []) made (made ++ []) text (text ++ more) (sym (append-nil answered)) (sym (append-nil made)) (sym (append-nil text) ∙ ap (λ t. text ++ t) (sym e.1)) told)
+  held_answered pending items group new more (one_held ls l is i g h any) a =
+      one_held_answered ls l is i g new more (λ between before b. held_answered ls is g between before h b) any (last_answer (is ++ i ∷ []) old new more a is i refl)

@@ -1,0 +1,66 @@
+-- What a fault leaves.
+use Rattle.std.proofs.Common.{◌≡◌, ℕ, List, [], ◌++◌, Option, sym, ap, subst, ◌∙◌}
+use Rattle.pb_keep.specs.Words.{AppendsPart, StateOf, Writes}
+use Rattle.pb_keep.specs.declared.fault.KeepFault.{KeepFault}
+use Rattle.pb_keep.specs.declared.waiting.Waits.{Waits}
+use Rattle.pb_keep.specs.Kept.{IsLogOf}
+use Rattle.pb_keep.specs.Waits.{changes_in, AreAnswers, AreSomeAnswers}
+use Rattle.pb_keep.specs.Left.{IsLeftBy, IsLeftInLog, IsLeftMade, IsOfLog, IsOfMaking}
+use Rattle.std.proofs.lemmas.List.{append-nil}
+use Rattle.pb_keep.proofs.Putting.{rest_has_changes}
+
+module _ (manifest : List ℕ) (changes : List Writes) (items : List Waits) (old new : StateOf) (was_written written : Option (List ℕ)) (may_leave : List ℕ → Type 0) where
+  pub left_in_log : (e : KeepFault) → IsOfLog e → IsLeftInLog manifest changes items old new was_written written may_leave → IsLeftBy manifest changes items old new was_written written may_leave e
+  left_in_log (KeepFault.Log e) of l = l
+  left_in_log (KeepFault.NoMemory e) of l = absurd of
+  left_in_log KeepFault.Record of l = absurd of
+  left_in_log KeepFault.Stopped of l = absurd of
+  left_in_log KeepFault.Output of l = absurd of
+  left_in_log KeepFault.Input of l = absurd of
+
+  pub left_in_making : (e : KeepFault) → IsOfMaking e → IsLeftMade manifest changes items old was_written written may_leave → IsLeftBy manifest changes items old new was_written written may_leave e
+  left_in_making (KeepFault.Log e) of l = absurd of
+  left_in_making (KeepFault.NoMemory e) of l = l
+  left_in_making KeepFault.Record of l = absurd of
+  left_in_making KeepFault.Stopped of l = l
+  left_in_making KeepFault.Output of l = absurd of
+  left_in_making KeepFault.Input of l = absurd of
+
+  pub left_in_writing : (e : KeepFault) → e ≡ KeepFault.Output → IsLeftMade manifest changes items old was_written written may_leave → IsLeftBy manifest changes items old new was_written written may_leave e
+  left_in_writing e is l = subst (λ f. IsLeftBy manifest changes items old new was_written written may_leave f) (sym is) l
+
+  pub left_made : (seen : List ℕ) (end : ℕ) (text : List ℕ) → IsLogOf manifest (changes ++ changes_in items) seen may_leave end → AreSomeAnswers items old [] text → AppendsPart was_written written text
+      → IsLeftMade manifest changes items old was_written written may_leave
+  left_made seen end text log answers part = record {
+    crash = rest_has_changes manifest (changes ++ changes_in items) seen may_leave end log;
+    text = text;
+    answers = answers;
+    is_written = part;
+  }
+
+-- a fault of the log is none of making, nor of writing
+pub no_log_in_making : (e : KeepFault) → IsOfMaking e → IsOfLog e → ⊥
+no_log_in_making (KeepFault.Log e) m l = absurd m
+no_log_in_making (KeepFault.NoMemory e) m l = absurd l
+no_log_in_making KeepFault.Record m l = absurd l
+no_log_in_making KeepFault.Stopped m l = absurd l
+no_log_in_making KeepFault.Output m l = absurd l
+no_log_in_making KeepFault.Input m l = absurd l
+
+pub no_log_in_writing : (e : KeepFault) → e ≡ KeepFault.Output → IsOfLog e → ⊥
+no_log_in_writing e is l = subst IsOfLog is l
+
+-- all answers are some of them
+pub all_are_some : (items : List Waits) (old new : StateOf) (before after more : List ℕ) → before ≡ [] → after ≡ before ++ more → AreAnswers items old new more → AreSomeAnswers items old [] after
+all_are_some items old new before after more none e a = record {
+  front = items;
+  rest = [];
+  parts = sym (append-nil items);
+  now = new;
+  text = more;
+  answers = a;
+  added = e ∙ ap (λ l. l ++ more) none;
+}
+
+pub some_are_some : (items : List Waits) (old : StateOf) (before after : List ℕ) → before ≡ [] → AreSomeAnswers items old before after → AreSomeAnswers items old [] after
+some_are_some items old before after none a = subst (λ l. AreSomeAnswers items old l after) none a

@@ -1,0 +1,66 @@
+-- What was answered to lines, and what a log and a table have of them: the lines as they came, one after the other.
+use Rattle.std.specs.Prelude.{◌≡◌, ◌⊎◌, ℕ, List, [], ◌∷◌, ◌++◌, length, Option}
+use Rattle.std.specs.Io.KnownBytes.{Appends}
+use Rattle.pb_keep.specs.Words.{AppendsPart, Keeps, ObserverOf, StateOf, Writes}
+use Rattle.pb_keep.specs.declared.waiting.Waits.{Waits}
+use Rattle.pb_keep.specs.declared.waiting.Waiting.{Waiting}
+use Rattle.pb_keep.specs.Kept.{HasChanges, IsLogOf}
+use Rattle.pb_keep.specs.Waits.{changes_in, AreSomeAnswers, Group, group_after, group_of, IsAnswer}
+use Rattle.pb_keep.specs.Held.{IsAsked, IsHeld}
+
+-- Lines are answered one after the other, from this state on: these changes were made, and this text is the answers. The group is
+-- that in which the next line stands.
+pub data AreAnswered (start : StateOf) : List (List ℕ) → List Writes → Group → StateOf → List ℕ → Type 0 where
+  none_yet : AreAnswered start [] [] Group.alone start []
+  one_answered : (lines : List (List ℕ)) (line : List ℕ) (made : List Writes) (group : Group) (item : Waits) (between new : StateOf) (text more : List ℕ) → AreAnswered start lines made group between text → IsHeld group between line item → IsAnswer item between new more
+      → AreAnswered start (lines ++ line ∷ []) (made ++ changes_in (item ∷ [])) (group_after group (length line) item) new (text ++ more)
+  one_asked : (lines : List (List ℕ)) (line : List ℕ) (made : List Writes) (state : StateOf) (text more : List ℕ) → AreAnswered start lines made Group.alone state text → IsAsked state line more → AreAnswered start (lines ++ line ∷ []) made Group.alone state (text ++ more)
+
+-- Lines wait as these, from this state on. Only the first may depend on the state: the others wait so in each.
+pub data AreHeld (state : StateOf) : List (List ℕ) → List Waits → Group → Type 0 where
+  none_held : AreHeld state [] [] Group.alone
+  one_held : (lines : List (List ℕ)) (line : List ℕ) (items : List Waits) (item : Waits) (group : Group) → AreHeld state lines items group → ((s : StateOf) → (items ≡ [] → s ≡ state) → IsHeld group s line item) → AreHeld state (lines ++ line ∷ []) (items ++ item ∷ []) (group_after group (length line) item)
+
+-- where lines begin to be taken: a log of this manifest, with these changes, a table that keeps them, and what was written by then
+pub record Beginning : Type 0 where
+  pub manifest : List ℕ
+  pub observers : List ObserverOf
+  pub changes : List Writes
+  pub state : StateOf
+  pub written : Option (List ℕ)
+
+abbrev pub beginning : List ℕ → List ObserverOf → List Writes → StateOf → Option (List ℕ) → Beginning
+beginning manifest observers changes state written = record { manifest = manifest; observers = observers; changes = changes; state = state; written = written }
+
+-- Of these lines the first are answered, and the others wait: the log and the table have the changes of those that are answered, and
+-- nothing was written but the answers.
+pub record Serves (b : Beginning) (lines : List (List ℕ)) (seen : List ℕ) (may_leave : List ℕ → Type 0) (end : ℕ) (state : StateOf) (waiting : Waiting) (written : Option (List ℕ)) : Type 0 where
+  pub answered : List (List ℕ)
+  pub pending : List (List ℕ)
+  pub parts : lines ≡ answered ++ pending
+  pub made : List Writes
+  pub text : List ℕ
+  pub told : AreAnswered b.state answered made Group.alone state text
+  pub is_written : Appends b.written written text
+  pub log : IsLogOf b.manifest (b.changes ++ made) seen may_leave end
+  pub keeps : Keeps b.observers (b.changes ++ made) state
+  pub held : AreHeld state pending waiting.items.items (group_of waiting)
+
+-- A crash leaves the changes of the first of these lines, with all that are answered. Either it leaves those of the lines that were
+-- answered, and a beginning of these answers was written; or also those of the lines that waited, and some of their answers may
+-- have been written too.
+pub record LeavesFirst (b : Beginning) (lines : List (List ℕ)) (written : Option (List ℕ)) (file : List ℕ) : Type 0 where
+  pub answered : List (List ℕ)
+  pub pending : List (List ℕ)
+  pub rest : List (List ℕ)
+  pub parts : lines ≡ answered ++ (pending ++ rest)
+  pub made : List Writes
+  pub state : StateOf
+  pub text : List ℕ
+  pub told : AreAnswered b.state answered made Group.alone state text
+  pub items : List Waits
+  pub group : Group
+  pub held : AreHeld state pending items group
+  pub has : (HasChanges b.manifest (b.changes ++ made) file × AppendsPart b.written written text)
+      ⊎ (HasChanges b.manifest ((b.changes ++ made) ++ changes_in items) file
+      × ((more : List ℕ) × AreSomeAnswers items state [] more × AppendsPart b.written written (text ++ more)))

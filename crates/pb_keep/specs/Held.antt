@@ -1,0 +1,107 @@
+-- What a line asks for, and as what it waits for its answer.
+use Rattle.std.specs.Prelude.{◌≡◌, ℕ, ◌||◌, ◌==◌, Bool, if◌then◌else◌, List, ◌∷◌, length, Option, Some, None, Result, Ok, Err, IsUtf8}
+use Rattle.std.specs.List.{list_any}
+use Rattle.pb_keep.specs.Words.{Writes, Cell, Condition, IsListAnswer, IsSeenIn, IsValueAnswer, IsWritesAnswer, Newest, Request, ScriptCode, StateOf, Ts, asked_by, batch_of, cut, is_skipped, last_line, lock_count, script_code}
+use Rattle.std.specs.FinMap as map
+use Rattle.pb_keep.specs.declared.take.TheConstants.{OUT_OF_PLACE}
+use Rattle.pb_keep.specs.declared.waiting.Waits.{Waits}
+use Rattle.pb_keep.specs.Waits.{Group, has_line_room}
+
+-- what a line is read as; one that isn't UTF-8 is of no form
+pub record IsReadAs (line : List ℕ) (read : Result Request ScriptCode) : Type 0 where
+  pub text : IsUtf8 line → asked_by line ≡ read
+  pub bytes : (IsUtf8 line → ⊥) → read ≡ Err ScriptCode.Form
+
+-- The change that these operations are. A record has them as a line, which is neither empty nor a remark, and has no newline.
+abbrev pub change_in : List ℕ → Result Writes ScriptCode
+change_in operations = if is_skipped operations || list_any (λ b. b == 10) operations then Err ScriptCode.Form else batch_of operations
+
+-- a change waits, or its refusal
+abbrev pub waits_for : Result Writes ScriptCode → Waits
+waits_for (Ok batch) = Waits.Change batch
+waits_for (Err code) = Waits.Refused (script_code code)
+
+-- ---- outside of a group
+
+-- the commit of a cell's newest write, 0 where it has none
+abbrev pub commit_of : Option Newest → Ts
+commit_of None = record { 0 = 0 }
+commit_of (Some newest) = newest.commit
+
+-- a change waits only where the newest write has the commit that is wanted
+abbrev pub if_commit : Ts → Ts → Waits → Waits
+if_commit wanted newest (Waits.Change batch) = if newest.0 == wanted.0 then Waits.Change batch else Waits.Unmade newest
+if_commit wanted newest item = item
+
+-- operations on a condition, which is looked at in this state
+pub record IsHeldIf (state : StateOf) (condition : Condition) (operations : List ℕ) (item : Waits) : Type 0 where
+  pub newest : Option Newest
+  pub seen : IsSeenIn state.entries state.clock (Cell.Data condition.row condition.column) newest
+  pub is : item ≡ if_commit condition.commit (commit_of newest) (waits_for (change_in operations))
+
+-- a line with a condition: its operations stand after the first joint
+pub record IsLineHeldIf (state : StateOf) (condition : Condition) (line : List ℕ) (item : Waits) : Type 0 where
+  pub first : List ℕ
+  pub operations : List ℕ
+  pub parts : cut line ≡ first ∷ cut operations
+  pub held : IsHeldIf state condition operations item
+
+-- as what a line waits; no question waits
+abbrev pub IsHeldAlone : StateOf → List ℕ → Request → Waits → Type 0
+IsHeldAlone state line Request.Change item = item ≡ waits_for (change_in line)
+IsHeldAlone state line (Request.ChangeIf condition) item = IsLineHeldIf state condition line item
+IsHeldAlone state line Request.Begin item = item ≡ Waits.Begun
+IsHeldAlone state line Request.End item = item ≡ Waits.Refused OUT_OF_PLACE
+IsHeldAlone state line (Request.Get row column) item = ⊥
+IsHeldAlone state line (Request.Since above) item = ⊥
+IsHeldAlone state line Request.List item = ⊥
+IsHeldAlone state line Request.IsQuiet item = ⊥
+
+-- ---- in a group
+
+-- a change waits only where the group's record has room for it
+abbrev pub if_room : Bool → Waits → Waits
+if_room has_room (Waits.Change batch) = if has_room then Waits.Change batch else Waits.Refused (script_code ScriptCode.TooMany)
+if_room has_room item = item
+
+-- as what a line waits in a group, whose record has so many changes and bytes
+abbrev pub waits_within : ℕ → ℕ → List ℕ → Request → Waits
+waits_within changes bytes line Request.Change = if_room (has_line_room changes bytes (length line)) (waits_for (change_in line))
+waits_within changes bytes line Request.End = Waits.Ended
+waits_within changes bytes line (Request.ChangeIf condition) = Waits.Refused OUT_OF_PLACE
+waits_within changes bytes line Request.Begin = Waits.Refused OUT_OF_PLACE
+waits_within changes bytes line (Request.Get row column) = Waits.Refused OUT_OF_PLACE
+waits_within changes bytes line (Request.Since above) = Waits.Refused OUT_OF_PLACE
+waits_within changes bytes line Request.List = Waits.Refused OUT_OF_PLACE
+waits_within changes bytes line Request.IsQuiet = Waits.Refused OUT_OF_PLACE
+
+-- ---- lines
+
+-- as what a line waits that is read so; a condition is looked at in this state
+abbrev pub IsHeldAs : Group → StateOf → List ℕ → Result Request ScriptCode → Waits → Type 0
+IsHeldAs group state line (Err code) item = item ≡ Waits.Refused (script_code code)
+IsHeldAs Group.alone state line (Ok request) item = IsHeldAlone state line request item
+IsHeldAs (Group.within changes bytes) state line (Ok request) item = item ≡ waits_within changes bytes line request
+
+-- as what a line waits
+pub record IsHeld (group : Group) (state : StateOf) (line : List ℕ) (item : Waits) : Type 0 where
+  pub read : Result Request ScriptCode
+  pub reads : IsReadAs line read
+  pub held : IsHeldAs group state line read item
+
+-- the answer to a question
+abbrev pub IsAnswerTo : Request → StateOf → List ℕ → Type 0
+IsAnswerTo (Request.Get row column) state text = IsValueAnswer state (Cell.Data row column) text
+IsAnswerTo (Request.Since above) state text = IsWritesAnswer state above.0 text
+IsAnswerTo Request.List state text = IsListAnswer state text
+IsAnswerTo Request.IsQuiet state text = text ≡ last_line (map.len state.marks) (lock_count state.entries)
+IsAnswerTo Request.Change state text = ⊥
+IsAnswerTo (Request.ChangeIf condition) state text = ⊥
+IsAnswerTo Request.Begin state text = ⊥
+IsAnswerTo Request.End state text = ⊥
+
+-- a line is a question, and this its answer
+pub record IsAsked (state : StateOf) (line text : List ℕ) : Type 0 where
+  pub request : Request
+  pub reads : IsReadAs line (Ok request)
+  pub answer : IsAnswerTo request state text

@@ -1,0 +1,50 @@
+-- A line that is taken: what has to be kept before it, and what is done with it.
+use Rattle.std.specs.Prelude.{◌≡◌, ◌⊎◌, ℕ, Bool, true, false, List, [], ◌∷◌, ◌++◌, length, string_bytes, Option, Result, Ok, Err}
+use Rattle.pb_keep.specs.Words.{AppendsPart, Request, ScriptCode, StateOf}
+use Rattle.pb_keep.specs.declared.waiting.Waits.{Waits}
+use Rattle.pb_keep.specs.declared.waiting.Waiting.{Waiting}
+use Rattle.pb_keep.specs.Waits.{group_after, group_of, has_line_room, IsNoLine}
+use Rattle.pb_keep.specs.Held.{IsAnswerTo, IsHeldAs}
+
+-- a line that is answered at once, by what the table has
+abbrev pub is_question : Request → Bool
+is_question (Request.Get row column) = true
+is_question (Request.Since above) = true
+is_question Request.List = true
+is_question Request.IsQuiet = true
+is_question Request.Change = false
+is_question (Request.ChangeIf condition) = false
+is_question Request.Begin = false
+is_question Request.End = false
+
+-- The record has room for a change of so many bytes. All that speaks of the table, or begins a record, finds nothing that waits.
+abbrev pub IsReadyFor : Waiting → ℕ → Request → Type 0
+IsReadyFor waiting line Request.Change = has_line_room waiting.changes (length (string_bytes waiting.script)) line ≡ true
+IsReadyFor waiting line Request.End = Unit {0}
+IsReadyFor waiting line (Request.ChangeIf condition) = IsNoLine waiting
+IsReadyFor waiting line Request.Begin = IsNoLine waiting
+IsReadyFor waiting line (Request.Get row column) = IsNoLine waiting
+IsReadyFor waiting line (Request.Since above) = IsNoLine waiting
+IsReadyFor waiting line Request.List = IsNoLine waiting
+IsReadyFor waiting line Request.IsQuiet = IsNoLine waiting
+
+-- what waits was kept, where that has to be so before a line of so many bytes is taken, which is read so
+abbrev pub IsReady : Waiting → ℕ → Result Request ScriptCode → Type 0
+IsReady waiting line (Err code) = Unit {0}
+IsReady waiting line (Ok request) = waiting.is_group ≡ false → IsReadyFor waiting line request
+
+-- a line waits: it is refused, stands in a group, or is no question
+abbrev pub IsToWait : Waiting → Result Request ScriptCode → Type 0
+IsToWait waiting (Err code) = Unit {0}
+IsToWait waiting (Ok request) = waiting.is_group ≡ false → is_question request ≡ false
+
+-- a line waits now, behind those that waited
+pub record WaitsNow (state : StateOf) (line : List ℕ) (read : Result Request ScriptCode) (old new : Waiting) : Type 0 where
+  pub item : Waits
+  pub items : new.items.items ≡ old.items.items ++ item ∷ []
+  pub group : group_of new ≡ group_after (group_of old) (length line) item
+  pub held : IsHeldAs (group_of old) state line read item
+
+-- nothing was written, or a beginning of the answer to a question
+abbrev pub MayHaveAnswered : Request → StateOf → Option (List ℕ) → Option (List ℕ) → Type 0
+MayHaveAnswered question state old new = (new ≡ old) ⊎ ((text : List ℕ) × IsAnswerTo question state text × AppendsPart old new text)
