@@ -18,14 +18,3 @@ line_is_added [] [] l b h k = (k, tt)
 line_is_added [] (c ∷ bs) l b h k = absurd h
 line_is_added (a ∷ ls) [] l b h k = absurd h
 line_is_added (a ∷ ls) (c ∷ bs) l b h k = (h.0, line_is_added ls bs l b h.1 k)
-
--- no line is a beginning
-pub none_waits : (w : Waiting) → IsNoLine w → IsWaiting w
-none_waits w h = record {
-  lines = [];
-  script = h.script;
-  read = subst (λ items. AreScriptLines [] (changes_in items)) (sym h.items) tt;
-  count = h.changes ∙ ap (λ items. length (changes_in items)) (sym h.items);
-  few = rw (h.changes) (omega arith);
-  bytes = rw (h.script) (omega arith);
-}

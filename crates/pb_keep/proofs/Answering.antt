@@ -3,7 +3,7 @@ use Rattle.std.proofs.Common.{◌≡◌, ℕ, List, [], ◌∷◌, ◌++◌, len
 use Rattle.pb_keep.specs.Words.{StateOf, Writes}
 use Rattle.pb_keep.specs.declared.waiting.Waits.{Waits}
 use Rattle.pb_keep.specs.Waits.{changes_in, none, one_more, AreAnswers, Group, group_after, IsAnswer}
-use Rattle.pb_keep.specs.Held.{IsHeld}
+use Rattle.pb_keep.specs.Held.{IsLineHeld}
 use Rattle.pb_keep.specs.Conversations.{one_answered, AreAnswered, none_held, one_held, AreHeld}
 use Rattle.std.proofs.lemmas.List.{append_assoc, append-nil}
 use Rattle.pb_keep.proofs.Added.{changes_of_both}
@@ -48,7 +48,7 @@ same_answered start now group lines lines2 made made2 text text2 e f g a =
 module _ (start old : StateOf) (answered : List (List ℕ)) (made : List Writes) (text : List ℕ) (told : AreAnswered start answered made Group.alone old text) where
   one_held_answered : (lines : List (List ℕ)) (line : List ℕ) (items : List Waits) (item : Waits) (group : Group) (new : StateOf) (more : List ℕ)
       → ((between : StateOf) (before : List ℕ) → AreAnswers items old between before → AreAnswered start (answered ++ lines) (made ++ changes_in items) group between (text ++ before))
-      → ((s : StateOf) → (items ≡ [] → s ≡ old) → IsHeld group s line item) → LastAnswer items item old new more
+      → ((s : StateOf) → (items ≡ [] → s ≡ old) → IsLineHeld group s line item) → LastAnswer items item old new more
       → AreAnswered start (answered ++ (lines ++ line ∷ [])) (made ++ changes_in (items ++ item ∷ [])) (group_after group (length line) item) new (text ++ more)
   one_held_answered lines line items item group new more first any l =
       let held = any l.between (λ none_before. (none_answered items old l.between l.before l.front none_before).0) in
@@ -61,7 +61,7 @@ module _ (start old : StateOf) (answered : List (List ℕ)) (made : List Writes)
       (append_assoc text l.before l.after ∙ ap (λ t. text ++ t) (sym l.text_is))
       (one_answered (answered ++ lines) line (made ++ changes_in items) group item l.between new (text ++ l.before) l.after (first l.between l.before l.front) held l.last)
 
-  -- lines that wait behind lines that are answered, and now are answered too
+  -- lines that wait after lines that are answered, and now are answered too
   pub held_answered : (pending : List (List ℕ)) (items : List Waits) (group : Group) (new : StateOf) (more : List ℕ) → AreHeld old pending items group → AreAnswers items old new more
       → AreAnswered start (answered ++ pending) (made ++ changes_in items) group new (text ++ more)
   held_answered pending items group new more none_held a =

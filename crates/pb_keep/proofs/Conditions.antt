@@ -1,11 +1,10 @@
 -- What is known of a line that is read, and of one with a condition.
 use Rattle.std.proofs.Common.{arith, ◌≡◌, ℕ, ◌+◌, ◌<◌, ◌≤◌, Bool, true, false, ◌&&◌, ◌==◌, if◌then◌else◌, List, [], ◌∷◌, length, Option, None, Some, Ok, Bor, sym, ap, ◌∙◌}
 use Rattle.std.specs.List.{onto_first}
-use Rattle.pb_parse.specs.ScriptLines.{cut, operations_left}
+use Rattle.pb_parse.specs.ScriptLines.{operations_left}
 use Rattle.pb_requests.specs.declared.parse.TheConstants.{MAX_LINE}
-use Rattle.pb_requests.specs.declared.request.Condition.{Condition}
-use Rattle.pb_requests.specs.declared.request.Request.{Request}
-use Rattle.pb_requests.specs.Requests.{alone_in, asked_by, conditional, get_of, question_of, request_by, since_of}
+use Rattle.pb_requests.specs.Requests.{alone_in, conditional, get_of, question_of, request_by, since_of}
+use Rattle.pb_keep.specs.Words.{cut, Condition, Request, asked_by}
 
 -- ---- a line that is read has few bytes
 

@@ -3,15 +3,14 @@ use Rattle.std.proofs.Common.{◌≡◌, ℕ, ◌≤◌, Bool, true, false, ◌|
 use Rattle.std.specs.Prelude.{string_bytes}
 use Rattle.std.specs.List.{list_any}
 use Rattle.pb_requests.specs.declared.parse.TheConstants.{MAX_LINE}
-use Rattle.pb_keep.specs.Words.{Condition, Request, ScriptCode, StateOf, Ts, Writes, batch_of, is_skipped}
+use Rattle.pb_keep.specs.Words.{Condition, Request, ScriptCode, StateOf, Ts, Writes, batch_of, is_skipped, asked_by}
 use Rattle.pb_keep.specs.declared.waiting.Waits.{Waits}
 use Rattle.pb_keep.specs.declared.waiting.Waiting.{Waiting}
 use Rattle.pb_keep.specs.Waits.{has_line_room, FitsIn, Group, group_after, group_of, grouped, IsNoLine}
-use Rattle.pb_keep.specs.Held.{change_in, commit_of, if_commit, if_room, waits_for, waits_within, IsHeldAlone, IsHeldAs, IsHeldIf}
-use Rattle.pb_keep.specs.Taken.{IsReady}
-use Rattle.pb_requests.specs.Requests.{asked_by}
+use Rattle.pb_keep.specs.Held.{change_as_line, commit_seen, if_commit, if_room, waits_for, waits_within, IsHeldAlone, IsHeldAs, IsHeldIf}
+use Rattle.pb_keep.specs.Taken.{IsLineReady}
 use Rattle.pb_keep.proofs.Conditions.{few_bytes}
-use Rattle.pb_keep.proofs.Scripts.{neither}
+use Rattle.pb_keep.proofs.Scripts.{neither_holds}
 
 -- ---- what waits has room
 
@@ -20,11 +19,11 @@ change_fits : (w : Waiting) (l : List ℕ) (b : Bool) (r : Result Writes ScriptC
 change_fits w l true r e f room = tt
 change_fits w l false (Err code) e f room = tt
 change_fits w l false (Ok batch) e f room =
-    let two = neither (is_skipped l) (list_any (λ x. x == 10) l) e in
+    let two = neither_holds (is_skipped l) (list_any (λ x. x == 10) l) e in
     (room, record { read = f; shown = two.0; whole = two.1 })
 
-pub fits : (w : Waiting) (l : List ℕ) → has_line_room w.changes (length (string_bytes w.script)) (length l) ≡ true → FitsIn w l (waits_for (change_in l))
-fits w l room = change_fits w l (is_skipped l || list_any (λ x. x == 10) l) (batch_of l) refl refl room
+pub fits_alone : (w : Waiting) (l : List ℕ) → has_line_room w.changes (length (string_bytes w.script)) (length l) ≡ true → FitsIn w l (waits_for (change_as_line l))
+fits_alone w l room = change_fits w l (is_skipped l || list_any (λ x. x == 10) l) (batch_of l) refl refl room
 
 room_fits : (w : Waiting) (l : List ℕ) (b : Bool) (item : Waits) → has_line_room w.changes (length (string_bytes w.script)) (length l) ≡ b
     → (b ≡ true → FitsIn w l item) → (item ≡ Waits.Begun → ⊥) → FitsIn w l (if_room b item)
@@ -41,7 +40,7 @@ not_begun (Err code) e = absurd cc
 
 pub fits_within : (w : Waiting) (l : List ℕ) (request : Request) → FitsIn w l (waits_within w.changes (length (string_bytes w.script)) l request)
 fits_within w l Request.Change =
-    room_fits w l (has_line_room w.changes (length (string_bytes w.script)) (length l)) (waits_for (change_in l)) refl (fits w l) (not_begun (change_in l))
+    room_fits w l (has_line_room w.changes (length (string_bytes w.script)) (length l)) (waits_for (change_as_line l)) refl (fits_alone w l) (not_begun (change_as_line l))
 fits_within w l Request.End = tt
 fits_within w l (Request.ChangeIf condition) = tt
 fits_within w l Request.Begin = tt
@@ -70,30 +69,11 @@ commit_fits w l wanted newest Waits.Ended other f = tt
 pub fits_if : (w : Waiting) (state : StateOf) (condition : Condition) (operations : List ℕ) (item : Waits) → IsNoLine w → length operations ≤ MAX_LINE → IsHeldIf state condition operations item → FitsIn w operations item
 fits_if w state condition operations item none few h =
     subst (λ i. FitsIn w operations i) (sym h.is)
-    (commit_fits w operations condition.commit (commit_of h.newest) (waits_for (change_in operations)) (not_begun (change_in operations)) (fits w operations (room_for_one w (length operations) none few)))
-
--- ---- groups
-
--- outside of a group the length of a line doesn't count
-alone_after : (n m : ℕ) (item : Waits) → group_after Group.alone n item ≡ group_after Group.alone m item
-alone_after n m (Waits.Change batch) = refl
-alone_after n m (Waits.Unmade newest) = refl
-alone_after n m (Waits.Refused code) = refl
-alone_after n m Waits.Begun = refl
-alone_after n m Waits.Ended = refl
-
-pub group_alone : (w : Waiting) (n m : ℕ) (item : Waits) → w.is_group ≡ false → group_after (group_of w) n item ≡ group_after (group_of w) m item
-group_alone w n m item e = subst (λ b. group_after (grouped b w.changes (length (string_bytes w.script))) n item ≡ group_after (grouped b w.changes (length (string_bytes w.script))) m item) (sym e) (alone_after n m item)
-
-pub held_alone : (w : Waiting) (state : StateOf) (line : List ℕ) (request : Request) (item : Waits) → w.is_group ≡ false → IsHeldAlone state line request item → IsHeldAs (group_of w) state line (Ok request) item
-held_alone w state line request item e h = subst (λ b. IsHeldAs (grouped b w.changes (length (string_bytes w.script))) state line (Ok request) item) (sym e) h
-
-pub held_within : (w : Waiting) (state : StateOf) (line : List ℕ) (request : Request) (item : Waits) → w.is_group ≡ true → item ≡ waits_within w.changes (length (string_bytes w.script)) line request → IsHeldAs (group_of w) state line (Ok request) item
-held_within w state line request item e h = subst (λ b. IsHeldAs (grouped b w.changes (length (string_bytes w.script))) state line (Ok request) item) (sym e) h
+    (commit_fits w operations condition.commit (commit_seen h.newest) (waits_for (change_as_line operations)) (not_begun (change_as_line operations)) (fits_alone w operations (room_for_one w (length operations) none few)))
 
 -- ---- before a line
 
-ready_idle : (w : Waiting) (line : List ℕ) (read : Result Request ScriptCode) → IsNoLine w → asked_by line ≡ read → IsReady w (length line) read
+ready_idle : (w : Waiting) (line : List ℕ) (read : Result Request ScriptCode) → IsNoLine w → asked_by line ≡ read → IsLineReady w (length line) read
 ready_idle w line (Err code) none e = tt
 ready_idle w line (Ok Request.Change) none e = λ a. room_for_one w (length line) none (few_bytes line Request.Change e)
 ready_idle w line (Ok Request.End) none e = λ a. tt
@@ -105,7 +85,7 @@ ready_idle w line (Ok Request.List) none e = λ a. none
 ready_idle w line (Ok Request.IsQuiet) none e = λ a. none
 
 -- what waits was kept, or need not be
-pub ready_now : (before : Bool) (old now : Waiting) (line : List ℕ) (read : Result Request ScriptCode) → (before ≡ false → IsReady old (length line) read) → (before ≡ false → now ≡ old) → (before ≡ true → IsNoLine now) → asked_by line ≡ read
-    → IsReady now (length line) read
+pub ready_now : (before : Bool) (old now : Waiting) (line : List ℕ) (read : Result Request ScriptCode) → (before ≡ false → IsLineReady old (length line) read) → (before ≡ false → now ≡ old) → (before ≡ true → IsNoLine now) → asked_by line ≡ read
+    → IsLineReady now (length line) read
 ready_now true old now line read ready same kept e = ready_idle now line read (kept refl) e
-ready_now false old now line read ready same kept e = subst (λ w. IsReady w (length line) read) (sym (same refl)) (ready refl)
+ready_now false old now line read ready same kept e = subst (λ w. IsLineReady w (length line) read) (sym (same refl)) (ready refl)

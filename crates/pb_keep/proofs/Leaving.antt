@@ -38,18 +38,6 @@ module _ (manifest : List ℕ) (changes : List Writes) (items : List Waits) (old
     is_written = part;
   }
 
--- a fault of the log is none of making, nor of writing
-pub no_log_in_making : (e : KeepFault) → IsOfMaking e → IsOfLog e → ⊥
-no_log_in_making (KeepFault.Log e) m l = absurd m
-no_log_in_making (KeepFault.NoMemory e) m l = absurd l
-no_log_in_making KeepFault.Record m l = absurd l
-no_log_in_making KeepFault.Stopped m l = absurd l
-no_log_in_making KeepFault.Output m l = absurd l
-no_log_in_making KeepFault.Input m l = absurd l
-
-pub no_log_in_writing : (e : KeepFault) → e ≡ KeepFault.Output → IsOfLog e → ⊥
-no_log_in_writing e is l = subst IsOfLog is l
-
 -- all answers are some of them
 pub all_are_some : (items : List Waits) (old new : StateOf) (before after more : List ℕ) → before ≡ [] → after ≡ before ++ more → AreAnswers items old new more → AreSomeAnswers items old [] after
 all_are_some items old new before after more none e a = record {

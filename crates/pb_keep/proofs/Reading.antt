@@ -2,15 +2,14 @@
 use Rattle.std.proofs.Common.{arith, ◌≡◌, ℕ, ◌<◌, Bool, true, not, List, [], ◌∷◌, ◌++◌, length, Option, Result, Ok, Err, false, refl, ap, sym, subst, ◌∙◌}
 use Rattle.std.specs.Prelude.{IsUtf8}
 use Rattle.pb_reading.specs.Reading.{Gives}
-use Rattle.pb_requests.specs.Requests.{asked_by}
 use Rattle.pb_requests.specs.declared.parse.TheConstants.{MAX_LINE}
-use Rattle.pb_keep.specs.Words.{Request, ScriptCode, StateOf}
+use Rattle.pb_keep.specs.Words.{Request, ScriptCode, StateOf, asked_by}
 use Rattle.pb_keep.specs.declared.waiting.Waiting.{Waiting}
 use Rattle.pb_keep.specs.Conversations.{Beginning, LeavesFirst, Serves}
 use Rattle.pb_keep.specs.Held.{IsReadAs}
 use Rattle.pb_keep.specs.Waits.{IsNoLine}
-use Rattle.pb_keep.specs.Input.{none, one_more, AreRead, IsNextLine}
-use Rattle.pb_keep.specs.Served.{IsTurn, LeavesRead, ServesRead}
+use Rattle.pb_keep.specs.Input.{none, one_more, AreLinesRead, IsNextLine}
+use Rattle.pb_keep.specs.Served.{ServesNext, LeavesRead, ServesRead}
 use Rattle.std.proofs.lemmas.List.{append_assoc, append-nil}
 
 -- ---- as what lines are read
@@ -32,7 +31,7 @@ pub is_read : (r read : Result Request ScriptCode) → Gives (λ e. false) (λ x
 is_read (Ok x) read h = h
 is_read (Err e) read h = h
 
--- ---- lines behind lines
+-- ---- lines after lines
 
 pub leaves_line : (b : Beginning) (lines : List (List ℕ)) (line : List ℕ) (from to written : Option (List ℕ)) (file : List ℕ) → IsNextLine line from to → LeavesFirst b (lines ++ line ∷ []) written file → LeavesRead b lines from written file
 leaves_line b lines line from to written file next l = record { more = line ∷ []; to = to; read = one_more [] line from to none next; leaves = l }
@@ -41,12 +40,12 @@ pub leaves_none : (b : Beginning) (lines : List (List ℕ)) (from written : Opti
 leaves_none b lines from written file l = record { more = []; to = from; read = none; leaves = subst (λ z. LeavesFirst b z written file) (sym (append-nil lines)) l }
 
 -- what was read before, and what comes after
-read_both : (from between to : Option (List ℕ)) (front back : List (List ℕ)) → AreRead from front between → AreRead between back to → AreRead from (front ++ back) to
-read_both from between to front back f none = subst (λ z. AreRead from z between) (sym (append-nil front)) f
+read_both : (from between to : Option (List ℕ)) (front back : List (List ℕ)) → AreLinesRead from front between → AreLinesRead between back to → AreLinesRead from (front ++ back) to
+read_both from between to front back f none = subst (λ z. AreLinesRead from z between) (sym (append-nil front)) f
 read_both from between to front back f (one_more lines line m n a next) =
-    subst (λ z. AreRead from z to) (append_assoc front lines (line ∷ [])) (one_more (front ++ lines) line m to (read_both from between m front lines f a) next)
+    subst (λ z. AreLinesRead from z to) (append_assoc front lines (line ∷ [])) (one_more (front ++ lines) line m to (read_both from between m front lines f a) next)
 
-pub leaves_on : (b : Beginning) (lines front : List (List ℕ)) (from between written : Option (List ℕ)) (file : List ℕ) → AreRead from front between → LeavesRead b (lines ++ front) between written file → LeavesRead b lines from written file
+pub leaves_on : (b : Beginning) (lines front : List (List ℕ)) (from between written : Option (List ℕ)) (file : List ℕ) → AreLinesRead from front between → LeavesRead b (lines ++ front) between written file → LeavesRead b lines from written file
 leaves_on b lines front from between written file f l = record {
   more = front ++ l.more;
   to = l.to;
@@ -55,7 +54,7 @@ leaves_on b lines front from between written file f l = record {
 }
 
 pub serves_on : (b : Beginning) (lines front : List (List ℕ)) (line : List ℕ) (from between to : Option (List ℕ)) (seen : List ℕ) (may_leave : List ℕ → Type 0) (end : ℕ) (state : StateOf) (waiting : Waiting) (written : Option (List ℕ))
-    → AreRead from front between → IsNextLine line between to → Serves b ((lines ++ front) ++ line ∷ []) seen may_leave end state waiting written → ServesRead b lines from to seen may_leave end state waiting written
+    → AreLinesRead from front between → IsNextLine line between to → Serves b ((lines ++ front) ++ line ∷ []) seen may_leave end state waiting written → ServesRead b lines from to seen may_leave end state waiting written
 serves_on b lines front line from between to seen may_leave end state waiting written f next s = record {
   more = front ++ line ∷ [];
   read = one_more front line between to f next;
@@ -73,13 +72,13 @@ serves_read_none b lines from seen may_leave end state waiting written s = recor
 -- ---- a line more
 
 module _ (b : Beginning) (lines : List (List ℕ)) (from to : Option (List ℕ)) (seen : List ℕ) (may_leave : List ℕ → Type 0) (end : ℕ) (state : StateOf) (waiting : Waiting) (written : Option (List ℕ)) where
-  pub turn_leaves : (went : Bool) (now : Option (List ℕ)) (file : List ℕ) → IsTurn b lines from to seen may_leave end state waiting written went
+  pub turn_leaves : (went : Bool) (now : Option (List ℕ)) (file : List ℕ) → ServesNext b lines from to seen may_leave end state waiting written went
       → ((all : List (List ℕ)) → Serves b all seen may_leave end state waiting written → LeavesFirst b all now file) → LeavesRead b lines from now file
   turn_leaves true now file t leaves = leaves_line b lines t.0 from to now file t.1 (leaves (lines ++ t.0 ∷ []) t.2)
   turn_leaves false now file t leaves = leaves_none b lines from now file (leaves lines t.1)
 
-  pub turn_kept : (went : Bool) (seen2 : List ℕ) (may_leave2 : List ℕ → Type 0) (end2 : ℕ) (state2 : StateOf) (waiting2 : Waiting) (written2 : Option (List ℕ)) → IsTurn b lines from to seen may_leave end state waiting written went
-      → ((all : List (List ℕ)) → Serves b all seen may_leave end state waiting written → Serves b all seen2 may_leave2 end2 state2 waiting2 written2) → IsTurn b lines from to seen2 may_leave2 end2 state2 waiting2 written2 went
+  pub turn_kept : (went : Bool) (seen2 : List ℕ) (may_leave2 : List ℕ → Type 0) (end2 : ℕ) (state2 : StateOf) (waiting2 : Waiting) (written2 : Option (List ℕ)) → ServesNext b lines from to seen may_leave end state waiting written went
+      → ((all : List (List ℕ)) → Serves b all seen may_leave end state waiting written → Serves b all seen2 may_leave2 end2 state2 waiting2 written2) → ServesNext b lines from to seen2 may_leave2 end2 state2 waiting2 written2 went
   turn_kept true seen2 may_leave2 end2 state2 waiting2 written2 t on = (t.0, t.1, on (lines ++ t.0 ∷ []) t.2)
   turn_kept false seen2 may_leave2 end2 state2 waiting2 written2 t on = (t.0, on lines t.1)
 

@@ -5,9 +5,8 @@ use Rattle.std.proofs.lemmas.List.{append_assoc, append-nil, length_push}
 use Rattle.pb_reading.specs.Reading.{lines_of}
 use Rattle.pb_reading.specs.Faults.{in_lines}
 use Rattle.pb_reading.proofs.Parts.{Lacks, AreParts, joined_parts}
-use Rattle.pb_parse.specs.Codes.{script_code}
 use Rattle.pb_parse.specs.ScriptLines.{Batches, with_line}
-use Rattle.pb_keep.specs.Words.{Writes, MAX_CHANGES, script_of}
+use Rattle.pb_keep.specs.Words.{Writes, MAX_CHANGES, script_of, script_code}
 use Rattle.pb_keep.specs.Waits.{script_lines, IsScriptLine, AreScriptLines}
 
 pub empty_list : {A : Type 0} (xs : List A) → length xs ≡ 0 → xs ≡ []
@@ -20,13 +19,13 @@ one_line_more [] l = refl
 one_line_more (a ∷ []) l = grind (arith, append_assoc)
 one_line_more (a ∷ b ∷ ls) l = grind (arith, append_assoc, one_line_more (b ∷ ls) l)
 
-pub neither : (a b : Bool) → (a || b) ≡ false → (a ≡ false) × (b ≡ false)
-neither true b h = absurd cc
-neither false b h = (refl, h)
+pub neither_holds : (a b : Bool) → (a || b) ≡ false → (a ≡ false) × (b ≡ false)
+neither_holds true b h = absurd cc
+neither_holds false b h = (refl, h)
 
 no_newline : (text : List ℕ) → list_any (λ b. b == 10) text ≡ false → Lacks 10 text
 no_newline [] h = tt
-no_newline (x ∷ xs) h = let p = neither (x == 10) (list_any (λ b. b == 10) xs) h in (p.0, no_newline xs p.1)
+no_newline (x ∷ xs) h = let p = neither_holds (x == 10) (list_any (λ b. b == 10) xs) h in (p.0, no_newline xs p.1)
 
 parts_of : (ls : List (List ℕ)) (bs : List Writes) → AreScriptLines ls bs → AreParts 10 (ls ++ [] ∷ [])
 parts_of [] [] h = (tt, tt)

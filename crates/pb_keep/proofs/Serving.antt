@@ -8,8 +8,8 @@ use Rattle.pb_keep.specs.declared.waiting.Waits.{Waits}
 use Rattle.pb_keep.specs.declared.waiting.Waiting.{Waiting}
 use Rattle.pb_keep.specs.Kept.{HasChanges, IsLogOf}
 use Rattle.pb_keep.specs.Waits.{changes_in, none as no_answer, AreAnswers, AreSomeAnswers, Group, group_after, group_of, grouped, IsNoLine}
-use Rattle.pb_keep.specs.Held.{IsAnswerTo, IsHeld, IsHeldAs, IsReadAs}
-use Rattle.pb_keep.specs.Taken.{is_question, IsReady, IsReadyFor, MayHaveAnswered, WaitsNow}
+use Rattle.pb_keep.specs.Held.{IsAnswerTo, IsLineHeld, IsHeldAs, IsReadAs}
+use Rattle.pb_keep.specs.Taken.{is_question, IsLineReady, IsReadyFor, MayHaveAnswered, WaitsNow}
 use Rattle.pb_keep.specs.Conversations.{beginning, none_yet, one_asked, AreAnswered, none_held, one_held, AreHeld, Beginning, LeavesFirst, Serves}
 use Rattle.pb_keep.specs.Left.{IsLeftBy, IsLeftInLog, IsLeftMade}
 use Rattle.std.proofs.lemmas.List.{append_assoc, append-nil}
@@ -52,9 +52,9 @@ in_no_group true changes bytes e = absurd cc
 in_no_group false changes bytes e = refl
 
 -- before a line with a condition nothing waits
-none_before : (waiting : Waiting) (n : ℕ) (read : Result Request ScriptCode) → IsReady waiting n read → (condition : Condition) → group_of waiting ≡ Group.alone → read ≡ Ok (Request.ChangeIf condition) → waiting.items.items ≡ []
+none_before : (waiting : Waiting) (n : ℕ) (read : Result Request ScriptCode) → IsLineReady waiting n read → (condition : Condition) → group_of waiting ≡ Group.alone → read ≡ Ok (Request.ChangeIf condition) → waiting.items.items ≡ []
 none_before waiting n read ready condition alone e =
-    let r : IsReady waiting n (Ok (Request.ChangeIf condition)) = subst (λ z. IsReady waiting n z) e ready in
+    let r : IsLineReady waiting n (Ok (Request.ChangeIf condition)) = subst (λ z. IsLineReady waiting n z) e ready in
     (r (in_no_group waiting.is_group waiting.changes (length (string_bytes waiting.script)) alone)).items
 
 -- nor before a question
@@ -114,10 +114,10 @@ more_lines b lines more written file l = record {
 
 module _ (b : Beginning) (lines : List (List ℕ)) (seen : List ℕ) (may_leave : List ℕ → Type 0) (end : ℕ) (state : StateOf) (waiting : Waiting) (written : Option (List ℕ)) (s : Serves b lines seen may_leave end state waiting written) where
   -- a line more waits
-  pub serves_held : (line : List ℕ) (read : Result Request ScriptCode) (now : Waiting) → IsReadAs line read → IsReady waiting (length line) read → WaitsNow state line read waiting now
+  pub serves_held : (line : List ℕ) (read : Result Request ScriptCode) (now : Waiting) → IsReadAs line read → IsLineReady waiting (length line) read → WaitsNow state line read waiting now
       → Serves b (lines ++ line ∷ []) seen may_leave end state now written
   serves_held line read now reads ready w =
-      let any : (z : StateOf) → (waiting.items.items ≡ [] → z ≡ state) → IsHeld (group_of waiting) z line w.item = λ z same.
+      let any : (z : StateOf) → (waiting.items.items ≡ [] → z ≡ state) → IsLineHeld (group_of waiting) z line w.item = λ z same.
       record { read = read; reads = reads; held = held_in_any (group_of waiting) state z line read w.item w.held (λ condition alone e. same (none_before waiting (length line) read ready condition alone e)) } in
       record {
         answered = s.answered;

@@ -6,20 +6,20 @@ use Rattle.pb_keep.specs.declared.waiting.Waits.{Waits}
 use Rattle.pb_keep.specs.declared.waiting.Waiting.{Waiting}
 use Rattle.pb_keep.specs.Kept.{HasChanges, IsLogOf}
 use Rattle.pb_keep.specs.Waits.{changes_in, AreSomeAnswers, Group, group_after, group_of, IsAnswer}
-use Rattle.pb_keep.specs.Held.{IsAsked, IsHeld}
+use Rattle.pb_keep.specs.Held.{IsAsked, IsLineHeld}
 
 -- Lines are answered one after the other, from this state on: these changes were made, and this text is the answers. The group is
 -- that in which the next line stands.
 pub data AreAnswered (start : StateOf) : List (List ℕ) → List Writes → Group → StateOf → List ℕ → Type 0 where
   none_yet : AreAnswered start [] [] Group.alone start []
-  one_answered : (lines : List (List ℕ)) (line : List ℕ) (made : List Writes) (group : Group) (item : Waits) (between new : StateOf) (text more : List ℕ) → AreAnswered start lines made group between text → IsHeld group between line item → IsAnswer item between new more
+  one_answered : (lines : List (List ℕ)) (line : List ℕ) (made : List Writes) (group : Group) (item : Waits) (between new : StateOf) (text more : List ℕ) → AreAnswered start lines made group between text → IsLineHeld group between line item → IsAnswer item between new more
       → AreAnswered start (lines ++ line ∷ []) (made ++ changes_in (item ∷ [])) (group_after group (length line) item) new (text ++ more)
   one_asked : (lines : List (List ℕ)) (line : List ℕ) (made : List Writes) (state : StateOf) (text more : List ℕ) → AreAnswered start lines made Group.alone state text → IsAsked state line more → AreAnswered start (lines ++ line ∷ []) made Group.alone state (text ++ more)
 
 -- Lines wait as these, from this state on. Only the first may depend on the state: the others wait so in each.
 pub data AreHeld (state : StateOf) : List (List ℕ) → List Waits → Group → Type 0 where
   none_held : AreHeld state [] [] Group.alone
-  one_held : (lines : List (List ℕ)) (line : List ℕ) (items : List Waits) (item : Waits) (group : Group) → AreHeld state lines items group → ((s : StateOf) → (items ≡ [] → s ≡ state) → IsHeld group s line item) → AreHeld state (lines ++ line ∷ []) (items ++ item ∷ []) (group_after group (length line) item)
+  one_held : (lines : List (List ℕ)) (line : List ℕ) (items : List Waits) (item : Waits) (group : Group) → AreHeld state lines items group → ((s : StateOf) → (items ≡ [] → s ≡ state) → IsLineHeld group s line item) → AreHeld state (lines ++ line ∷ []) (items ++ item ∷ []) (group_after group (length line) item)
 
 -- where lines begin to be taken: a log of this manifest, with these changes, a table that keeps them, and what was written by then
 pub record Beginning : Type 0 where

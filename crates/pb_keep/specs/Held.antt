@@ -13,8 +13,8 @@ pub record IsReadAs (line : List ℕ) (read : Result Request ScriptCode) : Type 
   pub bytes : (IsUtf8 line → ⊥) → read ≡ Err ScriptCode.Form
 
 -- The change that these operations are. A record has them as a line, which is neither empty nor a remark, and has no newline.
-abbrev pub change_in : List ℕ → Result Writes ScriptCode
-change_in operations = if is_skipped operations || list_any (λ b. b == 10) operations then Err ScriptCode.Form else batch_of operations
+abbrev pub change_as_line : List ℕ → Result Writes ScriptCode
+change_as_line operations = if is_skipped operations || list_any (λ b. b == 10) operations then Err ScriptCode.Form else batch_of operations
 
 -- a change waits, or its refusal
 abbrev pub waits_for : Result Writes ScriptCode → Waits
@@ -24,9 +24,9 @@ waits_for (Err code) = Waits.Refused (script_code code)
 -- ---- outside of a group
 
 -- the commit of a cell's newest write, 0 where it has none
-abbrev pub commit_of : Option Newest → Ts
-commit_of None = record { 0 = 0 }
-commit_of (Some newest) = newest.commit
+abbrev pub commit_seen : Option Newest → Ts
+commit_seen None = record { 0 = 0 }
+commit_seen (Some newest) = newest.commit
 
 -- a change waits only where the newest write has the commit that is wanted
 abbrev pub if_commit : Ts → Ts → Waits → Waits
@@ -37,7 +37,7 @@ if_commit wanted newest item = item
 pub record IsHeldIf (state : StateOf) (condition : Condition) (operations : List ℕ) (item : Waits) : Type 0 where
   pub newest : Option Newest
   pub seen : IsSeenIn state.entries state.clock (Cell.Data condition.row condition.column) newest
-  pub is : item ≡ if_commit condition.commit (commit_of newest) (waits_for (change_in operations))
+  pub is : item ≡ if_commit condition.commit (commit_seen newest) (waits_for (change_as_line operations))
 
 -- a line with a condition: its operations stand after the first joint
 pub record IsLineHeldIf (state : StateOf) (condition : Condition) (line : List ℕ) (item : Waits) : Type 0 where
@@ -48,7 +48,7 @@ pub record IsLineHeldIf (state : StateOf) (condition : Condition) (line : List �
 
 -- as what a line waits; no question waits
 abbrev pub IsHeldAlone : StateOf → List ℕ → Request → Waits → Type 0
-IsHeldAlone state line Request.Change item = item ≡ waits_for (change_in line)
+IsHeldAlone state line Request.Change item = item ≡ waits_for (change_as_line line)
 IsHeldAlone state line (Request.ChangeIf condition) item = IsLineHeldIf state condition line item
 IsHeldAlone state line Request.Begin item = item ≡ Waits.Begun
 IsHeldAlone state line Request.End item = item ≡ Waits.Refused OUT_OF_PLACE
@@ -66,7 +66,7 @@ if_room has_room item = item
 
 -- as what a line waits in a group, whose record has so many changes and bytes
 abbrev pub waits_within : ℕ → ℕ → List ℕ → Request → Waits
-waits_within changes bytes line Request.Change = if_room (has_line_room changes bytes (length line)) (waits_for (change_in line))
+waits_within changes bytes line Request.Change = if_room (has_line_room changes bytes (length line)) (waits_for (change_as_line line))
 waits_within changes bytes line Request.End = Waits.Ended
 waits_within changes bytes line (Request.ChangeIf condition) = Waits.Refused OUT_OF_PLACE
 waits_within changes bytes line Request.Begin = Waits.Refused OUT_OF_PLACE
@@ -84,7 +84,7 @@ IsHeldAs Group.alone state line (Ok request) item = IsHeldAlone state line reque
 IsHeldAs (Group.within changes bytes) state line (Ok request) item = item ≡ waits_within changes bytes line request
 
 -- as what a line waits
-pub record IsHeld (group : Group) (state : StateOf) (line : List ℕ) (item : Waits) : Type 0 where
+pub record IsLineHeld (group : Group) (state : StateOf) (line : List ℕ) (item : Waits) : Type 0 where
   pub read : Result Request ScriptCode
   pub reads : IsReadAs line read
   pub held : IsHeldAs group state line read item

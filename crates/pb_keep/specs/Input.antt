@@ -53,6 +53,6 @@ pub record TakesPiece (piece : Piece) (old new : Option (List ℕ)) (before : Li
   pub held : HoldsMore bytes before was_long after is_long
 
 -- these lines were read, one after the other
-pub data AreRead (old : Option (List ℕ)) : List (List ℕ) → Option (List ℕ) → Type 0 where
-  none : AreRead old [] old
-  one_more : (lines : List (List ℕ)) (line : List ℕ) (between new : Option (List ℕ)) → AreRead old lines between → IsNextLine line between new → AreRead old (lines ++ line ∷ []) new
+pub data AreLinesRead (old : Option (List ℕ)) : List (List ℕ) → Option (List ℕ) → Type 0 where
+  none : AreLinesRead old [] old
+  one_more : (lines : List (List ℕ)) (line : List ℕ) (between new : Option (List ℕ)) → AreLinesRead old lines between → IsNextLine line between new → AreLinesRead old (lines ++ line ∷ []) new

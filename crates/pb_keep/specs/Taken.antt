@@ -29,16 +29,16 @@ IsReadyFor waiting line Request.List = IsNoLine waiting
 IsReadyFor waiting line Request.IsQuiet = IsNoLine waiting
 
 -- what waits was kept, where that has to be so before a line of so many bytes is taken, which is read so
-abbrev pub IsReady : Waiting → ℕ → Result Request ScriptCode → Type 0
-IsReady waiting line (Err code) = Unit {0}
-IsReady waiting line (Ok request) = waiting.is_group ≡ false → IsReadyFor waiting line request
+abbrev pub IsLineReady : Waiting → ℕ → Result Request ScriptCode → Type 0
+IsLineReady waiting line (Err code) = Unit {0}
+IsLineReady waiting line (Ok request) = waiting.is_group ≡ false → IsReadyFor waiting line request
 
 -- a line waits: it is refused, stands in a group, or is no question
 abbrev pub IsToWait : Waiting → Result Request ScriptCode → Type 0
 IsToWait waiting (Err code) = Unit {0}
 IsToWait waiting (Ok request) = waiting.is_group ≡ false → is_question request ≡ false
 
--- a line waits now, behind those that waited
+-- a line waits now, after those that waited
 pub record WaitsNow (state : StateOf) (line : List ℕ) (read : Result Request ScriptCode) (old new : Waiting) : Type 0 where
   pub item : Waits
   pub items : new.items.items ≡ old.items.items ++ item ∷ []

@@ -14,7 +14,7 @@ pub use Rattle.pb_parse.specs.ScriptLines.{batch_of, cut, script_of}
 pub use Rattle.pb_parse.specs.declared.script.code.ScriptCode.{ScriptCode}
 pub use Rattle.pb_script.specs.ReportLines.{last_line}
 pub use Rattle.pb_script.specs.declared.reports.lines.Newest.{Newest}
-pub use Rattle.pb_requests.specs.Requests.{asked_by}
+unfoldable pub use Rattle.pb_requests.specs.Requests.{asked_by}
 pub use Rattle.pb_requests.specs.declared.request.Condition.{Condition}
 pub use Rattle.pb_requests.specs.declared.request.Request.{Request}
 pub use Rattle.pb_answers.specs.Lists.{IsListAnswer}

@@ -5,7 +5,7 @@ ghost use Rattle.pb_parse.specs.declared.script.code.ScriptCode.TheVariants.{For
 ghost use Rattle.pb_steps.specs.State.{StateOf};
 ghost use Rattle.pb_keep.specs.Conversations.{Beginning, LeavesFirst, Serves};
 ghost use Rattle.pb_keep.specs.Input.{IsLineRead};
-ghost use Rattle.pb_keep.specs.Served.{IsTurn, LeavesRead, ServesAll};
+ghost use Rattle.pb_keep.specs.Served.{ServesNext, LeavesRead, ServesAll};
 ghost use Rattle.pb_keep.specs.Taken.{WaitsNow};
 ghost use Rattle.pb_keep.specs.Waits.{IsWaiting};
 
@@ -81,7 +81,7 @@ fn take_read<R: Wait, T: Tablet, D: Disk + Drop, S: Sink>(
         → IsLineRead read bytes.now from to
         → Serves b lines (D.seen keeper.old.log.disk) (D.may_leave keeper.old.log.disk)
         keeper.old.log.end keeper.old.state keeper.old.waiting (S.taken out.old)
-        → IfOk result (IsTurn b lines from to (D.seen keeper.new.log.disk)
+        → IfOk result (ServesNext b lines from to (D.seen keeper.new.log.disk)
         (D.may_leave keeper.new.log.disk) keeper.new.log.end keeper.new.state
         keeper.new.waiting (S.taken out.new)) }
     ensures crash { (b : Beginning) (lines : List (List ℕ)) (from to : Option (List ℕ))
@@ -120,7 +120,7 @@ fn turn<R: Wait, I: Read + Drop, T: Tablet, D: Disk + Drop, S: Sink>(
     ensures serves { (b : Beginning) (lines : List (List ℕ))
         → Serves b lines (D.seen keeper.old.log.disk) (D.may_leave keeper.old.log.disk)
         keeper.old.log.end keeper.old.state keeper.old.waiting (S.taken out.old)
-        → IfOk result (IsTurn b lines (reader_remaining I.remaining input.old)
+        → IfOk result (ServesNext b lines (reader_remaining I.remaining input.old)
         (reader_remaining I.remaining input.new) (D.seen keeper.new.log.disk)
         (D.may_leave keeper.new.log.disk) keeper.new.log.end keeper.new.state
         keeper.new.waiting (S.taken out.new)) }
@@ -160,7 +160,7 @@ pub fn serve<R: Wait, I: Read + Drop, T: Tablet, D: Disk + Drop, S: Sink>(
         → OnOk result (ServesAll b lines (reader_remaining I.remaining input.old)
         (D.seen keeper.new.log.disk) (D.may_leave keeper.new.log.disk) keeper.new.log.end
         keeper.new.state keeper.new.waiting (S.taken out.new)) }
-    // Whenever it stops, the log has the changes of the first lines, with those of all that are answered.
+    // Whenever it stops, the log has the changes of the first lines, with all that are answered.
     ensures crash { (b : Beginning) (lines : List (List ℕ))
         → Serves b lines (D.seen keeper.old.log.disk) (D.may_leave keeper.old.log.disk)
         keeper.old.log.end keeper.old.state keeper.old.waiting (S.taken out.old)

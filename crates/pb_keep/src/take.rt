@@ -10,8 +10,8 @@ ghost use Rattle.pb_requests.specs.declared.request.Request.TheVariants.{Change,
 ghost use Rattle.pb_script.specs.declared.reports.lines.Newest.{Newest};
 ghost use Rattle.pb_keep.specs.declared.fault.KeepFault.TheVariants as ends;
 ghost use Rattle.pb_keep.specs.Conversations.{Beginning, LeavesFirst, Serves};
-ghost use Rattle.pb_keep.specs.Held.{change_in, commit_of, waits_for, waits_within, IsAnswerTo, IsHeldIf};
-ghost use Rattle.pb_keep.specs.Taken.{is_question, IsReady, IsReadyFor, IsToWait, MayHaveAnswered, WaitsNow};
+ghost use Rattle.pb_keep.specs.Held.{change_as_line, commit_seen, waits_for, waits_within, IsAnswerTo, IsHeldIf};
+ghost use Rattle.pb_keep.specs.Taken.{is_question, IsLineReady, IsReadyFor, IsToWait, MayHaveAnswered, WaitsNow};
 ghost use Rattle.pb_keep.specs.Waits.{IsNoLine, IsWaiting};
 
 use crate::fault::KeepFault;
@@ -40,7 +40,7 @@ fn has_newline(text: &str) -> bool
 
 // As what a change of these operations waits: a record has them as a line.
 fn change_of(alloc: Global, operations: &str) -> Result<Waits, NoMemory>
-    ensures { IfOk result (λ item. item ≡ waits_for (change_in operations.now)) }
+    ensures { IfOk result (λ item. item ≡ waits_for (change_as_line operations.now)) }
 {
     if is_skipped(operations) || has_newline(operations) {
         return Ok(Waits::Refused(ScriptCode::Form.code()));
@@ -57,7 +57,7 @@ fn newest_commit<T: Tablet>(state: &State<T>, condition: &Condition) -> Ts
     ensures { (newest : Option Newest)
         × IsSeenIn state.now.entries state.now.clock
         (Data condition.now.row condition.now.column) newest
-        × (result ≡ commit_of newest) }
+        × (result ≡ commit_seen newest) }
 {
     match newest_of(state, condition.row, condition.column) {
         Some(newest) => newest.commit,
@@ -178,7 +178,7 @@ fn hold<T: Tablet>(
 ) -> Result<(), NoMemory>
     requires waiting { IsWaiting waiting.old }
     requires read { asked_by line.now ≡ read }
-    requires ready { IsReady waiting.old (length line.now) read }
+    requires ready { IsLineReady waiting.old (length line.now) read }
     requires no_question { IsToWait waiting.old read }
     ensures waiting { OnOk result (IsWaiting waiting.new) }
     ensures held { OnOk result (WaitsNow state.now line.now read waiting.old waiting.new) }
@@ -267,7 +267,7 @@ fn answer<T: Tablet, S: Sink>(
 // no room for it. A group is kept after its `end` alone.
 fn is_kept_before(waiting: &Waiting, line: &str, read: &Result<Request, ScriptCode>) -> bool
     ensures not_in_group { result ≡ true → waiting.now.is_group ≡ false }
-    ensures ready { result ≡ false → IsReady waiting.now (length line.now) read.now }
+    ensures ready { result ≡ false → IsLineReady waiting.now (length line.now) read.now }
 {
     if waiting.is_group {
         return false;

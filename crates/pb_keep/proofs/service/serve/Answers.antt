@@ -1,6 +1,6 @@
 use Rattle.std.proofs.Common.{◌++◌, not, refl, ap, subst}
 use Rattle.std.specs.Io.Buffered.{reader_remaining}
-use Rattle.pb_keep.specs.Served.{IsTurn}
+use Rattle.pb_keep.specs.Served.{ServesNext}
 use Rattle.pb_keep.proofs.Mapping.{all_ok}
 use Rattle.pb_keep.proofs.Reading.{kept_all, leaves_none, leaves_on, serves_on, serves_read_none}
 use Rattle.pb_keep.proofs.service.serve.Goals as goal
@@ -26,7 +26,7 @@ loop-turn-preserved g c = record {
       let to = reader_remaining g.I.Read.remaining c.turn.new.input in
       let now = c.turn.new.keeper in
       let written = g.S.Sink.taken c.turn.new.out in
-      let t = subst (λ w. IsTurn b all between to (g.D.Disk.seen now.log.disk) (g.D.Disk.may_leave now.log.disk) now.log.end now.state now.waiting written w) c.if-not-went.false (c.in_ok-went.ensures.serves b all before.serves) in
+      let t = subst (λ w. ServesNext b all between to (g.D.Disk.seen now.log.disk) (g.D.Disk.may_leave now.log.disk) now.log.end now.state now.waiting written w) c.if-not-went.false (c.in_ok-went.ensures.serves b all before.serves) in
       serves_on b lines before.more t.0 from between to (g.D.Disk.seen now.log.disk) (g.D.Disk.may_leave now.log.disk) now.log.end now.state now.waiting written before.read t.1 t.2;
 }
 
@@ -47,7 +47,7 @@ returns-then-not-went-clause-serves g c = λ b lines s.
     let now = c.turn.new.keeper in
     let new = c.keep_if.new.self in
     let written = g.S.Sink.taken c.turn.new.out in
-    let t = subst (λ w. IsTurn b all between to (g.D.Disk.seen now.log.disk) (g.D.Disk.may_leave now.log.disk) now.log.end now.state now.waiting written w) c.if-not-went.true (c.in_ok-went.ensures.serves b all before.serves) in
+    let t = subst (λ w. ServesNext b all between to (g.D.Disk.seen now.log.disk) (g.D.Disk.may_leave now.log.disk) now.log.end now.state now.waiting written w) c.if-not-went.true (c.in_ok-went.ensures.serves b all before.serves) in
     all_ok c.keep_if.result (c.keep_if.ensures.serves b all t.1) c.keep_if.ensures.kept c.keep_if.ensures.usable
     (λ serves kept usable. record {
       to = between;
@@ -65,6 +65,6 @@ returns-then-not-went-clause-crash g c = λ b lines s file m.
     let to = reader_remaining g.I.Read.remaining c.turn.new.input in
     let now = c.turn.new.keeper in
     let written = g.S.Sink.taken c.turn.new.out in
-    let t = subst (λ w. IsTurn b all between to (g.D.Disk.seen now.log.disk) (g.D.Disk.may_leave now.log.disk) now.log.end now.state now.waiting written w) c.if-not-went.true (c.in_ok-went.ensures.serves b all before.serves) in
+    let t = subst (λ w. ServesNext b all between to (g.D.Disk.seen now.log.disk) (g.D.Disk.may_leave now.log.disk) now.log.end now.state now.waiting written w) c.if-not-went.true (c.in_ok-went.ensures.serves b all before.serves) in
     leaves_on b lines before.more from between (g.S.Sink.taken c.keep_if.new.out) file before.read
     (leaves_none b all between (g.S.Sink.taken c.keep_if.new.out) file (c.keep_if.ensures.crash b all t.1 file m))

@@ -1,6 +1,7 @@
 use Rattle.std.proofs.Common.{◌≡◌, ◌∷◌, ap, ◌∙◌, arith}
-use Rattle.pb_parse.specs.ScriptLines.{cut, operations_left}
+use Rattle.pb_parse.specs.ScriptLines.{operations_left}
 use Rattle.pb_requests.specs.declared.request.Request.TheVariants.{ChangeIf}
+use Rattle.pb_keep.specs.Words.{cut}
 use Rattle.pb_keep.proofs.Conditions.{few_bytes, goes_on, operations_shorter}
 use Rattle.pb_keep.proofs.Holding.{fits_if}
 use Rattle.pb_keep.proofs.take.hold_if.Goals as goal

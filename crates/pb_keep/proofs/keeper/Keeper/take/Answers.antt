@@ -1,6 +1,6 @@
 use Rattle.std.proofs.Common.{◌∷◌, ◌++◌, [], Ok, length, ap, subst, ◌∙◌}
-use Rattle.pb_requests.specs.Requests.{asked_by}
-use Rattle.pb_keep.specs.Taken.{IsReady}
+use Rattle.pb_keep.specs.Words.{asked_by}
+use Rattle.pb_keep.specs.Taken.{IsLineReady}
 use Rattle.pb_keep.proofs.Holding.{ready_now}
 use Rattle.pb_keep.proofs.Mapping.{of_both, on_ok}
 use Rattle.pb_keep.proofs.Reading.{is_read, read_as}
@@ -52,7 +52,7 @@ returns-in-Some-clause-serves g c = λ b lines s.
     let ready = ready_now c.is_kept_before-before.result c.args.self.now.waiting new.waiting line read c.is_kept_before-before.ensures.ready
     (λ e. ap (λ k. k.waiting) (c.in_ok-keep_if.ensures.same e)) c.in_ok-keep_if.ensures.kept asked in
     let is = c.in-Some.ensures.some in
-    let none = none_before_question new.waiting (length line) question is.1 (subst (λ r. IsReady new.waiting (length line) r) is.0 ready is.2) in
+    let none = none_before_question new.waiting (length line) question is.1 (subst (λ r. IsLineReady new.waiting (length line) r) is.0 ready is.2) in
     on_ok c.answer.result
     (λ a. serves_asked b lines (g.D.Disk.seen new.log.disk) (g.D.Disk.may_leave new.log.disk) new.log.end new.state new.waiting (g.S.Sink.taken c.keep_if.new.out) (c.in_ok-keep_if.ensures.serves b lines s)
     line a.0 question (g.S.Sink.taken c.answer.new.out) none (read_as line (Ok question) c.utf8.line (asked ∙ is.0)) a.1 a.2)
@@ -68,7 +68,7 @@ returns-in-Some-clause-crash g c = λ b lines s file m.
     let ready = ready_now c.is_kept_before-before.result c.args.self.now.waiting new.waiting line read c.is_kept_before-before.ensures.ready
     (λ e. ap (λ k. k.waiting) (c.in_ok-keep_if.ensures.same e)) c.in_ok-keep_if.ensures.kept asked in
     let is = c.in-Some.ensures.some in
-    let none = none_before_question new.waiting (length line) question is.1 (subst (λ r. IsReady new.waiting (length line) r) is.0 ready is.2) in
+    let none = none_before_question new.waiting (length line) question is.1 (subst (λ r. IsLineReady new.waiting (length line) r) is.0 ready is.2) in
     of_both c.answer.result (returns-in-Some-clause-serves g c b lines s) c.answer.ensures.err
     (λ now. leaves_served b (lines ++ line ∷ []) (g.D.Disk.seen new.log.disk) (g.D.Disk.may_leave new.log.disk) new.log.end new.state new.waiting (g.S.Sink.taken c.answer.new.out) now file m)
     (λ a. leaves_asked b lines (g.D.Disk.seen new.log.disk) (g.D.Disk.may_leave new.log.disk) new.log.end new.state new.waiting (g.S.Sink.taken c.keep_if.new.out) (c.in_ok-keep_if.ensures.serves b lines s)
