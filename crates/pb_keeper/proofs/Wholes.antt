@@ -112,7 +112,7 @@ change_commits keeps batch o m n sound free g =
 -- ---- looks
 
 -- the step changes no entry where no lock stands
-abbrev is_plain : Step → Bool
+abbrev pub is_plain : Step → Bool
 is_plain (Step.Prewrite s x) = false
 is_plain (Step.CommitPrimary s) = false
 is_plain (Step.CommitSecondary s x) = false
@@ -139,7 +139,7 @@ plain_step old new (Step.Read s x) (Answer.Locked t q) free p m = absurd (none_l
 plain_step old new (Step.ReadAt s x at) (Answer.Locked t q) free p m = absurd (none_locked old.entries x t.0 q free m.locked)
 plain_step old new step answer free p m = grind arith
 
-abbrev ArePlain : List Received → Type 0
+abbrev pub ArePlain : List Received → Type 0
 ArePlain [] = Unit {0}
 ArePlain (r ∷ rs) = (is_plain r.step ≡ true) × ArePlain rs
 
@@ -168,7 +168,7 @@ pub free_after : (m n : StateOf) (said : List Received) → IsUnlocked m → n.e
 free_after m n said free e y u = ap (λ (z : Entries). lock_at z y u) e ∙ free y u
 
 -- a begin at this start, and then looks
-record IsPlainFrom (s : Ts) (said : List Received) : Type 0 where
+pub record IsPlainFrom (s : Ts) (said : List Received) : Type 0 where
   pub work : Work
   pub rest : List Received
   pub said_is : said ≡ told (Step.Begin work) (Answer.At s) ∷ rest
@@ -191,13 +191,13 @@ plain_after s said m n f sound free g =
       none = subst NameNoLock (sym f.said_is) (refl, w.1);
     }
 
-from_more : (s : Ts) (a b : List Received) → IsPlainFrom s a → ArePlain b → IsPlainFrom s (a ++ b)
+pub from_more : (s : Ts) (a b : List Received) → IsPlainFrom s a → ArePlain b → IsPlainFrom s (a ++ b)
 from_more s a b f p = record { work = f.work; rest = f.rest ++ b; said_is = ap (λ l. l ++ b) f.said_is; plain = plain_append f.rest b f.plain p }
 
 from_as : (s : Ts) (a b : List Received) → b ≡ a → IsPlainFrom s a → IsPlainFrom s b
 from_as s a b e f = subst (IsPlainFrom s) (sym e) f
 
-read_plain : (s : Ts) (x : Cell) (at : Option Ts) → is_plain (read_step s x at) ≡ true
+pub read_plain : (s : Ts) (x : Cell) (at : Option Ts) → is_plain (read_step s x at) ≡ true
 read_plain s x None = refl
 read_plain s x (Some t) = refl
 
@@ -206,32 +206,32 @@ module _ (s : Ts) where
   round_plain x at said (cleared t primary a can waits) = (read_plain s x at, (refl, tt))
   round_plain x at said (settled t primary a b can clears) = (read_plain s x at, (refl, (refl, (refl, tt))))
 
-  rounds_from : (x : Cell) (at : Option Ts) (m : ℕ) (base : List Received) (n : ℕ) (said : List Received) → AreRounds s x at m base n said → IsPlainFrom s base → IsPlainFrom s said
+  pub rounds_from : (x : Cell) (at : Option Ts) (m : ℕ) (base : List Received) (n : ℕ) (said : List Received) → AreRounds s x at m base n said → IsPlainFrom s base → IsPlainFrom s said
   rounds_from x at m base n said at_first f = f
   rounds_from x at m base n said (one_more k before round rs one) f = from_more s before round (rounds_from x at m base k before rs f) (round_plain x at round one)
 
-  looked_from : (x : Cell) (at : Option Ts) (m : ℕ) (base : List Received) (n : ℕ) (said : List Received) → IsLooked s x at m base n said → IsPlainFrom s base → IsPlainFrom s said
+  pub looked_from : (x : Cell) (at : Option Ts) (m : ℕ) (base : List Received) (n : ℕ) (said : List Received) → IsLooked s x at m base n said → IsPlainFrom s base → IsPlainFrom s said
   looked_from x at m base n said l f = from_as s _ said l.said_is (from_more s l.before _ (rounds_from x at m base n l.before l.rounds f) (read_plain s x at, tt))
 
   module _ (o : Watch) where
-    begin_from : IsPlainFrom s (its_begin o s)
+    pub begin_from : IsPlainFrom s (its_begin o s)
     begin_from = record { work = Work.Run o.observer o.row; rest = []; said_is = refl; plain = tt }
 
     observed_from : (found : Revision) (n : ℕ) (said : List Received) → IsObserved o s found n said → IsPlainFrom s said
     observed_from found n said i = looked_from _ None 0 (its_begin o s) n said i.look begin_from
 
-    acknowledged_from : (seen : Seen) (n : ℕ) (said : List Received) → IsAcknowledged o s seen n said → IsPlainFrom s said
+    pub acknowledged_from : (seen : Seen) (n : ℕ) (said : List Received) → IsAcknowledged o s seen n said → IsPlainFrom s said
     acknowledged_from seen n said i = looked_from _ None i.met i.base n said i.look (observed_from seen.version i.met i.base i.observed)
 
     recalled_from : (seen : Seen) (at : Option Ts) (n : ℕ) (said : List Received) → IsRecalled o s seen at n said → IsPlainFrom s said
     recalled_from seen None n said i = acknowledged_from seen n said i.1
     recalled_from seen (Some t) n said i = looked_from _ (Some t) i.0 i.1 n said i.3 (acknowledged_from seen i.0 i.1 i.2)
 
-    asked_from : (seen : Seen) (talk : Talk) (n : ℕ) (said : List Received) → AreAsked o s seen talk n said → IsPlainFrom s said
+    pub asked_from : (seen : Seen) (talk : Talk) (n : ℕ) (said : List Received) → AreAsked o s seen talk n said → IsPlainFrom s said
     asked_from seen talk n said (dirty k now i newer) = recalled_from seen _ n said i
     asked_from seen talk n said (asked before m base q k now was look) = looked_from _ None m base n said look (asked_from seen before m base was)
 
-    base_from : (x : Cell) (at : Option Ts) (m : ℕ) (base : List Received) → LooksFrom o s x at m base → IsPlainFrom s base
+    pub base_from : (x : Cell) (at : Option Ts) (m : ℕ) (base : List Received) → LooksFrom o s x at m base → IsPlainFrom s base
     base_from x at m base at_cell = begin_from
     base_from x at m base (at_acknowledgment found n said i) = observed_from found m base i
     base_from x at m base (at_old seen t n said i newer is) = acknowledged_from seen m base i

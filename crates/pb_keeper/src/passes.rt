@@ -4,6 +4,7 @@ ghost use Rattle.pb_base.specs.Batch.{Writes};
 ghost use Rattle.pb_base.specs.Cell.{column_of, row_of};
 ghost use Rattle.pb_store.specs.Contents.{IsNextMark};
 ghost use Rattle.pb_verify.specs.Observers.{ObserverOf};
+ghost use Rattle.pb_keeper.specs.Counts.{CountsCommits, commit_count};
 ghost use Rattle.pb_keeper.specs.Keeps.{Keeps};
 ghost use Rattle.pb_passes.specs.Passes.{AreAllRuns, IsPassThat, IsDrain};
 ghost use Rattle.pb_keeper.specs.Leads.{SaidLeads, IsAny};
@@ -30,11 +31,19 @@ pub struct Made {
     pub drained: Drained,
 }
 
-/// What passes did: how many runs were committed, and whether the last pass found no mark.
+/// What passes did: how many runs of observers were committed, and whether the last pass found no mark.
 #[derive(Clone, Copy)]
 pub struct Drained {
-    pub runs: u32,
+    pub runs: u64,
     pub rests: bool,
+}
+
+// What one pass did: how many runs were committed, and whether it found a mark. Then another is due, since its runs may
+// have marked cells that it had gone by.
+#[derive(Clone, Copy)]
+struct Passed {
+    runs: u64,
+    marked: bool,
 }
 
 // Row and column of a cell have 64 bits.
@@ -46,6 +55,13 @@ fn fits(cell: &Cell)
     let _column = cell.column();
 }
 
+// The clock has 64 bits.
+fn clock_fits<T: Tablet>(state: &State<T>)
+    ensures { state.now.clock < 2 ^ 64 }
+{
+    let _last = state.clock();
+}
+
 // Runs the observer of this number on the cell, if that is of its column, and returns how many runs were committed.
 fn run_place<R: Wait, T: Tablet>(
     rt: &R,
@@ -53,10 +69,11 @@ fn run_place<R: Wait, T: Tablet>(
     state: &mut State<T>,
     place: usize,
     cell: &Cell,
-) -> Result<u32, Stopped>
+) -> Result<u64, Stopped>
     requires { place < length state.old.observers }
-    ensures ok { OnOk result
-        (SaidLeads (IsItsTurn state.old.observers place cell.now) state.old state.new) }
+    ensures ok { IfOk result (λ runs.
+        SaidLeads (CountsCommits (IsItsTurn state.old.observers place cell.now) runs)
+        state.old state.new) }
     ensures err { OnErr result (SaidLeads IsAny state.old state.new) }
     ensures stops { WasOpened state.old → IfErr result (λ e. IsStop e state.new) }
 {
@@ -81,52 +98,76 @@ fn run_place<R: Wait, T: Tablet>(
     }
 }
 
-// Runs each observer of the cell's column, in file order.
+// Runs each observer of the cell's column, in file order, and returns how many runs were committed.
 fn run_all<R: Wait, T: Tablet>(
     rt: &R,
     alloc: Global,
     state: &mut State<T>,
     cell: &Cell,
-) -> Result<u32, Stopped>
-    ensures ok { OnOk result
-        (SaidLeads (AreAllRuns state.old.observers cell.now) state.old state.new) }
+) -> Result<u64, Stopped>
+    ensures ok { IfOk result (λ runs.
+        SaidLeads (CountsCommits (AreAllRuns state.old.observers cell.now) runs)
+        state.old state.new) }
     ensures err { OnErr result (SaidLeads IsAny state.old state.new) }
     ensures stops { WasOpened state.old → IfErr result (λ e. IsStop e state.new) }
 {
-    let mut runs = 0u32;
+    let mut runs = 0u64;
     let many = state.observers().len();
     for place in 0..many {
         let more = run_place(rt, alloc, state, place, cell)?;
-        runs = runs.wrapping_add(more);
+        runs = runs.saturating_add(more);
     }
     Ok(runs)
 }
 
-// One pass, from mark to mark up to where there is none, and whether it found one. Then another is due, since its
-// runs may have marked cells that it had gone by.
-fn pass<R: Wait, T: Tablet>(
-    rt: &R,
-    alloc: Global,
-    state: &mut State<T>,
-    runs: &mut u32,
-) -> Result<bool, Stopped>
-    ensures ok { IfOk result
-        (λ marked. SaidLeads (IsPassThat state.old.observers marked) state.old state.new) }
-    ensures quiet { IfOk result (λ marked. marked ≡ false → IsNextMark state.new.marks None None) }
+// One pass, from mark to mark up to where there is none.
+fn pass<R: Wait, T: Tablet>(rt: &R, alloc: Global, state: &mut State<T>) -> Result<Passed, Stopped>
+    ensures ok { IfOk result (λ p.
+        SaidLeads (CountsCommits (IsPassThat state.old.observers p.marked) p.runs)
+        state.old state.new) }
+    ensures quiet { IfOk result
+        (λ p. p.marked ≡ false → IsNextMark state.new.marks None None) }
     ensures err { OnErr result (SaidLeads IsAny state.old state.new) }
     ensures stops { WasOpened state.old → IfErr result (λ e. IsStop e state.new) }
 {
+    let mut runs = 0u64;
     let mut last = None;
     for _turn in rt.forever() {
         let next = ask(state, &Step::NextMark(last))?;
         let Answer::Marked(cell) = &next else {
-            return Ok(last.is_some());
+            return Ok(Passed {
+                runs,
+                marked: last.is_some(),
+            });
         };
         let more = run_all(rt, alloc, state, cell)?;
-        *runs = runs.wrapping_add(more);
+        runs = runs.saturating_add(more);
         last = Some(*cell);
     }
     unreachable!()
+}
+
+// Makes passes, as `drain` does. The number of runs is known up to 64 bits.
+fn make_passes<R: Wait, T: Tablet>(
+    rt: &R,
+    alloc: Global,
+    state: &mut State<T>,
+) -> Result<Drained, Stopped>
+    ensures ok { IfOk result (λ d.
+        SaidLeads (CountsCommits (IsDrain state.old.observers) d.runs) state.old state.new) }
+    ensures quiet { IfOk result (λ d. d.rests ≡ true → IsNextMark state.new.marks None None) }
+    ensures err { OnErr result (SaidLeads IsAny state.old state.new) }
+    ensures stops { WasOpened state.old → IfErr result (λ e. IsStop e state.new) }
+{
+    let mut runs = 0u64;
+    for _count in 0..MAX_PASSES {
+        let passed = pass(rt, alloc, state)?;
+        runs = runs.saturating_add(passed.runs);
+        if !passed.marked {
+            return Ok(Drained { runs, rests: true });
+        }
+    }
+    Ok(Drained { runs, rests: false })
 }
 
 /// Makes passes until one finds no mark, or so many as may be made.
@@ -135,20 +176,19 @@ pub fn drain<R: Wait, T: Tablet>(
     alloc: Global,
     state: &mut State<T>,
 ) -> Result<Drained, Stopped>
-    ensures ok { OnOk result (SaidLeads (IsDrain state.old.observers) state.old state.new) }
+    // The runs are those of the drain that were committed.
+    ensures ok { IfOk result (λ d.
+        (leads : SaidLeads (IsDrain state.old.observers) state.old state.new)
+        × (d.runs ≡ commit_count leads.said)) }
     // Where it rests no cell is marked.
     ensures quiet { IfOk result (λ d. d.rests ≡ true → IsNextMark state.new.marks None None) }
     ensures err { OnErr result (SaidLeads IsAny state.old state.new) }
     ensures stops { WasOpened state.old → IfErr result (λ e. IsStop e state.new) }
 {
-    let mut runs = 0u32;
-    for _count in 0..MAX_PASSES {
-        let marked = pass(rt, alloc, state, &mut runs)?;
-        if !marked {
-            return Ok(Drained { runs, rests: true });
-        }
-    }
-    Ok(Drained { runs, rests: false })
+    let drained = make_passes(rt, alloc, state)?;
+    // For the proof: each run took a timestamp, so that there are no more of them than 64 bits can say.
+    clock_fits(state);
+    Ok(drained)
 }
 
 /// Makes a change, and then passes over what it left marked.
@@ -160,6 +200,10 @@ pub fn make<R: Wait, T: Tablet>(
 ) -> Result<Made, Stopped>
     ensures ok { IfOk result
         (λ m. SaidLeads (IsMade state.old.observers batch m.commit) state.old state.new) }
+    // The runs are those that were committed after the change.
+    ensures runs { IfOk result (λ m.
+        (leads : SaidLeads (IsMade state.old.observers batch m.commit) state.old state.new)
+        × (m.drained.runs ≡ commit_count leads.form.drain)) }
     ensures quiet { IfOk result
         (λ m. m.drained.rests ≡ true → IsNextMark state.new.marks None None) }
     // Behind the changes that are kept it is one more.

@@ -4,6 +4,7 @@ use Rattle.pb_verify.specs.Observers.{ObserverOf}
 use Rattle.pb_passes.specs.Passes.{HasColumn}
 use Rattle.pb_keeper.specs.Stops.{IsKnownJob}
 use Rattle.pb_keeper.proofs.InTime.{job_is_of}
+use Rattle.pb_keeper.proofs.PassAlong.{ran_counts, other_end_counts}
 use Rattle.pb_keeper.proofs.passes.run_place.Goals as goal
 
 pub returns-in_err-end-clause-stops : goal.returns-in_err-end-clause-stops
@@ -13,3 +14,9 @@ returns-in_err-end-clause-stops g c opened =
     let known = subst (λ n. HasColumn c.observers-observers.result.now n c.args.cell.now) same (c.is_observer_of.ensures.is c.if-not-is_observer_of.false) in
     let of : IsKnownJob c.observers-observers.result.now c.in-Ok.job = job_is_of c.observers-observers.result.now c.in-Some.number c.args.cell.now c.in-Ok.job c.fits.ensures.row c.fits.ensures.column known c.in-Ok.ensures in
     rw (p.1, p.2) (c.in_err-end.ensures.stops opened (subst (λ (l : List ObserverOf). IsKnownJob l c.in-Ok.job) c.observers-observers.ensures.observers of))
+
+pub returns-in-Ran-clause-ok : goal.returns-in-Ran-clause-ok
+returns-in-Ran-clause-ok g c = ran_counts c.args.state.now.observers c.observers-observers.result.now c.args.place c.in-Some.number c.args.cell.now c.in-Ok.job c.in_ok-end.end c.args.state.now c.run_one.new.state c.observers-observers.ensures.observers c.in-Some.ensures.some (c.is_observer_of.ensures.is c.if-not-is_observer_of.false) c.in-Ok.ensures c.in_ok-end.ensures.ok c.in-Ran.field-0 c.in-Ran.is
+
+pub returns-clause-ok : goal.returns-clause-ok
+returns-clause-ok g c = other_end_counts c.args.state.now.observers c.observers-observers.result.now c.args.place c.in-Some.number c.args.cell.now c.in-Ok.job c.in_ok-end.end c.args.state.now c.run_one.new.state c.observers-observers.ensures.observers c.in-Some.ensures.some (c.is_observer_of.ensures.is c.if-not-is_observer_of.false) c.in-Ok.ensures c.in_ok-end.ensures.ok c.in_default-end.not-Ran
