@@ -1,7 +1,7 @@
 -- The lines that wait, and how they are answered.
 use Rattle.std.specs.Prelude.{◌≡◌, ℕ, ◌+◌, ◌≤◌, Bool, true, false, ◌&&◌, ◌==◌, nat_le, nat_lt, List, [], ◌∷◌, ◌++◌, length, None, Ok, codes, decimal, string_bytes}
 use Rattle.std.specs.List.{join_with_byte, list_any}
-use Rattle.pb_keep.specs.Words.{Writes, MAX_CHANGES, IsNextMark, StateOf, is_skipped, batch_of, SaidLeads, IsMade, Made}
+use Rattle.pb_keep.specs.Words.{Writes, commit_count, MAX_CHANGES, IsNextMark, StateOf, is_skipped, batch_of, SaidLeads, IsMade, Made}
 use Rattle.pb_keep.specs.declared.waiting.TheConstants.{MAX_RECORD}
 use Rattle.pb_keep.specs.declared.waiting.Waits.{Waits}
 use Rattle.pb_keep.specs.declared.waiting.Waiting.{Waiting}
@@ -106,10 +106,12 @@ other_line (Waits.Refused code) = codes "refused " ++ (decimal code ++ codes "\n
 other_line Waits.Begun = codes "begun\n"
 other_line Waits.Ended = codes "ended\n"
 
--- a change was made, and is answered so: the commit is its transaction's, and where it says how many runs followed, no cell is marked
+-- a change was made, and is answered so: the commit is its transaction's, the runs are those that were committed after it, and where
+-- it says how many they are, no cell is marked
 pub record IsMadeAs (batch : Writes) (old new : StateOf) (text : List ℕ) : Type 0 where
   pub made : Made
   pub leads : SaidLeads (IsMade old.observers batch made.commit) old new
+  pub runs : made.drained.runs ≡ commit_count leads.form.drain
   pub quiet : made.drained.rests ≡ true → IsNextMark new.marks None None
   pub line : text ≡ made_line made
 

@@ -21,6 +21,7 @@ pub use Rattle.pb_answers.specs.Lists.{IsListAnswer}
 pub use Rattle.pb_answers.specs.Seen.{IsSeenIn}
 pub use Rattle.pb_answers.specs.Values.{IsValueAnswer}
 pub use Rattle.pb_answers.specs.Writes.{IsWritesAnswer}
+pub use Rattle.pb_keeper.specs.Counts.{commit_count}
 pub use Rattle.pb_keeper.specs.Keeps.{Keeps}
 pub use Rattle.pb_keeper.specs.Leads.{SaidLeads}
 pub use Rattle.pb_keeper.specs.Made.{IsMade}

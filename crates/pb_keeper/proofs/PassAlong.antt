@@ -36,7 +36,7 @@ any_on a b c g h = leads_on a b c g h (λ said more p q. tt)
 
 -- ---- numbers of runs
 
--- what was said in two parts counts as both together, as far as 64 bits can say
+-- two parts of a conversation count as both together, as far as 64 bits reach
 pub counts_on : {P Q R : List Received → Type 0} (a b c : StateOf) (m n k : ℕ) → k ≡ min (m + n) (2 ^ 64 - 1) → SaidLeads (CountsCommits P m) a b → SaidLeads (CountsCommits Q n) b c
     → ((said more : List Received) → P said → Q more → R (said ++ more)) → SaidLeads (CountsCommits R k) a c
 counts_on a b c m n k is g h join = leads_on a b c g h (λ said more p q. record { form = join said more p.form q.form; count = both (commit_count said) (commit_count more) (commit_count (said ++ more)) p.count q.count (count_append said more) })
@@ -56,10 +56,6 @@ mark_counts last answer said n e =
 part_on : (observers : List ObserverOf) (x : Cell) (i : ℕ) (said more : List Received) → AreRuns observers x i said → IsItsTurn observers i x more → AreRuns observers x (i + 1) (said ++ more)
 part_on observers x i said more before (inl r) = ran_then i said more before r
 part_on observers x i said more before (inr o) = subst (λ (l : List Received). AreRuns observers x (i + 1) l) (sym (ap (λ l. said ++ l) o.1 ∙ append-nil said)) (passes_by i said before o.0)
-
--- another column's observer has no run
-pub no_turn : (observers : List ObserverOf) (n : ℕ) (x : Cell) (a : StateOf) → IsOfOther observers n x → SaidLeads (CountsCommits (IsItsTurn observers n x) 0) a a
-no_turn observers n x a other = leads_none a (record { form = inr (other, refl); count = refl })
 
 few_of_end : (end : JobEnd) → commits_of_end end ≤ 1
 few_of_end end = grind arith
