@@ -88,6 +88,6 @@ kept_all true old now e kept same alone = kept refl
 kept_all false old now e kept same alone =
     let group : old.is_group ≡ false = ap (λ w. w.is_group) (sym (same refl)) ∙ alone in
     absurd (both_false old.is_group e group) where
-  both_false : (group : Bool) → false ≡ not group → group ≡ false → ⊥
-  both_false true e f = absurd cc
-  both_false false e f = absurd cc
+      both_false : (group : Bool) → false ≡ not group → group ≡ false → ⊥
+      both_false true e f = absurd cc
+      both_false false e f = absurd cc

@@ -130,8 +130,8 @@ module _ (b : Beginning) (lines : List (List ℕ)) (seen : List ℕ) (may_leave 
         log = s.log;
         keeps = s.keeps;
         held = subst (λ g. AreHeld state (s.pending ++ line ∷ []) now.items.items g) (sym w.group)
-        (subst (λ l. AreHeld state (s.pending ++ line ∷ []) l (group_after (group_of waiting) (length line) w.item)) (sym w.items)
-        (one_held s.pending line waiting.items.items w.item (group_of waiting) s.held any));
+            (subst (λ l. AreHeld state (s.pending ++ line ∷ []) l (group_after (group_of waiting) (length line) w.item)) (sym w.items)
+            (one_held s.pending line waiting.items.items w.item (group_of waiting) s.held any));
       }
 
   all_answered : waiting.items.items ≡ [] → lines ≡ s.answered

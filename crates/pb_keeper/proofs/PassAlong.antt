@@ -23,7 +23,7 @@ use Rattle.pb_notify.specs.Runs.{RunOf, Watch, watch_of}
 use Rattle.pb_notify.specs.declared.need.JobEnd.{JobEnd}
 use Rattle.pb_passes.specs.declared.passes.TheConstants.{MAX_PASSES}
 use Rattle.pb_keeper.specs.Leads.{SaidLeads, IsAny, IsEndedChange}
-use Rattle.pb_passes.specs.Passes.{HasColumn, IsJobOn, IsRun, IsOfOther, AreRuns, before_all, runs as ran_then, passes_by, AreAllRuns, IsWalk, at_beginning, found as found_then, IsPass, IsPassThat, ArePasses, at_first, one_more, IsDrain}
+use Rattle.pb_passes.specs.Passes.{HasColumn, IsJobOn, IsRun, AreRuns, before_all, runs as ran_then, passes_by, AreAllRuns, IsWalk, at_beginning, found as found_then, IsPass, IsPassThat, ArePasses, at_first, one_more, IsDrain}
 use Rattle.pb_passes.proofs.Marks.{Found}
 use Rattle.pb_keeper.specs.Counts.{commit_count, commits_of_end, CountsCommits}
 use Rattle.pb_keeper.specs.Made.{IsItsTurn, IsMade}
@@ -36,7 +36,7 @@ any_on a b c g h = leads_on a b c g h (λ said more p q. tt)
 
 -- ---- numbers of runs
 
--- two parts of a conversation count as both together, as far as 64 bits reach
+-- the numbers of two parts add up, as far as 64 bits can say
 pub counts_on : {P Q R : List Received → Type 0} (a b c : StateOf) (m n k : ℕ) → k ≡ min (m + n) (2 ^ 64 - 1) → SaidLeads (CountsCommits P m) a b → SaidLeads (CountsCommits Q n) b c
     → ((said more : List Received) → P said → Q more → R (said ++ more)) → SaidLeads (CountsCommits R k) a c
 counts_on a b c m n k is g h join = leads_on a b c g h (λ said more p q. record { form = join said more p.form q.form; count = both (commit_count said) (commit_count more) (commit_count (said ++ more)) p.count q.count (count_append said more) })

@@ -18,7 +18,7 @@ is_primary_commit _ _ = false
 abbrev pub commit_count : List Received → ℕ
 commit_count said = count_by (λ r. is_primary_commit r.step r.answer) said
 
--- a conversation of this form, in which so many transactions were committed, as far as 64 bits reach
+-- the conversation is of this form, and so many transactions were committed in it, as far as 64 bits can say
 pub record CountsCommits (P : List Received → Type 0) (n : ℕ) (said : List Received) : Type 0 where
   pub form : P said
   pub count : n ≡ u64_saturate (commit_count said)

@@ -30,9 +30,12 @@ returns-in_ok-take_bytes-in-Read-clause-crash g c = λ b lines from to r s file 
 pub returns-in_ok-refuse-in-TooLong-clause-serves : goal.returns-in_ok-refuse-in-TooLong-clause-serves
 returns-in_ok-refuse-in-TooLong-clause-serves g c = λ b lines from to r s.
     let old = c.args.keeper.now in
-    let long = subst (λ x. IsLineRead x c.args.bytes.now from to) c.in-TooLong.is r in
-    (long.1, long.3, serves_held b lines (g.D.Disk.seen old.log.disk) (g.D.Disk.may_leave old.log.disk) old.log.end old.state old.waiting (g.S.Sink.taken c.args.out.now) s
-    long.1 (Err ScriptCode.Form) c.refuse.new.waiting (long_line long.1 long.2) tt (c.in_ok-refuse-in-TooLong.ensures.held old.state long.1))
+    let long = subst (λ x. IsLineRead x c.args.bytes.now from to) c.in-TooLong.is r in (
+      long.1,
+      long.3,
+      serves_held b lines (g.D.Disk.seen old.log.disk) (g.D.Disk.may_leave old.log.disk) old.log.end old.state old.waiting (g.S.Sink.taken c.args.out.now) s
+          long.1 (Err ScriptCode.Form) c.refuse.new.waiting (long_line long.1 long.2) tt (c.in_ok-refuse-in-TooLong.ensures.held old.state long.1),
+    )
 
 pub returns-in_ok-refuse-in-TooLong-clause-crash : goal.returns-in_ok-refuse-in-TooLong-clause-crash
 returns-in_ok-refuse-in-TooLong-clause-crash g c = λ b lines from to r s file m.

@@ -23,6 +23,6 @@ returns-clause-serves g c = λ observers written k idle.
       h.0,
       record { records = map (λ v. v.items) c.in_ok-records.records.items; has = c.in_ok-records.ensures.records clean; make = h.1 },
       serves_none c.args.manifest.now observers h.0 c.make_records_anew.new.state written (g.D.Disk.seen disk) (g.D.Disk.may_leave disk) c.open.new.self.end c.args.self.now.waiting
-      (record { records = map (λ v. v.items) c.in_ok-records.records.items; at_rest = c.in_ok-records.ensures.at_rest clean; make = h.1 }) h.2 idle,
+          (record { records = map (λ v. v.items) c.in_ok-records.records.items; at_rest = c.in_ok-records.ensures.at_rest clean; make = h.1 }) h.2 idle,
     ))
     (c.make_records_anew.ensures observers [] k)
