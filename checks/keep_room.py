@@ -1,0 +1,94 @@
+"""A place in which `percobpf_keep` is run for `checks/keep`: its manifest, a folder for logs, and the tables of programs that were never
+killed."""
+from __future__ import annotations
+
+import json
+import os
+import subprocess
+import sys
+import threading
+from pathlib import Path
+
+TOP = Path(__file__).resolve().parent.parent
+
+
+class Room:
+    """A program, its manifest, and a folder for logs."""
+
+    def __init__(self, program, folder):
+        self.program, self.folder = program, Path(folder)
+        self.manifest = self.folder / "manifest.json"
+        parts = [json.loads((TOP / f"examples/{name}.json").read_text()) for name in ("copy", "counter", "watch")]
+        observers = [observer for part in parts for observer in part["observers"]]
+        self.manifest.write_text(json.dumps({"profile": 1, "observers": observers}))
+        self.shim = self.folder / "fault.so"
+        words = ["cc", "-shared", "-fPIC", "-O1", "-o", self.shim, TOP / "checks/fault.c", "-ldl"]
+        subprocess.run(words, check=True)
+        self.tables, self.lock = {}, threading.Lock()
+
+    def log(self, name):
+        path = self.folder / f"{name}.log"
+        for each in (path, Path(f"{path}-wal")):
+            each.unlink(missing_ok=True)
+        return path
+
+    def start(self, log, **more):
+        how = {"stdin": subprocess.PIPE, "stdout": subprocess.PIPE, "stderr": subprocess.PIPE}
+        return subprocess.Popen([self.program, self.manifest, log], **how, **more)
+
+    def run(self, log, lines, manifest=None, **more):
+        """The status, the lines of output, and the text of errors."""
+        text = "".join(f"{line}\n" for line in lines).encode()
+        words = [self.program, manifest or self.manifest, log]
+        ended = subprocess.run(words, input=text, capture_output=True, env={**os.environ, **more}, timeout=120)
+        return ended.returncode, ended.stdout.decode().split("\n")[:-1], ended.stderr.decode()
+
+    def run_in_turn(self, log, messages, **more):
+        """The same of lines of which each message is sent after the one before it is answered, each line by one line."""
+        with self.start(log, env={**os.environ, **more}) as running:
+            return answers_in_turn(running, messages)
+
+    def table(self, changes):
+        """The report after these changes, of a program that was never killed."""
+        key = tuple(changes)
+        with self.lock:
+            if key not in self.tables:
+                status, out, errors = self.run(self.log("never"), [*changes, "list", "quiet?"])
+                if status or errors:
+                    sys.exit(f"keep: {len(changes)} changes: status {status}, {errors}")
+                self.tables[key] = out[1 + len(changes) :]
+            return self.tables[key]
+
+    def opened(self, log):
+        """How many changes a log has, and its table; or None and what is reported, with a status that isn't 1."""
+        status, out, errors = self.run(log, ["list", "quiet?"])
+        if status == 0 and out and out[0].startswith("open "):
+            return int(out[0].split()[1]), out[1:]
+        return None, errors if status == 1 and not out else f"status {status}, output {out}, {errors}"
+
+
+def answers_in_turn(running, messages):
+    """The status, the lines of output, and the text of errors of a program that was started."""
+    out = [running.stdout.readline()]
+    for lines in messages:
+        try:
+            running.stdin.write("".join(f"{line}\n" for line in lines).encode())
+            running.stdin.flush()
+        except BrokenPipeError:
+            break
+        out += [running.stdout.readline() for _ in lines]
+    try:
+        running.stdin.close()
+    except BrokenPipeError:
+        pass
+    errors = running.stderr.read().decode()
+    return running.wait(), [line.decode()[:-1] for line in out if line], errors
+
+
+def made_in(lines):
+    return sum(line.startswith("made ") for line in lines)
+
+
+def line_of(sentence):
+    """The text of errors in which a sentence is reported."""
+    return f"Error: {sentence}\n"
