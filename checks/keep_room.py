@@ -2,6 +2,7 @@
 killed."""
 from __future__ import annotations
 
+import copy
 import json
 import os
 import subprocess
@@ -16,7 +17,8 @@ class Room:
     """A program, its manifest, and a folder for logs."""
 
     def __init__(self, program, folder):
-        self.program, self.folder = program, Path(folder)
+        # nsenter runs it in another folder
+        self.program, self.folder = Path(program).resolve(), Path(folder)
         self.manifest = self.folder / "manifest.json"
         parts = [json.loads((TOP / f"examples/{name}.json").read_text()) for name in ("copy", "counter", "watch")]
         observers = [observer for part in parts for observer in part["observers"]]
@@ -24,6 +26,7 @@ class Room:
         self.shim = self.folder / "fault.so"
         words = ["cc", "-shared", "-fPIC", "-O1", "-o", self.shim, TOP / "checks/fault.c", "-ldl"]
         subprocess.run(words, check=True)
+        self.before = []
         self.tables, self.lock = {}, threading.Lock()
 
     def log(self, name):
@@ -32,14 +35,20 @@ class Room:
             each.unlink(missing_ok=True)
         return path
 
+    def run_by(self, words):
+        """The same room, in which the program is run by these words."""
+        other = copy.copy(self)
+        other.before = words
+        return other
+
     def start(self, log, **more):
         how = {"stdin": subprocess.PIPE, "stdout": subprocess.PIPE, "stderr": subprocess.PIPE}
-        return subprocess.Popen([self.program, self.manifest, log], **how, **more)
+        return subprocess.Popen([*self.before, self.program, self.manifest, log], **how, **more)
 
     def run(self, log, lines, manifest=None, **more):
         """The status, the lines of output, and the text of errors."""
         text = "".join(f"{line}\n" for line in lines).encode()
-        words = [self.program, manifest or self.manifest, log]
+        words = [*self.before, self.program, manifest or self.manifest, log]
         ended = subprocess.run(words, input=text, capture_output=True, env={**os.environ, **more}, timeout=120)
         return ended.returncode, ended.stdout.decode().split("\n")[:-1], ended.stderr.decode()
 

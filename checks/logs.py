@@ -14,6 +14,7 @@ WORD = 2**64 - 1
 OTHER_MANIFEST = "the log is of another manifest"
 NEWER = "the log is of a newer version"
 NO_LOG = "the file is no log"
+NO_SCRIPT = "a record of the log can't be read"
 
 
 class Unreadable(Exception):
@@ -52,6 +53,14 @@ def sum_of(place, item):
 
 def header(manifest, version="1"):
     return f"percobpf log {version}\n".encode() + manifest
+
+
+def log_of(records):
+    """The file that has these records."""
+    file = b""
+    for item in records:
+        file += bytes([OPEN]) + struct.pack("<IQ", len(item), sum_of(len(file), item)) + item
+    return file + bytes([CLOSED])
 
 
 def record_after(file, at):
