@@ -1,0 +1,230 @@
+"""Random sessions with `percobpf_keep`: each answer has to be that of kept_tables.py, and the log has to have the lines of the changes.
+
+A session has a manifest, and a log that is opened several times. Its lines come one by one or many at once, and parted anywhere. The
+input ends after a line, within a group, or within a last line; or the program is killed once all is answered.
+"""
+from __future__ import annotations
+
+import random
+import subprocess
+import tempfile
+import threading
+import time
+from collections import Counter
+from pathlib import Path
+
+import logs
+from kept_tables import KeptTable
+from random_lines import NO_OBSERVERS, line_from, manifest_of
+from random_texts import field_from
+from tables import encoded, observer
+from tables import manifest_of as manifest_with
+
+SECONDS = 60
+
+# A session is over once the table's clock is there, so that endless observers don't take the model minutes.
+LAST_TIMESTAMP = 3_000
+STARTS, BATCHES, LINES = (1, 2, 2, 3), (1, 3, 6, 12), (1, 1, 1, 2, 5, 20, 60)
+
+
+# A program that writes the cell of the row before its own, and none from row 0, so that each pass has one run, and marks one cell.
+DOWN = encoded(
+    *("ldxdw r6, [r1+0]", "jeq64 r6, 0, +10", "stdw [r10-32], 42", "stdw [r10-24], 0", "stdw [r10-16], 0", "stdw [r10-8], 0"),
+    *("mov64 r1, r6", "add64 r1, -1", "mov64 r2, 0", "mov64 r3, r10", "add64 r3, -32", "call 2", "mov64 r0, 0", "exit"),
+)
+
+
+class Differs(Exception):
+    """What was wanted and what came, and where that is kept."""
+
+
+class Session:
+    """The program over a log, and the model of its table."""
+
+    def __init__(self, program, folder, manifest):
+        self.program, self.folder = program, Path(folder)
+        self.manifest, self.log = self.folder / "manifest.json", self.folder / "table.log"
+        self.manifest.write_text(manifest)
+        self.kept = KeptTable(manifest)
+        self.sent, self.met, self.timer = b"", Counter(), threading.Timer(SECONDS, bool)
+
+    def compare(self, what, came, wanted):
+        if came != wanted:
+            raise Differs(f"{what}: {came!r}, wanted {wanted!r}")
+
+    def start(self):
+        how = {"stdin": subprocess.PIPE, "stdout": subprocess.PIPE, "stderr": subprocess.PIPE}
+        self.running = subprocess.Popen([self.program, self.manifest, self.log], **how)
+        self.sent = b""
+        self.watch()
+        self.compare("the first line", self.running.stdout.readline(), f"open {len(self.kept.lines)}\n".encode())
+
+    def watch(self):
+        """From now on the program has so many seconds for what it is asked next."""
+        self.timer.cancel()
+        self.timer = threading.Timer(SECONDS, self.running.kill)
+        self.timer.start()
+
+    def stop(self):
+        self.running.kill()
+        self.timer.cancel()
+        self.running.communicate()
+
+    def end(self, status):
+        """The program has ended, or does now, without another answer."""
+        self.watch()
+        try:
+            self.running.stdin.close()
+        except BrokenPipeError:
+            pass
+        rest, errors = self.running.stdout.read(), self.running.stderr.read()
+        self.compare("the end", (self.running.wait(), rest, errors), (status, b"", b""))
+        self.timer.cancel()
+        file = self.log.read_bytes()
+        self.compare("the log", logs.changes_in(file, self.manifest.read_bytes()), self.kept.lines)
+        self.compare("groups that stand in two records", self.parted_groups(file), [])
+
+    def parted_groups(self, file):
+        """The groups within which a record of the log ends."""
+        ends, count = set(), 0
+        for script in logs.scripts_in(file, self.manifest.read_bytes()):
+            count += script.count(b"\n")
+            ends.add(count)
+        return [(first, last) for first, last in self.kept.groups if any(end in ends for end in range(first + 1, last))]
+
+    def send(self, pieces):
+        try:
+            for piece in pieces:
+                self.running.stdin.write(piece)
+                self.running.stdin.flush()
+                time.sleep(0.001 if len(pieces) > 1 else 0)
+        except BrokenPipeError:
+            pass
+
+    def exchange(self, pieces, wanted):
+        """Sends the pieces of lines, and compares the answers."""
+        self.watch()
+        self.sent += b"".join(pieces)
+        sender = threading.Thread(target=self.send, args=(pieces,))
+        sender.start()
+        for place, answer in enumerate(wanted):
+            came = self.running.stdout.readline()
+            if came != f"{answer}\n".encode():
+                self.running.kill()
+                sender.join()
+                before = wanted[max(place - 3, 0) : place]
+                raise Differs(f"answer {place} of {len(wanted)}: {came!r}, wanted {answer!r}, after {before}")
+            self.met[" ".join(answer.split(" ")[: 2 if answer.startswith("refused") else 1])] += 1
+            self.met["unquiet"] += answer.endswith(" unquiet")
+        sender.join()
+
+    def batch(self, pick, field):
+        """Some lines, and their answers."""
+        text, wanted = b"", []
+        for _ in range(pick.choice(LINES)):
+            if self.kept.table.clock >= LAST_TIMESTAMP:
+                break
+            kind, line = line_from(pick, field, self.kept)
+            self.met[f"{kind} lines"] += 1
+            text += line + b"\n"
+            wanted += self.kept.take(line)
+        self.exchange(parts_of(pick, text), wanted)
+
+    def close(self, pick, field):
+        """Ends a program that has answered all but a group that hasn't ended."""
+        if self.kept.waiting is not None:
+            self.kept.drop_group()
+            self.met["group left"] += 1
+            self.end(0)
+        elif pick.random() < 0.3:
+            self.running.kill()
+            self.met["killed"] += 1
+            self.end(-9)
+        else:
+            if pick.random() < 0.4:
+                self.last_line(pick, field)
+            self.end(0)
+
+    def last_line(self, pick, field):
+        """A last line, without its newline."""
+        kind, line = line_from(pick, field, self.kept)
+        if line and kind not in ("begin", "turned"):
+            self.met["last line"] += 1
+            self.send([line])
+            self.running.stdin.close()
+            self.exchange([], self.kept.take(line))
+
+    def go(self, pick, field):
+        for _ in range(pick.choice(STARTS)):
+            self.start()
+            self.met["starts"] += 1
+            for _ in range(pick.choice(BATCHES)):
+                self.batch(pick, field)
+            self.close(pick, field)
+
+
+def parts_of(pick, text):
+    """A text in one to six pieces."""
+    count = pick.choice((1, 1, 1, 2, 6))
+    places = sorted(pick.randrange(len(text) + 1) for _ in range(count - 1))
+    return [text[begin:end] for begin, end in zip([0, *places], [*places, len(text)])]
+
+
+def kept_files(session, fault):
+    """A folder with what a session had that differs."""
+    folder = Path(tempfile.mkdtemp(prefix="keep-differs-"))
+    for file in (session.manifest, session.log):
+        if file.exists():
+            (folder / file.name).write_bytes(file.read_bytes())
+    (folder / "lines").write_bytes(session.sent)
+    (folder / "why").write_text(f"{fault}\n")
+    return folder
+
+
+def run(program, seed, number):
+    """Has a session, and counts what it met; or answers why it differs."""
+    pick = random.Random(f"{seed} {number}")
+    field = field_from(pick)
+    with tempfile.TemporaryDirectory(prefix="session-") as folder:
+        session = Session(program, folder, manifest_of(pick, field))
+        try:
+            session.go(pick, field)
+        except Differs as fault:
+            session.stop()
+            return f"session {number} of seed {seed}: {fault} ({kept_files(session, fault)})"
+    return session.met
+
+
+def try_group(session):
+    """A group of as many changes as a record may have, and of two more, which are refused."""
+    lines = ["begin", *(f"put {row} 0 2a" for row in range(10_002)), "end"]
+    session.exchange(["".join(f"{line}\n" for line in lines).encode()], GROUP)
+    session.kept.lines = lines[1:10_001]
+    session.end(0)
+    session.start()
+    session.exchange([b"get 9999 0\nget 10000 0\n"], ["value 2a commit 20000", "absent"])
+
+
+# Each change commits two timestamps after the one before it.
+GROUP = ["begun", *(f"made {2 * number} runs 0" for number in range(1, 10_001)), "refused 75", "refused 75", "ended"]
+
+
+def try_passes(session):
+    """Changes after which 999 and 1,000 passes find a mark: with the second, the last pass that is made isn't one without."""
+    lines, wanted = ["put 998 0 01", "quiet?", "put 999 0 01", "quiet?"], ["made 2 runs 999", "quiet", "made 2002 unquiet", "quiet"]
+    session.exchange(["".join(f"{line}\n" for line in lines).encode()], wanted)
+    session.kept.lines = [lines[0], lines[2]]
+    session.end(0)
+    session.start()
+    session.exchange([b"put 0 0 01\n"], ["made 4004 runs 1"])
+
+
+def try_limits(program):
+    """Sessions at the limits of a group and of passes, whose answers are worked out by hand."""
+    down = manifest_with(observer("down", 0, "2", DOWN.hex()))
+    for limit, manifest in ((try_group, NO_OBSERVERS.read_text()), (try_passes, down)):
+        with tempfile.TemporaryDirectory(prefix="session-") as folder:
+            session = Session(program, folder, manifest)
+            session.start()
+            limit(session)
+            session.stop()
