@@ -63,6 +63,8 @@ def refused_files(manifest):
         ("a record of another program", logs.log_of([b"other log 1\n", change]), logs.NO_LOG),
         ("an empty first record", logs.log_of([b"", change]), logs.NO_LOG),
         ("a change in the header's place", logs.log_of([change, change]), logs.NO_LOG),
+        ("a film", b"\0\0\0\x20ftypisom" + bytes(range(256)) * 16, logs.NO_LOG),
+        ("one byte more than a torn header", bytes(15 + len(header)), logs.NO_LOG),
         ("a text", b"put 7 0 2a\nput 8 0 2b\n", "the log is damaged at byte 0"),
         ("a manifest", manifest, "the log is damaged at byte 0"),
         ("a database of sqlite", b"SQLite format 3\0" + bytes(4080), "the log is damaged at byte 0"),

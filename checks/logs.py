@@ -89,9 +89,12 @@ def records_in(file):
 
 
 def scripts_in(file, manifest):
-    """The scripts of a log of this manifest, one for each record; or `Unreadable` is raised. A file without a record is a new log."""
+    """The scripts of a log of this manifest, one for each record; or `Unreadable` is raised. A file without a record is a new log, if
+    it has no more bytes than a crash leaves before the header is there."""
     records = [item for _, item in records_in(file)]
     if not records:
+        if len(file) > 14 + len(header(manifest)):
+            raise Unreadable(NO_LOG)
         return []
     first, *scripts = records
     if not first.startswith(b"percobpf log "):

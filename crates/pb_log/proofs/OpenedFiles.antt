@@ -74,7 +74,10 @@ why_not_ours manifest file first others old new Full its why = why
 why_not_ours manifest file first others old new (Damaged at) its why = absurd why
 why_not_ours manifest file first others old new OtherManifest its why = record { first = first; others = others; is = its; why = why }
 why_not_ours manifest file first others old new NewerVersion its why = record { first = first; others = others; is = its; why = why }
-why_not_ours manifest file first others old new NoHeader its why = record { first = first; others = others; is = its; why = why }
+why_not_ours manifest file first others old new NoHeader its why = inl (record { first = first; others = others; is = its; why = why })
+
+pub has_a_record : (first : List ℕ) (others : List (List ℕ)) → first ∷ others ≡ [] → ⊥
+has_a_record first others e = absurd cc
 
 -- ---- what a `?` passes on, and a number that isn't zero
 

@@ -1,10 +1,10 @@
 -- Why a call of a log may fail.
-use Rattle.std.specs.Prelude.{◌≡◌, ℕ, ◌≤◌, ◌^◌, List, ◌∷◌, length}
+use Rattle.std.specs.Prelude.{◌≡◌, ◌⊎◌, ℕ, ◌+◌, ◌<◌, ◌≤◌, ◌^◌, List, [], ◌∷◌, length}
 use Rattle.sqlite_disk.specs.Disk.{MoreFaults}
 use Rattle.pb_log.specs.declared.fault.LogFault.{LogFault}
 use Rattle.pb_log.specs.declared.fault.LogFault.TheVariants.{NoMemory, Disk, Full, Damaged, OtherManifest, NewerVersion, NoHeader}
 use Rattle.pb_log.specs.Records.{blocks, IsLog, IsReadable}
-use Rattle.pb_log.specs.Header.{WhyNotOurs}
+use Rattle.pb_log.specs.Header.{header, WhyNotOurs}
 
 -- the call did nothing
 abbrev pub IsNotBegun : LogFault → Type 0
@@ -51,9 +51,15 @@ pub record HasOther (manifest file : List ℕ) (e : LogFault) : Type 0 where
   pub is : IsLog file (first ∷ others)
   pub why : WhyNotOurs manifest first e
 
+-- no record stands in the file, and it is longer than what a crash leaves in which the header was put
+pub record IsNoLog (manifest file : List ℕ) : Type 0 where
+  pub none : IsLog file []
+  pub long : 14 + length (header manifest) < length file
+
 abbrev pub WhyNotOpened : List ℕ → ℕ → ℕ → List ℕ → LogFault → Type 0
 WhyNotOpened manifest old new file (NoMemory n) = Unit {0}
 WhyNotOpened manifest old new file (Disk e) = MoreFaults old new
 WhyNotOpened manifest old new file Full = ⊥
 WhyNotOpened manifest old new file (Damaged at) = IsDamaged file at
+WhyNotOpened manifest old new file NoHeader = HasOther manifest file NoHeader ⊎ IsNoLog manifest file
 WhyNotOpened manifest old new file e = HasOther manifest file e

@@ -28,7 +28,7 @@ pub enum LogFault {
     /// The header has another version than 1.
     #[error("the log is of a newer version")]
     NewerVersion,
-    /// The first record is no header.
+    /// The first record is no header, or the file has no record, and more bytes than a new log may have.
     #[error("the file is no log")]
     NoHeader,
 }

@@ -3,7 +3,7 @@ ghost use Rattle.std.specs.Prelude.{◌≡◌, ◌⊎◌, ◌∷◌, [], ◌<◌
 ghost use Rattle.sqlite_disk.specs.Disk.{Only};
 ghost use Rattle.pb_log.specs.Records.{IsLog, IsAtRest, IsReadable};
 ghost use Rattle.pb_log.specs.Header.{header, HasRecords};
-ghost use Rattle.pb_log.specs.Causes.{WhyNotOpened, IsOfTheFile};
+ghost use Rattle.pb_log.specs.Causes.{IsNoLog, IsOfTheFile, WhyNotOpened};
 
 use crate::fault::LogFault;
 use crate::header::{compare_header, header_of};
@@ -12,9 +12,13 @@ use crate::recovery::recover;
 use sqlite_disk::Disk;
 use std::alloc::Global;
 
+// The most bytes beside the header that a crash leaves in the first put: two gates, a length and a sum.
+const MOST_BESIDE: usize = 14;
+
 impl<D: Disk> Log<D> {
     /// Opens the log that the disk holds after a start or a crash, and returns its records in their order, without the header.
-    /// `manifest` has less than 2^31 bytes. A new file, of at most one byte, gets the header. At `Err` the log isn't opened;
+    /// `manifest` has less than 2^31 bytes. A new file, of at most one byte, gets the header, and so does one that a crash left
+    /// before it had one. At `Err` the log isn't opened;
     /// only at `Disk` and `NoMemory` may the file have changed, and it has the same records then.
     pub fn open(&mut self, alloc: Global, manifest: &[u8]) -> Result<Vec<Vec<u8>>, LogFault>
         requires usable { IsTrue (D.is_usable self.old.disk) }
@@ -27,6 +31,9 @@ impl<D: Disk> Log<D> {
         ensures readable { OnOk result (IsTrue (D.is_clean self.new.disk)
             → (all : List (List ℕ)) → IsLog (D.seen self.old.disk) all
             → IsReadable (D.seen self.old.disk) all) }
+        // What can't be a log before it has its header is left as it is.
+        ensures other { OnOk result (IsTrue (D.is_clean self.new.disk)
+            → IsNoLog manifest.now (D.seen self.old.disk) → ⊥) }
         ensures at_rest { IfOk result (λ rs. IsTrue (D.is_clean self.new.disk)
             → IsAtRest (D.seen self.new.disk) (D.may_leave self.new.disk) self.new.end
             (header manifest.now ∷ map (λ v. v.items) rs.items)) }
@@ -44,10 +51,13 @@ impl<D: Disk> Log<D> {
             → D.seen self.new.disk ≡ D.seen self.old.disk) }
         ensures faultless { OnOk result (D.faults self.new.disk ≡ D.faults self.old.disk) }
     {
-        let (mut records, end) = recover(alloc, &mut self.disk)?;
+        let (mut records, end, len) = recover(alloc, &mut self.disk)?;
         self.end = end;
         if records.is_empty() {
             let header = header_of(alloc, manifest)?;
+            if len > MOST_BESIDE + header.len() {
+                return Err(LogFault::NoHeader);
+            }
             self.put(alloc, &header)?;
             return Ok(records);
         }

@@ -1,5 +1,5 @@
 //! The records of a disk that a crash may have left.
-ghost use Rattle.std.specs.Prelude.{◌≡◌, ◌<◌, ℕ, List, map, vec_len, IfOk, OnOk, IfErr, IsTrue};
+ghost use Rattle.std.specs.Prelude.{◌≡◌, ◌<◌, ℕ, List, length, map, vec_len, IfOk, OnOk, IfErr, IsTrue};
 ghost use Rattle.sqlite_disk.specs.Disk.{Only};
 ghost use Rattle.pb_log.specs.Records.{IsLog, IsAtRest, IsReadable};
 ghost use Rattle.pb_log.specs.Causes.{WhyNotRead, WhyNotRecovered, IsOfTheFile};
@@ -27,9 +27,12 @@ fn read_all<D: Disk>(alloc: Global, disk: &mut D) -> Result<Vec<u8>, LogFault>
     Ok(bytes)
 }
 
-// Reads the records, and where they end. It may crash too. What was torn after the closed gate is left there. A file of at most
-// one byte is new, and gets its closed gate.
-pub fn recover<D: Disk>(alloc: Global, disk: &mut D) -> Result<(Vec<Vec<u8>>, usize), LogFault>
+// Reads the records, where they end, and how many bytes the file had. It may crash too. What was torn after the closed gate is
+// left there. A file of at most one byte is new, and gets its closed gate.
+pub fn recover<D: Disk>(
+    alloc: Global,
+    disk: &mut D,
+) -> Result<(Vec<Vec<u8>>, usize, usize), LogFault>
     requires usable { IsTrue (D.is_usable disk.old) }
     requires restarted { Only (D.seen disk.old) (D.may_leave disk.old) }
     ensures records { IfOk result (λ r. IsTrue (D.is_clean disk.new)
@@ -49,17 +52,20 @@ pub fn recover<D: Disk>(alloc: Global, disk: &mut D) -> Result<(Vec<Vec<u8>>, us
         → WhyNotRecovered (D.faults disk.old) (D.faults disk.new) (D.seen disk.old) e) }
     ensures kept { IfErr result (λ e. IsOfTheFile e → D.seen disk.new ≡ D.seen disk.old) }
     ensures read_alone { IfOk result (λ r. 0 < vec_len r.0 → D.seen disk.new ≡ D.seen disk.old) }
+    ensures old { IfOk result (λ r. 1 < r.2 → D.seen disk.new ≡ D.seen disk.old) }
+    ensures bytes { IfOk result (λ r. IsTrue (D.is_clean disk.new)
+        → r.2 ≡ length (D.seen disk.old)) }
     ensures faultless { OnOk result (D.faults disk.new ≡ D.faults disk.old) }
 {
     let bytes = read_all(alloc, disk)?;
     if bytes.len() <= 1 {
         disk.write_at(0, &[CLOSED])?;
         disk.sync()?;
-        return Ok((Vec::new(alloc), 0));
+        return Ok((Vec::new(alloc), 0, bytes.len()));
     }
     let (records, end) = read_records(alloc, &bytes)?;
     if !ends_shut(end, &bytes[end..]) {
         return Err(LogFault::Damaged(end));
     }
-    Ok((records, end))
+    Ok((records, end, bytes.len()))
 }

@@ -3,7 +3,8 @@ use Rattle.pb_log.specs.declared.fault.LogFault.{LogFault}
 use Rattle.pb_log.specs.Records.{IsLog, IsAtRest}
 use Rattle.pb_log.specs.Header.{header, WhyNotOurs}
 use Rattle.pb_log.specs.Causes.{IsOfTheFile, WhyNotOpened}
-use Rattle.pb_log.proofs.OpenedFiles.{first_split, no_records, fresh_has_none, others_are_kept, same_readable, header_crash, why_not_found, why_no_header_put, put_is_not_of_file, why_not_ours, err_if, is_zero, is_some_number}
+use Rattle.pb_log.proofs.OpenedFiles.{first_split, has_a_record, no_records, fresh_has_none, others_are_kept, same_readable, header_crash, why_not_found, why_no_header_put, put_is_not_of_file, why_not_ours, err_if, is_zero, is_some_number}
+use Rattle.pb_log.proofs.OneReading.{one_reading}
 use Rattle.pb_log.proofs.log.Log.open.Goals as goal
 
 pub returns-in_err-records-clause-cause : goal.returns-in_err-records-clause-cause
@@ -77,6 +78,13 @@ returns-then-is_empty-clause-at_rest g c clean =
     let same : c.deref.result.now ≡ header c.args.manifest.now = c.deref.ensures.value ∙ c.in_ok-header.ensures in
     subst (λ (l : List (List ℕ)). IsAtRest (g.D.Disk.seen c.put.new.self.disk) (g.D.Disk.may_leave c.put.new.self.disk) c.put.new.self.end l) (ap (λ (x : List ℕ). x ∷ []) same ∙ ap (λ (l : List (List ℕ)). header c.args.manifest.now ∷ l) (sym none)) (c.in_ok-put.ensures.acknowledged [] rest)
 
+pub returns-then-is_empty-clause-other : goal.returns-then-is_empty-clause-other
+returns-then-is_empty-clause-other g c clean longer =
+    let still : IsTrue (g.D.Disk.is_clean c.recover.new.disk) = sym c.put.ensures.clean ∙ clean in
+    let bytes = c.in_ok-records.ensures.bytes still in
+    let items = ap length c.in_ok-header.ensures in
+    omega (arith, longer.long, bytes, items, c.len.ensures, c.in_ok-header.header.ok, c.if-len.false)
+
 -- ---- any other has one
 
 pub returns-in_err-compare_header-clause-cause : goal.returns-in_err-compare_header-clause-cause
@@ -122,3 +130,13 @@ returns-clause-at_rest g c clean =
     let split : own ≡ first ∷ others = first_split c.in_ok-records.records.items c.remove-first.new.self.items c.remove-first.result some c.remove-first.ensures.value c.remove-first.ensures.items in
     let ours : first ≡ header c.args.manifest.now = sym c.deref-2.ensures.value ∙ c.in_ok-compare_header.ensures.ok in
     subst (λ (l : List (List ℕ)). IsAtRest (g.D.Disk.seen c.recover.new.disk) (g.D.Disk.may_leave c.recover.new.disk) c.in_ok-records.end l) (split ∙ ap (λ (x : List ℕ). x ∷ others) ours) (c.in_ok-records.ensures.at_rest clean)
+
+pub returns-clause-other : goal.returns-clause-other
+returns-clause-other g c clean longer =
+    let file = g.D.Disk.seen c.args.self.now.disk in
+    let own = map (λ (v : Vec ℕ Global). v.items) c.in_ok-records.records.items in
+    let others = map (λ (v : Vec ℕ Global). v.items) c.remove-first.new.self.items in
+    let first = c.remove-first.result.items in
+    let some : 0 < length c.in_ok-records.records.items = omega (arith, is_some_number c.in_ok-records.records.len c.is_empty.result c.is_empty.ensures c.if-is_empty.false, c.in_ok-records.records.ok) in
+    let split : own ≡ first ∷ others = first_split c.in_ok-records.records.items c.remove-first.new.self.items c.remove-first.result some c.remove-first.ensures.value c.remove-first.ensures.items in
+    has_a_record first others (sym split ∙ (one_reading file own [] (c.in_ok-records.ensures.read clean) longer.none).0)
