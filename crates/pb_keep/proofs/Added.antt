@@ -1,9 +1,8 @@
 -- A line more that waits.
-use Rattle.std.proofs.Common.{◌≡◌, ℕ, List, [], ◌∷◌, ◌++◌, length, refl, ap, sym, subst, ◌∙◌, arith}
+use Rattle.std.proofs.Common.{◌≡◌, ℕ, List, [], ◌∷◌, ◌++◌, refl, ap}
 use Rattle.pb_keep.specs.Words.{Writes}
 use Rattle.pb_keep.specs.declared.waiting.Waits.{Waits}
-use Rattle.pb_keep.specs.declared.waiting.Waiting.{Waiting}
-use Rattle.pb_keep.specs.Waits.{changes_in, AreScriptLines, IsNoLine, IsScriptLine, IsWaiting}
+use Rattle.pb_keep.specs.Waits.{changes_in, AreScriptLines, IsScriptLine}
 
 pub changes_of_both : (xs ys : List Waits) → changes_in (xs ++ ys) ≡ changes_in xs ++ changes_in ys
 changes_of_both [] ys = refl

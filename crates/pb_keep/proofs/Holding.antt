@@ -6,8 +6,8 @@ use Rattle.pb_requests.specs.declared.parse.TheConstants.{MAX_LINE}
 use Rattle.pb_keep.specs.Words.{Condition, Request, ScriptCode, StateOf, Ts, Writes, batch_of, is_skipped, asked_by}
 use Rattle.pb_keep.specs.declared.waiting.Waits.{Waits}
 use Rattle.pb_keep.specs.declared.waiting.Waiting.{Waiting}
-use Rattle.pb_keep.specs.Waits.{has_line_room, FitsIn, Group, group_after, group_of, grouped, IsNoLine}
-use Rattle.pb_keep.specs.Held.{change_as_line, commit_seen, if_commit, if_room, waits_for, waits_within, IsHeldAlone, IsHeldAs, IsHeldIf}
+use Rattle.pb_keep.specs.Waits.{has_line_room, FitsIn, IsNoLine}
+use Rattle.pb_keep.specs.Held.{change_as_line, commit_seen, if_commit, if_room, waits_for, waits_within, IsHeldIf}
 use Rattle.pb_keep.specs.Taken.{IsLineReady}
 use Rattle.pb_keep.proofs.Conditions.{few_bytes}
 use Rattle.pb_keep.proofs.Scripts.{neither_holds}

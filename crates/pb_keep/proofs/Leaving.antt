@@ -1,11 +1,12 @@
 -- What a fault leaves.
 use Rattle.std.proofs.Common.{◌≡◌, ℕ, List, [], ◌++◌, Option, sym, ap, subst, ◌∙◌}
-use Rattle.pb_keep.specs.Words.{AppendsPart, StateOf, Writes}
+use Rattle.pb_keep.specs.Words.{AppendsPart, StateOf, Stopped, Writes}
 use Rattle.pb_keep.specs.declared.fault.KeepFault.{KeepFault}
 use Rattle.pb_keep.specs.declared.waiting.Waits.{Waits}
 use Rattle.pb_keep.specs.Kept.{IsLogOf}
 use Rattle.pb_keep.specs.Waits.{changes_in, AreAnswers, AreSomeAnswers}
-use Rattle.pb_keep.specs.Left.{IsLeftBy, IsLeftInLog, IsLeftMade, IsOfLog, IsOfMaking}
+use Rattle.pb_keeper.specs.Stops.{IsStop}
+use Rattle.pb_keep.specs.Left.{fault_by, IsRightOf, IsLeftBy, IsLeftInLog, IsLeftMade, IsOfLog, IsOfMaking}
 use Rattle.std.proofs.lemmas.List.{append-nil}
 use Rattle.pb_keep.proofs.Putting.{rest_has_changes}
 
@@ -14,7 +15,7 @@ module _ (manifest : List ℕ) (changes : List Writes) (items : List Waits) (old
   left_in_log (KeepFault.Log e) of l = l
   left_in_log (KeepFault.NoMemory e) of l = absurd of
   left_in_log KeepFault.Record of l = absurd of
-  left_in_log KeepFault.Stopped of l = absurd of
+  left_in_log KeepFault.NoTimestamp of l = absurd of
   left_in_log KeepFault.Output of l = absurd of
   left_in_log KeepFault.Input of l = absurd of
 
@@ -22,7 +23,7 @@ module _ (manifest : List ℕ) (changes : List Writes) (items : List Waits) (old
   left_in_making (KeepFault.Log e) of l = absurd of
   left_in_making (KeepFault.NoMemory e) of l = l
   left_in_making KeepFault.Record of l = absurd of
-  left_in_making KeepFault.Stopped of l = l
+  left_in_making KeepFault.NoTimestamp of l = l
   left_in_making KeepFault.Output of l = absurd of
   left_in_making KeepFault.Input of l = absurd of
 
@@ -37,6 +38,23 @@ module _ (manifest : List ℕ) (changes : List Writes) (items : List Waits) (old
     answers = answers;
     is_written = part;
   }
+
+-- ---- why
+
+pub stopped_rightly : (e : Stopped) (state : StateOf) → IsStop e state → IsRightOf state (fault_by e)
+stopped_rightly (Stopped.NoMemory refused) state h = tt
+stopped_rightly (Stopped.Refused why) state h = h.1
+stopped_rightly Stopped.Conflict state h = absurd h
+
+pub log_fails_rightly : (e : KeepFault) (state : StateOf) → IsOfLog e → IsRightOf state e
+log_fails_rightly (KeepFault.Log e) state of = tt
+log_fails_rightly (KeepFault.NoMemory e) state of = absurd of
+log_fails_rightly KeepFault.Record state of = absurd of
+log_fails_rightly KeepFault.NoTimestamp state of = absurd of
+log_fails_rightly KeepFault.Output state of = absurd of
+log_fails_rightly KeepFault.Input state of = absurd of
+
+-- ---- answers
 
 -- all answers are some of them
 pub all_are_some : (items : List Waits) (old new : StateOf) (before after more : List ℕ) → before ≡ [] → after ≡ before ++ more → AreAnswers items old new more → AreSomeAnswers items old [] after

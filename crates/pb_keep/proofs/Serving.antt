@@ -234,7 +234,7 @@ module _ (b : Beginning) (lines : List (List ℕ)) (seen : List ℕ) (may_leave 
   leaves_left new now may_leave2 (KeepFault.Log e) l file m = left_in_log new now may_leave2 l file m
   leaves_left new now may_leave2 (KeepFault.NoMemory e) l file m = left_made now may_leave2 l file m
   leaves_left new now may_leave2 KeepFault.Record l file m = left_made now may_leave2 l file m
-  leaves_left new now may_leave2 KeepFault.Stopped l file m = left_made now may_leave2 l file m
+  leaves_left new now may_leave2 KeepFault.NoTimestamp l file m = left_made now may_leave2 l file m
   leaves_left new now may_leave2 KeepFault.Output l file m = left_made now may_leave2 l file m
   leaves_left new now may_leave2 KeepFault.Input l file m = left_made now may_leave2 l file m
 

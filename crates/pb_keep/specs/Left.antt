@@ -1,6 +1,6 @@
 -- What is left where lines that wait can't be kept.
 use Rattle.std.specs.Prelude.{◌≡◌, ◌⊎◌, ℕ, List, [], ◌++◌, Option}
-use Rattle.pb_keep.specs.Words.{AppendsPart, StateOf, Writes}
+use Rattle.pb_keep.specs.Words.{AppendsPart, StateOf, Stopped, Writes, last_timestamp}
 use Rattle.pb_keep.specs.declared.fault.KeepFault.{KeepFault}
 use Rattle.pb_keep.specs.declared.waiting.Waits.{Waits}
 use Rattle.pb_keep.specs.Kept.{HasChanges}
@@ -11,10 +11,21 @@ abbrev pub IsOfLog : KeepFault → Type 0
 IsOfLog (KeepFault.Log e) = Unit {0}
 IsOfLog _ = ⊥
 
--- a change was stopped, or memory refused for it or its answer
+-- the fault of a change that was stopped
+abbrev pub fault_by : Stopped → KeepFault
+fault_by (Stopped.NoMemory refused) = KeepFault.NoMemory refused
+fault_by (Stopped.Refused why) = KeepFault.NoTimestamp
+fault_by Stopped.Conflict = KeepFault.NoTimestamp
+
+-- where it names timestamps, the table has given out the last one
+abbrev pub IsRightOf : StateOf → KeepFault → Type 0
+IsRightOf state KeepFault.NoTimestamp = state.clock ≡ last_timestamp
+IsRightOf state _ = Unit {0}
+
+-- no timestamp was left for a change, or memory was refused for it or its answer
 abbrev pub IsOfMaking : KeepFault → Type 0
 IsOfMaking (KeepFault.NoMemory e) = Unit {0}
-IsOfMaking KeepFault.Stopped = Unit {0}
+IsOfMaking KeepFault.NoTimestamp = Unit {0}
 IsOfMaking _ = ⊥
 
 -- where the log failed: nothing is made or written, and a crash leaves the changes of before, or with those that waited

@@ -6,7 +6,7 @@ pub use Rattle.pb_base.specs.declared.limits.TheConstants.{MAX_CHANGES}
 pub use Rattle.pb_base.specs.declared.names.Ts.{Ts}
 pub use Rattle.pb_store.specs.Contents.{IsNextMark}
 pub use Rattle.pb_verify.specs.Observers.{ObserverOf}
-pub use Rattle.pb_steps.specs.Readings.{lock_count}
+pub use Rattle.pb_steps.specs.Readings.{last_timestamp, lock_count}
 pub use Rattle.pb_steps.specs.State.{StateOf}
 pub use Rattle.pb_reading.specs.Reading.{is_skipped, ◌>>=◌}
 pub use Rattle.pb_parse.specs.Codes.{script_code}
@@ -25,6 +25,7 @@ pub use Rattle.pb_keeper.specs.Counts.{commit_count}
 pub use Rattle.pb_keeper.specs.Keeps.{Keeps}
 pub use Rattle.pb_keeper.specs.Leads.{SaidLeads}
 pub use Rattle.pb_keeper.specs.Made.{IsMade}
+pub use Rattle.pb_keeper.specs.declared.change.Stopped.{Stopped}
 pub use Rattle.pb_keeper.specs.declared.passes.Made.{Made}
 pub use Rattle.pb_log.specs.Records.{IsAtRest}
 pub use Rattle.pb_log.specs.Header.{HasRecords, header}

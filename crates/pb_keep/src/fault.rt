@@ -1,6 +1,7 @@
 //! Why a table is kept no longer.
 ghost use Rattle.std.specs.Prelude.{◌≡◌};
 ghost use Rattle.pb_base.specs.Growths.{refused_growth};
+ghost use Rattle.pb_keep.specs.Left.{fault_by};
 ghost use Rattle.pb_keep.specs.declared.fault.KeepFault.TheVariants as ends;
 
 use pb_base::NoMemory;
@@ -21,9 +22,9 @@ pub enum KeepFault {
     /// A record of the log is no script: another program wrote it.
     #[error("a record of the log can't be read")]
     Record,
-    /// A change of the log was stopped: it is made when the log is opened again.
-    #[error("a change was stopped")]
-    Stopped,
+    /// The table has given out its last timestamp.
+    #[error("no timestamp is left")]
+    NoTimestamp,
     #[error("cannot write the output")]
     Output,
     #[error("cannot read the input")]
@@ -63,9 +64,13 @@ impl From<LogFault> for KeepFault {
 }
 
 impl From<Stopped> for KeepFault {
-    ghost from_gives = { λ _ f. f ≡ ends.Stopped };
+    ghost from_gives = { λ e f. f ≡ fault_by e };
 
-    fn from(_e: Stopped) -> KeepFault {
-        KeepFault::Stopped
+    fn from(e: Stopped) -> KeepFault {
+        match e {
+            Stopped::NoMemory(refused) => KeepFault::NoMemory(refused),
+            // On a table that keeps changes nothing else stops one.
+            Stopped::Refused(_) | Stopped::Conflict => KeepFault::NoTimestamp,
+        }
     }
 }

@@ -8,7 +8,7 @@ ghost use Rattle.pb_keeper.specs.Keeps.{Keeps};
 ghost use Rattle.pb_keep.specs.Kept.{reported_count, HasChanges, IsLogOf};
 ghost use Rattle.pb_keep.specs.Waits.{changes_in, AreAnswers, IsNoLine, IsWaiting};
 ghost use Rattle.pb_keep.specs.Conversations.{beginning, Beginning, LeavesFirst, Serves};
-ghost use Rattle.pb_keep.specs.Left.{IsLeftBy, IsOfLog};
+ghost use Rattle.pb_keep.specs.Left.{IsLeftBy, IsOfLog, IsRightOf};
 
 use crate::anew::make_records_anew;
 use crate::fault::KeepFault;
@@ -132,6 +132,9 @@ impl<T: Tablet, D: Disk + Drop> Keeper<T, D> {
             self.new.state (S.taken out.old) (S.taken out.new) (D.may_leave self.new.log.disk)) }
         ensures unmade { IfErr result (λ e. IsOfLog e
             → (self.new.state ≡ self.old.state) × (S.taken out.new ≡ S.taken out.old)) }
+        ensures right { (observers : List ObserverOf) (changes : List Writes)
+            → Keeps observers changes self.old.state
+            → IfErr result (IsRightOf self.new.state) }
     {
         put_script(alloc, &mut self.log, &self.waiting)?;
         let Waiting { items, .. } = mem::replace(&mut self.waiting, Waiting::new(alloc));
@@ -171,6 +174,10 @@ impl<T: Tablet, D: Disk + Drop> Keeper<T, D> {
         // Where the log failed, nothing is made, and nothing is written.
         ensures unmade { IfErr result (λ e. IsOfLog e
             → (self.new.state ≡ self.old.state) × (S.taken out.new ≡ S.taken out.old)) }
+        // A fault that names timestamps is right.
+        ensures right { (observers : List ObserverOf) (changes : List Writes)
+            → Keeps observers changes self.old.state
+            → IfErr result (IsRightOf self.new.state) }
     {
         self.put_and_make(rt, alloc, out)
     }

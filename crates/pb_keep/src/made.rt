@@ -3,7 +3,7 @@ ghost use Rattle.std.specs.Prelude.{◌≡◌, ◌++◌, ◌∷◌, [], ℕ, Lis
 ghost use Rattle.pb_base.specs.Batch.{Writes};
 ghost use Rattle.pb_verify.specs.Observers.{ObserverOf};
 ghost use Rattle.pb_keeper.specs.Keeps.{Keeps};
-ghost use Rattle.pb_keep.specs.Left.{IsOfMaking};
+ghost use Rattle.pb_keep.specs.Left.{IsOfMaking, IsRightOf};
 ghost use Rattle.pb_keep.specs.Waits.{changes_in, made_line, AreAnswers, AreSomeAnswers, IsAnswer};
 
 use crate::fault::KeepFault;
@@ -66,6 +66,8 @@ fn answer<R: Wait, T: Tablet>(
         → OnOk result (Keeps observers (changes ++ changes_in (item ∷ [])) state.new) }
     ensures unanswered { OnErr result (string_bytes text.new ≡ string_bytes text.old) }
     ensures why { IfErr result IsOfMaking }
+    ensures right { (observers : List ObserverOf) (changes : List Writes)
+        → Keeps observers changes state.old → IfErr result (IsRightOf state.new) }
 {
     match item {
         Waits::Change(batch) => {
@@ -97,6 +99,8 @@ pub(crate) fn make_and_answer<R: Wait, T: Tablet>(
     ensures some { OnErr result (AreSomeAnswers items.items state.old
         (string_bytes text.old) (string_bytes text.new)) }
     ensures why { IfErr result IsOfMaking }
+    ensures right { (observers : List ObserverOf) (changes : List Writes)
+        → Keeps observers changes state.old → IfErr result (IsRightOf state.new) }
 {
     for item in items {
         answer(rt, alloc, state, item, text)?;

@@ -5,6 +5,8 @@ use Rattle.pb_keep.specs.Words.{Keeps}
 use Rattle.pb_keep.specs.Waits.{changes_in, AreAnswers, AreSomeAnswers}
 use Rattle.std.proofs.lemmas.List.{append_assoc, append-nil}
 use Rattle.pb_keep.proofs.Added.{changes_of_both}
+use Rattle.pb_keep.specs.Left.{IsRightOf}
+use Rattle.pb_keep.proofs.Mapping.{passed_on}
 use Rattle.pb_keep.proofs.made.make_and_answer.Goals as goal
 
 pub loop-item-init : goal.loop-item-init
@@ -49,3 +51,8 @@ returns-in_err-answer-clause-some g c =
       | Ok x ↦ tt
       | Err e ↦ some
     ]
+
+pub returns-in_err-answer-clause-right : goal.returns-in_err-answer-clause-right
+returns-in_err-answer-clause-right g c = λ observers changes k.
+    passed_on c.from_residual.result c.from_residual.ensures.1
+    (λ e is. subst (IsRightOf c.answer.new.state) (sym is) (c.in_err-answer.ensures.right observers (changes ++ changes_in c.loop-item.yielded) (c.loop-item.invariant.keeps observers changes k)))

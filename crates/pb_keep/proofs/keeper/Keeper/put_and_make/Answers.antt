@@ -1,9 +1,9 @@
 use Rattle.std.proofs.Common.{[], ◌++◌, refl, ap, subst, sym, ◌∙◌}
 use Rattle.std.specs.Prelude.{string_bytes}
 use Rattle.pb_keep.specs.Words.{Keeps}
-use Rattle.pb_keep.specs.Left.{IsOfLog}
+use Rattle.pb_keep.specs.Left.{IsOfLog, IsRightOf}
 use Rattle.pb_keep.specs.Waits.{changes_in, AreSomeAnswers}
-use Rattle.pb_keep.proofs.Leaving.{all_are_some, some_are_some, left_in_log, left_in_making, left_in_writing, left_made}
+use Rattle.pb_keep.proofs.Leaving.{all_are_some, log_fails_rightly, some_are_some, left_in_log, left_in_making, left_in_writing, left_made}
 use Rattle.pb_keep.proofs.Mapping.{both_err, of_both, on_ok, passed_on}
 use Rattle.pb_keep.proofs.Serving.{all_appended}
 use Rattle.pb_keep.proofs.keeper.Keeper.put_and_make.Goals as goal
@@ -56,3 +56,9 @@ returns-clause-err g c = λ manifest changes log.
     (subst (λ t. AreSomeAnswers c.replace-items.result.items.items old.state [] t) (sym c.as_str.ensures.value)
     (some_are_some c.replace-items.result.items.items old.state (string_bytes c.new-text.result) (string_bytes done.new.text) c.new-text.ensures.bytes a)))
     (all_appended (g.S.Sink.taken c.args.out.now) (g.S.Sink.taken c.write.new.out) c.as_str.result.now c.in_ok-write.ensures.ok)))
+
+pub returns-in_err-put_script-clause-right : goal.returns-in_err-put_script-clause-right
+returns-in_err-put_script-clause-right g c = λ observers changes k.
+    let old = c.args.self.now.state in
+    passed_on c.from_residual.result c.from_residual.ensures.1
+    (λ e is. subst (IsRightOf old) (sym is) (log_fails_rightly c.in_err-put_script.field-0.0 old c.in_err-put_script.ensures.why))
