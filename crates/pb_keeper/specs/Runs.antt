@@ -1,6 +1,5 @@
 -- A run of an observer, by what the only seat said.
 use Rattle.std.specs.Prelude.{◌≡◌, List, ◌++◌, Option}
-use Rattle.pb_steps.specs.State.{StateOf}
 use Rattle.pb_history.specs.declared.entry.Received.{Received}
 use Rattle.pb_finished.specs.Finished.{Meant}
 use Rattle.pb_notify.specs.declared.need.JobEnd.{JobEnd}
@@ -8,7 +7,6 @@ use Rattle.pb_notify.specs.declared.need.Need.{Need}
 use Rattle.pb_notify.specs.Runs.{RunOf, Watch, fresh, need_of}
 use Rattle.pb_notify.specs.Conversations.{Reaches}
 use Rattle.pb_notify.specs.Forms.{IsRunConversation, WasMeant}
-use Rattle.pb_keeper.specs.Leads.{SaidLeads}
 
 -- before its first step
 abbrev pub IsFreshJob : RunOf → Type 0
@@ -28,7 +26,3 @@ pub record IsWholeRunOf (first : RunOf) (end : JobEnd) (said : List Received) : 
 -- a beginning of one
 abbrev pub BeginsRun : RunOf → List Received → Type 0
 BeginsRun job said = (o : Watch) × (job ≡ fresh o) × ((rest : List Received) × (end : JobEnd) × (run : Option Meant) × IsRunConversation o (said ++ rest) end run)
-
--- how far it has come
-abbrev pub RanSoFar : RunOf → RunOf → StateOf → StateOf → Type 0
-RanSoFar first job old new = SaidLeads (λ said. Reaches first said job) old new

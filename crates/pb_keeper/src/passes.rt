@@ -6,6 +6,7 @@ ghost use Rattle.pb_store.specs.Contents.{IsNextMark};
 ghost use Rattle.pb_verify.specs.Observers.{ObserverOf};
 ghost use Rattle.pb_keeper.specs.Counts.{CountsCommits, commit_count};
 ghost use Rattle.pb_keeper.specs.Keeps.{Keeps};
+ghost use Rattle.pb_keeper.specs.Stats.{Counted, kept_table};
 ghost use Rattle.pb_passes.specs.Passes.{AreAllRuns, IsPassThat, IsDrain};
 ghost use Rattle.pb_keeper.specs.Leads.{SaidLeads, IsAny};
 ghost use Rattle.pb_keeper.specs.Made.{IsMade, IsItsTurn};
@@ -13,6 +14,7 @@ ghost use Rattle.pb_keeper.specs.Stops.{WasOpened, IsStop};
 
 use crate::change::{Stopped, ask, commit};
 use crate::run::run_one;
+use crate::stats::{ObserverStats, add_run};
 use pb_base::{Batch, Cell, ObserverNo, Ts};
 use pb_history::steps_keep_sound;
 use pb_notify::JobEnd;
@@ -67,12 +69,13 @@ fn run_place<R: Wait, T: Tablet>(
     rt: &R,
     alloc: Global,
     state: &mut State<T>,
+    stats: &mut [ObserverStats],
     place: usize,
     cell: &Cell,
 ) -> Result<u64, Stopped>
     requires { place < length state.old.observers }
-    ensures ok { IfOk result (λ runs.
-        SaidLeads (CountsCommits (IsItsTurn state.old.observers place cell.now) runs)
+    ensures ok { IfOk result (λ runs. SaidLeads (Counted state.old.observers stats.old stats.new
+        (CountsCommits (IsItsTurn state.old.observers place cell.now) runs))
         state.old state.new) }
     ensures err { OnErr result (SaidLeads IsAny state.old state.new) }
     ensures stops { WasOpened state.old → IfErr result (λ e. IsStop e state.new) }
@@ -91,8 +94,9 @@ fn run_place<R: Wait, T: Tablet>(
     };
     // For the proof: its row and its column are numbers that a record has room for.
     fits(cell);
-    let end = run_one(rt, alloc, state, &mut job)?;
-    match end {
+    let ran = run_one(rt, alloc, state, &mut job)?;
+    add_run(stats, place, &ran.stats);
+    match ran.end {
         JobEnd::Ran(_) => Ok(1),
         _ => Ok(0),
     }
@@ -103,10 +107,11 @@ fn run_all<R: Wait, T: Tablet>(
     rt: &R,
     alloc: Global,
     state: &mut State<T>,
+    stats: &mut [ObserverStats],
     cell: &Cell,
 ) -> Result<u64, Stopped>
-    ensures ok { IfOk result (λ runs.
-        SaidLeads (CountsCommits (AreAllRuns state.old.observers cell.now) runs)
+    ensures ok { IfOk result (λ runs. SaidLeads (Counted state.old.observers stats.old stats.new
+        (CountsCommits (AreAllRuns state.old.observers cell.now) runs))
         state.old state.new) }
     ensures err { OnErr result (SaidLeads IsAny state.old state.new) }
     ensures stops { WasOpened state.old → IfErr result (λ e. IsStop e state.new) }
@@ -114,16 +119,21 @@ fn run_all<R: Wait, T: Tablet>(
     let mut runs = 0u64;
     let many = state.observers().len();
     for place in 0..many {
-        let more = run_place(rt, alloc, state, place, cell)?;
+        let more = run_place(rt, alloc, state, stats, place, cell)?;
         runs = runs.saturating_add(more);
     }
     Ok(runs)
 }
 
 // One pass, from mark to mark up to where there is none.
-fn pass<R: Wait, T: Tablet>(rt: &R, alloc: Global, state: &mut State<T>) -> Result<Passed, Stopped>
-    ensures ok { IfOk result (λ p.
-        SaidLeads (CountsCommits (IsPassThat state.old.observers p.marked) p.runs)
+fn pass<R: Wait, T: Tablet>(
+    rt: &R,
+    alloc: Global,
+    state: &mut State<T>,
+    stats: &mut [ObserverStats],
+) -> Result<Passed, Stopped>
+    ensures ok { IfOk result (λ p. SaidLeads (Counted state.old.observers stats.old stats.new
+        (CountsCommits (IsPassThat state.old.observers p.marked) p.runs))
         state.old state.new) }
     ensures quiet { IfOk result
         (λ p. p.marked ≡ false → IsNextMark state.new.marks None None) }
@@ -140,7 +150,7 @@ fn pass<R: Wait, T: Tablet>(rt: &R, alloc: Global, state: &mut State<T>) -> Resu
                 marked: last.is_some(),
             });
         };
-        let more = run_all(rt, alloc, state, cell)?;
+        let more = run_all(rt, alloc, state, stats, cell)?;
         runs = runs.saturating_add(more);
         last = Some(*cell);
     }
@@ -152,16 +162,17 @@ fn make_passes<R: Wait, T: Tablet>(
     rt: &R,
     alloc: Global,
     state: &mut State<T>,
+    stats: &mut [ObserverStats],
 ) -> Result<Drained, Stopped>
-    ensures ok { IfOk result (λ d.
-        SaidLeads (CountsCommits (IsDrain state.old.observers) d.runs) state.old state.new) }
+    ensures ok { IfOk result (λ d. SaidLeads (Counted state.old.observers stats.old stats.new
+        (CountsCommits (IsDrain state.old.observers) d.runs)) state.old state.new) }
     ensures quiet { IfOk result (λ d. d.rests ≡ true → IsNextMark state.new.marks None None) }
     ensures err { OnErr result (SaidLeads IsAny state.old state.new) }
     ensures stops { WasOpened state.old → IfErr result (λ e. IsStop e state.new) }
 {
     let mut runs = 0u64;
     for _count in 0..MAX_PASSES {
-        let passed = pass(rt, alloc, state)?;
+        let passed = pass(rt, alloc, state, stats)?;
         runs = runs.saturating_add(passed.runs);
         if !passed.marked {
             return Ok(Drained { runs, rests: true });
@@ -175,17 +186,19 @@ pub fn drain<R: Wait, T: Tablet>(
     rt: &R,
     alloc: Global,
     state: &mut State<T>,
+    stats: &mut [ObserverStats],
 ) -> Result<Drained, Stopped>
-    // The runs are those of the drain that were committed.
+    // The runs are those of the drain that were committed, and what they did is added to the stats.
     ensures ok { IfOk result (λ d.
-        (leads : SaidLeads (IsDrain state.old.observers) state.old state.new)
+        (leads : SaidLeads (Counted state.old.observers stats.old stats.new
+        (IsDrain state.old.observers)) state.old state.new)
         × (d.runs ≡ commit_count leads.said)) }
     // Where it rests no cell is marked.
     ensures quiet { IfOk result (λ d. d.rests ≡ true → IsNextMark state.new.marks None None) }
     ensures err { OnErr result (SaidLeads IsAny state.old state.new) }
     ensures stops { WasOpened state.old → IfErr result (λ e. IsStop e state.new) }
 {
-    let drained = make_passes(rt, alloc, state)?;
+    let drained = make_passes(rt, alloc, state, stats)?;
     // For the proof: each run took a timestamp, so that there are no more of them than 64 bits can say.
     clock_fits(state);
     Ok(drained)
@@ -196,24 +209,25 @@ pub fn make<R: Wait, T: Tablet>(
     rt: &R,
     alloc: Global,
     state: &mut State<T>,
+    stats: &mut [ObserverStats],
     batch: Batch,
 ) -> Result<Made, Stopped>
-    ensures ok { IfOk result
-        (λ m. SaidLeads (IsMade state.old.observers batch m.commit) state.old state.new) }
-    // The runs are those that were committed after the change.
-    ensures runs { IfOk result (λ m.
-        (leads : SaidLeads (IsMade state.old.observers batch m.commit) state.old state.new)
-        × (m.drained.runs ≡ commit_count leads.form.drain)) }
+    // What the runs did is added to the stats, and those that were committed after the change are its runs.
+    ensures ok { IfOk result (λ m.
+        (leads : SaidLeads (Counted state.old.observers stats.old stats.new
+        (IsMade state.old.observers batch m.commit)) state.old state.new)
+        × (m.drained.runs ≡ commit_count leads.form.form.drain)) }
     ensures quiet { IfOk result
         (λ m. m.drained.rests ≡ true → IsNextMark state.new.marks None None) }
     // Behind the changes that are kept it is one more.
     ensures keeps { (observers : List ObserverOf) (changes : List Writes)
-        → Keeps observers changes state.old
-        → OnOk result (Keeps observers (changes ++ batch ∷ []) state.new) }
+        → Keeps observers changes (kept_table state.old stats.old)
+        → OnOk result (Keeps observers (changes ++ batch ∷ [])
+        (kept_table state.new stats.new)) }
     ensures err { OnErr result (SaidLeads IsAny state.old state.new) }
     // On a table that keeps changes it conflicts with nothing.
     ensures stops { (observers : List ObserverOf) (changes : List Writes)
-        → Keeps observers changes state.old
+        → Keeps observers changes (kept_table state.old stats.old)
         → IfErr result (λ e. IsStop e state.new) }
 {
     // For the proof: on a table without locks a change commits.
@@ -222,7 +236,7 @@ pub fn make<R: Wait, T: Tablet>(
     let Outcome::Committed(commit) = outcome else {
         return Err(Stopped::Conflict);
     };
-    let drained = drain(rt, alloc, state)?;
+    let drained = drain(rt, alloc, state, stats)?;
     Ok(Made { commit, drained })
 }
 
@@ -231,17 +245,19 @@ pub fn make_all<R: Wait, T: Tablet>(
     rt: &R,
     alloc: Global,
     state: &mut State<T>,
+    stats: &mut [ObserverStats],
     batches: Vec<Batch>,
 ) -> Result<(), Stopped>
     ensures keeps { (observers : List ObserverOf) (changes : List Writes)
-        → Keeps observers changes state.old
-        → OnOk result (Keeps observers (changes ++ batches.items) state.new) }
+        → Keeps observers changes (kept_table state.old stats.old)
+        → OnOk result (Keeps observers (changes ++ batches.items)
+        (kept_table state.new stats.new)) }
     ensures stops { (observers : List ObserverOf) (changes : List Writes)
-        → Keeps observers changes state.old
+        → Keeps observers changes (kept_table state.old stats.old)
         → IfErr result (λ e. IsStop e state.new) }
 {
     for batch in batches {
-        make(rt, alloc, state, batch)?;
+        make(rt, alloc, state, stats, batch)?;
     }
     Ok(())
 }
