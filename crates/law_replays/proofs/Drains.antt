@@ -264,4 +264,4 @@ small = grind arith
 
 pub replay_once : StepsHaveOneOutcome → StepsKeepSound → OpeningIsSound → EachHasOneMeaning → MachinesAreLed → ReplayHasOneOutcome
 replay_once once keeps opens meaning led observers changes a b judged f g =
-    (all_once once keeps meaning led observers judged changes changes f.said g.said (opening observers 1 0) a b refl f.form g.form (opens observers 1 0 small) f.leads g.leads).state_is
+    (all_once once keeps meaning led observers judged changes changes f.said g.said (opening observers 1 0) a.state b.state refl f.form.form g.form.form (opens observers 1 0 small) f.leads g.leads).state_is

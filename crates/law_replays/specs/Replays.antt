@@ -3,8 +3,8 @@ use Rattle.std.specs.Prelude.{◌≡◌, ℕ, ◌≤◌, List, Some, slice_get}
 use Rattle.pb_base.specs.Batch.{Writes}
 use Rattle.pb_isa.specs.declared.limits.TheConstants.{MAX_RECORD_BYTES}
 use Rattle.pb_verify.specs.Observers.{ObserverOf}
-use Rattle.pb_steps.specs.State.{StateOf}
 use Rattle.pb_keeper.specs.Keeps.{Keeps}
+use Rattle.pb_keeper.specs.Stats.{KeptTable}
 
 -- the program of each is judged for a record of a size that there is, as every accepted one is
 abbrev pub AreJudged : List ObserverOf → Type 0
@@ -12,4 +12,4 @@ AreJudged observers = (n : ℕ) (o : ObserverOf) → slice_get observers n ≡ S
 
 -- entries, marks, clock and transactions follow from the changes
 abbrev pub ReplayHasOneOutcome : Type 0
-ReplayHasOneOutcome = (observers : List ObserverOf) (changes : List Writes) (a b : StateOf) → AreJudged observers → Keeps observers changes a → Keeps observers changes b → a ≡ b
+ReplayHasOneOutcome = (observers : List ObserverOf) (changes : List Writes) (a b : KeptTable) → AreJudged observers → Keeps observers changes a → Keeps observers changes b → a.state ≡ b.state

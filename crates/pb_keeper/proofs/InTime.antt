@@ -50,7 +50,8 @@ use Rattle.pb_notify.proofs.PlanEntries.{has_said}
 use Rattle.pb_notify.proofs.PlanSteps.{declaring_said_nothing, plan_step, plan_keeps}
 use Rattle.pb_notify.proofs.RecordedReads.{after, after_is}
 use Rattle.pb_keeper.specs.Leads.{SaidLeads, IsAny}
-use Rattle.pb_keeper.specs.Runs.{RanSoFar}
+use Rattle.pb_keeper.specs.Stats.{RanSoFar}
+use Rattle.pb_keeper.specs.declared.stats.ObserverStats.{ObserverStats}
 use Rattle.pb_passes.specs.Passes.{HasColumn, IsJobOn}
 use Rattle.pb_keeper.specs.declared.change.Stopped.{Stopped}
 use Rattle.pb_keeper.specs.Stops.{WasOpened, IsLeftFor, IsStop, IsKnownJob}
@@ -153,12 +154,12 @@ mark_in_time state x why opened e = no_transaction state 0 why (said_since {P = 
 
 -- ---- a run
 
-pub run_in_time : RunsAreKept → JobsAreAllowed → (first job : RunOf) (start state : StateOf) (step : Step) (why : Reason) → WasOpened start → IsKnownJob start.observers first → RanSoFar first job start state → next_of job ≡ Some step → step_reason state 0 step ≡ Some why → IsOutAt why state
-run_in_time kept allowed first job start state step why opened is so_far next refused =
+pub run_in_time : RunsAreKept → JobsAreAllowed → (first job : RunOf) (stats : ObserverStats) (start state : StateOf) (step : Step) (why : Reason) → WasOpened start → IsKnownJob start.observers first → RanSoFar first job stats start state → next_of job ≡ Some step → step_reason state 0 step ≡ Some why → IsOutAt why state
+run_in_time kept allowed first job stats start state step why opened is so_far next refused =
     let since = said_since start state opened so_far in
     let has = kept since.observers 1 0 (entries_by 0 (since.before ++ since.said)) state since.legal 0 is.n is.row since.before since.said (entries_back (since.before ++ since.said)) in
     let there = subst (λ (l : List ObserverOf). slice_get l is.n ≡ Some is.o) (sym (leads_observers start state so_far) ∙ since.observers_are) is.there in
-    let reaches = subst (λ (j : RunOf). Reaches j since.said job) is.is since.form in
+    let reaches = subst (λ (j : RunOf). Reaches j since.said job) is.is since.form.reaches in
     at_last state step why refused (allowed since.observers 1 0 (entries_by 0 (since.before ++ since.said)) state since.legal 0 is.n is.o is.row since.said job step why since.seated there is.row_fits is.column_fits reaches has next refused)
 
 -- ---- a change
@@ -283,8 +284,8 @@ stops_by state new step Stopped.Conflict same is out = absurd is
 pub mark_stops : (state new : StateOf) (x : Option Cell) (e : Stopped) → WasOpened state → new ≡ state → IsLeftFor state (Step.NextMark x) e → IsStop e new
 mark_stops state new x e opened same is = stops_by state new (Step.NextMark x) e same is (λ why refused. absurd (mark_in_time state x why opened refused))
 
-pub run_stops : RunsAreKept → JobsAreAllowed → (first job : RunOf) (start state new : StateOf) (step : Step) (e : Stopped) → WasOpened start → IsKnownJob start.observers first → RanSoFar first job start state → next_of job ≡ Some step → new ≡ state → IsLeftFor state step e → IsStop e new
-run_stops kept allowed first job start state new step e opened is so_far next same refusal = stops_by state new step e same refusal (λ why refused. run_in_time kept allowed first job start state step why opened is so_far next refused)
+pub run_stops : RunsAreKept → JobsAreAllowed → (first job : RunOf) (stats : ObserverStats) (start state new : StateOf) (step : Step) (e : Stopped) → WasOpened start → IsKnownJob start.observers first → RanSoFar first job stats start state → next_of job ≡ Some step → new ≡ state → IsLeftFor state step e → IsStop e new
+run_stops kept allowed first job stats start state new step e opened is so_far next same refusal = stops_by state new step e same refusal (λ why refused. run_in_time kept allowed first job stats start state step why opened is so_far next refused)
 
 pub change_stops : PlansAreAllowed → TransactionsAreTold → (batch : Writes) (job : ChangeOf) (start state new : StateOf) (step : Step) (e : Stopped) → WasOpened start → ChangedSoFar batch job start state → change_next job ≡ Some step → new ≡ state → IsLeftFor state step e → IsStop e new
 change_stops allowed told_by batch job start state new step e opened so_far next same refusal = stops_by state new step e same refusal (λ why refused. change_in_time allowed told_by state step why refused start batch job opened so_far next)

@@ -21,6 +21,7 @@ use Rattle.pb_txn.specs.declared.place.Outcome.{Outcome}
 use Rattle.pb_notify.specs.Allowed.{entries_by}
 use Rattle.pb_passes.specs.Passes.{IsRun, AreRuns, before_all, runs as ran_then, passes_by, IsWalk, at_beginning, found, IsPass, ArePasses, at_first, one_more, IsDrain}
 use Rattle.pb_keeper.specs.Made.{IsMade}
+use Rattle.pb_keeper.specs.Stats.{KeptTable}
 use Rattle.pb_keeper.specs.Stops.{WasOpened, IsUnlocked}
 use Rattle.pb_keeper.specs.Keeps.{AreMade, none, one_more as one_more_change, Keeps, KeptIsUnlocked}
 use Rattle.pb_keeper.proofs.Wholes.{leads_parts, stays_sound, plain_walk, run_rests, change_commits, free_after}
@@ -85,12 +86,12 @@ small : 0 < 2 ^ 64
 small = grind arith
 
 -- a table that keeps changes is sound
-pub kept_sound : StepsKeepSound → OpeningIsSound → (observers : List ObserverOf) (changes : List Writes) (state : StateOf) → Keeps observers changes state → IsSoundTable state
-kept_sound keeps opens observers changes state k = stays_sound keeps (opening observers 1 0) state k.said (opens observers 1 0 small) k.leads
+pub kept_sound : StepsKeepSound → OpeningIsSound → (observers : List ObserverOf) (changes : List Writes) (table : KeptTable) → Keeps observers changes table → IsSoundTable table.state
+kept_sound keeps opens observers changes table k = stays_sound keeps (opening observers 1 0) table.state k.said (opens observers 1 0 small) k.leads
 
 pub kept_is_unlocked : StepsKeepSound → OpeningIsSound → KeptIsUnlocked
-kept_is_unlocked keeps opens observers changes state k = all_rest keeps observers changes k.said k.form (opening observers 1 0) state (opens observers 1 0 small) (opening_free keeps observers) k.leads
+kept_is_unlocked keeps opens observers changes table k = all_rest keeps observers changes k.said k.form.form (opening observers 1 0) table.state (opens observers 1 0 small) (opening_free keeps observers) k.leads
 
 -- steps of its only seat led to it
-pub kept_opened : (observers : List ObserverOf) (changes : List Writes) (state : StateOf) → Keeps observers changes state → WasOpened state
-kept_opened observers changes state k = (observers, record { said = k.said; form = tt; leads = k.leads })
+pub kept_opened : (observers : List ObserverOf) (changes : List Writes) (table : KeptTable) → Keeps observers changes table → WasOpened table.state
+kept_opened observers changes table k = (observers, record { said = k.said; form = tt; leads = k.leads })

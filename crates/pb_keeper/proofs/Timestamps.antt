@@ -18,9 +18,12 @@ use Rattle.pb_notify.specs.Forms.{IsRunConversation, ran}
 use Rattle.pb_notify.specs.Runs.{Watch}
 use Rattle.pb_notify.specs.declared.need.JobEnd.{JobEnd}
 use Rattle.pb_passes.specs.Passes.{AreRuns, before_all, runs as ran_then, passes_by, IsWalk, at_beginning, found, IsPass, ArePasses, at_first, one_more, IsDrain}
-use Rattle.pb_keeper.specs.Counts.{commit_count, CountsCommits}
+use Rattle.pb_keeper.specs.Counts.{commit_count}
 use Rattle.pb_keeper.specs.Leads.{SaidLeads}
+use Rattle.pb_keeper.specs.Stats.{Counted}
+use Rattle.pb_keeper.specs.declared.stats.ObserverStats.{ObserverStats}
 use Rattle.pb_keeper.proofs.Counting.{count_append, not_counted, run_count}
+use Rattle.pb_keeper.proofs.PassAlong.{Led}
 use Rattle.pb_keeper.proofs.Wholes.{IsPlainFrom, asked_from}
 
 -- ---- the clock goes on with each timestamp that is given out
@@ -108,8 +111,10 @@ module _ (observers : List ObserverOf) where
   few_drain said d = few_as said _ d.said_is (few_on d.before d.rest (few_passes d.count d.before d.passes) (elim d.ends [ inl e ↦ few_pass None d.rest e.1 | inr e ↦ few_as d.rest [] e.1 (few_none [] refl) ]))
 
   -- so their number is known
-  pub drain_counts : (m : ℕ) (old new : StateOf) → new.clock < 2 ^ 64 → SaidLeads (CountsCommits (IsDrain observers) m) old new → (leads : SaidLeads (IsDrain observers) old new) × (m ≡ commit_count leads.said)
-  drain_counts m old new fits g = (record { said = g.said; form = g.form.form; leads = g.leads }, whole (commit_count g.said) (given_count g.said) (few_drain g.said g.form.form) (clock_on g.said old new g.leads) g.form.count)
+  pub drain_counts : (s t : List ObserverStats) (m : ℕ) (old new : StateOf) → new.clock < 2 ^ 64 → Led observers s t (IsDrain observers) m old new → (leads : SaidLeads (Counted observers s t (IsDrain observers)) old new) × (m ≡ commit_count leads.said)
+  drain_counts s t m old new fits g =
+      let counted : Counted observers s t (IsDrain observers) g.said = record { form = g.form.form.form; total = g.form.total; did = g.form.did; as_many = g.form.as_many; grows = g.form.grows } in
+      (record { said = g.said; form = counted; leads = g.leads }, whole (commit_count g.said) (given_count g.said) (few_drain g.said g.form.form.form) (clock_on g.said old new g.leads) g.form.form.count)
     where
       whole : (n t : ℕ) → n ≤ t → old.clock + t ≤ new.clock → m ≡ min n (2 ^ 64 - 1) → m ≡ n
       whole n t few later is = omega (arith, few, later, is, fits)

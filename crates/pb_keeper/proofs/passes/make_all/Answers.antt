@@ -1,6 +1,7 @@
 use Rattle.std.proofs.Common.{arith, List, [], ◌∷◌, ◌++◌, subst}
 use Rattle.pb_base.specs.Batch.{Writes}
 use Rattle.pb_keeper.specs.Keeps.{Keeps}
+use Rattle.pb_keeper.specs.Stats.{kept_table}
 use Rattle.std.proofs.lemmas.List.{append_assoc}
 use Rattle.std.proofs.lemmas.Result.{err_from_is_err_and}
 use Rattle.pb_keeper.proofs.passes.make_all.Goals as goal
@@ -12,7 +13,7 @@ loop-batch-preserved g c = record {
   parts = grind (arith, append_assoc, c.loop-batch.invariant.parts, c.in-Some.ensures.steps);
   counted = grind (arith, c.loop-batch.invariant.counted, c.in-Some.ensures.steps);
   keeps = λ observers changes k.
-      subst (λ (l : List Writes). Keeps observers l c.make.new.state) (append_assoc changes c.loop-batch.yielded (c.in-Some.batch ∷ []))
+      subst (λ (l : List Writes). Keeps observers l (kept_table c.make.new.state c.make.new.stats)) (append_assoc changes c.loop-batch.yielded (c.in-Some.batch ∷ []))
       (c.in_ok-make.ensures.keeps observers (changes ++ c.loop-batch.yielded) (c.loop-batch.invariant.keeps observers changes k));
 }
 

@@ -7,17 +7,17 @@ use Rattle.pb_keeper.proofs.PassAlong.{no_passes, pass_on, last_pass, any_on, on
 use Rattle.pb_keeper.proofs.passes.make_passes.Goals as goal
 
 pub loop-count-init : goal.loop-count-init
-loop-count-init g c = record { leads = no_passes c.args.state.now.observers c.args.state.now; same = refl }
+loop-count-init g c = record { leads = no_passes c.args.state.now.observers c.args.stats.now c.args.state.now; same = refl }
 
 pub returns-in_err-passed-clause-err : goal.returns-in_err-passed-clause-err
 returns-in_err-passed-clause-err g c = on_err c.from_residual.result (SaidLeads IsAny c.args.state.now c.pass.new.state) (any_on c.args.state.now c.loop-count.state c.pass.new.state c.loop-count.invariant.leads c.in_err-passed.ensures.err)
 
 pub returns-then-not-passed-clause-ok : goal.returns-then-not-passed-clause-ok
-returns-then-not-passed-clause-ok g c = last_pass c.args.state.now.observers c.loop-count.state.observers c.loop-count._count c.loop-count.runs c.in_ok-passed.passed.runs c.saturating_add-runs.result c.args.state.now c.loop-count.state c.pass.new.state c.loop-count.invariant.same c.saturating_add-runs.ensures c.loop-count.invariant.leads c.loop-count-test.true c.in_ok-passed.passed.marked c.if-not-passed.true c.in_ok-passed.ensures.ok
+returns-then-not-passed-clause-ok g c = last_pass c.args.state.now.observers c.loop-count.state.observers c.args.stats.now c.loop-count.stats c.pass.new.stats c.loop-count._count c.loop-count.runs c.in_ok-passed.passed.runs c.saturating_add-runs.result c.args.state.now c.loop-count.state c.pass.new.state c.loop-count.invariant.same c.saturating_add-runs.ensures c.loop-count.invariant.leads c.loop-count-test.true c.in_ok-passed.passed.marked c.if-not-passed.true c.in_ok-passed.ensures.ok
 
 pub loop-count-preserved : goal.loop-count-preserved
 loop-count-preserved g c = record {
-  leads = pass_on c.args.state.now.observers c.loop-count.state.observers c.loop-count._count c.loop-count.runs c.in_ok-passed.passed.runs c.saturating_add-runs.result c.args.state.now c.loop-count.state c.pass.new.state c.loop-count.invariant.same c.saturating_add-runs.ensures c.loop-count.invariant.leads c.in_ok-passed.passed.marked c.if-not-passed.false c.in_ok-passed.ensures.ok;
+  leads = pass_on c.args.state.now.observers c.loop-count.state.observers c.args.stats.now c.loop-count.stats c.pass.new.stats c.loop-count._count c.loop-count.runs c.in_ok-passed.passed.runs c.saturating_add-runs.result c.args.state.now c.loop-count.state c.pass.new.state c.loop-count.invariant.same c.saturating_add-runs.ensures c.loop-count.invariant.leads c.in_ok-passed.passed.marked c.if-not-passed.false c.in_ok-passed.ensures.ok;
   same = leads_observers c.loop-count.state c.pass.new.state c.in_ok-passed.ensures.ok ∙ c.loop-count.invariant.same;
 }
 

@@ -1,22 +1,25 @@
 use Rattle.std.proofs.lemmas.Result.{err_from_is_err_and}
 use Rattle.std.proofs.Common.{List, ◌≡◌, sym, subst}
 use Rattle.pb_verify.specs.Observers.{ObserverOf}
-use Rattle.pb_passes.specs.Passes.{HasColumn}
+use Rattle.pb_passes.specs.Passes.{HasColumn, IsOfOther}
 use Rattle.pb_keeper.specs.Stops.{IsKnownJob}
 use Rattle.pb_keeper.proofs.InTime.{job_is_of}
-use Rattle.pb_keeper.proofs.PassAlong.{ran_counts, other_end_counts}
+use Rattle.pb_keeper.proofs.PassAlong.{ran_counts, other_column_counts, other_end_counts}
 use Rattle.pb_keeper.proofs.passes.run_place.Goals as goal
 
-pub returns-in_err-end-clause-stops : goal.returns-in_err-end-clause-stops
-returns-in_err-end-clause-stops g c opened =
+pub returns-in_err-ran-clause-stops : goal.returns-in_err-ran-clause-stops
+returns-in_err-ran-clause-stops g c opened =
     let p = err_from_is_err_and c.from_residual.result c.from_residual.ensures.1 in
     let same : c.args.place ≡ c.in-Some.number = sym c.in-Some.ensures.some in
     let known = subst (λ n. HasColumn c.observers-observers.result.now n c.args.cell.now) same (c.is_observer_of.ensures.is c.if-not-is_observer_of.false) in
     let of : IsKnownJob c.observers-observers.result.now c.in-Ok.job = job_is_of c.observers-observers.result.now c.in-Some.number c.args.cell.now c.in-Ok.job c.fits.ensures.row c.fits.ensures.column known c.in-Ok.ensures in
-    rw (p.1, p.2) (c.in_err-end.ensures.stops opened (subst (λ (l : List ObserverOf). IsKnownJob l c.in-Ok.job) c.observers-observers.ensures.observers of))
+    rw (p.1, p.2) (c.in_err-ran.ensures.stops opened (subst (λ (l : List ObserverOf). IsKnownJob l c.in-Ok.job) c.observers-observers.ensures.observers of))
 
 pub returns-in-Ran-clause-ok : goal.returns-in-Ran-clause-ok
-returns-in-Ran-clause-ok g c = ran_counts c.args.state.now.observers c.observers-observers.result.now c.args.place c.in-Some.number c.args.cell.now c.in-Ok.job c.in_ok-end.end c.args.state.now c.run_one.new.state c.observers-observers.ensures.observers c.in-Some.ensures.some (c.is_observer_of.ensures.is c.if-not-is_observer_of.false) c.in-Ok.ensures c.in_ok-end.ensures.ok c.in-Ran.field-0 c.in-Ran.is
+returns-in-Ran-clause-ok g c = ran_counts c.args.state.now.observers c.observers-observers.result.now c.args.place c.in-Some.number c.args.cell.now c.in-Ok.job c.in_ok-ran.ran.end c.in_ok-ran.ran.stats c.args.state.now c.run_one.new.state c.observers-observers.ensures.observers c.in-Some.ensures.some (c.is_observer_of.ensures.is c.if-not-is_observer_of.false) c.in-Ok.ensures c.in_ok-ran.ensures.ok c.args.stats.now c.add_run.new.stats c.add_run.ensures.length c.add_run.ensures.counted c.in-Ran.field-0 c.in-Ran.is
 
 pub returns-clause-ok : goal.returns-clause-ok
-returns-clause-ok g c = other_end_counts c.args.state.now.observers c.observers-observers.result.now c.args.place c.in-Some.number c.args.cell.now c.in-Ok.job c.in_ok-end.end c.args.state.now c.run_one.new.state c.observers-observers.ensures.observers c.in-Some.ensures.some (c.is_observer_of.ensures.is c.if-not-is_observer_of.false) c.in-Ok.ensures c.in_ok-end.ensures.ok c.in_default-end.not-Ran
+returns-clause-ok g c = other_end_counts c.args.state.now.observers c.observers-observers.result.now c.args.place c.in-Some.number c.args.cell.now c.in-Ok.job c.in_ok-ran.ran.end c.in_ok-ran.ran.stats c.args.state.now c.run_one.new.state c.observers-observers.ensures.observers c.in-Some.ensures.some (c.is_observer_of.ensures.is c.if-not-is_observer_of.false) c.in-Ok.ensures c.in_ok-ran.ensures.ok c.args.stats.now c.add_run.new.stats c.add_run.ensures.length c.add_run.ensures.counted c.in_default-end.not-Ran
+
+pub returns-then-not-is_observer_of-clause-ok : goal.returns-then-not-is_observer_of-clause-ok
+returns-then-not-is_observer_of-clause-ok g c = other_column_counts c.args.state.now.observers c.args.place c.args.cell.now c.args.stats.now c.args.state.now (subst (λ (l : List ObserverOf). IsOfOther l c.args.place c.args.cell.now) c.observers-observers.ensures.observers (c.is_observer_of.ensures.isnt c.if-not-is_observer_of.true))
