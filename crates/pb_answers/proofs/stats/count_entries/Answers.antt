@@ -1,4 +1,4 @@
-use Rattle.std.proofs.Common.{◌≡◌, ℕ, ◌+◌, List, ◌∷◌, ◌∙◌, length, sym, ap, arith}
+use Rattle.std.proofs.Common.{◌≡◌, ◌+◌, List, ◌∷◌, ◌∙◌, length, sym, ap, arith}
 use Rattle.std.proofs.lemmas.List.{length_push}
 use Rattle.std.specs.FinMap as map
 use Rattle.pb_answers.specs.Words.{Slot, Item}
