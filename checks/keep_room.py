@@ -12,6 +12,9 @@ from pathlib import Path
 
 TOP = Path(__file__).resolve().parent.parent
 
+# what is asked of a table; of its answers the size of the log isn't compared, since it depends on which changes share a record
+QUESTIONS = ("list", "quiet?", "stats")
+
 
 class Room:
     """A program, its manifest, and a folder for logs."""
@@ -58,21 +61,21 @@ class Room:
             return answers_in_turn(running, messages)
 
     def table(self, changes):
-        """The report after these changes, of a program that was never killed."""
+        """The report after these changes, and what the observers have done, of a program that was never killed."""
         key = tuple(changes)
         with self.lock:
             if key not in self.tables:
-                status, out, errors = self.run(self.log("never"), [*changes, "list", "quiet?"])
+                status, out, errors = self.run(self.log("never"), [*changes, *QUESTIONS])
                 if status or errors:
                     sys.exit(f"keep: {len(changes)} changes: status {status}, {errors}")
-                self.tables[key] = out[1 + len(changes) :]
+                self.tables[key] = without_size(out[1 + len(changes) :])
             return self.tables[key]
 
     def opened(self, log):
         """How many changes a log has, and its table; or None and what is reported, with a status that isn't 1."""
-        status, out, errors = self.run(log, ["list", "quiet?"])
+        status, out, errors = self.run(log, QUESTIONS)
         if status == 0 and out and out[0].startswith("open "):
-            return int(out[0].split()[1]), out[1:]
+            return int(out[0].split()[1]), without_size(out[1:])
         return None, errors if status == 1 and not out else f"status {status}, output {out}, {errors}"
 
 
@@ -92,6 +95,11 @@ def answers_in_turn(running, messages):
         pass
     errors = running.stderr.read().decode()
     return running.wait(), [line.decode()[:-1] for line in out if line], errors
+
+
+def without_size(lines):
+    """The lines without that of the log's size."""
+    return [line for line in lines if not line.startswith("log ")]
 
 
 def made_in(lines):

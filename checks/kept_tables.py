@@ -11,7 +11,11 @@ MOST_BYTES, MOST_CHANGES = 4096, 10_000
 OUT_OF_PLACE, TOO_MANY = 76, 75
 
 # the words of one line alone, without operands
-ALONE = ("list", "quiet?", "begin", "end")
+ALONE = ("list", "quiet?", "stats", "begin", "end")
+
+# how the line of `stats` on the log is shown, before the number of its changes: how many bytes these have is known to those who have the
+# file, since it depends on which of them share a record
+LOG_OF = "log of "
 
 
 def read_cell(words):
@@ -86,6 +90,19 @@ class KeptTable:
         locks = sum(map(len, self.table.locks.values()))
         return f"marks {len(self.table.marks)} locks {locks}" if self.table.marks or locks else "quiet"
 
+    def entries(self):
+        """How many entries the table has."""
+        table = self.table
+        return sum(len(its) for sort in (table.data, table.locks, table.records) for its in sort.values())
+
+    def stats(self):
+        """What each observer has done, and the sizes of the log and of the table."""
+        lines = [
+            f"stats {it.name} runs {its.runs} nonzero {its.nonzero} conflicts {its.conflicts} asks {its.asks} instructions {its.instructions}"
+            for it, its in zip(self.observers, self.table.counts)
+        ]
+        return [*lines, f"{LOG_OF}{len(self.lines)}", f"entries {self.entries()}", "end"]
+
     def make(self, line):
         """Makes a change, and answers it."""
         before = len(self.table.transactions)
@@ -153,6 +170,8 @@ class KeptTable:
             return [*model.report(self.table, self.observers).splitlines(), "end"]
         if verb == "quiet?":
             return [self.left()]
+        if verb == "stats":
+            return self.stats()
         return self.get(*operands) if verb == "get" else self.since(*operands)
 
     def take(self, line):

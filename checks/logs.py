@@ -88,6 +88,15 @@ def records_in(file):
     return records
 
 
+def places_in(file):
+    """How many changes there are up to the end of the header, and of each record, with the place of that end."""
+    places, count = [], 0
+    for number, (at, item) in enumerate(records_in(file)):
+        count += item.count(b"\n") if number else 0
+        places.append((count, at + 13 + len(item)))
+    return places
+
+
 def scripts_in(file, manifest):
     """The scripts of a log of this manifest, one for each record; or `Unreadable` is raised. A file without a record is a new log, if
     it has no more bytes than a crash leaves before the header is there."""

@@ -6,6 +6,7 @@ input ends after a line, within a group, or within a last line; or the program i
 from __future__ import annotations
 
 import random
+import re
 import subprocess
 import tempfile
 import threading
@@ -14,8 +15,9 @@ from collections import Counter
 from pathlib import Path
 
 import logs
-from kept_tables import KeptTable
-from random_lines import NO_OBSERVERS, line_from, manifest_of
+from kept_tables import LOG_OF, KeptTable
+from model import observers_of
+from random_lines import NO_OBSERVERS, TOP, line_from, manifest_of
 from random_texts import field_from
 from tables import encoded, observer
 from tables import manifest_of as manifest_with
@@ -47,6 +49,8 @@ class Session:
         self.manifest.write_text(manifest)
         self.kept = KeptTable(manifest)
         self.sent, self.met, self.timer = b"", Counter(), threading.Timer(SECONDS, bool)
+        # after how many changes the log was reported to have how many bytes
+        self.reported = set()
 
     def compare(self, what, came, wanted):
         if came != wanted:
@@ -83,6 +87,7 @@ class Session:
         file = self.log.read_bytes()
         self.compare("the log", logs.changes_in(file, self.manifest.read_bytes()), self.kept.lines)
         self.compare("groups that stand in two records", self.parted_groups(file), [])
+        self.compare("sizes of the log where no record of it ends", self.reported - set(logs.places_in(file)), set())
 
     def parted_groups(self, file):
         """The groups within which a record of the log ends."""
@@ -109,7 +114,7 @@ class Session:
         sender.start()
         for place, answer in enumerate(wanted):
             came = self.running.stdout.readline()
-            if came != f"{answer}\n".encode():
+            if not self.is_answer(came, answer):
                 self.running.kill()
                 sender.join()
                 before = wanted[max(place - 3, 0) : place]
@@ -117,6 +122,15 @@ class Session:
             self.met[" ".join(answer.split(" ")[: 2 if answer.startswith("refused") else 1])] += 1
             self.met["unquiet"] += answer.endswith(" unquiet")
         sender.join()
+
+    def is_answer(self, came, answer):
+        """Whether a line is this answer. How many bytes the log had is compared at the end, with its records."""
+        if not answer.startswith(LOG_OF):
+            return came == f"{answer}\n".encode()
+        found = re.fullmatch(rb"log (\d+)\n", came)
+        if found:
+            self.reported.add((int(answer.removeprefix(LOG_OF)), int(found[1])))
+        return found is not None
 
     def batch(self, pick, field):
         """Some lines, and their answers."""
@@ -219,10 +233,46 @@ def try_passes(session):
     session.exchange([b"put 0 0 01\n"], ["made 4004 runs 1"])
 
 
+# Changes under an observer that reads a cell and writes it, in 18 instructions, and one whose result is 1 where its cell has a value, in
+# two. Each is sent alone, so that the first two have a record each, and the group has one.
+COUNTED = (
+    (b"put 7 0 2a\n", ["made 2 runs 2"]),
+    (b"del 7 0\n", ["made 8 runs 2"]),
+    (b"begin\nput 8 0 01\nput 9 0 01; put 10 0 01\nend\n", ["begun", "made 14 runs 2", "made 20 runs 4", "ended"]),
+)
+COUNTER = observers_of((TOP / "examples/counter.json").read_text())[0].code
+IS_VALUE = encoded("ldxdw r0, [r1+32]", "exit")
+
+
+def stats_of(runs, nonzero, size, entries):
+    """The answer to `stats` after so many runs of both of these observers."""
+    return [
+        f"stats counter runs {runs} nonzero 0 conflicts 0 asks {runs} instructions {18 * runs}",
+        f"stats is-value runs {runs} nonzero {nonzero} conflicts 0 asks 0 instructions {2 * runs}",
+        *(f"log {size}", f"entries {entries}", "end"),
+    ]
+
+
+def try_stats(session):
+    """What observers do is counted from the first change, also after a start, and the log and the entries are."""
+    size = 13 + len(logs.header(session.manifest.read_bytes()))
+    session.exchange([b"stats\n"], stats_of(0, 0, size, 0))
+    for text, made in COUNTED:
+        session.exchange([text], made)
+    session.kept.lines = ["put 7 0 2a", "del 7 0", "put 8 0 01", "put 9 0 01; put 10 0 01"]
+    # three records, each of 13 bytes and its lines; two entries for each write of a cell, and of an acknowledgment
+    wanted = stats_of(5, 4, size + 13 + 11 + 13 + 8 + 13 + 35, 2 * (5 + 5 + 5 + 5))
+    session.exchange([b"stats\nstats 7\nbegin\nstats\nend\nstats\n"], [*wanted, "refused 70", "begun", "refused 76", "ended", *wanted])
+    session.end(0)
+    session.start()
+    session.exchange([b"stats\n"], wanted)
+
+
 def try_limits(program):
-    """Sessions at the limits of a group and of passes, whose answers are worked out by hand."""
+    """Sessions at the limits of a group and of passes, and one of what observers do, whose answers are worked out by hand."""
     down = manifest_with(observer("down", 0, "2", DOWN.hex()))
-    for limit, manifest in ((try_group, NO_OBSERVERS.read_text()), (try_passes, down)):
+    counted = manifest_with(observer("counter", 0, "1, 2", COUNTER.hex()), observer("is-value", 0, "", IS_VALUE.hex()))
+    for limit, manifest in ((try_group, NO_OBSERVERS.read_text()), (try_passes, down), (try_stats, counted)):
         with tempfile.TemporaryDirectory(prefix="session-") as folder:
             session = Session(program, folder, manifest)
             session.start()

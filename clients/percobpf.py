@@ -152,16 +152,24 @@ class Table:
 
     def list(self) -> list[str]:
         """The lines of the report."""
-        self._send(["list"])
-        lines = []
-        while (answer := self._read()) != "end":
-            lines.append(answer)
-        return lines
+        return self._lines_of("list")
+
+    def stats(self) -> list[str]:
+        """The lines on what each observer has done, and on the sizes of the log and of the table."""
+        return self._lines_of("stats")
 
     def is_quiet(self) -> bool:
         """Whether nothing is left for the observers to do."""
         self._send(["quiet?"])
         return self._read() == "quiet"
+
+    def _lines_of(self, question: str) -> list[str]:
+        """The lines of an answer, up to its `end`."""
+        self._send([question])
+        lines = []
+        while (answer := self._read()) != "end":
+            lines.append(answer)
+        return lines
 
     def _send(self, lines) -> None:
         try:

@@ -4,4 +4,5 @@ pub mod Values
 pub mod Writes
 pub mod Records
 pub mod Lists
+pub mod Stats
 pub mod SeenHistory

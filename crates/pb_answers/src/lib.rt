@@ -1,5 +1,5 @@
-//! The texts that answer questions of a table: what a cell holds, what was written since a commit, the report, and whether
-//! it is quiet.
+//! The texts that answer questions of a table: what a cell holds, what was written since a commit, the report, whether it is
+//! quiet, and what its observers have done.
 //!
 //! A table that is kept on a log answers from a `State`, which has entries and marks and no journal. So each answer is
 //! defined by what the entries have, with the words of the report, and the report's lines are those of `pb_script`. Where no
@@ -19,6 +19,7 @@ mod newest;
 mod quiet;
 mod records;
 mod runs;
+mod stats;
 mod writes;
 
 pub use get::answer_get;
@@ -27,4 +28,5 @@ pub use list::answer_list;
 pub use newest::newest_of;
 pub use pb_script::Newest;
 pub use quiet::answer_quiet;
+pub use stats::answer_stats;
 pub use writes::answer_since;

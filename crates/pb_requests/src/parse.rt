@@ -96,6 +96,7 @@ fn question_of(verb: &str, words: &mut LineWords) -> Result<Request, ScriptCode>
         "begin" => alone_in(Request::Begin, words),
         "end" => alone_in(Request::End, words),
         "quiet?" => alone_in(Request::IsQuiet, words),
+        "stats" => alone_in(Request::Stats, words),
         _ => Err(ScriptCode::Form),
     }
 }

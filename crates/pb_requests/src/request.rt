@@ -29,4 +29,6 @@ pub enum Request {
     End,
     /// What is left to do.
     IsQuiet,
+    /// What the observers have done.
+    Stats,
 }

@@ -99,7 +99,7 @@ Usage: percobpf_keep MANIFEST LOG
 
 Keeps a table on a disk, with the observers of MANIFEST. LOG is opened, or made, and its changes are made again. Then each
 line of standard input is answered: `put ROW COL HEX; ..`, `del ROW COL; ..`, `if ROW COL COMMIT; put ..`, `get ROW COL`,
-`since COMMIT`, `list`, `quiet?`, `begin`, `end`. docs/KEEPING.md describes them.
+`since COMMIT`, `list`, `quiet?`, `stats`, `begin`, `end`. docs/KEEPING.md describes them.
 ";
 
 // The handle goes down twice, as the host and as what may wait, since a `HostRuntime` may wait in `main` alone.
