@@ -4,8 +4,8 @@ ghost use Rattle.std.specs.FinMap as map;
 ghost use Rattle.pb_steps.specs.Readings.{is_lock, lock_count};
 ghost use Rattle.pb_script.specs.ReportLines.{last_line};
 
-use crate::lines::last_line;
 use pb_base::NoMemory;
+use pb_script::last_line;
 use pb_state::State;
 use pb_store::{Slot, Sort, Table, Tablet};
 use std::alloc::Global;

@@ -7,10 +7,9 @@ ghost use Rattle.pb_store.specs.declared.slot.Slot.{Slot};
 ghost use Rattle.pb_answers.specs.Records.{HasWritesSince, is_since};
 ghost use Rattle.pb_answers.specs.Writes.{AreWritesSince, IsWritesAnswer, since_line};
 
-use crate::lines::add_write_line;
 use crate::records::put_in;
 use pb_base::{Cell, Content, NoMemory, Ts};
-use pb_script::{Newest, Put};
+use pb_script::{Newest, Put, add_cell_line};
 use pb_state::State;
 use pb_store::{Item, Slot, Table, Tablet};
 use std::alloc::{AllocError, Global};
@@ -72,7 +71,7 @@ fn write_lines(alloc: Global, writes: &BTreeMap<(Ts, Cell), Content>) -> Result<
             commit: key.0,
             content: *content,
         };
-        add_write_line(&mut text, &key.1, &newest)?;
+        add_cell_line(&mut text, &key.1, &newest)?;
     }
     Ok(text)
 }

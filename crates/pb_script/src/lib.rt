@@ -20,4 +20,6 @@ pub use pb_parse::{
     operation_fault_is_first, parse_schedule, parse_script, reads_batches, reads_operations,
     schedule_fault_is_first, schedule_faults_are_told_where_they_are, schedules_are_their_lines,
 };
-pub use reports::{Newest, Put, Tally, digits_of, note, one_report, report_of};
+pub use reports::{
+    Newest, Put, Tally, add_cell_line, digits_of, last_line, note, one_report, report_of,
+};

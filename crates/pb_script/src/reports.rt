@@ -9,10 +9,9 @@ ghost use Rattle.pb_script.specs.Reports.{AreNewest, IsReport, AreApart};
 ghost use Rattle.pb_script.specs.ReportLines.{Tallies};
 ghost use Rattle.pb_script.specs.declared.reports.newest.Put.{Put};
 
-use crate::reports::lines::last_line;
 use crate::reports::newest::cell_lines;
 use crate::reports::tally::run_lines;
-pub use lines::{Newest, digits_of};
+pub use lines::{Newest, add_cell_line, digits_of, last_line};
 pub use newest::{Put, note};
 use pb_base::{Cell, NoMemory};
 use std::alloc::Global;
