@@ -18,7 +18,7 @@ use Rattle.pb_notify.specs.Forms.{JobsConverse, JobsEnd}
 use Rattle.pb_notify.specs.Allowed.{entries_by}
 use Rattle.pb_keeper.specs.Leads.{SaidLeads}
 use Rattle.pb_keeper.specs.Runs.{IsFreshJob, IsWholeRunOf, BeginsRun}
-use Rattle.pb_keeper.specs.Stats.{no_runs, plus, added, instruction_stats, instructions_in, end_stats, RanAndDid, RanSoFar}
+use Rattle.pb_keeper.specs.Stats.{no_runs, sum_of, added, instruction_stats, instructions_in, end_stats, RanAndDid, RanSoFar}
 use Rattle.pb_keeper.specs.declared.stats.ObserverStats.{ObserverStats}
 use Rattle.pb_keeper.proofs.Pushes.{leads-push}
 use Rattle.pb_keeper.proofs.Statistics.{added_more}
@@ -59,6 +59,6 @@ run_ends first job end stats all old new law is so_far over sum =
     let whole : IsWholeRunOf first end so_far.said = record { o = is.0; is = is.1; job = job; reaches = so_far.form.reaches; over = over; run = talk.0; talk = talk.1; meant = talk.2 } in
     record {
       said = so_far.said;
-      form = record { did = plus did (end_stats end); run = record { whole = whole; did_is = refl }; stats_are = sum ∙ ap (λ s. added s (end_stats end)) so_far.form.stats_are ∙ added_more did (end_stats end) };
+      form = record { did = sum_of did (end_stats end); run = record { whole = whole; did_is = refl }; stats_are = sum ∙ ap (λ s. added s (end_stats end)) so_far.form.stats_are ∙ added_more did (end_stats end) };
       leads = so_far.leads;
     }

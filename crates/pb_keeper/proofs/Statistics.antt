@@ -16,7 +16,7 @@ use Rattle.pb_notify.specs.Runs.{RunOf}
 use Rattle.pb_notify.specs.declared.need.JobEnd.{JobEnd}
 use Rattle.pb_passes.specs.Passes.{IsJobOn}
 use Rattle.pb_keeper.specs.Leads.{IsEndedChange}
-use Rattle.pb_keeper.specs.Stats.{no_runs, plus, saturated, added, RanAndDid, begins_run, only_at, AreStatsOf, nothing_said, other_step, one_run, Counted}
+use Rattle.pb_keeper.specs.Stats.{no_runs, sum_of, saturated, added, RanAndDid, starts_run, only_at, AreStatsOf, nothing_said, other_step, one_run, Counted}
 use Rattle.pb_keeper.specs.declared.stats.ObserverStats.{ObserverStats}
 
 -- ---- numbers
@@ -36,23 +36,23 @@ sum_none x = omega (arith)
 none_sum : (x : ℕ) → 0 + x ≡ x
 none_sum x = omega (arith)
 
-added_both : (a b : ObserverStats) → added (saturated a) (saturated b) ≡ saturated (plus a b)
+added_both : (a b : ObserverStats) → added (saturated a) (saturated b) ≡ saturated (sum_of a b)
 added_both a b = λ i. record { runs = sum_up_to a.runs b.runs i; nonzero = sum_up_to a.nonzero b.nonzero i; conflicts = sum_up_to a.conflicts b.conflicts i; asks = sum_up_to a.asks b.asks i; instructions = sum_up_to a.instructions b.instructions i }
 
-pub added_more : (a b : ObserverStats) → added (saturated a) b ≡ saturated (plus a b)
+pub added_more : (a b : ObserverStats) → added (saturated a) b ≡ saturated (sum_of a b)
 added_more a b = λ i. record { runs = more_up_to a.runs b.runs i; nonzero = more_up_to a.nonzero b.nonzero i; conflicts = more_up_to a.conflicts b.conflicts i; asks = more_up_to a.asks b.asks i; instructions = more_up_to a.instructions b.instructions i }
 
-plus_assoc : (a b c : ObserverStats) → plus (plus a b) c ≡ plus a (plus b c)
+plus_assoc : (a b c : ObserverStats) → sum_of (sum_of a b) c ≡ sum_of a (sum_of b c)
 plus_assoc a b c = λ i. record { runs = sum_assoc a.runs b.runs c.runs i; nonzero = sum_assoc a.nonzero b.nonzero c.nonzero i; conflicts = sum_assoc a.conflicts b.conflicts c.conflicts i; asks = sum_assoc a.asks b.asks c.asks i; instructions = sum_assoc a.instructions b.instructions c.instructions i }
 
-plus_none : (a : ObserverStats) → plus a no_runs ≡ a
+plus_none : (a : ObserverStats) → sum_of a no_runs ≡ a
 plus_none a = λ i. record { runs = sum_none a.runs i; nonzero = sum_none a.nonzero i; conflicts = sum_none a.conflicts i; asks = sum_none a.asks i; instructions = sum_none a.instructions i }
 
-pub none_plus : (a : ObserverStats) → plus no_runs a ≡ a
+pub none_plus : (a : ObserverStats) → sum_of no_runs a ≡ a
 none_plus a = λ i. record { runs = none_sum a.runs i; nonzero = none_sum a.nonzero i; conflicts = none_sum a.conflicts i; asks = none_sum a.asks i; instructions = none_sum a.instructions i }
 
 -- one more run, where it is the observer's
-one_more_run : (is : Bool) (was before did stats : ObserverStats) → was ≡ saturated before → stats ≡ saturated did → cond is (added was stats) was ≡ saturated (plus before (cond is did no_runs))
+one_more_run : (is : Bool) (was before did stats : ObserverStats) → was ≡ saturated before → stats ≡ saturated did → cond is (added was stats) was ≡ saturated (sum_of before (cond is did no_runs))
 one_more_run true was before did stats e f = (λ i. added (e i) (f i)) ∙ added_both before did
 one_more_run false was before did stats e f = e ∙ ap saturated (sym (plus_none before))
 
@@ -61,7 +61,7 @@ one_more_run false was before did stats e f = e ∙ ap saturated (sym (plus_none
 -- no step of these begins a run
 abbrev pub BeginNoRun : List Received → Type 0
 BeginNoRun [] = Unit {0}
-BeginNoRun (r ∷ rs) = (begins_run r.step ≡ false) × BeginNoRun rs
+BeginNoRun (r ∷ rs) = (starts_run r.step ≡ false) × BeginNoRun rs
 
 none_on : (a b : List Received) → BeginNoRun a → BeginNoRun b → BeginNoRun (a ++ b)
 none_on [] b p q = q
@@ -78,7 +78,7 @@ secondaries_begin_none s (x ∷ xs) = (refl, secondaries_begin_none s xs)
 cleared_begin_none : (xs : List Cell) (rs : List Received) → AreCleared xs rs → BeginNoRun rs
 cleared_begin_none [] rs c = subst BeginNoRun (sym c) tt
 cleared_begin_none (x ∷ xs) [] c = absurd c
-cleared_begin_none (x ∷ xs) (r ∷ rs) c = (ap begins_run c.0, cleared_begin_none xs rs c.2)
+cleared_begin_none (x ∷ xs) (r ∷ rs) c = (ap starts_run c.0, cleared_begin_none xs rs c.2)
 
 whole_begins_none : (s : Ts) (what : Declared) (cells : List Cell) (said : List Received) (o : Outcome) → IsWhole s what cells said o → BeginNoRun said
 whole_begins_none s what cells said o (committed x others c) =
@@ -94,14 +94,14 @@ pub change_begins_none : (batch : Writes) (o : Outcome) (said : List Received) �
 change_begins_none batch o said g = subst BeginNoRun (sym g.1.said_is) (refl, whole_begins_none g.0 _ _ g.1.rest o g.1.whole)
 
 module _ (observers : List ObserverOf) where
-  stats_append : (a b : List Received) (m n : ℕ → ObserverStats) → AreStatsOf observers a m → AreStatsOf observers b n → AreStatsOf observers (a ++ b) (λ o. plus (m o) (n o))
-  stats_append a b m n p nothing_said = subst (λ l. AreStatsOf observers l (λ o. plus (m o) no_runs)) (sym (append-nil a)) (subst (λ (t : ℕ → ObserverStats). AreStatsOf observers a t) (sym (λ i o. plus_none (m o) i)) p)
+  stats_append : (a b : List Received) (m n : ℕ → ObserverStats) → AreStatsOf observers a m → AreStatsOf observers b n → AreStatsOf observers (a ++ b) (λ o. sum_of (m o) (n o))
+  stats_append a b m n p nothing_said = subst (λ l. AreStatsOf observers l (λ o. sum_of (m o) no_runs)) (sym (append-nil a)) (subst (λ (t : ℕ → ObserverStats). AreStatsOf observers a t) (sym (λ i o. plus_none (m o) i)) p)
   stats_append a b m n p (other_step said total r q isnt) =
-      subst (λ l. AreStatsOf observers l (λ o. plus (m o) (total o))) (append_assoc a said (r ∷ [])) (other_step (a ++ said) (λ o. plus (m o) (total o)) r (stats_append a said m total p q) isnt)
+      subst (λ l. AreStatsOf observers l (λ o. sum_of (m o) (total o))) (append_assoc a said (r ∷ [])) (other_step (a ++ said) (λ o. sum_of (m o) (total o)) r (stats_append a said m total p q) isnt)
   stats_append a b m n p (one_run said more total k x first end did q job ran) =
       subst (λ (t : ℕ → ObserverStats). AreStatsOf observers (a ++ (said ++ more)) t) (λ i o. plus_assoc (m o) (total o) (only_at k did o) i)
-      (subst (λ l. AreStatsOf observers l (λ o. plus (plus (m o) (total o)) (only_at k did o))) (append_assoc a said more)
-      (one_run (a ++ said) more (λ o. plus (m o) (total o)) k x first end did (stats_append a said m total p q) job ran))
+      (subst (λ l. AreStatsOf observers l (λ o. sum_of (sum_of (m o) (total o)) (only_at k did o))) (append_assoc a said more)
+      (one_run (a ++ said) more (λ o. sum_of (m o) (total o)) k x first end did (stats_append a said m total p q) job ran))
 
   others_after : (a : List Received) (total : ℕ → ObserverStats) (b : List Received) → AreStatsOf observers a total → BeginNoRun b → AreStatsOf observers (a ++ b) total
   others_after a total [] p h = subst (λ l. AreStatsOf observers l total) (sym (append-nil a)) p
@@ -113,10 +113,10 @@ module _ (observers : List ObserverOf) where
   pub counted_on : (s t u : List ObserverStats) (P Q R : List Received → Type 0) (a b : List Received) → ((p : P a) (q : Q b) → R (a ++ b)) → Counted observers s t P a → Counted observers t u Q b → Counted observers s u R (a ++ b)
   counted_on s t u P Q R a b join g h = record {
     form = join g.form h.form;
-    total = λ o. plus (g.total o) (h.total o);
+    total = λ o. sum_of (g.total o) (h.total o);
     did = stats_append a b g.total h.total g.did h.did;
     as_many = h.as_many ∙ g.as_many;
-    grows = λ before k o lt. h.grows (λ o. plus (before o) (g.total o)) (g.grows before k) o lt ∙ ap saturated (plus_assoc (before o) (g.total o) (h.total o));
+    grows = λ before k o lt. h.grows (λ o. sum_of (before o) (g.total o)) (g.grows before k) o lt ∙ ap saturated (plus_assoc (before o) (g.total o) (h.total o));
   }
 
   -- no run

@@ -20,8 +20,8 @@ abbrev pub no_runs : ObserverStats
 no_runs = record { runs = 0; nonzero = 0; conflicts = 0; asks = 0; instructions = 0 }
 
 -- two together
-abbrev pub plus : ObserverStats → ObserverStats → ObserverStats
-plus a b = record { runs = a.runs + b.runs; nonzero = a.nonzero + b.nonzero; conflicts = a.conflicts + b.conflicts; asks = a.asks + b.asks; instructions = a.instructions + b.instructions }
+abbrev pub sum_of : ObserverStats → ObserverStats → ObserverStats
+sum_of a b = record { runs = a.runs + b.runs; nonzero = a.nonzero + b.nonzero; conflicts = a.conflicts + b.conflicts; asks = a.asks + b.asks; instructions = a.instructions + b.instructions }
 
 -- each number as far as 64 bits can say
 abbrev pub saturated : ObserverStats → ObserverStats
@@ -29,7 +29,7 @@ saturated a = record { runs = u64_saturate a.runs; nonzero = u64_saturate a.nonz
 
 -- two together, as far as 64 bits can say
 abbrev pub added : ObserverStats → ObserverStats → ObserverStats
-added a b = saturated (plus a b)
+added a b = saturated (sum_of a b)
 
 -- ---- a run
 
@@ -46,7 +46,7 @@ instruction_stats job = record { runs = 0; nonzero = 0; conflicts = 0; asks = co
 abbrev pub instructions_in : (first : RunOf) (said : List Received) (job : RunOf) → Reaches first said job → ObserverStats
 instructions_in first said job made = no_runs
 instructions_in first said job (took before k r l h is_next can is look) = instructions_in first before k h
-instructions_in first said job (computed before k l h is_next one) = plus (instructions_in first before k h) (instruction_stats l)
+instructions_in first said job (computed before k l h is_next one) = sum_of (instructions_in first before k h) (instruction_stats l)
 
 -- it has come so far, and this many of them are counted
 pub record ReachesAndDid (first job : RunOf) (stats : ObserverStats) (said : List Received) : Type 0 where
@@ -66,7 +66,7 @@ end_stats _ = no_runs
 -- a whole run of this job, which ended so and did this
 pub record IsRunThatDid (first : RunOf) (end : JobEnd) (did : ObserverStats) (said : List Received) : Type 0 where
   pub whole : IsWholeRunOf first end said
-  pub did_is : did ≡ plus (instructions_in first said whole.job whole.reaches) (end_stats end)
+  pub did_is : did ≡ sum_of (instructions_in first said whole.job whole.reaches) (end_stats end)
 
 -- the same as a machine's numbers say it
 pub record RanAndDid (first : RunOf) (end : JobEnd) (stats : ObserverStats) (said : List Received) : Type 0 where
@@ -77,9 +77,9 @@ pub record RanAndDid (first : RunOf) (end : JobEnd) (stats : ObserverStats) (sai
 -- ---- a conversation
 
 -- the step begins a run
-abbrev pub begins_run : Step → Bool
-begins_run (Step.Begin (Work.Run n row)) = true
-begins_run _ = false
+abbrev pub starts_run : Step → Bool
+starts_run (Step.Begin (Work.Run n row)) = true
+starts_run _ = false
 
 -- of the observer of this number, and nothing of others
 abbrev pub only_at : ℕ → ObserverStats → ℕ → ObserverStats
@@ -88,9 +88,9 @@ only_at n did o = cond (n == o) did no_runs
 -- what the runs of each observer did in a conversation, of which each step is one of a run or begins none
 pub data AreStatsOf (observers : List ObserverOf) : List Received → (ℕ → ObserverStats) → Type 0 where
   nothing_said : AreStatsOf observers [] (λ o. no_runs)
-  other_step : (said : List Received) (total : ℕ → ObserverStats) (r : Received) → AreStatsOf observers said total → begins_run r.step ≡ false → AreStatsOf observers (said ++ r ∷ []) total
+  other_step : (said : List Received) (total : ℕ → ObserverStats) (r : Received) → AreStatsOf observers said total → starts_run r.step ≡ false → AreStatsOf observers (said ++ r ∷ []) total
   one_run : (said more : List Received) (total : ℕ → ObserverStats) (n : ℕ) (x : Cell) (first : RunOf) (end : JobEnd) (did : ObserverStats) → AreStatsOf observers said total → IsJobOn observers n x first → IsRunThatDid first end did more
-      → AreStatsOf observers (said ++ more) (λ o. plus (total o) (only_at n did o))
+      → AreStatsOf observers (said ++ more) (λ o. sum_of (total o) (only_at n did o))
 
 -- the numbers that are kept for each observer are these
 abbrev pub AreKeptStats : (ℕ → ObserverStats) → List ObserverStats → Type 0
@@ -102,7 +102,7 @@ pub record Counted (observers : List ObserverOf) (old new : List ObserverStats) 
   pub total : ℕ → ObserverStats
   pub did : AreStatsOf observers said total
   pub as_many : length new ≡ length old
-  pub grows : (before : ℕ → ObserverStats) → AreKeptStats before old → AreKeptStats (λ o. plus (before o) (total o)) new
+  pub grows : (before : ℕ → ObserverStats) → AreKeptStats before old → AreKeptStats (λ o. sum_of (before o) (total o)) new
 
 -- ---- a table
 
