@@ -14,10 +14,9 @@ import os
 import re
 import socket
 import subprocess
+import threading
+from contextlib import suppress
 from dataclasses import dataclass
-
-# how many lines are sent before their answers are read: fewer bytes than a pipe holds
-AHEAD = 256
 
 MADE = re.compile(r"made (\d+)(?: runs (\d+)| unquiet)")
 CELL = re.compile(r"cell (\d+) (\d+) commit (\d+) (?:value ([0-9a-f]+)|deleted)")
@@ -111,13 +110,21 @@ class Table:
         return self._made(line, self._read())
 
     def changes(self, lines: list[str]) -> list[Made]:
-        """Makes many changes, each a line of operations joined by `; `. Those that wait together share a record of the log."""
-        made = []
-        for at in range(0, len(lines), AHEAD):
-            part = lines[at : at + AHEAD]
-            self._send(part)
-            made += [self._made(line, answer) for line, answer in [(line, self._read()) for line in part]]
-        return made
+        """Makes many changes, each a line of operations joined by `; `. They are sent while their answers are read, since neither pipe
+        holds all of them. Those that wait together share a record of the log."""
+
+        def send() -> None:
+            # that the program has ended is seen where its answers are read
+            with suppress(Gone):
+                self._send(lines)
+
+        sender = threading.Thread(target=send)
+        sender.start()
+        try:
+            answers = [self._read() for _ in lines]
+        finally:
+            sender.join()
+        return [self._made(line, answer) for line, answer in zip(lines, answers)]
 
     def group(self, lines: list[str]) -> list[Made]:
         """Makes changes by one record of the log: after a crash all of them are there, or none."""
@@ -168,6 +175,8 @@ class Table:
         self._send([question])
         lines = []
         while (answer := self._read()) != "end":
+            if answer.startswith("refused "):
+                raise self._refusal(question, answer)
             lines.append(answer)
         return lines
 
@@ -175,7 +184,7 @@ class Table:
         try:
             self._lines.write("".join(f"{line}\n" for line in lines).encode())
             self._lines.flush()
-        except BrokenPipeError:
+        except ConnectionError:
             raise Gone("the program has ended") from None
 
     def _read(self) -> str:
