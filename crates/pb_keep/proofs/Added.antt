@@ -1,8 +1,11 @@
 -- A line more that waits.
-use Rattle.std.proofs.Common.{◌≡◌, ℕ, List, [], ◌∷◌, ◌++◌, refl, ap}
-use Rattle.pb_keep.specs.Words.{Writes}
+use Rattle.std.proofs.Common.{◌≡◌, ℕ, ◌≤◌, Bool, true, false, List, [], ◌∷◌, ◌++◌, length, refl, ap, sym, subst, ◌∙◌, arith}
+use Rattle.std.specs.Prelude.{string_bytes}
+use Rattle.pb_keep.specs.Words.{MAX_CHANGES, Writes}
+use Rattle.pb_keep.specs.declared.waiting.TheConstants.{MAX_RECORD}
 use Rattle.pb_keep.specs.declared.waiting.Waits.{Waits}
-use Rattle.pb_keep.specs.Waits.{changes_in, AreScriptLines, IsScriptLine}
+use Rattle.pb_keep.specs.declared.waiting.Waiting.{Waiting}
+use Rattle.pb_keep.specs.Waits.{changes_in, AreScriptLines, HasNoEnd, IsNoLine, IsOpenGroup, IsScriptLine, IsWaiting}
 
 pub changes_of_both : (xs ys : List Waits) → changes_in (xs ++ ys) ≡ changes_in xs ++ changes_in ys
 changes_of_both [] ys = refl
@@ -17,3 +20,32 @@ line_is_added [] [] l b h k = (k, tt)
 line_is_added [] (c ∷ bs) l b h k = absurd h
 line_is_added (a ∷ ls) [] l b h k = absurd h
 line_is_added (a ∷ ls) (c ∷ bs) l b h k = (h.0, line_is_added ls bs l b h.1 k)
+
+-- ---- a group
+
+no_end_more : (xs : List Waits) (item : Waits) → HasNoEnd xs → HasNoEnd (item ∷ []) → HasNoEnd (xs ++ item ∷ [])
+no_end_more [] item h k = k
+no_end_more (Waits.Change batch ∷ xs) item h k = no_end_more xs item h k
+no_end_more (Waits.Unmade newest ∷ xs) item h k = no_end_more xs item h k
+no_end_more (Waits.Refused code ∷ xs) item h k = no_end_more xs item h k
+no_end_more (Waits.Begun ∷ xs) item h k = no_end_more xs item h k
+no_end_more (Waits.Ended ∷ xs) item h k = absurd h
+
+-- a group that goes on
+pub group_goes_on : (items : List Waits) (item : Waits) → HasNoEnd (item ∷ []) → IsOpenGroup items → IsOpenGroup (items ++ item ∷ [])
+group_goes_on items item k g = (g.0 ++ item ∷ [], ap (λ l. l ++ item ∷ []) g.1, no_end_more g.0 item g.2 k)
+
+-- where nothing waits the next record has nothing
+pub no_line_waits : (w : Waiting) → IsNoLine w → IsWaiting w
+no_line_waits w none = record {
+  lines = [];
+  script = none.script;
+  read = subst (λ items. AreScriptLines [] (changes_in items)) (sym none.items) tt;
+  count = none.changes ∙ ap (λ items. length (changes_in items)) (sym none.items);
+  few = subst (λ n. n ≤ MAX_CHANGES) (sym none.changes) (omega arith);
+  bytes = subst (λ l. length l ≤ MAX_RECORD) (sym none.script) (omega arith);
+  open_group = λ e. absurd (open_and_not w.is_group none.alone e);
+} where
+  open_and_not : (b : Bool) → b ≡ false → b ≡ true → ⊥
+  open_and_not true e f = absurd cc
+  open_and_not false e f = absurd cc

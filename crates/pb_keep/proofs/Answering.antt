@@ -1,6 +1,6 @@
 -- Lines that waited are answered.
 use Rattle.std.proofs.Common.{◌≡◌, ℕ, List, [], ◌∷◌, ◌++◌, length, refl, ap, sym, subst, ◌∙◌}
-use Rattle.pb_keep.specs.Words.{StateOf, Writes}
+use Rattle.pb_keep.specs.Words.{KeptTable, StateOf, Writes}
 use Rattle.pb_keep.specs.declared.waiting.Waits.{Waits}
 use Rattle.pb_keep.specs.Waits.{changes_in, none, one_more, AreAnswers, Group, group_after, IsAnswer}
 use Rattle.pb_keep.specs.Held.{IsLineHeld}
@@ -10,21 +10,21 @@ use Rattle.pb_keep.proofs.Added.{changes_of_both}
 use Rattle.pb_keep.proofs.Lasts.{last_is_some, one_last}
 
 -- no line is answered by nothing
-pub none_answered : (items : List Waits) (old new : StateOf) (text : List ℕ) → AreAnswers items old new text → items ≡ [] → (new ≡ old) × (text ≡ [])
-none_answered items old new text (none state) e = (refl, refl)
+pub none_answered : (items : List Waits) (old new : KeptTable) (text : List ℕ) → AreAnswers items old new text → items ≡ [] → (new ≡ old) × (text ≡ [])
+none_answered items old new text (none table) e = (refl, refl)
 none_answered items old new text (one_more is item o b n t more a last) e = absurd (last_is_some is item e)
 
 -- the last line, and those before it
-record LastAnswer (items : List Waits) (item : Waits) (old new : StateOf) (text : List ℕ) : Type 0 where
-  between : StateOf
+record LastAnswer (items : List Waits) (item : Waits) (old new : KeptTable) (text : List ℕ) : Type 0 where
+  between : KeptTable
   before : List ℕ
   after : List ℕ
   front : AreAnswers items old between before
   last : IsAnswer item between new after
   text_is : text ≡ before ++ after
 
-last_answer : (all : List Waits) (old new : StateOf) (text : List ℕ) → AreAnswers all old new text → (items : List Waits) (item : Waits) → all ≡ items ++ item ∷ [] → LastAnswer items item old new text
-last_answer all old new text (none state) items item e = absurd (last_is_some items item (sym e))
+last_answer : (all : List Waits) (old new : KeptTable) (text : List ℕ) → AreAnswers all old new text → (items : List Waits) (item : Waits) → all ≡ items ++ item ∷ [] → LastAnswer items item old new text
+last_answer all old new text (none table) items item e = absurd (last_is_some items item (sym e))
 last_answer all old new text (one_more is i o b n t more a last) items item e =
     let same = one_last is items i item e in
     record {
@@ -41,17 +41,17 @@ pub none_waited : (state : StateOf) (lines : List (List ℕ)) (items : List Wait
 none_waited state lines items group none_held e = refl
 none_waited state lines items group (one_held ls l is i g h any) e = absurd (last_is_some is i e)
 
-same_answered : (start now : StateOf) (group : Group) (lines lines2 : List (List ℕ)) (made made2 : List Writes) (text text2 : List ℕ) → lines ≡ lines2 → made ≡ made2 → text ≡ text2 → AreAnswered start lines made group now text → AreAnswered start lines2 made2 group now text2
+same_answered : (start now : KeptTable) (group : Group) (lines lines2 : List (List ℕ)) (made made2 : List Writes) (text text2 : List ℕ) → lines ≡ lines2 → made ≡ made2 → text ≡ text2 → AreAnswered start lines made group now text → AreAnswered start lines2 made2 group now text2
 same_answered start now group lines lines2 made made2 text text2 e f g a =
     subst (λ t. AreAnswered start lines2 made2 group now t) g (subst (λ m. AreAnswered start lines2 m group now text) f (subst (λ l. AreAnswered start l made group now text) e a))
 
-module _ (start old : StateOf) (answered : List (List ℕ)) (made : List Writes) (text : List ℕ) (told : AreAnswered start answered made Group.alone old text) where
-  one_held_answered : (lines : List (List ℕ)) (line : List ℕ) (items : List Waits) (item : Waits) (group : Group) (new : StateOf) (more : List ℕ)
-      → ((between : StateOf) (before : List ℕ) → AreAnswers items old between before → AreAnswered start (answered ++ lines) (made ++ changes_in items) group between (text ++ before))
-      → ((s : StateOf) → (items ≡ [] → s ≡ old) → IsLineHeld group s line item) → LastAnswer items item old new more
+module _ (start old : KeptTable) (answered : List (List ℕ)) (made : List Writes) (text : List ℕ) (told : AreAnswered start answered made Group.alone old text) where
+  one_held_answered : (lines : List (List ℕ)) (line : List ℕ) (items : List Waits) (item : Waits) (group : Group) (new : KeptTable) (more : List ℕ)
+      → ((between : KeptTable) (before : List ℕ) → AreAnswers items old between before → AreAnswered start (answered ++ lines) (made ++ changes_in items) group between (text ++ before))
+      → ((s : StateOf) → (items ≡ [] → s ≡ old.state) → IsLineHeld group s line item) → LastAnswer items item old new more
       → AreAnswered start (answered ++ (lines ++ line ∷ [])) (made ++ changes_in (items ++ item ∷ [])) (group_after group (length line) item) new (text ++ more)
   one_held_answered lines line items item group new more first any l =
-      let held = any l.between (λ none_before. (none_answered items old l.between l.before l.front none_before).0) in
+      let held = any l.between.state (λ none_before. ap (λ t. t.state) (none_answered items old l.between l.before l.front none_before).0) in
       same_answered start new (group_after group (length line) item)
       ((answered ++ lines) ++ line ∷ []) (answered ++ (lines ++ line ∷ []))
       ((made ++ changes_in items) ++ changes_in (item ∷ [])) (made ++ changes_in (items ++ item ∷ []))
@@ -62,7 +62,7 @@ module _ (start old : StateOf) (answered : List (List ℕ)) (made : List Writes)
       (one_answered (answered ++ lines) line (made ++ changes_in items) group item l.between new (text ++ l.before) l.after (first l.between l.before l.front) held l.last)
 
   -- lines that wait after lines that are answered, and now are answered too
-  pub held_answered : (pending : List (List ℕ)) (items : List Waits) (group : Group) (new : StateOf) (more : List ℕ) → AreHeld old pending items group → AreAnswers items old new more
+  pub held_answered : (pending : List (List ℕ)) (items : List Waits) (group : Group) (new : KeptTable) (more : List ℕ) → AreHeld old.state pending items group → AreAnswers items old new more
       → AreAnswered start (answered ++ pending) (made ++ changes_in items) group new (text ++ more)
   held_answered pending items group new more none_held a =
       let e = none_answered [] old new more a refl in

@@ -1,16 +1,15 @@
 -- What a fault leaves.
 use Rattle.std.proofs.Common.{◌≡◌, ℕ, List, [], ◌++◌, Option, sym, ap, subst, ◌∙◌}
-use Rattle.pb_keep.specs.Words.{AppendsPart, StateOf, Stopped, Writes}
+use Rattle.pb_keep.specs.Words.{AppendsPart, KeptTable, Writes}
 use Rattle.pb_keep.specs.declared.fault.KeepFault.{KeepFault}
 use Rattle.pb_keep.specs.declared.waiting.Waits.{Waits}
 use Rattle.pb_keep.specs.Kept.{IsLogOf}
 use Rattle.pb_keep.specs.Waits.{changes_in, AreAnswers, AreSomeAnswers}
-use Rattle.pb_keeper.specs.Stops.{IsStop}
-use Rattle.pb_keep.specs.Left.{fault_by, IsRightOf, IsLeftBy, IsLeftInLog, IsLeftMade, IsOfLog, IsOfMaking}
+use Rattle.pb_keep.specs.Left.{IsLeftBy, IsLeftInLog, IsLeftMade, IsOfLog, IsOfMaking}
 use Rattle.std.proofs.lemmas.List.{append-nil}
 use Rattle.pb_keep.proofs.Putting.{rest_has_changes}
 
-module _ (manifest : List ℕ) (changes : List Writes) (items : List Waits) (old new : StateOf) (was_written written : Option (List ℕ)) (may_leave : List ℕ → Type 0) where
+module _ (manifest : List ℕ) (changes : List Writes) (items : List Waits) (old new : KeptTable) (was_written written : Option (List ℕ)) (may_leave : List ℕ → Type 0) where
   pub left_in_log : (e : KeepFault) → IsOfLog e → IsLeftInLog manifest changes items old new was_written written may_leave → IsLeftBy manifest changes items old new was_written written may_leave e
   left_in_log (KeepFault.Log e) of l = l
   left_in_log (KeepFault.NoMemory e) of l = absurd of
@@ -39,25 +38,10 @@ module _ (manifest : List ℕ) (changes : List Writes) (items : List Waits) (old
     is_written = part;
   }
 
--- ---- why
-
-pub stopped_rightly : (e : Stopped) (state : StateOf) → IsStop e state → IsRightOf state (fault_by e)
-stopped_rightly (Stopped.NoMemory refused) state h = tt
-stopped_rightly (Stopped.Refused why) state h = h.1
-stopped_rightly Stopped.Conflict state h = absurd h
-
-pub log_fails_rightly : (e : KeepFault) (state : StateOf) → IsOfLog e → IsRightOf state e
-log_fails_rightly (KeepFault.Log e) state of = tt
-log_fails_rightly (KeepFault.NoMemory e) state of = absurd of
-log_fails_rightly KeepFault.Record state of = absurd of
-log_fails_rightly KeepFault.NoTimestamp state of = absurd of
-log_fails_rightly KeepFault.Output state of = absurd of
-log_fails_rightly KeepFault.Input state of = absurd of
-
 -- ---- answers
 
 -- all answers are some of them
-pub all_are_some : (items : List Waits) (old new : StateOf) (before after more : List ℕ) → before ≡ [] → after ≡ before ++ more → AreAnswers items old new more → AreSomeAnswers items old [] after
+pub all_are_some : (items : List Waits) (old new : KeptTable) (before after more : List ℕ) → before ≡ [] → after ≡ before ++ more → AreAnswers items old new more → AreSomeAnswers items old [] after
 all_are_some items old new before after more none e a = record {
   front = items;
   rest = [];
@@ -68,5 +52,5 @@ all_are_some items old new before after more none e a = record {
   added = e ∙ ap (λ l. l ++ more) none;
 }
 
-pub some_are_some : (items : List Waits) (old : StateOf) (before after : List ℕ) → before ≡ [] → AreSomeAnswers items old before after → AreSomeAnswers items old [] after
+pub some_are_some : (items : List Waits) (old : KeptTable) (before after : List ℕ) → before ≡ [] → AreSomeAnswers items old before after → AreSomeAnswers items old [] after
 some_are_some items old before after none a = subst (λ l. AreSomeAnswers items old l after) none a

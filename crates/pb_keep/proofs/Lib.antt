@@ -1,3 +1,4 @@
+pub mod Mapping
 pub mod Scripts
 pub mod Records
 pub mod Added
@@ -8,6 +9,6 @@ pub mod Serving
 pub mod Conditions
 pub mod Holding
 pub mod Reading
-pub mod Mapping
 pub mod Leaving
+pub mod Causing
 pub mod Pieces

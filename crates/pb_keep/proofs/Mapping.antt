@@ -10,6 +10,10 @@ pub if_ok : {T E : Type 0} {P Q : T → Type 0} (r : Result T E) → ((x : T) �
 if_ok (Ok x) f p = f x p
 if_ok (Err e) f p = tt
 
+pub if_err : {T E : Type 0} {P Q : E → Type 0} (r : Result T E) → ((e : E) → P e → Q e) → IfErr r P → IfErr r Q
+if_err (Ok x) f p = tt
+if_err (Err e) f p = f e p
+
 -- what follows of three
 pub all_ok : {T E P Q R S : Type 0} (r : Result T E) → OnOk r P → OnOk r Q → OnOk r R → (P → Q → R → S) → OnOk r S
 all_ok (Ok x) p q s f = f p q s
@@ -24,6 +28,10 @@ either_way (Err e) p q f g = g e q
 pub both_err : {T E P : Type 0} {Q R : E → Type 0} (r : Result T E) → OnErr r P → IfErr r Q → ((e : E) → P → Q e → R e) → IfErr r R
 both_err (Ok x) p q f = tt
 both_err (Err e) p q f = f e p q
+
+pub both_errs : {T E : Type 0} {P Q R : E → Type 0} (r : Result T E) → ((e : E) → P e → Q e → R e) → IfErr r P → IfErr r Q → IfErr r R
+both_errs (Ok x) f p q = tt
+both_errs (Err e) f p q = f e p q
 
 pub if_then_ok : {T E Q : Type 0} {P : T → Type 0} (r : Result T E) → ((x : T) → P x → Q) → IfOk r P → OnOk r Q
 if_then_ok (Ok x) f p = f x p

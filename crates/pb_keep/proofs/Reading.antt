@@ -1,16 +1,17 @@
 -- Lines that are read of an input.
-use Rattle.std.proofs.Common.{arith, ◌≡◌, ℕ, ◌<◌, Bool, true, not, List, [], ◌∷◌, ◌++◌, length, Option, Result, Ok, Err, false, refl, ap, sym, subst, ◌∙◌}
+use Rattle.std.proofs.Common.{arith, ◌≡◌, ℕ, ◌<◌, Bool, true, not, List, [], ◌∷◌, ◌++◌, length, Option, Result, Ok, Err, OnOk, false, refl, ap, sym, subst, ◌∙◌}
 use Rattle.std.specs.Prelude.{IsUtf8}
 use Rattle.pb_reading.specs.Reading.{Gives}
 use Rattle.pb_requests.specs.declared.parse.TheConstants.{MAX_LINE}
-use Rattle.pb_keep.specs.Words.{Request, ScriptCode, StateOf, asked_by}
+use Rattle.pb_keep.specs.Words.{Request, ScriptCode, asked_by}
 use Rattle.pb_keep.specs.declared.waiting.Waiting.{Waiting}
-use Rattle.pb_keep.specs.Conversations.{Beginning, LeavesFirst, Serves}
+use Rattle.pb_keep.specs.Conversations.{Beginning, KeeperView, LeavesFirst, Serves}
 use Rattle.pb_keep.specs.Held.{IsReadAs}
-use Rattle.pb_keep.specs.Waits.{IsNoLine}
+use Rattle.pb_keep.specs.Waits.{IsNoLine, IsWaiting}
 use Rattle.pb_keep.specs.Input.{none, one_more, AreLinesRead, IsNextLine}
-use Rattle.pb_keep.specs.Served.{ServesNext, LeavesRead, ServesRead}
+use Rattle.pb_keep.specs.Served.{LeavesRead, ServesAll, ServesNext, ServesRead}
 use Rattle.std.proofs.lemmas.List.{append_assoc, append-nil}
+use Rattle.pb_keep.proofs.Mapping.{all_ok}
 
 -- ---- as what lines are read
 
@@ -33,11 +34,12 @@ is_read (Err e) read h = h
 
 -- ---- lines after lines
 
-pub leaves_line : (b : Beginning) (lines : List (List ℕ)) (line : List ℕ) (from to written : Option (List ℕ)) (file : List ℕ) → IsNextLine line from to → LeavesFirst b (lines ++ line ∷ []) written file → LeavesRead b lines from written file
-leaves_line b lines line from to written file next l = record { more = line ∷ []; to = to; read = one_more [] line from to none next; leaves = l }
+module _ {b : Beginning} {lines : List (List ℕ)} {written : Option (List ℕ)} {file : List ℕ} where
+  pub leaves_line : (line : List ℕ) (from to : Option (List ℕ)) → IsNextLine line from to → LeavesFirst b (lines ++ line ∷ []) written file → LeavesRead b lines from written file
+  leaves_line line from to next l = record { more = line ∷ []; to = to; read = one_more [] line from to none next; leaves = l }
 
-pub leaves_none : (b : Beginning) (lines : List (List ℕ)) (from written : Option (List ℕ)) (file : List ℕ) → LeavesFirst b lines written file → LeavesRead b lines from written file
-leaves_none b lines from written file l = record { more = []; to = from; read = none; leaves = subst (λ z. LeavesFirst b z written file) (sym (append-nil lines)) l }
+  pub leaves_none : (from : Option (List ℕ)) → LeavesFirst b lines written file → LeavesRead b lines from written file
+  leaves_none from l = record { more = []; to = from; read = none; leaves = subst (λ z. LeavesFirst b z written file) (sym (append-nil lines)) l }
 
 -- what was read before, and what comes after
 read_both : (from between to : Option (List ℕ)) (front back : List (List ℕ)) → AreLinesRead from front between → AreLinesRead between back to → AreLinesRead from (front ++ back) to
@@ -45,42 +47,59 @@ read_both from between to front back f none = subst (λ z. AreLinesRead from z b
 read_both from between to front back f (one_more lines line m n a next) =
     subst (λ z. AreLinesRead from z to) (append_assoc front lines (line ∷ [])) (one_more (front ++ lines) line m to (read_both from between m front lines f a) next)
 
-pub leaves_on : (b : Beginning) (lines front : List (List ℕ)) (from between written : Option (List ℕ)) (file : List ℕ) → AreLinesRead from front between → LeavesRead b (lines ++ front) between written file → LeavesRead b lines from written file
-leaves_on b lines front from between written file f l = record {
-  more = front ++ l.more;
-  to = l.to;
-  read = read_both from between l.to front l.more f l.read;
-  leaves = subst (λ z. LeavesFirst b z written file) (append_assoc lines front l.more) l.leaves;
-}
+pub serves_read_none : {b : Beginning} {lines : List (List ℕ)} {k : KeeperView} (from : Option (List ℕ)) → Serves b lines k → ServesRead b lines from from k
+serves_read_none {b} {lines} {k} from s = record { more = []; read = none; serves = subst (λ z. Serves b z k) (sym (append-nil lines)) s }
 
-pub serves_on : (b : Beginning) (lines front : List (List ℕ)) (line : List ℕ) (from between to : Option (List ℕ)) (seen : List ℕ) (may_leave : List ℕ → Type 0) (end : ℕ) (state : StateOf) (waiting : Waiting) (written : Option (List ℕ))
-    → AreLinesRead from front between → IsNextLine line between to → Serves b ((lines ++ front) ++ line ∷ []) seen may_leave end state waiting written → ServesRead b lines from to seen may_leave end state waiting written
-serves_on b lines front line from between to seen may_leave end state waiting written f next s = record {
-  more = front ++ line ∷ [];
-  read = one_more front line between to f next;
-  serves = subst (λ z. Serves b z seen may_leave end state waiting written) (append_assoc lines front (line ∷ [])) s;
-}
+-- ---- after lines that were read before
 
-pub serves_read_none : (b : Beginning) (lines : List (List ℕ)) (from : Option (List ℕ)) (seen : List ℕ) (may_leave : List ℕ → Type 0) (end : ℕ) (state : StateOf) (waiting : Waiting) (written : Option (List ℕ))
-    → Serves b lines seen may_leave end state waiting written → ServesRead b lines from from seen may_leave end state waiting written
-serves_read_none b lines from seen may_leave end state waiting written s = record {
-  more = [];
-  read = none;
-  serves = subst (λ z. Serves b z seen may_leave end state waiting written) (sym (append-nil lines)) s;
-}
+module _ {b : Beginning} {lines : List (List ℕ)} {from between : Option (List ℕ)} {k : KeeperView} (before : ServesRead b lines from between k) where
+  pub leaves_on : (written : Option (List ℕ)) (file : List ℕ) → LeavesRead b (lines ++ before.more) between written file → LeavesRead b lines from written file
+  leaves_on written file l = record {
+    more = before.more ++ l.more;
+    to = l.to;
+    read = read_both from between l.to before.more l.more before.read l.read;
+    leaves = subst (λ z. LeavesFirst b z written file) (append_assoc lines before.more l.more) l.leaves;
+  }
+
+  -- a line more
+  pub serves_on : (to : Option (List ℕ)) (now : KeeperView) (went : Bool) → went ≡ true → ServesNext b (lines ++ before.more) between to now went → ServesRead b lines from to now
+  serves_on to now true is t = record {
+    more = before.more ++ t.0 ∷ [];
+    read = one_more before.more t.0 between to before.read t.1;
+    serves = subst (λ z. Serves b z now) (append_assoc lines before.more (t.0 ∷ [])) t.2;
+  }
+  serves_on to now false is t = absurd cc
+
+  -- or none, and then what waits was kept
+  pub serves_to_the_end : {T E : Type 0} (r : Result T E) (to : Option (List ℕ)) (now last : KeeperView) (went : Bool) → went ≡ false → ServesNext b (lines ++ before.more) between to now went
+      → ((all : List (List ℕ)) → Serves b all now → OnOk r (Serves b all last)) → OnOk r (last.waiting.is_group ≡ false → IsNoLine last.waiting) → OnOk r (IsWaiting last.waiting) → OnOk r (ServesAll b lines from last)
+  serves_to_the_end r to now last true is t on kept w = absurd cc
+  serves_to_the_end r to now last false is t on kept w =
+      all_ok r (on (lines ++ before.more) t.1) kept w
+      (λ served none waits. record {
+        to = between;
+        read = record { more = before.more; read = before.read; serves = served };
+        ended = t.0;
+        kept = none;
+        open_group = waits.open_group;
+      })
 
 -- ---- a line more
 
-module _ (b : Beginning) (lines : List (List ℕ)) (from to : Option (List ℕ)) (seen : List ℕ) (may_leave : List ℕ → Type 0) (end : ℕ) (state : StateOf) (waiting : Waiting) (written : Option (List ℕ)) where
-  pub turn_leaves : (went : Bool) (now : Option (List ℕ)) (file : List ℕ) → ServesNext b lines from to seen may_leave end state waiting written went
-      → ((all : List (List ℕ)) → Serves b all seen may_leave end state waiting written → LeavesFirst b all now file) → LeavesRead b lines from now file
-  turn_leaves true now file t leaves = leaves_line b lines t.0 from to now file t.1 (leaves (lines ++ t.0 ∷ []) t.2)
-  turn_leaves false now file t leaves = leaves_none b lines from now file (leaves lines t.1)
+module _ {b : Beginning} {k : KeeperView} (lines : List (List ℕ)) (from to : Option (List ℕ)) where
+  pub turn_leaves : (went : Bool) (now : Option (List ℕ)) (file : List ℕ) → ServesNext b lines from to k went
+      → ((all : List (List ℕ)) → Serves b all k → LeavesFirst b all now file) → LeavesRead b lines from now file
+  turn_leaves true now file t leaves = leaves_line t.0 from to t.1 (leaves (lines ++ t.0 ∷ []) t.2)
+  turn_leaves false now file t leaves = leaves_none from (leaves lines t.1)
 
-  pub turn_kept : (went : Bool) (seen2 : List ℕ) (may_leave2 : List ℕ → Type 0) (end2 : ℕ) (state2 : StateOf) (waiting2 : Waiting) (written2 : Option (List ℕ)) → ServesNext b lines from to seen may_leave end state waiting written went
-      → ((all : List (List ℕ)) → Serves b all seen may_leave end state waiting written → Serves b all seen2 may_leave2 end2 state2 waiting2 written2) → ServesNext b lines from to seen2 may_leave2 end2 state2 waiting2 written2 went
-  turn_kept true seen2 may_leave2 end2 state2 waiting2 written2 t on = (t.0, t.1, on (lines ++ t.0 ∷ []) t.2)
-  turn_kept false seen2 may_leave2 end2 state2 waiting2 written2 t on = (t.0, on lines t.1)
+  -- what holds after any lines holds after these
+  pub after_turn : {P : Type 0} (went : Bool) → ServesNext b lines from to k went → ((all : List (List ℕ)) → Serves b all k → P) → P
+  after_turn true t on = on (lines ++ t.0 ∷ []) t.2
+  after_turn false t on = on lines t.1
+
+  pub turn_kept : (went : Bool) (now : KeeperView) → ServesNext b lines from to k went → ((all : List (List ℕ)) → Serves b all k → Serves b all now) → ServesNext b lines from to now went
+  turn_kept true now t on = (t.0, t.1, on (lines ++ t.0 ∷ []) t.2)
+  turn_kept false now t on = (t.0, on lines t.1)
 
 -- what waits was kept, unless it is a group
 pub kept_all : (asked : Bool) (old now : Waiting) → asked ≡ not old.is_group → (asked ≡ true → IsNoLine now) → (asked ≡ false → now ≡ old) → now.is_group ≡ false → IsNoLine now

@@ -1,20 +1,21 @@
 -- What was answered to lines, and what a log and a table have of them: the lines as they came, one after the other.
 use Rattle.std.specs.Prelude.{◌≡◌, ◌⊎◌, ℕ, List, [], ◌∷◌, ◌++◌, length, Option}
 use Rattle.std.specs.Io.KnownBytes.{Appends}
-use Rattle.pb_keep.specs.Words.{AppendsPart, Keeps, ObserverOf, StateOf, Writes}
+use Rattle.pb_keep.specs.Words.{AppendsPart, Keeps, KeptTable, ObserverOf, StateOf, Writes, kept_table}
+use Rattle.pb_keep.specs.declared.keeper.Keeper.{Keeper}
 use Rattle.pb_keep.specs.declared.waiting.Waits.{Waits}
 use Rattle.pb_keep.specs.declared.waiting.Waiting.{Waiting}
 use Rattle.pb_keep.specs.Kept.{HasChanges, IsLogOf}
 use Rattle.pb_keep.specs.Waits.{changes_in, AreSomeAnswers, Group, group_after, group_of, IsAnswer}
 use Rattle.pb_keep.specs.Held.{IsAsked, IsLineHeld}
 
--- Lines are answered one after the other, from this state on: these changes were made, and this text is the answers. The group is
+-- Lines are answered one after the other, from this table on: these changes were made, and this text is the answers. The group is
 -- that in which the next line stands.
-pub data AreAnswered (start : StateOf) : List (List ℕ) → List Writes → Group → StateOf → List ℕ → Type 0 where
+pub data AreAnswered (start : KeptTable) : List (List ℕ) → List Writes → Group → KeptTable → List ℕ → Type 0 where
   none_yet : AreAnswered start [] [] Group.alone start []
-  one_answered : (lines : List (List ℕ)) (line : List ℕ) (made : List Writes) (group : Group) (item : Waits) (between new : StateOf) (text more : List ℕ) → AreAnswered start lines made group between text → IsLineHeld group between line item → IsAnswer item between new more
+  one_answered : (lines : List (List ℕ)) (line : List ℕ) (made : List Writes) (group : Group) (item : Waits) (between new : KeptTable) (text more : List ℕ) → AreAnswered start lines made group between text → IsLineHeld group between.state line item → IsAnswer item between new more
       → AreAnswered start (lines ++ line ∷ []) (made ++ changes_in (item ∷ [])) (group_after group (length line) item) new (text ++ more)
-  one_asked : (lines : List (List ℕ)) (line : List ℕ) (made : List Writes) (state : StateOf) (text more : List ℕ) → AreAnswered start lines made Group.alone state text → IsAsked state line more → AreAnswered start (lines ++ line ∷ []) made Group.alone state (text ++ more)
+  one_asked : (lines : List (List ℕ)) (line : List ℕ) (made : List Writes) (table : KeptTable) (text more : List ℕ) → AreAnswered start lines made Group.alone table text → IsAsked table line more → AreAnswered start (lines ++ line ∷ []) made Group.alone table (text ++ more)
 
 -- Lines wait as these, from this state on. Only the first may depend on the state: the others wait so in each.
 pub data AreHeld (state : StateOf) : List (List ℕ) → List Waits → Group → Type 0 where
@@ -26,25 +27,38 @@ pub record Beginning : Type 0 where
   pub manifest : List ℕ
   pub observers : List ObserverOf
   pub changes : List Writes
-  pub state : StateOf
+  pub table : KeptTable
   pub written : Option (List ℕ)
 
-abbrev pub beginning : List ℕ → List ObserverOf → List Writes → StateOf → Option (List ℕ) → Beginning
-beginning manifest observers changes state written = record { manifest = manifest; observers = observers; changes = changes; state = state; written = written }
+abbrev pub beginning : List ℕ → List ObserverOf → List Writes → KeptTable → Option (List ℕ) → Beginning
+beginning manifest observers changes table written = record { manifest = manifest; observers = observers; changes = changes; table = table; written = written }
+
+-- a keeper and its output: what its disk has and what a crash may leave there, where its log ends, its table, the lines that wait, and
+-- what was written
+pub record KeeperView : Type 1 where
+  pub seen : List ℕ
+  pub may_leave : List ℕ → Type 0
+  pub end : ℕ
+  pub table : KeptTable
+  pub waiting : Waiting
+  pub written : Option (List ℕ)
+
+abbrev pub keeper_view : {T D : Type 0} → (D → List ℕ) → (D → List ℕ → Type 0) → Keeper T D → Option (List ℕ) → KeeperView
+keeper_view seen may_leave keeper written = record { seen = seen keeper.log.disk; may_leave = may_leave keeper.log.disk; end = keeper.log.end; table = kept_table keeper.state keeper.stats.items; waiting = keeper.waiting; written = written }
 
 -- Of these lines the first are answered, and the others wait: the log and the table have the changes of those that are answered, and
 -- nothing was written but the answers.
-pub record Serves (b : Beginning) (lines : List (List ℕ)) (seen : List ℕ) (may_leave : List ℕ → Type 0) (end : ℕ) (state : StateOf) (waiting : Waiting) (written : Option (List ℕ)) : Type 0 where
+pub record Serves (b : Beginning) (lines : List (List ℕ)) (k : KeeperView) : Type 0 where
   pub answered : List (List ℕ)
   pub pending : List (List ℕ)
   pub parts : lines ≡ answered ++ pending
   pub made : List Writes
   pub text : List ℕ
-  pub told : AreAnswered b.state answered made Group.alone state text
-  pub is_written : Appends b.written written text
-  pub log : IsLogOf b.manifest (b.changes ++ made) seen may_leave end
-  pub keeps : Keeps b.observers (b.changes ++ made) state
-  pub held : AreHeld state pending waiting.items.items (group_of waiting)
+  pub told : AreAnswered b.table answered made Group.alone k.table text
+  pub is_written : Appends b.written k.written text
+  pub log : IsLogOf b.manifest (b.changes ++ made) k.seen k.may_leave k.end
+  pub keeps : Keeps b.observers (b.changes ++ made) k.table
+  pub held : AreHeld k.table.state pending k.waiting.items.items (group_of k.waiting)
 
 -- A crash leaves the changes of the first of these lines, with all that are answered. Either it leaves those of the lines that were
 -- answered, and a beginning of these answers was written; or also those of the lines that waited, and some of their answers may
@@ -55,12 +69,12 @@ pub record LeavesFirst (b : Beginning) (lines : List (List ℕ)) (written : Opti
   pub rest : List (List ℕ)
   pub parts : lines ≡ answered ++ (pending ++ rest)
   pub made : List Writes
-  pub state : StateOf
+  pub table : KeptTable
   pub text : List ℕ
-  pub told : AreAnswered b.state answered made Group.alone state text
+  pub told : AreAnswered b.table answered made Group.alone table text
   pub items : List Waits
   pub group : Group
-  pub held : AreHeld state pending items group
+  pub held : AreHeld table.state pending items group
   pub has : (HasChanges b.manifest (b.changes ++ made) file × AppendsPart b.written written text)
       ⊎ (HasChanges b.manifest ((b.changes ++ made) ++ changes_in items) file
-      × ((more : List ℕ) × AreSomeAnswers items state [] more × AppendsPart b.written written (text ++ more)))
+      × ((more : List ℕ) × AreSomeAnswers items table [] more × AppendsPart b.written written (text ++ more)))

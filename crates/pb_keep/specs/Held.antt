@@ -1,7 +1,7 @@
 -- What a line asks for, and as what it waits for its answer.
 use Rattle.std.specs.Prelude.{◌≡◌, ℕ, ◌||◌, ◌==◌, Bool, if◌then◌else◌, List, ◌∷◌, length, Option, Some, None, Result, Ok, Err, IsUtf8}
 use Rattle.std.specs.List.{list_any}
-use Rattle.pb_keep.specs.Words.{Writes, Cell, Condition, IsListAnswer, IsSeenIn, IsValueAnswer, IsWritesAnswer, Newest, Request, ScriptCode, StateOf, Ts, asked_by, batch_of, cut, is_skipped, last_line, lock_count, script_code}
+use Rattle.pb_keep.specs.Words.{Writes, Cell, Condition, IsListAnswer, IsSeenIn, IsValueAnswer, IsWritesAnswer, KeptTable, Newest, Request, ScriptCode, StateOf, Ts, asked_by, batch_of, cut, is_skipped, last_line, lock_count, script_code, stats_text}
 use Rattle.std.specs.FinMap as map
 use Rattle.pb_keep.specs.declared.take.TheConstants.{OUT_OF_PLACE}
 use Rattle.pb_keep.specs.declared.waiting.Waits.{Waits}
@@ -56,6 +56,7 @@ IsHeldAlone state line (Request.Get row column) item = ⊥
 IsHeldAlone state line (Request.Since above) item = ⊥
 IsHeldAlone state line Request.List item = ⊥
 IsHeldAlone state line Request.IsQuiet item = ⊥
+IsHeldAlone state line Request.Stats item = ⊥
 
 -- ---- in a group
 
@@ -74,6 +75,7 @@ waits_within changes bytes line (Request.Get row column) = Waits.Refused OUT_OF_
 waits_within changes bytes line (Request.Since above) = Waits.Refused OUT_OF_PLACE
 waits_within changes bytes line Request.List = Waits.Refused OUT_OF_PLACE
 waits_within changes bytes line Request.IsQuiet = Waits.Refused OUT_OF_PLACE
+waits_within changes bytes line Request.Stats = Waits.Refused OUT_OF_PLACE
 
 -- ---- lines
 
@@ -89,19 +91,24 @@ pub record IsLineHeld (group : Group) (state : StateOf) (line : List ℕ) (item 
   pub reads : IsReadAs line read
   pub held : IsHeldAs group state line read item
 
+-- what the runs did, with the bytes of a log, which are known only where the log is
+abbrev pub IsStatsOf : KeptTable → List ℕ → Type 0
+IsStatsOf table text = (log : ℕ) × (text ≡ stats_text table.state table.stats log)
+
 -- the answer to a question
-abbrev pub IsAnswerTo : Request → StateOf → List ℕ → Type 0
-IsAnswerTo (Request.Get row column) state text = IsValueAnswer state (Cell.Data row column) text
-IsAnswerTo (Request.Since above) state text = IsWritesAnswer state above.0 text
-IsAnswerTo Request.List state text = IsListAnswer state text
-IsAnswerTo Request.IsQuiet state text = text ≡ last_line (map.len state.marks) (lock_count state.entries)
-IsAnswerTo Request.Change state text = ⊥
-IsAnswerTo (Request.ChangeIf condition) state text = ⊥
-IsAnswerTo Request.Begin state text = ⊥
-IsAnswerTo Request.End state text = ⊥
+abbrev pub IsAnswerTo : Request → KeptTable → List ℕ → Type 0
+IsAnswerTo (Request.Get row column) table text = IsValueAnswer table.state (Cell.Data row column) text
+IsAnswerTo (Request.Since above) table text = IsWritesAnswer table.state above.0 text
+IsAnswerTo Request.List table text = IsListAnswer table.state text
+IsAnswerTo Request.IsQuiet table text = text ≡ last_line (map.len table.state.marks) (lock_count table.state.entries)
+IsAnswerTo Request.Stats table text = IsStatsOf table text
+IsAnswerTo Request.Change table text = ⊥
+IsAnswerTo (Request.ChangeIf condition) table text = ⊥
+IsAnswerTo Request.Begin table text = ⊥
+IsAnswerTo Request.End table text = ⊥
 
 -- a line is a question, and this its answer
-pub record IsAsked (state : StateOf) (line text : List ℕ) : Type 0 where
+pub record IsAsked (table : KeptTable) (line text : List ℕ) : Type 0 where
   pub request : Request
   pub reads : IsReadAs line (Ok request)
-  pub answer : IsAnswerTo request state text
+  pub answer : IsAnswerTo request table text

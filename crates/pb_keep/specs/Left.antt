@@ -1,6 +1,6 @@
 -- What is left where lines that wait can't be kept.
 use Rattle.std.specs.Prelude.{◌≡◌, ◌⊎◌, ℕ, List, [], ◌++◌, Option}
-use Rattle.pb_keep.specs.Words.{AppendsPart, StateOf, Stopped, Writes, last_timestamp}
+use Rattle.pb_keep.specs.Words.{AppendsPart, KeptTable, StateOf, Stopped, Writes, last_timestamp}
 use Rattle.pb_keep.specs.declared.fault.KeepFault.{KeepFault}
 use Rattle.pb_keep.specs.declared.waiting.Waits.{Waits}
 use Rattle.pb_keep.specs.Kept.{HasChanges}
@@ -29,19 +29,19 @@ IsOfMaking KeepFault.NoTimestamp = Unit {0}
 IsOfMaking _ = ⊥
 
 -- where the log failed: nothing is made or written, and a crash leaves the changes of before, or with those that waited
-pub record IsLeftInLog (manifest : List ℕ) (changes : List Writes) (items : List Waits) (old new : StateOf) (was_written written : Option (List ℕ)) (may_leave : List ℕ → Type 0) : Type 0 where
-  pub state : new ≡ old
+pub record IsLeftInLog (manifest : List ℕ) (changes : List Writes) (items : List Waits) (old new : KeptTable) (was_written written : Option (List ℕ)) (may_leave : List ℕ → Type 0) : Type 0 where
+  pub table : new ≡ old
   pub unwritten : written ≡ was_written
   pub crash : (c : List ℕ) → may_leave c → HasChanges manifest changes c ⊎ HasChanges manifest (changes ++ changes_in items) c
 
 -- where another fault came later: a crash leaves all changes that waited, and a beginning of some answers was written
-pub record IsLeftMade (manifest : List ℕ) (changes : List Writes) (items : List Waits) (old : StateOf) (was_written written : Option (List ℕ)) (may_leave : List ℕ → Type 0) : Type 0 where
+pub record IsLeftMade (manifest : List ℕ) (changes : List Writes) (items : List Waits) (old : KeptTable) (was_written written : Option (List ℕ)) (may_leave : List ℕ → Type 0) : Type 0 where
   pub crash : (c : List ℕ) → may_leave c → HasChanges manifest (changes ++ changes_in items) c
   pub text : List ℕ
   pub answers : AreSomeAnswers items old [] text
   pub is_written : AppendsPart was_written written text
 
 -- what a fault leaves
-abbrev pub IsLeftBy : List ℕ → List Writes → List Waits → StateOf → StateOf → Option (List ℕ) → Option (List ℕ) → (List ℕ → Type 0) → KeepFault → Type 0
+abbrev pub IsLeftBy : List ℕ → List Writes → List Waits → KeptTable → KeptTable → Option (List ℕ) → Option (List ℕ) → (List ℕ → Type 0) → KeepFault → Type 0
 IsLeftBy manifest changes items old new was_written written may_leave (KeepFault.Log e) = IsLeftInLog manifest changes items old new was_written written may_leave
 IsLeftBy manifest changes items old new was_written written may_leave _ = IsLeftMade manifest changes items old was_written written may_leave

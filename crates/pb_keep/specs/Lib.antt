@@ -5,6 +5,7 @@ pub mod Held
 pub mod Taken
 pub mod Conversations
 pub mod Left
+pub mod Causes
 pub mod Input
 pub mod Served
 pub mod Laws

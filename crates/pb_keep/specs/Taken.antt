@@ -1,6 +1,6 @@
 -- A line that is taken: what has to be kept before it, and what is done with it.
 use Rattle.std.specs.Prelude.{◌≡◌, ◌⊎◌, ℕ, Bool, true, false, List, [], ◌∷◌, ◌++◌, length, string_bytes, Option, Result, Ok, Err}
-use Rattle.pb_keep.specs.Words.{AppendsPart, Request, ScriptCode, StateOf}
+use Rattle.pb_keep.specs.Words.{AppendsPart, KeptTable, Request, ScriptCode, StateOf, stats_text}
 use Rattle.pb_keep.specs.declared.waiting.Waits.{Waits}
 use Rattle.pb_keep.specs.declared.waiting.Waiting.{Waiting}
 use Rattle.pb_keep.specs.Waits.{group_after, group_of, has_line_room, IsNoLine}
@@ -12,6 +12,7 @@ is_question (Request.Get row column) = true
 is_question (Request.Since above) = true
 is_question Request.List = true
 is_question Request.IsQuiet = true
+is_question Request.Stats = true
 is_question Request.Change = false
 is_question (Request.ChangeIf condition) = false
 is_question Request.Begin = false
@@ -27,6 +28,7 @@ IsReadyFor waiting line (Request.Get row column) = IsNoLine waiting
 IsReadyFor waiting line (Request.Since above) = IsNoLine waiting
 IsReadyFor waiting line Request.List = IsNoLine waiting
 IsReadyFor waiting line Request.IsQuiet = IsNoLine waiting
+IsReadyFor waiting line Request.Stats = IsNoLine waiting
 
 -- what waits was kept, where that has to be so before a line of so many bytes is taken, which is read so
 abbrev pub IsLineReady : Waiting → ℕ → Result Request ScriptCode → Type 0
@@ -46,5 +48,10 @@ pub record WaitsNow (state : StateOf) (line : List ℕ) (read : Result Request S
   pub held : IsHeldAs (group_of old) state line read item
 
 -- nothing was written, or a beginning of the answer to a question
-abbrev pub MayHaveAnswered : Request → StateOf → Option (List ℕ) → Option (List ℕ) → Type 0
-MayHaveAnswered question state old new = (new ≡ old) ⊎ ((text : List ℕ) × IsAnswerTo question state text × AppendsPart old new text)
+abbrev pub MayHaveAnswered : Request → KeptTable → Option (List ℕ) → Option (List ℕ) → Type 0
+MayHaveAnswered question table old new = (new ≡ old) ⊎ ((text : List ℕ) × IsAnswerTo question table text × AppendsPart old new text)
+
+-- with what the runs did stand the bytes of this log
+abbrev pub NamesLog : Request → KeptTable → ℕ → List ℕ → Type 0
+NamesLog Request.Stats table log text = text ≡ stats_text table.state table.stats log
+NamesLog question table log text = Unit {0}

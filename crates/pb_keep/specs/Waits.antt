@@ -1,7 +1,7 @@
 -- The lines that wait, and how they are answered.
 use Rattle.std.specs.Prelude.{◌≡◌, ℕ, ◌+◌, ◌≤◌, Bool, true, false, ◌&&◌, ◌==◌, nat_le, nat_lt, List, [], ◌∷◌, ◌++◌, length, None, Ok, codes, decimal, string_bytes}
 use Rattle.std.specs.List.{join_with_byte, list_any}
-use Rattle.pb_keep.specs.Words.{Writes, commit_count, MAX_CHANGES, IsNextMark, StateOf, is_skipped, batch_of, SaidLeads, IsMade, Made}
+use Rattle.pb_keep.specs.Words.{Writes, commit_count, MAX_CHANGES, IsNextMark, KeptTable, is_skipped, batch_of, SaidLeads, Counted, IsMade, Made}
 use Rattle.pb_keep.specs.declared.waiting.TheConstants.{MAX_RECORD}
 use Rattle.pb_keep.specs.declared.waiting.Waits.{Waits}
 use Rattle.pb_keep.specs.declared.waiting.Waiting.{Waiting}
@@ -38,7 +38,20 @@ changes_in (Waits.Ended ∷ items) = changes_in items
 abbrev pub has_line_room : ℕ → ℕ → ℕ → Bool
 has_line_room changes bytes line = nat_lt changes MAX_CHANGES && nat_le (bytes + (line + 1)) MAX_RECORD
 
--- the next record has the lines of the changes that wait, and those alone
+-- none of these is the end of a group
+abbrev pub HasNoEnd : List Waits → Type 0
+HasNoEnd [] = Unit {0}
+HasNoEnd (Waits.Change batch ∷ items) = HasNoEnd items
+HasNoEnd (Waits.Unmade newest ∷ items) = HasNoEnd items
+HasNoEnd (Waits.Refused code ∷ items) = HasNoEnd items
+HasNoEnd (Waits.Begun ∷ items) = HasNoEnd items
+HasNoEnd (Waits.Ended ∷ items) = ⊥
+
+-- a group without its end, and nothing before its `begin`
+abbrev pub IsOpenGroup : List Waits → Type 0
+IsOpenGroup items = (rest : List Waits) × (items ≡ Waits.Begun ∷ rest) × HasNoEnd rest
+
+-- the next record has the lines of the changes that wait, and those alone; in a group nothing waits that came before it
 pub record IsWaiting (waiting : Waiting) : Type 0 where
   pub lines : List (List ℕ)
   pub script : string_bytes waiting.script ≡ script_lines lines
@@ -46,11 +59,19 @@ pub record IsWaiting (waiting : Waiting) : Type 0 where
   pub count : waiting.changes ≡ length (changes_in waiting.items.items)
   pub few : waiting.changes ≤ MAX_CHANGES
   pub bytes : length (string_bytes waiting.script) ≤ MAX_RECORD
+  pub open_group : waiting.is_group ≡ true → IsOpenGroup waiting.items.items
 
--- what a line waits as may be added: the record has room for its change, and has nothing where a group begins
+-- nothing waits, and no group has begun
+pub record IsNoLine (waiting : Waiting) : Type 0 where
+  pub items : waiting.items.items ≡ []
+  pub script : string_bytes waiting.script ≡ []
+  pub changes : waiting.changes ≡ 0
+  pub alone : waiting.is_group ≡ false
+
+-- what a line waits as may be added: the record has room for its change, and nothing waits where a group begins
 abbrev pub FitsIn : Waiting → List ℕ → Waits → Type 0
 FitsIn waiting operations (Waits.Change batch) = (has_line_room waiting.changes (length (string_bytes waiting.script)) (length operations) ≡ true) × IsScriptLine operations batch
-FitsIn waiting operations Waits.Begun = (waiting.changes ≡ 0) × (string_bytes waiting.script ≡ [])
+FitsIn waiting operations Waits.Begun = IsNoLine waiting
 FitsIn waiting operations item = Unit {0}
 
 -- ---- groups
@@ -80,13 +101,6 @@ group_after group line Waits.Begun = Group.within 0 0
 group_after group line Waits.Ended = Group.alone
 group_after group line item = group
 
--- nothing waits, and no group has begun
-pub record IsNoLine (waiting : Waiting) : Type 0 where
-  pub items : waiting.items.items ≡ []
-  pub script : string_bytes waiting.script ≡ []
-  pub changes : waiting.changes ≡ 0
-  pub alone : waiting.is_group ≡ false
-
 -- ---- answers
 
 -- how the line of a change ends: how many runs followed it, or that some cell is still marked after all passes
@@ -107,16 +121,16 @@ other_line Waits.Begun = codes "begun\n"
 other_line Waits.Ended = codes "ended\n"
 
 -- a change was made, and is answered so: the commit is its transaction's, the runs are those that were committed after it, and where
--- it says how many they are, no cell is marked
-pub record IsMadeAs (batch : Writes) (old new : StateOf) (text : List ℕ) : Type 0 where
+-- their number is in the line, no cell is marked; what all of its runs did is counted
+pub record IsMadeAs (batch : Writes) (old new : KeptTable) (text : List ℕ) : Type 0 where
   pub made : Made
-  pub leads : SaidLeads (IsMade old.observers batch made.commit) old new
-  pub runs : made.drained.runs ≡ commit_count leads.form.drain
-  pub quiet : made.drained.rests ≡ true → IsNextMark new.marks None None
+  pub leads : SaidLeads (Counted old.state.observers old.stats new.stats (IsMade old.state.observers batch made.commit)) old.state new.state
+  pub runs : made.drained.runs ≡ commit_count leads.form.form.drain
+  pub quiet : made.drained.rests ≡ true → IsNextMark new.state.marks None None
   pub line : text ≡ made_line made
 
 -- a line that waited is answered by this text: a change is made, and nothing else is done
-abbrev pub IsAnswer : Waits → StateOf → StateOf → List ℕ → Type 0
+abbrev pub IsAnswer : Waits → KeptTable → KeptTable → List ℕ → Type 0
 IsAnswer (Waits.Change batch) old new text = IsMadeAs batch old new text
 IsAnswer (Waits.Unmade newest) old new text = (new ≡ old) × (text ≡ other_line (Waits.Unmade newest))
 IsAnswer (Waits.Refused code) old new text = (new ≡ old) × (text ≡ other_line (Waits.Refused code))
@@ -124,16 +138,16 @@ IsAnswer Waits.Begun old new text = (new ≡ old) × (text ≡ other_line Waits.
 IsAnswer Waits.Ended old new text = (new ≡ old) × (text ≡ other_line Waits.Ended)
 
 -- lines are answered one after the other, by this text
-pub data AreAnswers : List Waits → StateOf → StateOf → List ℕ → Type 0 where
-  none : (state : StateOf) → AreAnswers [] state state []
-  one_more : (items : List Waits) (item : Waits) (old between new : StateOf) (text more : List ℕ) → AreAnswers items old between text → IsAnswer item between new more → AreAnswers (items ++ item ∷ []) old new (text ++ more)
+pub data AreAnswers : List Waits → KeptTable → KeptTable → List ℕ → Type 0 where
+  none : (table : KeptTable) → AreAnswers [] table table []
+  one_more : (items : List Waits) (item : Waits) (old between new : KeptTable) (text more : List ℕ) → AreAnswers items old between text → IsAnswer item between new more → AreAnswers (items ++ item ∷ []) old new (text ++ more)
 
 -- some lines in front are answered, and what is added to a text is these answers
-pub record AreSomeAnswers (items : List Waits) (old : StateOf) (before after : List ℕ) : Type 0 where
+pub record AreSomeAnswers (items : List Waits) (old : KeptTable) (before after : List ℕ) : Type 0 where
   pub front : List Waits
   pub rest : List Waits
   pub parts : items ≡ front ++ rest
-  pub now : StateOf
+  pub now : KeptTable
   pub text : List ℕ
   pub answers : AreAnswers front old now text
   pub added : after ≡ before ++ text

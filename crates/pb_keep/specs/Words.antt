@@ -19,13 +19,16 @@ pub use Rattle.pb_requests.specs.declared.request.Condition.{Condition}
 pub use Rattle.pb_requests.specs.declared.request.Request.{Request}
 pub use Rattle.pb_answers.specs.Lists.{IsListAnswer}
 pub use Rattle.pb_answers.specs.Seen.{IsSeenIn}
+pub use Rattle.pb_answers.specs.Stats.{stats_text}
 pub use Rattle.pb_answers.specs.Values.{IsValueAnswer}
 pub use Rattle.pb_answers.specs.Writes.{IsWritesAnswer}
 pub use Rattle.pb_keeper.specs.Counts.{commit_count}
 pub use Rattle.pb_keeper.specs.Keeps.{Keeps}
 pub use Rattle.pb_keeper.specs.Leads.{SaidLeads}
 pub use Rattle.pb_keeper.specs.Made.{IsMade}
+pub use Rattle.pb_keeper.specs.Stats.{Counted, KeptTable, kept_table}
 pub use Rattle.pb_keeper.specs.declared.change.Stopped.{Stopped}
 pub use Rattle.pb_keeper.specs.declared.passes.Made.{Made}
+pub use Rattle.pb_log.specs.Causes.{WhyNotOpened, WhyNotPut}
 pub use Rattle.pb_log.specs.Records.{IsAtRest}
 pub use Rattle.pb_log.specs.Header.{HasRecords, header}

@@ -1,14 +1,16 @@
 //! The changes of a log, made again when it is opened.
-ghost use Rattle.std.specs.Prelude.{◌≡◌, ◌++◌, List, length, map, IfOk, Ok};
+ghost use Rattle.std.specs.Prelude.{◌≡◌, ◌++◌, List, length, map, IfOk, IfErr, OnOk, Ok};
 ghost use Rattle.pb_base.specs.Batch.{Writes};
 ghost use Rattle.pb_verify.specs.Observers.{ObserverOf};
 ghost use Rattle.pb_parse.specs.ScriptLines.{script_of};
 ghost use Rattle.pb_keeper.specs.Keeps.{Keeps};
+ghost use Rattle.pb_keeper.specs.Stats.{kept_table};
+ghost use Rattle.pb_keep.specs.Causes.{IsOfAnew};
 ghost use Rattle.pb_keep.specs.Kept.{changes_of, reported_count};
 
 use crate::fault::KeepFault;
 use pb_base::Batch;
-use pb_keeper::make_all;
+use pb_keeper::{ObserverStats, Stopped, make_all};
 use pb_parse::parse_script;
 use pb_reading::TextFault;
 use pb_state::State;
@@ -18,7 +20,8 @@ use std::sync::Wait;
 
 // The changes of a record.
 fn batches_of(alloc: Global, record: &[u8]) -> Result<Vec<Batch>, KeepFault>
-    ensures { IfOk result (λ v. script_of «record».now ≡ Ok v.items) }
+    ensures ok { IfOk result (λ v. script_of «record».now ≡ Ok v.items) }
+    ensures why { IfErr result IsOfAnew }
 {
     let Ok(text) = std::str::from_utf8(record) else {
         return Err(KeepFault::Record);
@@ -30,21 +33,40 @@ fn batches_of(alloc: Global, record: &[u8]) -> Result<Vec<Batch>, KeepFault>
     }
 }
 
+// Makes changes, and counts what the runs did that followed them.
+fn make_all_counted<R: Wait, T: Tablet>(
+    rt: &R,
+    alloc: Global,
+    state: &mut State<T>,
+    stats: &mut Vec<ObserverStats>,
+    batches: Vec<Batch>,
+) -> Result<(), Stopped>
+    ensures { (observers : List ObserverOf) (changes : List Writes)
+        → Keeps observers changes (kept_table state.old stats.old.items)
+        → OnOk result (Keeps observers (changes ++ batches.items)
+        (kept_table state.new stats.new.items)) }
+{
+    make_all(rt, alloc, state, stats, batches)
+}
+
 // Makes the changes of a record, in order, each with its observers, and returns how many they are.
 fn make_anew<R: Wait, T: Tablet>(
     rt: &R,
     alloc: Global,
     state: &mut State<T>,
+    stats: &mut Vec<ObserverStats>,
     record: &[u8],
 ) -> Result<usize, KeepFault>
-    ensures { (observers : List ObserverOf) (changes : List Writes)
-        → Keeps observers changes state.old
+    ensures keeps { (observers : List ObserverOf) (changes : List Writes)
+        → Keeps observers changes (kept_table state.old stats.old.items)
         → IfOk result (λ n. (script : List Writes) × (script_of «record».now ≡ Ok script)
-        × Keeps observers (changes ++ script) state.new × (n ≡ length script)) }
+        × Keeps observers (changes ++ script) (kept_table state.new stats.new.items)
+        × (n ≡ length script)) }
+    ensures why { IfErr result IsOfAnew }
 {
     let batches = batches_of(alloc, record)?;
     let count = batches.len();
-    make_all(rt, alloc, state, batches)?;
+    make_all_counted(rt, alloc, state, stats, batches)?;
     Ok(count)
 }
 
@@ -54,17 +76,20 @@ pub fn make_records_anew<R: Wait, T: Tablet>(
     rt: &R,
     alloc: Global,
     state: &mut State<T>,
+    stats: &mut Vec<ObserverStats>,
     records: Vec<Vec<u8>>,
 ) -> Result<u64, KeepFault>
-    ensures { (observers : List ObserverOf) (changes : List Writes)
-        → Keeps observers changes state.old
+    ensures keeps { (observers : List ObserverOf) (changes : List Writes)
+        → Keeps observers changes (kept_table state.old stats.old.items)
         → IfOk result (λ n. (more : List Writes)
         × (changes_of (map (λ v. v.items) records.items) ≡ Ok more)
-        × Keeps observers (changes ++ more) state.new × (n ≡ reported_count (length more))) }
+        × Keeps observers (changes ++ more) (kept_table state.new stats.new.items)
+        × (n ≡ reported_count (length more))) }
+    ensures why { IfErr result IsOfAnew }
 {
     let mut count = 0u64;
     for record in records {
-        let made = make_anew(rt, alloc, state, &record)?;
+        let made = make_anew(rt, alloc, state, stats, &record)?;
         count = count.saturating_add(made as u64);
     }
     Ok(count)

@@ -5,10 +5,12 @@ ghost use Rattle.pb_base.specs.Batch.{Writes};
 ghost use Rattle.std.specs.Io.KnownBytes.{Appends};
 ghost use Rattle.pb_verify.specs.Observers.{ObserverOf};
 ghost use Rattle.pb_keeper.specs.Keeps.{Keeps};
+ghost use Rattle.pb_keeper.specs.Stats.{kept_table};
 ghost use Rattle.pb_keep.specs.Kept.{reported_count, HasChanges, IsLogOf};
 ghost use Rattle.pb_keep.specs.Waits.{changes_in, AreAnswers, IsNoLine, IsWaiting};
-ghost use Rattle.pb_keep.specs.Conversations.{beginning, Beginning, LeavesFirst, Serves};
-ghost use Rattle.pb_keep.specs.Left.{IsLeftBy, IsOfLog, IsRightOf};
+ghost use Rattle.pb_keep.specs.Conversations.{beginning, keeper_view, Beginning, LeavesFirst, Serves};
+ghost use Rattle.pb_keep.specs.Causes.{IsOfPut, WhyNotKept, WhyNotMadeAgain};
+ghost use Rattle.pb_keep.specs.Left.{IsLeftBy, IsOfLog};
 
 use crate::anew::make_records_anew;
 use crate::fault::KeepFault;
@@ -16,6 +18,7 @@ use crate::made::make_and_answer;
 use crate::take::write;
 use crate::waiting::Waiting;
 use pb_base::Sink;
+use pb_keeper::ObserverStats;
 use pb_log::Log;
 use pb_state::State;
 use pb_store::Tablet;
@@ -24,10 +27,12 @@ use std::alloc::Global;
 use std::mem;
 use std::sync::Wait;
 
-/// A table that is kept: its log, its state, and the lines that wait. It ends by `close` alone.
+/// A table that is kept: its log, its state, what the runs of its observers did, and the lines that wait. It ends by `close`
+/// alone.
 pub struct Keeper<T: Tablet, D: Disk + Drop> {
     pub log: Log<D>,
     pub state: State<T>,
+    pub stats: Vec<ObserverStats>,
     pub waiting: Waiting,
 }
 
@@ -49,7 +54,9 @@ fn put_script<D: Disk + Drop>(
         → (c : List ℕ) → D.may_leave log.new.disk c
         → HasChanges manifest changes c
         ⊎ HasChanges manifest (changes ++ changes_in waiting.now.items.items) c }
-    ensures why { IfErr result IsOfLog }
+    ensures cause { IfErr result
+        (IsOfPut (D.faults log.old.disk) (D.faults log.new.disk) log.new.end) }
+    ensures faultless { OnOk result (D.faults log.new.disk ≡ D.faults log.old.disk) }
 {
     if waiting.changes > 0 {
         log.put(alloc, waiting.script.as_bytes())?;
@@ -58,16 +65,19 @@ fn put_script<D: Disk + Drop>(
 }
 
 impl<T: Tablet, D: Disk + Drop> Keeper<T, D> {
-    /// A table that isn't opened yet: its log is on this disk, and nothing was done to its state.
-    pub fn new(alloc: Global, disk: D, state: State<T>) -> Keeper<T, D>
+    /// A table that isn't opened yet: its log is on this disk, nothing was done to its state, and these are the stats of its
+    /// observers.
+    pub fn new(alloc: Global, disk: D, state: State<T>, stats: Vec<ObserverStats>) -> Keeper<T, D>
         ensures disk { result.log.disk ≡ disk }
         ensures state { result.state ≡ state }
+        ensures stats { result.stats.items ≡ stats.items }
         ensures idle { IsNoLine result.waiting }
         ensures waiting { IsWaiting result.waiting }
     {
         Keeper {
             log: Log::new(disk),
             state,
+            stats,
             waiting: Waiting::new(alloc),
         }
     }
@@ -85,23 +95,30 @@ impl<T: Tablet, D: Disk + Drop> Keeper<T, D> {
         requires short { length manifest.now < 2 ^ 31 }
         ensures usable { OnOk result (IsTrue (D.is_usable self.new.log.disk)) }
         ensures waiting { self.new.waiting ≡ self.old.waiting }
-        ensures kept { (observers : List ObserverOf) → Keeps observers [] self.old.state
+        ensures kept { (observers : List ObserverOf)
+            → Keeps observers [] (kept_table self.old.state self.old.stats.items)
             → IfOk result (λ n. IsTrue (D.is_clean self.new.log.disk)
             → (changes : List Writes) × HasChanges manifest.now changes (D.seen self.old.log.disk)
             × IsLogOf manifest.now changes (D.seen self.new.log.disk)
             (D.may_leave self.new.log.disk) self.new.log.end
-            × Keeps observers changes self.new.state × (n ≡ reported_count (length changes))) }
+            × Keeps observers changes (kept_table self.new.state self.new.stats.items)
+            × (n ≡ reported_count (length changes))) }
         // Then no line is served yet.
         ensures serves { (observers : List ObserverOf) (written : Option (List ℕ))
-            → Keeps observers [] self.old.state → IsNoLine self.old.waiting
+            → Keeps observers [] (kept_table self.old.state self.old.stats.items)
+            → IsNoLine self.old.waiting
             → OnOk result (IsTrue (D.is_clean self.new.log.disk)
             → (changes : List Writes) × HasChanges manifest.now changes (D.seen self.old.log.disk)
-            × Serves (beginning manifest.now observers changes self.new.state written) []
-            (D.seen self.new.log.disk) (D.may_leave self.new.log.disk) self.new.log.end
-            self.new.state self.new.waiting written) }
+            × Serves (beginning manifest.now observers changes
+            (kept_table self.new.state self.new.stats.items) written) []
+            (keeper_view D.seen D.may_leave self.new written)) }
+        // A fault of the log has its cause in the file or the disk.
+        ensures cause { IfErr result (λ e. IsTrue (D.is_clean self.new.log.disk)
+            → WhyNotMadeAgain manifest.now (D.faults self.old.log.disk)
+            (D.faults self.new.log.disk) (D.seen self.old.log.disk) e) }
     {
         let records = self.log.open(alloc, manifest)?;
-        make_records_anew(rt, alloc, &mut self.state, records)
+        make_records_anew(rt, alloc, &mut self.state, &mut self.stats, records)
     }
 
     // Puts what waits into the log, makes its changes, and writes the answers.
@@ -118,28 +135,45 @@ impl<T: Tablet, D: Disk + Drop> Keeper<T, D> {
         ensures kept { (manifest : List ℕ) (observers : List ObserverOf) (changes : List Writes)
             → IsLogOf manifest changes (D.seen self.old.log.disk)
             (D.may_leave self.old.log.disk) self.old.log.end
-            → Keeps observers changes self.old.state
+            → Keeps observers changes (kept_table self.old.state self.old.stats.items)
             → OnOk result (IsLogOf manifest (changes ++ changes_in self.old.waiting.items.items)
             (D.seen self.new.log.disk) (D.may_leave self.new.log.disk) self.new.log.end
-            × Keeps observers (changes ++ changes_in self.old.waiting.items.items) self.new.state) }
+            × Keeps observers (changes ++ changes_in self.old.waiting.items.items)
+            (kept_table self.new.state self.new.stats.items)) }
         ensures answers { OnOk result ((text : List ℕ)
-            × AreAnswers self.old.waiting.items.items self.old.state self.new.state text
+            × AreAnswers self.old.waiting.items.items
+            (kept_table self.old.state self.old.stats.items)
+            (kept_table self.new.state self.new.stats.items) text
             × Appends (S.taken out.old) (S.taken out.new) text) }
         ensures err { (manifest : List ℕ) (changes : List Writes)
             → IsLogOf manifest changes (D.seen self.old.log.disk)
             (D.may_leave self.old.log.disk) self.old.log.end
-            → IfErr result (IsLeftBy manifest changes self.old.waiting.items.items self.old.state
-            self.new.state (S.taken out.old) (S.taken out.new) (D.may_leave self.new.log.disk)) }
-        ensures unmade { IfErr result (λ e. IsOfLog e
-            → (self.new.state ≡ self.old.state) × (S.taken out.new ≡ S.taken out.old)) }
-        ensures right { (observers : List ObserverOf) (changes : List Writes)
-            → Keeps observers changes self.old.state
-            → IfErr result (IsRightOf self.new.state) }
+            → IfErr result (IsLeftBy manifest changes self.old.waiting.items.items
+            (kept_table self.old.state self.old.stats.items)
+            (kept_table self.new.state self.new.stats.items)
+            (S.taken out.old) (S.taken out.new) (D.may_leave self.new.log.disk)) }
+        ensures unmade { IfErr result (λ e. IsOfLog e → (self.new.state ≡ self.old.state)
+            × (self.new.stats.items ≡ self.old.stats.items)
+            × (S.taken out.new ≡ S.taken out.old)) }
+        ensures cause { (observers : List ObserverOf) (changes : List Writes)
+            → Keeps observers changes (kept_table self.old.state self.old.stats.items)
+            → IfErr result (WhyNotKept (D.faults self.old.log.disk)
+            (D.faults self.new.log.disk) (S.failed out.new)
+            (keeper_view D.seen D.may_leave self.new (S.taken out.new))) }
+        ensures faultless { OnOk result
+            (D.faults self.new.log.disk ≡ D.faults self.old.log.disk) }
     {
         put_script(alloc, &mut self.log, &self.waiting)?;
         let Waiting { items, .. } = mem::replace(&mut self.waiting, Waiting::new(alloc));
         let mut text = String::new(alloc);
-        let done = make_and_answer(rt, alloc, &mut self.state, items, &mut text);
+        let done = make_and_answer(
+            rt,
+            alloc,
+            &mut self.state,
+            &mut self.stats,
+            items,
+            &mut text,
+        );
         // Also where a change was stopped: those before it are made.
         write(out, text.as_str())?;
         done
@@ -160,24 +194,26 @@ impl<T: Tablet, D: Disk + Drop> Keeper<T, D> {
         ensures usable { OnOk result (IsTrue (D.is_usable self.new.log.disk)) }
         ensures idle { OnOk result (IsNoLine self.new.waiting) }
         ensures serves { (b : Beginning) (lines : List (List ℕ))
-            → Serves b lines (D.seen self.old.log.disk) (D.may_leave self.old.log.disk)
-            self.old.log.end self.old.state self.old.waiting (S.taken out.old)
-            → OnOk result (Serves b lines (D.seen self.new.log.disk)
-            (D.may_leave self.new.log.disk) self.new.log.end self.new.state self.new.waiting
-            (S.taken out.new)) }
+            → Serves b lines (keeper_view D.seen D.may_leave self.old (S.taken out.old))
+            → OnOk result (Serves b lines
+            (keeper_view D.seen D.may_leave self.new (S.taken out.new))) }
         // On every path a crash leaves the changes of the first lines, with all that are answered.
         ensures crash { (b : Beginning) (lines : List (List ℕ))
-            → Serves b lines (D.seen self.old.log.disk) (D.may_leave self.old.log.disk)
-            self.old.log.end self.old.state self.old.waiting (S.taken out.old)
+            → Serves b lines (keeper_view D.seen D.may_leave self.old (S.taken out.old))
             → (c : List ℕ) → D.may_leave self.new.log.disk c
             → LeavesFirst b lines (S.taken out.new) c }
         // Where the log failed, nothing is made, and nothing is written.
-        ensures unmade { IfErr result (λ e. IsOfLog e
-            → (self.new.state ≡ self.old.state) × (S.taken out.new ≡ S.taken out.old)) }
-        // A fault that names timestamps is right.
-        ensures right { (observers : List ObserverOf) (changes : List Writes)
-            → Keeps observers changes self.old.state
-            → IfErr result (IsRightOf self.new.state) }
+        ensures unmade { IfErr result (λ e. IsOfLog e → (self.new.state ≡ self.old.state)
+            × (self.new.stats.items ≡ self.old.stats.items)
+            × (S.taken out.new ≡ S.taken out.old)) }
+        // A fault has its cause.
+        ensures cause { (b : Beginning) (lines : List (List ℕ))
+            → Serves b lines (keeper_view D.seen D.may_leave self.old (S.taken out.old))
+            → IfErr result (WhyNotKept (D.faults self.old.log.disk)
+            (D.faults self.new.log.disk) (S.failed out.new)
+            (keeper_view D.seen D.may_leave self.new (S.taken out.new))) }
+        ensures faultless { OnOk result
+            (D.faults self.new.log.disk ≡ D.faults self.old.log.disk) }
     {
         self.put_and_make(rt, alloc, out)
     }
@@ -187,6 +223,7 @@ impl<T: Tablet, D: Disk + Drop> Keeper<T, D> {
         let Keeper {
             log: _,
             state,
+            stats: _,
             waiting: _,
         } = self;
         state.close();

@@ -1,15 +1,21 @@
 //! Changes made one after the other, and the answers to lines that waited.
-ghost use Rattle.std.specs.Prelude.{◌≡◌, ◌++◌, ◌∷◌, [], ℕ, List, IfOk, OnOk, IfErr, OnErr, string_bytes, codes, decimal};
+ghost use Rattle.std.specs.Prelude.{◌≡◌, ◌++◌, ◌∷◌, [], ℕ, List, None, true, IfOk, OnOk, IfErr, OnErr, string_bytes, codes, decimal};
 ghost use Rattle.pb_base.specs.Batch.{Writes};
 ghost use Rattle.pb_verify.specs.Observers.{ObserverOf};
+ghost use Rattle.pb_store.specs.Contents.{IsNextMark};
+ghost use Rattle.pb_keeper.specs.Counts.{commit_count};
 ghost use Rattle.pb_keeper.specs.Keeps.{Keeps};
+ghost use Rattle.pb_keeper.specs.Leads.{SaidLeads};
+ghost use Rattle.pb_keeper.specs.Made.{IsMade};
+ghost use Rattle.pb_keeper.specs.Stats.{kept_table, Counted};
+ghost use Rattle.pb_keeper.specs.Stops.{IsStop};
 ghost use Rattle.pb_keep.specs.Left.{IsOfMaking, IsRightOf};
 ghost use Rattle.pb_keep.specs.Waits.{changes_in, made_line, AreAnswers, AreSomeAnswers, IsAnswer};
 
 use crate::fault::KeepFault;
 use crate::waiting::Waits;
-use pb_base::{NoMemory, Ts};
-use pb_keeper::{Made, make};
+use pb_base::{Batch, NoMemory, Ts};
+use pb_keeper::{Made, ObserverStats, Stopped, make};
 use pb_state::State;
 use pb_store::Tablet;
 use std::alloc::Global;
@@ -50,28 +56,56 @@ fn push_unmade(alloc: Global, text: &mut String, newest: Ts) -> Result<(), NoMem
     Ok(())
 }
 
+// Makes a change, and counts what the runs did that followed it.
+fn make_counted<R: Wait, T: Tablet>(
+    rt: &R,
+    alloc: Global,
+    state: &mut State<T>,
+    stats: &mut Vec<ObserverStats>,
+    batch: Batch,
+) -> Result<Made, Stopped>
+    ensures ok { IfOk result (λ m. (leads : SaidLeads
+        (Counted state.old.observers stats.old.items stats.new.items
+        (IsMade state.old.observers batch m.commit)) state.old state.new)
+        × (m.drained.runs ≡ commit_count leads.form.form.drain)) }
+    ensures quiet { IfOk result
+        (λ m. m.drained.rests ≡ true → IsNextMark state.new.marks None None) }
+    ensures keeps { (observers : List ObserverOf) (changes : List Writes)
+        → Keeps observers changes (kept_table state.old stats.old.items)
+        → OnOk result (Keeps observers (changes ++ batch ∷ [])
+        (kept_table state.new stats.new.items)) }
+    ensures stops { (observers : List ObserverOf) (changes : List Writes)
+        → Keeps observers changes (kept_table state.old stats.old.items)
+        → IfErr result (λ e. IsStop e state.new) }
+{
+    make(rt, alloc, state, stats, batch)
+}
+
 // Answers a line that waited, and makes its change, if it is one, before.
 fn answer<R: Wait, T: Tablet>(
     rt: &R,
     alloc: Global,
     state: &mut State<T>,
+    stats: &mut Vec<ObserverStats>,
     item: Waits,
     text: &mut String,
 ) -> Result<(), KeepFault>
     ensures answer { OnOk result ((more : List ℕ)
         × (string_bytes text.new ≡ string_bytes text.old ++ more)
-        × IsAnswer item state.old state.new more) }
+        × IsAnswer item (kept_table state.old stats.old.items) (kept_table state.new stats.new.items) more) }
     ensures keeps { (observers : List ObserverOf) (changes : List Writes)
-        → Keeps observers changes state.old
-        → OnOk result (Keeps observers (changes ++ changes_in (item ∷ [])) state.new) }
+        → Keeps observers changes (kept_table state.old stats.old.items)
+        → OnOk result (Keeps observers (changes ++ changes_in (item ∷ []))
+        (kept_table state.new stats.new.items)) }
     ensures unanswered { OnErr result (string_bytes text.new ≡ string_bytes text.old) }
     ensures why { IfErr result IsOfMaking }
     ensures right { (observers : List ObserverOf) (changes : List Writes)
-        → Keeps observers changes state.old → IfErr result (IsRightOf state.new) }
+        → Keeps observers changes (kept_table state.old stats.old.items)
+        → IfErr result (IsRightOf state.new) }
 {
     match item {
         Waits::Change(batch) => {
-            let made = make(rt, alloc, state, batch)?;
+            let made = make_counted(rt, alloc, state, stats, batch)?;
             push_made(alloc, text, &made)?;
         }
         Waits::Unmade(newest) => push_unmade(alloc, text, newest)?,
@@ -87,23 +121,27 @@ pub(crate) fn make_and_answer<R: Wait, T: Tablet>(
     rt: &R,
     alloc: Global,
     state: &mut State<T>,
+    stats: &mut Vec<ObserverStats>,
     items: Vec<Waits>,
     text: &mut String,
 ) -> Result<(), KeepFault>
     ensures answers { OnOk result ((more : List ℕ)
         × (string_bytes text.new ≡ string_bytes text.old ++ more)
-        × AreAnswers items.items state.old state.new more) }
+        × AreAnswers items.items (kept_table state.old stats.old.items)
+        (kept_table state.new stats.new.items) more) }
     ensures keeps { (observers : List ObserverOf) (changes : List Writes)
-        → Keeps observers changes state.old
-        → OnOk result (Keeps observers (changes ++ changes_in items.items) state.new) }
-    ensures some { OnErr result (AreSomeAnswers items.items state.old
+        → Keeps observers changes (kept_table state.old stats.old.items)
+        → OnOk result (Keeps observers (changes ++ changes_in items.items)
+        (kept_table state.new stats.new.items)) }
+    ensures some { OnErr result (AreSomeAnswers items.items (kept_table state.old stats.old.items)
         (string_bytes text.old) (string_bytes text.new)) }
     ensures why { IfErr result IsOfMaking }
     ensures right { (observers : List ObserverOf) (changes : List Writes)
-        → Keeps observers changes state.old → IfErr result (IsRightOf state.new) }
+        → Keeps observers changes (kept_table state.old stats.old.items)
+        → IfErr result (IsRightOf state.new) }
 {
     for item in items {
-        answer(rt, alloc, state, item, text)?;
+        answer(rt, alloc, state, stats, item, text)?;
     }
     Ok(())
 }

@@ -1,10 +1,11 @@
 //! Lines taken as they come, until the input ends.
-ghost use Rattle.std.specs.Prelude.{◌∷◌, ◌++◌, [], ℕ, List, Option, Err, IfOk, OnOk, IsTrue};
+ghost use Rattle.std.specs.Prelude.{◌≡◌, ◌∷◌, ◌++◌, [], ℕ, List, Option, Err, IfOk, IfErr, OnOk, IsTrue};
 ghost use Rattle.std.specs.Io.Buffered.{reader_remaining};
 ghost use Rattle.pb_parse.specs.declared.script.code.ScriptCode.TheVariants.{Form};
 ghost use Rattle.pb_steps.specs.State.{StateOf};
-ghost use Rattle.pb_keep.specs.Conversations.{Beginning, LeavesFirst, Serves};
+ghost use Rattle.pb_keep.specs.Conversations.{keeper_view, Beginning, LeavesFirst, Serves};
 ghost use Rattle.pb_keep.specs.Input.{IsLineRead};
+ghost use Rattle.pb_keep.specs.Causes.{WhyNotKept, WhyNotServed};
 ghost use Rattle.pb_keep.specs.Served.{ServesNext, LeavesRead, ServesAll};
 ghost use Rattle.pb_keep.specs.Taken.{WaitsNow};
 ghost use Rattle.pb_keep.specs.Waits.{IsWaiting};
@@ -44,16 +45,19 @@ fn take_bytes<R: Wait, T: Tablet, D: Disk + Drop, S: Sink>(
     ensures usable { OnOk result (IsTrue (D.is_usable keeper.new.log.disk)) }
     ensures waiting { OnOk result (IsWaiting keeper.new.waiting) }
     ensures serves { (b : Beginning) (lines : List (List ℕ))
-        → Serves b lines (D.seen keeper.old.log.disk) (D.may_leave keeper.old.log.disk)
-        keeper.old.log.end keeper.old.state keeper.old.waiting (S.taken out.old)
-        → OnOk result (Serves b (lines ++ bytes.now ∷ []) (D.seen keeper.new.log.disk)
-        (D.may_leave keeper.new.log.disk) keeper.new.log.end keeper.new.state
-        keeper.new.waiting (S.taken out.new)) }
+        → Serves b lines (keeper_view D.seen D.may_leave keeper.old (S.taken out.old))
+        → OnOk result (Serves b (lines ++ bytes.now ∷ [])
+        (keeper_view D.seen D.may_leave keeper.new (S.taken out.new))) }
     ensures crash { (b : Beginning) (lines : List (List ℕ))
-        → Serves b lines (D.seen keeper.old.log.disk) (D.may_leave keeper.old.log.disk)
-        keeper.old.log.end keeper.old.state keeper.old.waiting (S.taken out.old)
+        → Serves b lines (keeper_view D.seen D.may_leave keeper.old (S.taken out.old))
         → (c : List ℕ) → D.may_leave keeper.new.log.disk c
         → LeavesFirst b (lines ++ bytes.now ∷ []) (S.taken out.new) c }
+    ensures cause { (b : Beginning) (lines : List (List ℕ))
+        → Serves b lines (keeper_view D.seen D.may_leave keeper.old (S.taken out.old))
+        → IfErr result (WhyNotKept (D.faults keeper.old.log.disk) (D.faults keeper.new.log.disk)
+        (S.failed out.new) (keeper_view D.seen D.may_leave keeper.new (S.taken out.new))) }
+    ensures faultless { OnOk result
+        (D.faults keeper.new.log.disk ≡ D.faults keeper.old.log.disk) }
 {
     match std::str::from_utf8(bytes) {
         Ok(line) => keeper.take(rt, alloc, out, line),
@@ -79,17 +83,20 @@ fn take_read<R: Wait, T: Tablet, D: Disk + Drop, S: Sink>(
     ensures waiting { OnOk result (IsWaiting keeper.new.waiting) }
     ensures serves { (b : Beginning) (lines : List (List ℕ)) (from to : Option (List ℕ))
         → IsLineRead read bytes.now from to
-        → Serves b lines (D.seen keeper.old.log.disk) (D.may_leave keeper.old.log.disk)
-        keeper.old.log.end keeper.old.state keeper.old.waiting (S.taken out.old)
-        → IfOk result (ServesNext b lines from to (D.seen keeper.new.log.disk)
-        (D.may_leave keeper.new.log.disk) keeper.new.log.end keeper.new.state
-        keeper.new.waiting (S.taken out.new)) }
+        → Serves b lines (keeper_view D.seen D.may_leave keeper.old (S.taken out.old))
+        → IfOk result (ServesNext b lines from to
+        (keeper_view D.seen D.may_leave keeper.new (S.taken out.new))) }
     ensures crash { (b : Beginning) (lines : List (List ℕ)) (from to : Option (List ℕ))
         → IsLineRead read bytes.now from to
-        → Serves b lines (D.seen keeper.old.log.disk) (D.may_leave keeper.old.log.disk)
-        keeper.old.log.end keeper.old.state keeper.old.waiting (S.taken out.old)
+        → Serves b lines (keeper_view D.seen D.may_leave keeper.old (S.taken out.old))
         → (c : List ℕ) → D.may_leave keeper.new.log.disk c
         → LeavesRead b lines from (S.taken out.new) c }
+    ensures cause { (b : Beginning) (lines : List (List ℕ))
+        → Serves b lines (keeper_view D.seen D.may_leave keeper.old (S.taken out.old))
+        → IfErr result (WhyNotKept (D.faults keeper.old.log.disk) (D.faults keeper.new.log.disk)
+        (S.failed out.new) (keeper_view D.seen D.may_leave keeper.new (S.taken out.new))) }
+    ensures faultless { OnOk result
+        (D.faults keeper.new.log.disk ≡ D.faults keeper.old.log.disk) }
 {
     match read {
         Line::Read => take_bytes(rt, alloc, keeper, out, bytes)?,
@@ -118,17 +125,20 @@ fn turn<R: Wait, I: Read + Drop, T: Tablet, D: Disk + Drop, S: Sink>(
     ensures usable { OnOk result (IsTrue (D.is_usable keeper.new.log.disk)) }
     ensures waiting { OnOk result (IsWaiting keeper.new.waiting) }
     ensures serves { (b : Beginning) (lines : List (List ℕ))
-        → Serves b lines (D.seen keeper.old.log.disk) (D.may_leave keeper.old.log.disk)
-        keeper.old.log.end keeper.old.state keeper.old.waiting (S.taken out.old)
+        → Serves b lines (keeper_view D.seen D.may_leave keeper.old (S.taken out.old))
         → IfOk result (ServesNext b lines (reader_remaining I.remaining input.old)
-        (reader_remaining I.remaining input.new) (D.seen keeper.new.log.disk)
-        (D.may_leave keeper.new.log.disk) keeper.new.log.end keeper.new.state
-        keeper.new.waiting (S.taken out.new)) }
+        (reader_remaining I.remaining input.new)
+        (keeper_view D.seen D.may_leave keeper.new (S.taken out.new))) }
     ensures crash { (b : Beginning) (lines : List (List ℕ))
-        → Serves b lines (D.seen keeper.old.log.disk) (D.may_leave keeper.old.log.disk)
-        keeper.old.log.end keeper.old.state keeper.old.waiting (S.taken out.old)
+        → Serves b lines (keeper_view D.seen D.may_leave keeper.old (S.taken out.old))
         → (c : List ℕ) → D.may_leave keeper.new.log.disk c
         → LeavesRead b lines (reader_remaining I.remaining input.old) (S.taken out.new) c }
+    ensures cause { (b : Beginning) (lines : List (List ℕ))
+        → Serves b lines (keeper_view D.seen D.may_leave keeper.old (S.taken out.old))
+        → IfErr result (WhyNotServed (D.faults keeper.old.log.disk) (D.faults keeper.new.log.disk)
+        (S.failed out.new) (keeper_view D.seen D.may_leave keeper.new (S.taken out.new))) }
+    ensures faultless { OnOk result
+        (D.faults keeper.new.log.disk ≡ D.faults keeper.old.log.disk) }
 {
     match read_line(rt, input, line) {
         Ok(read) => {
@@ -155,17 +165,19 @@ pub fn serve<R: Wait, I: Read + Drop, T: Tablet, D: Disk + Drop, S: Sink>(
     requires waiting { IsWaiting keeper.old.waiting }
     // All lines of the input are taken. Only a group without its end isn't answered.
     ensures serves { (b : Beginning) (lines : List (List ℕ))
-        → Serves b lines (D.seen keeper.old.log.disk) (D.may_leave keeper.old.log.disk)
-        keeper.old.log.end keeper.old.state keeper.old.waiting (S.taken out.old)
+        → Serves b lines (keeper_view D.seen D.may_leave keeper.old (S.taken out.old))
         → OnOk result (ServesAll b lines (reader_remaining I.remaining input.old)
-        (D.seen keeper.new.log.disk) (D.may_leave keeper.new.log.disk) keeper.new.log.end
-        keeper.new.state keeper.new.waiting (S.taken out.new)) }
+        (keeper_view D.seen D.may_leave keeper.new (S.taken out.new))) }
     // Whenever it stops, the log has the changes of the first lines, with all that are answered.
     ensures crash { (b : Beginning) (lines : List (List ℕ))
-        → Serves b lines (D.seen keeper.old.log.disk) (D.may_leave keeper.old.log.disk)
-        keeper.old.log.end keeper.old.state keeper.old.waiting (S.taken out.old)
+        → Serves b lines (keeper_view D.seen D.may_leave keeper.old (S.taken out.old))
         → (c : List ℕ) → D.may_leave keeper.new.log.disk c
         → LeavesRead b lines (reader_remaining I.remaining input.old) (S.taken out.new) c }
+    // A fault has its cause, but for one of the input.
+    ensures cause { (b : Beginning) (lines : List (List ℕ))
+        → Serves b lines (keeper_view D.seen D.may_leave keeper.old (S.taken out.old))
+        → IfErr result (WhyNotServed (D.faults keeper.old.log.disk) (D.faults keeper.new.log.disk)
+        (S.failed out.new) (keeper_view D.seen D.may_leave keeper.new (S.taken out.new))) }
 {
     let mut line = Vec::new(alloc);
     for _turn in rt.forever() {

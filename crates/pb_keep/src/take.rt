@@ -9,15 +9,17 @@ ghost use Rattle.pb_requests.specs.Requests.{asked_by};
 ghost use Rattle.pb_requests.specs.declared.request.Request.TheVariants.{Change, ChangeIf};
 ghost use Rattle.pb_script.specs.declared.reports.lines.Newest.{Newest};
 ghost use Rattle.pb_keep.specs.declared.fault.KeepFault.TheVariants as ends;
-ghost use Rattle.pb_keep.specs.Conversations.{Beginning, LeavesFirst, Serves};
+ghost use Rattle.pb_keeper.specs.Stats.{kept_table};
+ghost use Rattle.pb_keep.specs.Conversations.{keeper_view, Beginning, LeavesFirst, Serves};
 ghost use Rattle.pb_keep.specs.Held.{change_as_line, commit_seen, waits_for, waits_within, IsAnswerTo, IsHeldIf};
-ghost use Rattle.pb_keep.specs.Taken.{is_question, IsLineReady, IsReadyFor, IsToWait, MayHaveAnswered, WaitsNow};
+ghost use Rattle.pb_keep.specs.Causes.{IsOfAnswer, WhyNotKept};
+ghost use Rattle.pb_keep.specs.Taken.{is_question, IsLineReady, IsReadyFor, IsToWait, MayHaveAnswered, NamesLog, WaitsNow};
 ghost use Rattle.pb_keep.specs.Waits.{IsNoLine, IsWaiting};
 
 use crate::fault::KeepFault;
 use crate::keeper::Keeper;
 use crate::waiting::{Waiting, Waits};
-use pb_answers::{answer_get, answer_list, answer_quiet, answer_since, newest_of};
+use pb_answers::{answer_get, answer_list, answer_quiet, answer_since, answer_stats, newest_of};
 use pb_base::{NoMemory, Sink, Ts};
 use pb_parse::{ScriptCode, batch_of, first_operation};
 use pb_reading::{LineFault, is_skipped};
@@ -199,6 +201,7 @@ pub(crate) fn write<S: Sink>(out: &mut S, text: &str) -> Result<(), KeepFault>
     ensures ok { OnOk result (Appends (S.taken out.old) (S.taken out.new) text.now) }
     ensures err { OnErr result (AppendsPart (S.taken out.old) (S.taken out.new) text.now) }
     ensures why { IfErr result (λ e. e ≡ ends.Output) }
+    ensures failed { OnErr result (S.failed out.new ≡ true) }
 {
     match out.write_all(text.as_bytes()) {
         Ok(()) => Ok(()),
@@ -212,7 +215,7 @@ fn is_question(request: &Request) -> bool
 {
     matches!(
         request,
-        Request::Get(..) | Request::Since(_) | Request::List | Request::IsQuiet
+        Request::Get(..) | Request::Since(_) | Request::List | Request::IsQuiet | Request::Stats
     )
 }
 
@@ -226,41 +229,6 @@ fn question_in(waiting: &Waiting, read: &Result<Request, ScriptCode>) -> Option<
         Ok(request) if !waiting.is_group && is_question(request) => Some(*request),
         _ => None,
     }
-}
-
-// The text that a question is answered with.
-fn answer_to<T: Tablet>(
-    alloc: Global,
-    state: &State<T>,
-    question: Request,
-) -> Result<String, NoMemory>
-    requires { is_question question ≡ true }
-    ensures { IfOk result (λ s. IsAnswerTo question state.now (string_bytes s)) }
-{
-    match question {
-        Request::Get(row, column) => answer_get(alloc, state, row, column),
-        Request::Since(above) => answer_since(alloc, state, above),
-        Request::List => answer_list(alloc, state),
-        Request::IsQuiet => answer_quiet(alloc, state),
-        _ => unreachable!(),
-    }
-}
-
-// Answers a question. Where that fails, a beginning of the answer may be written.
-fn answer<T: Tablet, S: Sink>(
-    alloc: Global,
-    state: &State<T>,
-    out: &mut S,
-    question: Request,
-) -> Result<(), KeepFault>
-    requires { is_question question ≡ true }
-    ensures ok { OnOk result ((text : List ℕ) × IsAnswerTo question state.now text
-        × Appends (S.taken out.old) (S.taken out.new) text) }
-    ensures err { OnErr result (MayHaveAnswered question state.now
-        (S.taken out.old) (S.taken out.new)) }
-{
-    let text = answer_to(alloc, state, question)?;
-    write(out, text.as_str())
 }
 
 // Whether what waits is kept before this line is taken: it speaks of the table in which all of that is made, or the record has
@@ -281,6 +249,46 @@ fn is_kept_before(waiting: &Waiting, line: &str, read: &Result<Request, ScriptCo
 }
 
 impl<T: Tablet, D: Disk + Drop> Keeper<T, D> {
+    // The text that a question is answered with.
+    fn answer_to(&self, alloc: Global, question: Request) -> Result<String, NoMemory>
+        requires { is_question question ≡ true }
+        ensures answer { IfOk result (λ s. IsAnswerTo question
+            (kept_table self.now.state self.now.stats.items) (string_bytes s)) }
+        ensures log { IfOk result (λ s. NamesLog question
+            (kept_table self.now.state self.now.stats.items) self.now.log.end (string_bytes s)) }
+    {
+        match question {
+            Request::Get(row, column) => answer_get(alloc, &self.state, row, column),
+            Request::Since(above) => answer_since(alloc, &self.state, above),
+            Request::List => answer_list(alloc, &self.state),
+            Request::IsQuiet => answer_quiet(alloc, &self.state),
+            Request::Stats => answer_stats(alloc, &self.state, &self.stats, self.log.end),
+            _ => unreachable!(),
+        }
+    }
+
+    // Answers a question. Where that fails, a beginning of the answer may be written.
+    fn answer<S: Sink>(
+        &self,
+        alloc: Global,
+        out: &mut S,
+        question: Request,
+    ) -> Result<(), KeepFault>
+        requires { is_question question ≡ true }
+        ensures ok { OnOk result ((text : List ℕ)
+            × IsAnswerTo question (kept_table self.now.state self.now.stats.items) text
+            × NamesLog question (kept_table self.now.state self.now.stats.items)
+            self.now.log.end text
+            × Appends (S.taken out.old) (S.taken out.new) text) }
+        ensures err { OnErr result (MayHaveAnswered question
+            (kept_table self.now.state self.now.stats.items)
+            (S.taken out.old) (S.taken out.new)) }
+        ensures why { IfErr result (IsOfAnswer (S.failed out.new)) }
+    {
+        let text = self.answer_to(alloc, question)?;
+        write(out, text.as_str())
+    }
+
     // Keeps what waits, where that is asked for.
     pub(crate) fn keep_if<R: Wait, S: Sink>(
         &mut self,
@@ -297,16 +305,20 @@ impl<T: Tablet, D: Disk + Drop> Keeper<T, D> {
         ensures kept { OnOk result (is_asked ≡ true → IsNoLine self.new.waiting) }
         ensures same { is_asked ≡ false → self.new ≡ self.old }
         ensures serves { (b : Beginning) (lines : List (List ℕ))
-            → Serves b lines (D.seen self.old.log.disk) (D.may_leave self.old.log.disk)
-            self.old.log.end self.old.state self.old.waiting (S.taken out.old)
-            → OnOk result (Serves b lines (D.seen self.new.log.disk)
-            (D.may_leave self.new.log.disk) self.new.log.end self.new.state self.new.waiting
-            (S.taken out.new)) }
+            → Serves b lines (keeper_view D.seen D.may_leave self.old (S.taken out.old))
+            → OnOk result (Serves b lines
+            (keeper_view D.seen D.may_leave self.new (S.taken out.new))) }
         ensures crash { (b : Beginning) (lines : List (List ℕ))
-            → Serves b lines (D.seen self.old.log.disk) (D.may_leave self.old.log.disk)
-            self.old.log.end self.old.state self.old.waiting (S.taken out.old)
+            → Serves b lines (keeper_view D.seen D.may_leave self.old (S.taken out.old))
             → (c : List ℕ) → D.may_leave self.new.log.disk c
             → LeavesFirst b lines (S.taken out.new) c }
+        ensures cause { (b : Beginning) (lines : List (List ℕ))
+            → Serves b lines (keeper_view D.seen D.may_leave self.old (S.taken out.old))
+            → IfErr result (WhyNotKept (D.faults self.old.log.disk)
+            (D.faults self.new.log.disk) (S.failed out.new)
+            (keeper_view D.seen D.may_leave self.new (S.taken out.new))) }
+        ensures faultless { OnOk result
+            (D.faults self.new.log.disk ≡ D.faults self.old.log.disk) }
     {
         if is_asked {
             self.keep(rt, alloc, out)?;
@@ -328,23 +340,28 @@ impl<T: Tablet, D: Disk + Drop> Keeper<T, D> {
         ensures usable { OnOk result (IsTrue (D.is_usable self.new.log.disk)) }
         ensures waiting { OnOk result (IsWaiting self.new.waiting) }
         ensures serves { (b : Beginning) (lines : List (List ℕ))
-            → Serves b lines (D.seen self.old.log.disk) (D.may_leave self.old.log.disk)
-            self.old.log.end self.old.state self.old.waiting (S.taken out.old)
-            → OnOk result (Serves b (lines ++ line.now ∷ []) (D.seen self.new.log.disk)
-            (D.may_leave self.new.log.disk) self.new.log.end self.new.state self.new.waiting
-            (S.taken out.new)) }
+            → Serves b lines (keeper_view D.seen D.may_leave self.old (S.taken out.old))
+            → OnOk result (Serves b (lines ++ line.now ∷ [])
+            (keeper_view D.seen D.may_leave self.new (S.taken out.new))) }
         // Whenever it stops, the log has the changes of the first lines.
         ensures crash { (b : Beginning) (lines : List (List ℕ))
-            → Serves b lines (D.seen self.old.log.disk) (D.may_leave self.old.log.disk)
-            self.old.log.end self.old.state self.old.waiting (S.taken out.old)
+            → Serves b lines (keeper_view D.seen D.may_leave self.old (S.taken out.old))
             → (c : List ℕ) → D.may_leave self.new.log.disk c
             → LeavesFirst b (lines ++ line.now ∷ []) (S.taken out.new) c }
+        // A fault has its cause.
+        ensures cause { (b : Beginning) (lines : List (List ℕ))
+            → Serves b lines (keeper_view D.seen D.may_leave self.old (S.taken out.old))
+            → IfErr result (WhyNotKept (D.faults self.old.log.disk)
+            (D.faults self.new.log.disk) (S.failed out.new)
+            (keeper_view D.seen D.may_leave self.new (S.taken out.new))) }
+        ensures faultless { OnOk result
+            (D.faults self.new.log.disk ≡ D.faults self.old.log.disk) }
     {
         let read = parse_request(line);
         let before = is_kept_before(&self.waiting, line, &read);
         self.keep_if(rt, alloc, out, before)?;
         match question_in(&self.waiting, &read) {
-            Some(question) => answer(alloc, &self.state, out, question),
+            Some(question) => self.answer(alloc, out, question),
             None => {
                 hold(alloc, &self.state, &mut self.waiting, line, read)?;
                 Ok(())

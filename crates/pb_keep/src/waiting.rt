@@ -33,7 +33,7 @@ pub struct Waiting {
 
 impl Waiting {
     ghost use Rattle.std.specs.Prelude.{◌≡◌, ◌+◌, ◌∷◌, ◌++◌, [], OnOk, true, length, string_bytes};
-    ghost use Rattle.pb_keep.specs.Waits.{changes_in, has_line_room, group_after, group_of, FitsIn, IsNoLine, IsScriptLine, IsWaiting};
+    ghost use Rattle.pb_keep.specs.Waits.{changes_in, has_line_room, group_after, group_of, FitsIn, IsNoLine, IsOpenGroup, IsScriptLine, IsWaiting};
     ghost use Rattle.pb_keep.specs.declared.waiting.Waits.TheVariants.{Change};
 
     /// No lines.
@@ -56,17 +56,19 @@ impl Waiting {
         self.changes < MAX_CHANGES && bytes < MAX_RECORD && self.script.len() < MAX_RECORD - bytes
     }
 
-    // The answer to a line that changes nothing waits.
-    fn push_other(&mut self, item: Waits) -> Result<(), NoMemory>
+    // The answer to a line that changes nothing waits, and the next line stands in a group or not.
+    fn push_other(&mut self, item: Waits, is_group: bool) -> Result<(), NoMemory>
         requires waiting { IsWaiting self.old }
         requires other { changes_in (item ∷ []) ≡ [] }
+        requires open_group { is_group ≡ true → IsOpenGroup (self.old.items.items ++ item ∷ []) }
         ensures waiting { OnOk result (IsWaiting self.new) }
         ensures items { OnOk result (self.new.items.items ≡ self.old.items.items ++ item ∷ []) }
         ensures script { self.new.script ≡ self.old.script }
         ensures changes { self.new.changes ≡ self.old.changes }
-        ensures group { self.new.is_group ≡ self.old.is_group }
+        ensures group { OnOk result (self.new.is_group ≡ is_group) }
     {
         self.items.push(item)?;
+        self.is_group = is_group;
         Ok(())
     }
 
@@ -100,18 +102,13 @@ impl Waiting {
         ensures group { OnOk result (group_of self.new
             ≡ group_after (group_of self.old) (length operations.now) item) }
     {
+        let is_group = self.is_group;
         match item {
-            Waits::Change(batch) => self.push_change(operations, batch)?,
-            Waits::Begun => {
-                self.push_other(Waits::Begun)?;
-                self.is_group = true;
-            }
-            Waits::Ended => {
-                self.push_other(Waits::Ended)?;
-                self.is_group = false;
-            }
-            other => self.push_other(other)?,
+            Waits::Change(batch) => self.push_change(operations, batch),
+            Waits::Unmade(newest) => self.push_other(Waits::Unmade(newest), is_group),
+            Waits::Refused(code) => self.push_other(Waits::Refused(code), is_group),
+            Waits::Begun => self.push_other(Waits::Begun, true),
+            Waits::Ended => self.push_other(Waits::Ended, false),
         }
-        Ok(())
     }
 }

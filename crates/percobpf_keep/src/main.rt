@@ -14,6 +14,7 @@ ghost use Rattle.sqlite_disk.specs.Disk.{Only};
 use anyhow::{Result, bail};
 use pb_base::{MAX_OBSERVERS, Out, Row, Sink, Ts};
 use pb_keep::{Keeper, serve};
+use pb_keeper::no_stats;
 use pb_memtablet::ListTablet;
 use pb_registry::Registry;
 use pb_state::State;
@@ -87,8 +88,9 @@ fn keep<R: Wait, S: Start>(
     let alloc = rt.alloc();
     let observers = observers(alloc, manifest)?;
     let Files { log: _, db } = open(rt, path, start)?;
+    let stats = no_stats(alloc, observers.len())?;
     let state = State::new(alloc, table(alloc)?, observers, 1, Ts(0));
-    let mut keeper = Keeper::new(alloc, db, state);
+    let mut keeper = Keeper::new(alloc, db, state, stats);
     let done = work(waits, rt, &mut keeper, manifest);
     keeper.close();
     done

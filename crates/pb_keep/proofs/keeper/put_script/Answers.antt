@@ -1,7 +1,10 @@
 use Rattle.std.proofs.Common.{◌≡◌, ◌∷◌, ◌++◌, [], length, Ok, inl, ap, subst, sym, ◌∙◌, arith}
 use Rattle.pb_keep.specs.Words.{header, script_of}
+use Rattle.pb_keep.specs.Causes.{IsOfPut}
 use Rattle.pb_keep.specs.Kept.{IsLogOf}
 use Rattle.pb_keep.specs.Waits.{changes_in}
+use Rattle.pb_keep.proofs.Causing.{put_why}
+use Rattle.pb_keep.proofs.Mapping.{passed_on}
 use Rattle.pb_keep.proofs.Records.{records_more}
 use Rattle.pb_keep.proofs.Putting.{waiting_is_read, before_or_after, rest_has_changes, no_change_waits}
 use Rattle.pb_keep.proofs.keeper.put_script.Goals as goal
@@ -11,6 +14,14 @@ returns-in_err-put-clause-crash g c = λ manifest changes log file left.
     let w = c.args.waiting.now in
     let read : script_of c.as_bytes.result.now ≡ Ok (changes_in w.items.items) = ap script_of c.as_bytes.ensures.value ∙ waiting_is_read w c.requires.waiting in
     before_or_after manifest log.records changes (changes_in w.items.items) c.as_bytes.result.now file log.make read (c.put.ensures.crash (header manifest ∷ log.records) log.at_rest file left)
+
+pub returns-in_err-put-clause-cause : goal.returns-in_err-put-clause-cause
+returns-in_err-put-clause-cause g c =
+    let old = c.args.log.now in
+    let now = c.put.new.self in
+    passed_on c.from_residual.result c.from_residual.ensures.1
+    (λ e is. subst (λ f. IsOfPut (g.D.Disk.faults old.disk) (g.D.Disk.faults now.disk) now.end f) (sym is)
+    (put_why (g.D.Disk.faults old.disk) (g.D.Disk.faults now.disk) old.end now.end c.in_err-put.field-0.0 c.in_err-put.ensures.cause (λ begun. ap (λ l. l.end) (c.in_err-put.ensures.refused begun))))
 
 pub returns-in_ok-put-clause-put : goal.returns-in_ok-put-clause-put
 returns-in_ok-put-clause-put g c = λ manifest changes log.

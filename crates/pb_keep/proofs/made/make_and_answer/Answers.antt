@@ -1,7 +1,7 @@
 use Rattle.std.proofs.Common.{◌≡◌, ◌∷◌, ◌++◌, [], ap, sym, subst, ◌∙◌, arith, Ok, Err, OnErr}
 use Rattle.std.specs.Prelude.{string_bytes}
 use Rattle.std.specs.Vec.Iter.{into_iter_items}
-use Rattle.pb_keep.specs.Words.{Keeps}
+use Rattle.pb_keep.specs.Words.{Keeps, kept_table}
 use Rattle.pb_keep.specs.Waits.{changes_in, AreAnswers, AreSomeAnswers}
 use Rattle.std.proofs.lemmas.List.{append_assoc, append-nil}
 use Rattle.pb_keep.proofs.Added.{changes_of_both}
@@ -13,8 +13,8 @@ pub loop-item-init : goal.loop-item-init
 loop-item-init g c = record {
   parts = grind (arith, c.into_iter-item-iterator.ensures.into_iter_gives);
   counted = grind (arith, c.into_iter-item-iterator.ensures.into_iter_gives);
-  answers = ([], sym (append-nil (string_bytes c.args.text.now)), AreAnswers.none c.args.state.now);
-  keeps = λ observers changes k. subst (λ l. Keeps observers l c.args.state.now) (sym (append-nil changes)) k;
+  answers = ([], sym (append-nil (string_bytes c.args.text.now)), AreAnswers.none (kept_table c.args.state.now c.args.stats.now.items));
+  keeps = λ observers changes k. subst (λ l. Keeps observers l (kept_table c.args.state.now c.args.stats.now.items)) (sym (append-nil changes)) k;
 }
 
 pub loop-item-preserved : goal.loop-item-preserved
@@ -26,28 +26,28 @@ loop-item-preserved g c = record {
       let a = c.in_ok-answer.ensures.answer in (
         i.0 ++ a.0,
         a.1 ∙ ap (λ l. l ++ a.0) i.1 ∙ append_assoc (string_bytes c.args.text.now) i.0 a.0,
-        AreAnswers.one_more c.loop-item.yielded c.in-Some.item c.args.state.now c.loop-item.state c.answer.new.state i.0 a.0 i.2 a.2,
+        AreAnswers.one_more c.loop-item.yielded c.in-Some.item (kept_table c.args.state.now c.args.stats.now.items) (kept_table c.loop-item.state c.loop-item.stats.items) (kept_table c.answer.new.state c.answer.new.stats.items) i.0 a.0 i.2 a.2,
       );
   keeps = λ observers changes k.
       let is : changes ++ changes_in (c.loop-item.yielded ++ c.in-Some.item ∷ []) ≡ (changes ++ changes_in c.loop-item.yielded) ++ changes_in (c.in-Some.item ∷ []) =
       ap (λ l. changes ++ l) (changes_of_both c.loop-item.yielded (c.in-Some.item ∷ [])) ∙ sym (append_assoc changes (changes_in c.loop-item.yielded) (changes_in (c.in-Some.item ∷ []))) in
-      subst (λ l. Keeps observers l c.answer.new.state) (sym is)
+      subst (λ l. Keeps observers l (kept_table c.answer.new.state c.answer.new.stats.items)) (sym is)
       (c.in_ok-answer.ensures.keeps observers (changes ++ changes_in c.loop-item.yielded) (c.loop-item.invariant.keeps observers changes k));
 }
 
 pub returns-in_err-answer-clause-some : goal.returns-in_err-answer-clause-some
 returns-in_err-answer-clause-some g c =
     let i = c.loop-item.invariant.answers in
-    let some : AreSomeAnswers c.args.items.items c.args.state.now (string_bytes c.args.text.now) (string_bytes c.answer.new.text) = record {
+    let some : AreSomeAnswers c.args.items.items (kept_table c.args.state.now c.args.stats.now.items) (string_bytes c.args.text.now) (string_bytes c.answer.new.text) = record {
       front = c.loop-item.yielded;
       rest = into_iter_items c.loop-item.item-iterator;
       parts = c.loop-item.invariant.parts;
-      now = c.loop-item.state;
+      now = kept_table c.loop-item.state c.loop-item.stats.items;
       text = i.0;
       answers = i.2;
       added = c.in_err-answer.ensures.unanswered ∙ i.1;
     } in
-    elim c.from_residual.result as (λ r. OnErr r (AreSomeAnswers c.args.items.items c.args.state.now (string_bytes c.args.text.now) (string_bytes c.answer.new.text))) [
+    elim c.from_residual.result as (λ r. OnErr r (AreSomeAnswers c.args.items.items (kept_table c.args.state.now c.args.stats.now.items) (string_bytes c.args.text.now) (string_bytes c.answer.new.text))) [
       | Ok x ↦ tt
       | Err e ↦ some
     ]

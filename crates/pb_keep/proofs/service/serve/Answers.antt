@@ -1,70 +1,76 @@
-use Rattle.std.proofs.Common.{◌++◌, not, refl, ap, subst}
+use Rattle.std.proofs.Common.{◌++◌, ◌∙◌, not, refl, ap, subst, sym}
 use Rattle.std.specs.Io.Buffered.{reader_remaining}
-use Rattle.pb_keep.specs.Served.{ServesNext}
-use Rattle.pb_keep.proofs.Mapping.{all_ok}
-use Rattle.pb_keep.proofs.Reading.{kept_all, leaves_none, leaves_on, serves_on, serves_read_none}
+use Rattle.pb_keep.specs.Conversations.{keeper_view}
+use Rattle.pb_keep.specs.Causes.{WhyNotServed}
+use Rattle.pb_keep.proofs.Causing.{not_served}
+use Rattle.pb_keep.proofs.Mapping.{if_err, on_ok, passed_on}
+use Rattle.pb_keep.proofs.Reading.{after_turn, kept_all, leaves_on, serves_on, serves_read_none, serves_to_the_end, turn_leaves}
 use Rattle.pb_keep.proofs.service.serve.Goals as goal
 
 pub loop-turn-init : goal.loop-turn-init
 loop-turn-init g c = record {
   usable = c.requires.usable;
   waiting = c.requires.waiting;
-  served = λ b lines s.
-      let old = c.args.keeper.now in
-      serves_read_none b lines (reader_remaining g.I.Read.remaining c.args.input.now) (g.D.Disk.seen old.log.disk) (g.D.Disk.may_leave old.log.disk) old.log.end old.state old.waiting (g.S.Sink.taken c.args.out.now) s;
+  faultless = refl;
+  served = λ b lines s. serves_read_none (reader_remaining g.I.Read.remaining c.args.input.now) s;
 }
 
 pub loop-turn-preserved : goal.loop-turn-preserved
 loop-turn-preserved g c = record {
   usable = c.in_ok-went.ensures.usable;
   waiting = c.in_ok-went.ensures.waiting;
+  faultless = c.in_ok-went.ensures.faultless ∙ c.loop-turn.invariant.faultless;
   served = λ b lines s.
       let before = c.loop-turn.invariant.served b lines s in
-      let all = lines ++ before.more in
-      let from = reader_remaining g.I.Read.remaining c.args.input.now in
-      let between = reader_remaining g.I.Read.remaining c.loop-turn.input in
       let to = reader_remaining g.I.Read.remaining c.turn.new.input in
-      let now = c.turn.new.keeper in
-      let written = g.S.Sink.taken c.turn.new.out in
-      let t = subst (λ w. ServesNext b all between to (g.D.Disk.seen now.log.disk) (g.D.Disk.may_leave now.log.disk) now.log.end now.state now.waiting written w) c.if-not-went.false (c.in_ok-went.ensures.serves b all before.serves) in
-      serves_on b lines before.more t.0 from between to (g.D.Disk.seen now.log.disk) (g.D.Disk.may_leave now.log.disk) now.log.end now.state now.waiting written before.read t.1 t.2;
+      let now = keeper_view g.D.Disk.seen g.D.Disk.may_leave c.turn.new.keeper (g.S.Sink.taken c.turn.new.out) in
+      serves_on before to now c.in_ok-went.went c.if-not-went.false (c.in_ok-went.ensures.serves b (lines ++ before.more) before.serves);
 }
 
 pub returns-in_err-went-clause-crash : goal.returns-in_err-went-clause-crash
 returns-in_err-went-clause-crash g c = λ b lines s file m.
     let before = c.loop-turn.invariant.served b lines s in
-    let all = lines ++ before.more in
-    let from = reader_remaining g.I.Read.remaining c.args.input.now in
-    let between = reader_remaining g.I.Read.remaining c.loop-turn.input in
-    leaves_on b lines before.more from between (g.S.Sink.taken c.turn.new.out) file before.read (c.in_err-went.ensures.crash b all before.serves file m)
+    leaves_on before (g.S.Sink.taken c.turn.new.out) file (c.in_err-went.ensures.crash b (lines ++ before.more) before.serves file m)
+
+pub returns-in_err-went-clause-cause : goal.returns-in_err-went-clause-cause
+returns-in_err-went-clause-cause g c = λ b lines s.
+    let before = c.loop-turn.invariant.served b lines s in
+    let now = keeper_view g.D.Disk.seen g.D.Disk.may_leave c.turn.new.keeper (g.S.Sink.taken c.turn.new.out) in
+    let faults = g.D.Disk.faults c.turn.new.keeper.log.disk in
+    let failed = g.S.Sink.failed c.turn.new.out in
+    passed_on c.from_residual.result c.from_residual.ensures.1
+    (λ e is. subst (λ n. WhyNotServed n faults failed now e) c.loop-turn.invariant.faultless
+    (subst (λ f. WhyNotServed (g.D.Disk.faults c.loop-turn.keeper.log.disk) faults failed now f) (sym is) (c.in_err-went.ensures.cause b (lines ++ before.more) before.serves)))
 
 pub returns-then-not-went-clause-serves : goal.returns-then-not-went-clause-serves
 returns-then-not-went-clause-serves g c = λ b lines s.
     let before = c.loop-turn.invariant.served b lines s in
-    let all = lines ++ before.more in
-    let between = reader_remaining g.I.Read.remaining c.loop-turn.input in
     let to = reader_remaining g.I.Read.remaining c.turn.new.input in
-    let now = c.turn.new.keeper in
-    let new = c.keep_if.new.self in
-    let written = g.S.Sink.taken c.turn.new.out in
-    let t = subst (λ w. ServesNext b all between to (g.D.Disk.seen now.log.disk) (g.D.Disk.may_leave now.log.disk) now.log.end now.state now.waiting written w) c.if-not-went.true (c.in_ok-went.ensures.serves b all before.serves) in
-    all_ok c.keep_if.result (c.keep_if.ensures.serves b all t.1) c.keep_if.ensures.kept c.keep_if.ensures.usable
-    (λ serves kept usable. record {
-      to = between;
-      read = record { more = before.more; read = before.read; serves = serves };
-      ended = t.0;
-      kept = kept_all (not now.waiting.is_group) now.waiting new.waiting refl kept (λ e. ap (λ k. k.waiting) (c.keep_if.ensures.same e));
-    })
+    let now = keeper_view g.D.Disk.seen g.D.Disk.may_leave c.turn.new.keeper (g.S.Sink.taken c.turn.new.out) in
+    let last = keeper_view g.D.Disk.seen g.D.Disk.may_leave c.keep_if.new.self (g.S.Sink.taken c.keep_if.new.out) in
+    let waited = c.turn.new.keeper.waiting in
+    serves_to_the_end before c.keep_if.result to now last c.in_ok-went.went c.if-not-went.true (c.in_ok-went.ensures.serves b (lines ++ before.more) before.serves)
+    (λ all served. c.keep_if.ensures.serves b all served)
+    (on_ok c.keep_if.result (λ kept. kept_all (not waited.is_group) waited last.waiting refl kept (λ e. ap (λ k. k.waiting) (c.keep_if.ensures.same e))) c.keep_if.ensures.kept)
+    c.keep_if.ensures.waiting
 
 pub returns-then-not-went-clause-crash : goal.returns-then-not-went-clause-crash
 returns-then-not-went-clause-crash g c = λ b lines s file m.
     let before = c.loop-turn.invariant.served b lines s in
-    let all = lines ++ before.more in
-    let from = reader_remaining g.I.Read.remaining c.args.input.now in
     let between = reader_remaining g.I.Read.remaining c.loop-turn.input in
     let to = reader_remaining g.I.Read.remaining c.turn.new.input in
-    let now = c.turn.new.keeper in
-    let written = g.S.Sink.taken c.turn.new.out in
-    let t = subst (λ w. ServesNext b all between to (g.D.Disk.seen now.log.disk) (g.D.Disk.may_leave now.log.disk) now.log.end now.state now.waiting written w) c.if-not-went.true (c.in_ok-went.ensures.serves b all before.serves) in
-    leaves_on b lines before.more from between (g.S.Sink.taken c.keep_if.new.out) file before.read
-    (leaves_none b all between (g.S.Sink.taken c.keep_if.new.out) file (c.keep_if.ensures.crash b all t.1 file m))
+    let written = g.S.Sink.taken c.keep_if.new.out in
+    leaves_on before written file
+    (turn_leaves (lines ++ before.more) between to c.in_ok-went.went written file (c.in_ok-went.ensures.serves b (lines ++ before.more) before.serves) (λ all serves. c.keep_if.ensures.crash b all serves file m))
+
+pub returns-then-not-went-clause-cause : goal.returns-then-not-went-clause-cause
+returns-then-not-went-clause-cause g c = λ b lines s.
+    let before = c.loop-turn.invariant.served b lines s in
+    let last = keeper_view g.D.Disk.seen g.D.Disk.may_leave c.keep_if.new.self (g.S.Sink.taken c.keep_if.new.out) in
+    let faults = g.D.Disk.faults c.keep_if.new.self.log.disk in
+    let failed = g.S.Sink.failed c.keep_if.new.out in
+    let between = reader_remaining g.I.Read.remaining c.loop-turn.input in
+    let to = reader_remaining g.I.Read.remaining c.turn.new.input in
+    if_err c.keep_if.result
+    (λ e why. subst (λ n. WhyNotServed n faults failed last e) (c.in_ok-went.ensures.faultless ∙ c.loop-turn.invariant.faultless) (not_served (g.D.Disk.faults c.turn.new.keeper.log.disk) faults failed last e why))
+    (after_turn (lines ++ before.more) between to c.in_ok-went.went (c.in_ok-went.ensures.serves b (lines ++ before.more) before.serves) (λ all served. c.keep_if.ensures.cause b all served))

@@ -1,7 +1,11 @@
-use Rattle.std.proofs.Common.{subst, sym}
+use Rattle.std.proofs.Common.{subst, sym, ◌∙◌}
 use Rattle.std.specs.Io.Buffered.{reader_remaining}
+use Rattle.pb_keep.specs.Conversations.{keeper_view}
 use Rattle.pb_keep.specs.Input.{IsLineRead}
-use Rattle.pb_keep.proofs.Reading.{leaves_none, turn_kept, turn_leaves}
+use Rattle.pb_keep.specs.Causes.{WhyNotServed}
+use Rattle.pb_keep.proofs.Causing.{not_served}
+use Rattle.pb_keep.proofs.Mapping.{passed_on}
+use Rattle.pb_keep.proofs.Reading.{after_turn, leaves_none, turn_kept, turn_leaves}
 use Rattle.pb_keep.proofs.Serving.{leaves_served}
 use Rattle.pb_keep.proofs.service.turn.Goals as goal
 
@@ -17,9 +21,7 @@ returns-in_err-keep_if-in-Ok-clause-crash g c = λ b lines s file m.
     let from = reader_remaining g.I.Read.remaining c.args.input.now in
     let to = reader_remaining g.I.Read.remaining c.read_line.new.input in
     let read = subst (λ l. IsLineRead c.in-Ok.read l from to) (sym c.as_slice.ensures.value) c.in-Ok.ensures.read in
-    let now = c.take_read.new.keeper in
-    turn_leaves b lines from to (g.D.Disk.seen now.log.disk) (g.D.Disk.may_leave now.log.disk) now.log.end now.state now.waiting (g.S.Sink.taken c.take_read.new.out)
-    c.in_ok-went-in-Ok.went (g.S.Sink.taken c.keep_if.new.out) file (c.in_ok-went-in-Ok.ensures.serves b lines from to read s)
+    turn_leaves lines from to c.in_ok-went-in-Ok.went (g.S.Sink.taken c.keep_if.new.out) file (c.in_ok-went-in-Ok.ensures.serves b lines from to read s)
     (λ all serves. c.in_err-keep_if-in-Ok.ensures.crash b all serves file m)
 
 pub returns-in_ok-keep_if-in-Ok-clause-serves : goal.returns-in_ok-keep_if-in-Ok-clause-serves
@@ -27,10 +29,7 @@ returns-in_ok-keep_if-in-Ok-clause-serves g c = λ b lines s.
     let from = reader_remaining g.I.Read.remaining c.args.input.now in
     let to = reader_remaining g.I.Read.remaining c.read_line.new.input in
     let read = subst (λ l. IsLineRead c.in-Ok.read l from to) (sym c.as_slice.ensures.value) c.in-Ok.ensures.read in
-    let now = c.take_read.new.keeper in
-    let new = c.keep_if.new.self in
-    turn_kept b lines from to (g.D.Disk.seen now.log.disk) (g.D.Disk.may_leave now.log.disk) now.log.end now.state now.waiting (g.S.Sink.taken c.take_read.new.out)
-    c.in_ok-went-in-Ok.went (g.D.Disk.seen new.log.disk) (g.D.Disk.may_leave new.log.disk) new.log.end new.state new.waiting (g.S.Sink.taken c.keep_if.new.out) (c.in_ok-went-in-Ok.ensures.serves b lines from to read s)
+    turn_kept lines from to c.in_ok-went-in-Ok.went (keeper_view g.D.Disk.seen g.D.Disk.may_leave c.keep_if.new.self (g.S.Sink.taken c.keep_if.new.out)) (c.in_ok-went-in-Ok.ensures.serves b lines from to read s)
     (λ all serves. c.in_ok-keep_if-in-Ok.ensures.serves b all serves)
 
 pub returns-in_ok-keep_if-in-Ok-clause-crash : goal.returns-in_ok-keep_if-in-Ok-clause-crash
@@ -38,14 +37,31 @@ returns-in_ok-keep_if-in-Ok-clause-crash g c = λ b lines s file m.
     let from = reader_remaining g.I.Read.remaining c.args.input.now in
     let to = reader_remaining g.I.Read.remaining c.read_line.new.input in
     let read = subst (λ l. IsLineRead c.in-Ok.read l from to) (sym c.as_slice.ensures.value) c.in-Ok.ensures.read in
-    let now = c.take_read.new.keeper in
-    turn_leaves b lines from to (g.D.Disk.seen now.log.disk) (g.D.Disk.may_leave now.log.disk) now.log.end now.state now.waiting (g.S.Sink.taken c.take_read.new.out)
-    c.in_ok-went-in-Ok.went (g.S.Sink.taken c.keep_if.new.out) file (c.in_ok-went-in-Ok.ensures.serves b lines from to read s)
+    turn_leaves lines from to c.in_ok-went-in-Ok.went (g.S.Sink.taken c.keep_if.new.out) file (c.in_ok-went-in-Ok.ensures.serves b lines from to read s)
     (λ all serves. c.in_ok-keep_if-in-Ok.ensures.crash b all serves file m)
 
 pub returns-in-Err-clause-crash : goal.returns-in-Err-clause-crash
-returns-in-Err-clause-crash g c = λ b lines s file m.
+returns-in-Err-clause-crash g c = λ b lines s file m. leaves_none (reader_remaining g.I.Read.remaining c.args.input.now) (leaves_served s file m)
+
+pub returns-in_err-went-in-Ok-clause-cause : goal.returns-in_err-went-in-Ok-clause-cause
+returns-in_err-went-in-Ok-clause-cause g c = λ b lines s.
+    let now = keeper_view g.D.Disk.seen g.D.Disk.may_leave c.take_read.new.keeper (g.S.Sink.taken c.take_read.new.out) in
+    let old = g.D.Disk.faults c.args.keeper.now.log.disk in
+    let faults = g.D.Disk.faults c.take_read.new.keeper.log.disk in
+    let failed = g.S.Sink.failed c.take_read.new.out in
+    passed_on c.from_residual.result c.from_residual.ensures.1
+    (λ e is. subst (λ f. WhyNotServed old faults failed now f) (sym is) (not_served old faults failed now c.in_err-went-in-Ok.field-0.0 (c.in_err-went-in-Ok.ensures.cause b lines s)))
+
+pub returns-in_err-keep_if-in-Ok-clause-cause : goal.returns-in_err-keep_if-in-Ok-clause-cause
+returns-in_err-keep_if-in-Ok-clause-cause g c = λ b lines s.
     let from = reader_remaining g.I.Read.remaining c.args.input.now in
-    let old = c.args.keeper.now in
-    let written = g.S.Sink.taken c.args.out.now in
-    leaves_none b lines from written file (leaves_served b lines (g.D.Disk.seen old.log.disk) (g.D.Disk.may_leave old.log.disk) old.log.end old.state old.waiting written s file m)
+    let to = reader_remaining g.I.Read.remaining c.read_line.new.input in
+    let read = subst (λ l. IsLineRead c.in-Ok.read l from to) (sym c.as_slice.ensures.value) c.in-Ok.ensures.read in
+    let now = keeper_view g.D.Disk.seen g.D.Disk.may_leave c.keep_if.new.self (g.S.Sink.taken c.keep_if.new.out) in
+    let was = g.D.Disk.faults c.take_read.new.keeper.log.disk in
+    let faults = g.D.Disk.faults c.keep_if.new.self.log.disk in
+    let failed = g.S.Sink.failed c.keep_if.new.out in
+    passed_on c.from_residual-in_err-keep_if-in-Ok.result c.from_residual-in_err-keep_if-in-Ok.ensures.1
+    (λ e is. subst (λ n. WhyNotServed n faults failed now e) c.in_ok-went-in-Ok.ensures.faultless
+    (subst (λ f. WhyNotServed was faults failed now f) (sym is) (not_served was faults failed now c.in_err-keep_if-in-Ok.field-0.0
+    (after_turn lines from to c.in_ok-went-in-Ok.went (c.in_ok-went-in-Ok.ensures.serves b lines from to read s) (λ all served. c.in_err-keep_if-in-Ok.ensures.cause b all served)))))

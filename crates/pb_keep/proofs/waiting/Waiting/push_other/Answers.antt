@@ -1,5 +1,5 @@
 use Rattle.std.proofs.Common.{◌≡◌, ◌∷◌, ◌++◌, [], length, ap, subst, sym, ◌∙◌}
-use Rattle.pb_keep.specs.Waits.{changes_in, AreScriptLines}
+use Rattle.pb_keep.specs.Waits.{changes_in, AreScriptLines, IsOpenGroup}
 use Rattle.std.proofs.lemmas.List.{append-nil}
 use Rattle.pb_keep.proofs.Added.{changes_of_both}
 use Rattle.pb_keep.proofs.waiting.Waiting.push_other.Goals as goal
@@ -17,4 +17,5 @@ returns-clause-waiting c =
       count = w.count ∙ sym (ap length are);
       few = w.few;
       bytes = w.bytes;
+      open_group = λ e. subst IsOpenGroup (sym c.in_ok-push.ensures.items) (c.requires.open_group e);
     }

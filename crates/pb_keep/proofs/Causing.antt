@@ -1,0 +1,91 @@
+-- Why a table is kept no longer.
+use Rattle.std.proofs.Common.{◌≡◌, ℕ, ◌≤◌, ◌^◌, Bool, true, List, sym, subst}
+use Rattle.pb_log.specs.declared.fault.LogFault.{LogFault}
+use Rattle.pb_log.specs.Causes.{IsNotBegun, WhyNotPut}
+use Rattle.pb_keeper.specs.Stops.{IsStop}
+use Rattle.pb_keep.specs.Words.{StateOf, Stopped}
+use Rattle.pb_keep.specs.declared.fault.KeepFault.{KeepFault}
+use Rattle.pb_keep.specs.Causes.{IsOfAnew, IsOfAnswer, IsOfPut, WhyNotKept, WhyNotMadeAgain, WhyNotServed}
+use Rattle.pb_keep.specs.Conversations.{KeeperView}
+use Rattle.pb_keep.specs.Left.{fault_by, IsOfLog, IsOfMaking, IsRightOf}
+
+pub stopped_rightly : (e : Stopped) (state : StateOf) → IsStop e state → IsRightOf state (fault_by e)
+stopped_rightly (Stopped.NoMemory refused) state h = tt
+stopped_rightly (Stopped.Refused why) state h = h.1
+stopped_rightly Stopped.Conflict state h = absurd h
+
+-- a put failed; one that did nothing left the log's end
+pub put_why : (before now was end : ℕ) (e : LogFault) → WhyNotPut before now was e → (IsNotBegun e → end ≡ was) → IsOfPut before now end (KeepFault.Log e)
+put_why before now was end (LogFault.NoMemory n) h same = tt
+put_why before now was end (LogFault.Disk e) h same = h
+put_why before now was end LogFault.Full h same = subst (λ n. 2 ^ 62 ≤ n) (sym (same tt)) h
+put_why before now was end (LogFault.Damaged at) h same = absurd h
+put_why before now was end LogFault.OtherManifest h same = absurd h
+put_why before now was end LogFault.NewerVersion h same = absurd h
+put_why before now was end LogFault.NoHeader h same = absurd h
+
+pub of_put : (before now end : ℕ) (e : KeepFault) → IsOfPut before now end e → IsOfLog e
+of_put before now end (KeepFault.Log e) h = tt
+of_put before now end (KeepFault.NoMemory e) h = absurd h
+of_put before now end KeepFault.Record h = absurd h
+of_put before now end KeepFault.NoTimestamp h = absurd h
+of_put before now end KeepFault.Output h = absurd h
+of_put before now end KeepFault.Input h = absurd h
+
+-- the log failed, or what came after
+pub not_both : (e : KeepFault) → IsOfMaking e → IsOfLog e → ⊥
+not_both (KeepFault.Log e) making of = absurd making
+not_both (KeepFault.NoMemory e) making of = of
+not_both KeepFault.Record making of = of
+not_both KeepFault.NoTimestamp making of = of
+not_both KeepFault.Output making of = of
+not_both KeepFault.Input making of = of
+
+-- ---- why what waits isn't kept
+
+module _ (before now : ℕ) (failed : Bool) (k : KeeperView) where
+  pub not_put : (e : KeepFault) → IsOfPut before now k.end e → WhyNotKept before now failed k e
+  not_put (KeepFault.Log e) h = h
+  not_put (KeepFault.NoMemory e) h = absurd h
+  not_put KeepFault.Record h = absurd h
+  not_put KeepFault.NoTimestamp h = absurd h
+  not_put KeepFault.Output h = absurd h
+  not_put KeepFault.Input h = absurd h
+
+  pub not_made : (e : KeepFault) → IsOfMaking e → IsRightOf k.table.state e → WhyNotKept before now failed k e
+  not_made (KeepFault.Log e) of right = absurd of
+  not_made (KeepFault.NoMemory e) of right = tt
+  not_made KeepFault.Record of right = absurd of
+  not_made KeepFault.NoTimestamp of right = right
+  not_made KeepFault.Output of right = absurd of
+  not_made KeepFault.Input of right = absurd of
+
+  pub not_written : (e : KeepFault) → e ≡ KeepFault.Output → failed ≡ true → WhyNotKept before now failed k e
+  not_written e is has = subst (λ f. WhyNotKept before now failed k f) (sym is) has
+
+  pub not_answered : (e : KeepFault) → IsOfAnswer failed e → WhyNotKept before now failed k e
+  not_answered (KeepFault.Log e) of = absurd of
+  not_answered (KeepFault.NoMemory e) of = tt
+  not_answered KeepFault.Record of = absurd of
+  not_answered KeepFault.NoTimestamp of = absurd of
+  not_answered KeepFault.Output of = of
+  not_answered KeepFault.Input of = absurd of
+
+  -- keeping is a part of serving
+  pub not_served : (e : KeepFault) → WhyNotKept before now failed k e → WhyNotServed before now failed k e
+  not_served (KeepFault.Log e) h = h
+  not_served (KeepFault.NoMemory e) h = tt
+  not_served KeepFault.Record h = absurd h
+  not_served KeepFault.NoTimestamp h = h
+  not_served KeepFault.Output h = h
+  not_served KeepFault.Input h = absurd h
+
+-- ---- when a log is opened
+
+pub not_made_again : (manifest : List ℕ) (before now : ℕ) (file : List ℕ) (e : KeepFault) → IsOfAnew e → WhyNotMadeAgain manifest before now file e
+not_made_again manifest before now file (KeepFault.Log e) of = absurd of
+not_made_again manifest before now file (KeepFault.NoMemory e) of = tt
+not_made_again manifest before now file KeepFault.Record of = tt
+not_made_again manifest before now file KeepFault.NoTimestamp of = tt
+not_made_again manifest before now file KeepFault.Output of = absurd of
+not_made_again manifest before now file KeepFault.Input of = absurd of

@@ -1,0 +1,42 @@
+-- Why a table is kept no longer. Of memory nothing is known: it may be refused in any call.
+use Rattle.std.specs.Prelude.{◌≡◌, ℕ, Bool, true, List}
+use Rattle.pb_keep.specs.Words.{WhyNotOpened, WhyNotPut, last_timestamp}
+use Rattle.pb_keep.specs.declared.fault.KeepFault.{KeepFault}
+use Rattle.pb_keep.specs.Conversations.{KeeperView}
+
+-- a put into the log failed, by how many calls of its disk had failed before and have failed now, and where the log ends
+abbrev pub IsOfPut : ℕ → ℕ → ℕ → KeepFault → Type 0
+IsOfPut before now end (KeepFault.Log e) = WhyNotPut before now end e
+IsOfPut before now end _ = ⊥
+
+-- an answer was not made, or a write of it failed
+abbrev pub IsOfAnswer : Bool → KeepFault → Type 0
+IsOfAnswer failed (KeepFault.NoMemory e) = Unit {0}
+IsOfAnswer failed KeepFault.Output = failed ≡ true
+IsOfAnswer failed _ = ⊥
+
+-- a record is no script, no timestamp was left for a change, or memory was refused
+abbrev pub IsOfAnew : KeepFault → Type 0
+IsOfAnew (KeepFault.NoMemory e) = Unit {0}
+IsOfAnew KeepFault.Record = Unit {0}
+IsOfAnew KeepFault.NoTimestamp = Unit {0}
+IsOfAnew _ = ⊥
+
+-- why what waits isn't kept: the disk failed or the log is full, the table has given out its last timestamp, or a write failed
+abbrev pub WhyNotKept : ℕ → ℕ → Bool → KeeperView → KeepFault → Type 0
+WhyNotKept before now failed k (KeepFault.Log e) = WhyNotPut before now k.end e
+WhyNotKept before now failed k (KeepFault.NoMemory e) = Unit {0}
+WhyNotKept before now failed k KeepFault.NoTimestamp = k.table.state.clock ≡ last_timestamp
+WhyNotKept before now failed k KeepFault.Output = failed ≡ true
+WhyNotKept before now failed k KeepFault.Record = ⊥
+WhyNotKept before now failed k KeepFault.Input = ⊥
+
+-- the same where lines are read, of whose faults nothing is known
+abbrev pub WhyNotServed : ℕ → ℕ → Bool → KeeperView → KeepFault → Type 0
+WhyNotServed before now failed k KeepFault.Input = Unit {0}
+WhyNotServed before now failed k e = WhyNotKept before now failed k e
+
+-- why a log of this manifest isn't opened, where this is the file, or its changes aren't made again
+abbrev pub WhyNotMadeAgain : List ℕ → ℕ → ℕ → List ℕ → KeepFault → Type 0
+WhyNotMadeAgain manifest before now file (KeepFault.Log e) = WhyNotOpened manifest before now file e
+WhyNotMadeAgain manifest before now file e = IsOfAnew e
