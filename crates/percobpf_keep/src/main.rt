@@ -27,8 +27,8 @@ use std::io::BufReader;
 use std::sync::Wait;
 use std::{env, fs};
 
-// How many bytes are read at once, and so about how many may wait.
-const ROOM: usize = 65_536;
+// How many bytes are read at once at most, and so about how many may wait.
+const ROOM: usize = 1_048_576;
 
 // The most bytes of a manifest, which the first record of a log has.
 const MAX_MANIFEST: usize = 16_777_216;
@@ -87,7 +87,10 @@ fn keep<R: Wait, S: Start>(
 ) -> Result<()> {
     let alloc = rt.alloc();
     let observers = observers(alloc, manifest)?;
-    let Files { log: _, db } = open(rt, path, start)?;
+    let Files { log: _, db } = match open(rt, path, start) {
+        Ok(files) => files,
+        Err(fault) => bail!("{path}: {fault}"),
+    };
     let stats = no_stats(alloc, observers.len())?;
     let state = State::new(alloc, table(alloc)?, observers, 1, Ts(0));
     let mut keeper = Keeper::new(alloc, db, state, stats);
@@ -104,23 +107,28 @@ line of standard input is answered: `put ROW COL HEX; ..`, `del ROW COL; ..`, `i
 `since COMMIT`, `list`, `quiet?`, `stats`, `begin`, `end`. docs/KEEPING.md describes them.
 ";
 
+const ABOUT_HELP: &str = "two words are wanted, MANIFEST and LOG: `percobpf_keep --help` has more";
+
 // The handle goes down twice, as the host and as what may wait, since a `HostRuntime` may wait in `main` alone.
 fn main(rt: HostRuntime) -> Result<()> {
     let mut words = env::args(&rt)?;
     let _name = words.next();
     let Some(manifest) = words.next() else {
-        bail!("{USAGE}");
+        bail!("{ABOUT_HELP}");
     };
     if manifest.as_str() == "--help" {
         print!(&rt; "{USAGE}")?;
         return Ok(());
     }
     let Some(path) = words.next() else {
-        bail!("{USAGE}");
+        bail!("{ABOUT_HELP}");
     };
     if words.next().is_some() {
-        bail!("{USAGE}");
+        bail!("{ABOUT_HELP}");
     }
-    let text = fs::read_to_string(&rt, manifest)?;
+    let text = match fs::read_to_string(&rt, manifest.as_str()) {
+        Ok(text) => text,
+        Err(fault) => bail!("{manifest}: {fault}"),
+    };
     keep(&rt, &rt, text.as_str(), path.as_str(), Unknown)
 }
