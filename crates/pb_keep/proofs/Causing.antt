@@ -1,11 +1,11 @@
 -- Why a table is kept no longer.
 use Rattle.std.proofs.Common.{◌≡◌, ℕ, ◌≤◌, ◌^◌, Bool, true, List, sym, subst}
 use Rattle.pb_log.specs.declared.fault.LogFault.{LogFault}
-use Rattle.pb_log.specs.Causes.{IsNotBegun, WhyNotPut}
+use Rattle.pb_log.specs.Causes.{IsNotBegun}
 use Rattle.pb_keeper.specs.Stops.{IsStop}
-use Rattle.pb_keep.specs.Words.{StateOf, Stopped}
+use Rattle.pb_keep.specs.Words.{StateOf, Stopped, WhyNotPut}
 use Rattle.pb_keep.specs.declared.fault.KeepFault.{KeepFault}
-use Rattle.pb_keep.specs.Causes.{IsOfAnew, IsOfAnswer, IsOfPut, WhyNotKept, WhyNotMadeAgain, WhyNotServed}
+use Rattle.pb_keep.specs.Causes.{IsOfAnew, IsOfPut, WhyNotKept, WhyNotMadeAgain, WhyNotServed}
 use Rattle.pb_keep.specs.Conversations.{KeeperView}
 use Rattle.pb_keep.specs.Left.{fault_by, IsOfLog, IsOfMaking, IsRightOf}
 
@@ -62,14 +62,6 @@ module _ (before now : ℕ) (failed : Bool) (k : KeeperView) where
 
   pub not_written : (e : KeepFault) → e ≡ KeepFault.Output → failed ≡ true → WhyNotKept before now failed k e
   not_written e is has = subst (λ f. WhyNotKept before now failed k f) (sym is) has
-
-  pub not_answered : (e : KeepFault) → IsOfAnswer failed e → WhyNotKept before now failed k e
-  not_answered (KeepFault.Log e) of = absurd of
-  not_answered (KeepFault.NoMemory e) of = tt
-  not_answered KeepFault.Record of = absurd of
-  not_answered KeepFault.NoTimestamp of = absurd of
-  not_answered KeepFault.Output of = of
-  not_answered KeepFault.Input of = absurd of
 
   -- keeping is a part of serving
   pub not_served : (e : KeepFault) → WhyNotKept before now failed k e → WhyNotServed before now failed k e

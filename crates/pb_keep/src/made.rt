@@ -92,7 +92,8 @@ fn answer<R: Wait, T: Tablet>(
 ) -> Result<(), KeepFault>
     ensures answer { OnOk result ((more : List ℕ)
         × (string_bytes text.new ≡ string_bytes text.old ++ more)
-        × IsAnswer item (kept_table state.old stats.old.items) (kept_table state.new stats.new.items) more) }
+        × IsAnswer item (kept_table state.old stats.old.items)
+        (kept_table state.new stats.new.items) more) }
     ensures keeps { (observers : List ObserverOf) (changes : List Writes)
         → Keeps observers changes (kept_table state.old stats.old.items)
         → OnOk result (Keeps observers (changes ++ changes_in (item ∷ []))
