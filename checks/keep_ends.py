@@ -110,7 +110,7 @@ def try_rivals(room):
         ask(first, b"put 7 0 2a")
         before = log.read_bytes()
         for name in (log, link):
-            expect("a second program", room.run(name, ["put 7 0 2b", "list"]), (1, [], line_of(IN_USE)))
+            expect("a second program", room.run(name, ["put 7 0 2b", "list"]), (1, [], line_of(f"{name}: {IN_USE}")))
         expect("the file of two programs", log.read_bytes(), before)
         answer = ask(first, b"put 8 0 2c")
         expect("the first program after the second", answer.startswith(b"made "), True)
@@ -136,7 +136,7 @@ def at_once(room, log):
         if first:
             expect("a change by the one that got the log", ask(it, b"put 7 0 2a").startswith(b"made "), True)
         _, errors = it.communicate()
-        expect("one of several programs", (it.returncode, errors.decode()), (0, "") if first else (1, line_of(IN_USE)))
+        expect("one of several programs", (it.returncode, errors.decode()), (0, "") if first else (1, line_of(f"{log}: {IN_USE}")))
     expect("the log of several programs", room.opened(log), (1, room.table(["put 7 0 2a"])))
 
 
