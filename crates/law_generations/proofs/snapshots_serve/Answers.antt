@@ -1,0 +1,242 @@
+use Rattle.std.proofs.Common.{◌≡◌, ◌≢◌, ◌^◌, ℕ, ◌<◌, ◌≤◌, inl, inr, refl, sym, ◌∙◌, ap, subst, arith, Bool, true, false, List, [], ◌∷◌, Option, Some, None, is_some}
+use Rattle.std.proofs.lemmas.Bool.{cases_lt}
+use Rattle.std.proofs.lemmas.Option.{none-some}
+use Rattle.std.specs.FinMap as map
+use Rattle.pb_base.specs.declared.cell.Cell.{Cell}
+use Rattle.pb_base.specs.declared.content.Content.{Content}
+use Rattle.pb_base.specs.declared.content.Revision.{Revision}
+use Rattle.pb_store.specs.Contents.{Entries, slot_at}
+use Rattle.pb_store.specs.Slot.{slot_cmp}
+use Rattle.pb_store.specs.declared.slot.Sort.{Sort}
+use Rattle.pb_steps.specs.declared.phase.Phase.{Phase}
+use Rattle.pb_steps.specs.declared.step.Step.{Step}
+use Rattle.pb_steps.specs.declared.step.Answer.{Answer}
+use Rattle.pb_steps.specs.State.{StateOf, Transactions, opening, phase_in}
+use Rattle.pb_steps.specs.Readings.{IsVersion, data_of, data_at, lock_at, write_at}
+use Rattle.pb_steps.specs.Steps.{TableStep}
+use Rattle.pb_steps.specs.Commits.{commits, rolls_back}
+use Rattle.pb_steps.specs.CommitSecondary.{if_locked}
+use Rattle.pb_history.specs.declared.entry.Entry.{Entry}
+use Rattle.pb_history.specs.Journals.{JournalLeads}
+use Rattle.pb_history.specs.Handled.{IsQuiet}
+use Rattle.pb_history.specs.Laws.{StepsKeepSound, OpeningIsSound, SoundHasData}
+use Rattle.pb_history.proofs.Updates.{placed_or_before as placed, left_after_clearing as cleared, none_if}
+use Rattle.pb_history.proofs.ViewsAfter.{data_after_commit, data_after_back, data_after_put}
+use Rattle.pb_history.specs.TableView.{TableView}
+use Rattle.pb_history.specs.Sound.{IsSoundView, IsSoundTable, KeepsData, IsCommittedAt, HasStamp}
+use Rattle.law_generations.specs.Generations.{Mirrors, QuietMirrorsItself}
+use Rattle.law_generations.specs.Snapshots.{IsSnapshotOf, IsSnapshotView, SnapshotsServe}
+use Rattle.law_generations.proofs.snapshots_serve.Goals as goal
+
+-- ---- a snapshot is sound
+
+commit_of : Phase → ℕ
+commit_of (Phase.Stamped c) = c.0
+commit_of (Phase.Committed c) = c.0
+commit_of _ = 0
+
+module _ (v : TableView) (m : IsSnapshotView v) where
+  not_stamped : (c d : ℕ) → Phase.Stamped (record { 0 = c }) ≡ Phase.Committed (record { 0 = d }) → ⊥
+  not_stamped c d is = cc
+
+  -- what has a stamp is committed
+  has : (s c : ℕ) → HasStamp v s c → IsCommittedAt v s c
+  has s c (inl stamped) = let k = m.committed s (Phase.Stamped (record { 0 = c })) stamped in absurd (not_stamped c k.0 k.1)
+  has s c (inr committed) = committed
+
+  bounds : (s c : ℕ) → IsCommittedAt v s c → (s < c) × (c ≤ v.clock)
+  unfolding commit_of
+  bounds s c is =
+      let k = m.committed s (Phase.Committed (record { 0 = c })) is in
+      let same : c ≡ k.0 = ap commit_of k.1 in
+      (omega (arith, same, k.2), omega (arith, same, k.3))
+
+  same_commit : (s c d : ℕ) → IsCommittedAt v s c → IsCommittedAt v s d → c ≡ d
+  unfolding commit_of
+  same_commit s c d a b = let e : Some (Phase.Committed (record { 0 = c })) ≡ Some (Phase.Committed (record { 0 = d })) = sym a ∙ b in ap (λ (o : Option Phase). commit_in o) e
+    where
+      commit_in : Option Phase → ℕ
+      commit_in None = 0
+      commit_in (Some h) = commit_of h
+
+  locked : (x : Cell) (s : ℕ) (p : Cell) → v.lock x s ≡ Some p → ⊥
+  locked x s p is = none-some p (sym (m.unlocked x s) ∙ is)
+
+  sound : IsSoundView v
+  sound = record {
+    small = m.small;
+    begun = λ s h is. let k = m.committed s h is in omega (arith, k.2, k.3);
+    stamped = λ s c is. bounds s c (has s c is);
+    one_stamp = λ s u c a b. m.one s u c (has s c a) (has u c b);
+    was_declared = λ s x is. (m.declared s x is).1;
+    past_reading = λ s x is.
+        let k = (m.declared s x is).0 in
+        (λ reading. no_reading k.0 (sym k.1 ∙ reading), λ none. none-some (Phase.Committed (record { 0 = k.0 })) (sym none ∙ k.1));
+    primary_first = λ s x p is primary. let k = m.primary s p primary in m.prewritten s p k.0 k.1;
+    all_prewritten = λ s c x k is content. m.prewritten s x k content;
+    lock_prewritten = λ x s p is. absurd (locked x s p is);
+    lock_data = λ x s p is. absurd (locked x s p is);
+    one_lock = λ x s u p q is _. absurd (locked x s p is);
+    all_locked = λ s p x _ is _. absurd (locked p s p is);
+    record_committed = λ x c s is. (m.written x c s is).0;
+    record_prewritten = λ x c s is. let k = (m.written x c s is).1 in m.prewritten s x k.0 k.1;
+    record_data = λ x c s is. let k = (m.written x c s is).1 in k.2 ∙ sym k.1;
+    record_unlocked = λ x c s is. m.unlocked x s;
+    behind_lock = λ x s p c u is _. absurd (locked x s p is);
+    apart = λ x c s d u a b differ. absurd (differ (m.single x c s d u a b));
+    stands = λ s c x k is content. inl (m.stands s c x k is content);
+    primary_stands = λ s c p is primary. let k = m.primary s p primary in m.stands s c p k.0 is k.1;
+    read_begun = λ s r is. absurd (m.unread s r is);
+    tells = λ s r is. absurd (m.unread s r is);
+    settled = λ s r u c k is _ _ _. absurd (m.unread s r is);
+  }
+    where
+      no_reading : (c : ℕ) → Some (Phase.Committed (record { 0 = c })) ≡ Some Phase.Reading → ⊥
+      no_reading c is = cc
+
+-- ---- no data of a start above the clock
+
+abbrev Bounded : StateOf → Type 0
+Bounded state = (x : Cell) (s : ℕ) (k : Content) → data_at state.entries x s ≡ Some k → s ≤ state.clock
+
+at : {A : Type 0} {f g : Cell → ℕ → A} → f ≡ g → (x : Cell) (s : ℕ) → f x s ≡ g x s
+at is x s = ap (λ h. h x s) is
+
+committed_stays : (old : StateOf) (x : Cell) (s d : ℕ) → Bounded old → Bounded (commits old x s d)
+committed_stays old x s d bound y u k is = bound y u k (sym (at (data_after_commit old.entries x s d) y u) ∙ is)
+
+back_stays : (old : StateOf) (x : Cell) (s : ℕ) → Bounded old → Bounded (rolls_back old x s)
+back_stays old x s bound y u k is = bound y u k (cleared (data_at old.entries) x s y u k (sym (at (data_after_back old.entries x s) y u) ∙ is)).0
+
+if_stays : (old : StateOf) (b : Bool) (x : Cell) (s d : ℕ) → Bounded old → Bounded (if_locked old b x s d)
+if_stays old true x s d bound = committed_stays old x s d bound
+if_stays old false x s d bound = bound
+
+stays : (n new : StateOf) → new ≡ n → Bounded n → Bounded new
+stays n new is bound = subst Bounded (sym is) bound
+
+bounded : (old : StateOf) (seat : ℕ) (step : Step) (answer : Answer) (new : StateOf) → KeepsData old → Bounded old → TableStep old seat step answer new → Bounded new
+bounded old seat (Step.Begin work) (Answer.At s) new keeps bound t = let is = t.taken in stays _ new is.new_is (λ y u k there. omega (arith, is.fresh, bound y u k there))
+bounded old seat (Step.Read s x) (Answer.Locked start primary) new keeps bound t = stays _ new t.taken.new_is bound
+bounded old seat (Step.Read s x) (Answer.Found start commit content) new keeps bound t = stays _ new t.taken.new_is bound
+bounded old seat (Step.Read s x) Answer.Absent new keeps bound t = stays _ new t.taken.new_is bound
+bounded old seat (Step.ReadAt s x u) (Answer.Locked start primary) new keeps bound t = stays _ new t.taken.new_is bound
+bounded old seat (Step.ReadAt s x u) (Answer.Found start commit content) new keeps bound t = stays _ new t.taken.new_is bound
+bounded old seat (Step.ReadAt s x u) Answer.Absent new keeps bound t = stays _ new t.taken.new_is bound
+bounded old seat (Step.Declare s what) Answer.Done new keeps bound t = stays _ new t.taken.new_is bound
+bounded old seat (Step.Prewrite s x) Answer.Done new keeps bound t =
+    let is = t.taken in
+    stays _ new is.new_is (λ y u k there. elim (placed (data_at old.entries) x s.0 is.content y u k (sym (at (data_after_put old.entries x s.0 is.content is.primary) y u) ∙ there)) [
+      | inl here ↦ omega (arith, here.1, keeps.begun s.0 is.t is.own.there)
+      | inr elsewhere ↦ bound y u k elsewhere.0
+    ])
+bounded old seat (Step.Prewrite s x) Answer.Conflict new keeps bound t = stays _ new t.taken.new_is bound
+bounded old seat (Step.Stamp s) (Answer.At d) new keeps bound t = let is = t.taken in stays _ new is.new_is (λ y u k there. omega (arith, is.fresh, bound y u k there))
+bounded old seat (Step.CommitPrimary s) Answer.Committed new keeps bound t = let is = t.taken in stays _ new is.new_is (committed_stays old is.primary s.0 is.c bound)
+bounded old seat (Step.CommitPrimary s) Answer.Lost new keeps bound t = stays _ new t.taken.new_is bound
+bounded old seat (Step.CommitSecondary s x) Answer.Done new keeps bound t = let is = t.taken in stays _ new is.new_is (if_stays old (is_some (lock_at old.entries x s.0)) x s.0 is.c bound)
+bounded old seat (Step.Settle x) Answer.Absent new keeps bound t = stays _ new t.taken.new_is bound
+bounded old seat (Step.Settle x) (Answer.Locked start primary) new keeps bound t = stays _ new t.taken.new_is bound
+bounded old seat (Step.Settle x) Answer.RolledBack new keeps bound t = let is = t.taken in stays _ new is.new_is (back_stays old x is.start bound)
+bounded old seat (Step.Clear x) Answer.Absent new keeps bound t = stays _ new t.taken.new_is bound
+bounded old seat (Step.Clear x) Answer.Waits new keeps bound t = stays _ new t.taken.new_is bound
+bounded old seat (Step.Clear x) (Answer.CommittedAt d) new keeps bound t = let is = t.taken in stays _ new is.new_is (committed_stays old x is.start d.0 bound)
+bounded old seat (Step.Clear x) Answer.RolledBack new keeps bound t = let is = t.taken in stays _ new is.new_is (back_stays old x is.start bound)
+bounded old seat (Step.NextMark after) (Answer.Marked x) new keeps bound t = stays _ new t.taken.new_is bound
+bounded old seat (Step.NextMark after) Answer.NoMark new keeps bound t = stays _ new t.taken.new_is bound
+bounded old seat (Step.Sweep x) Answer.NoMark new keeps bound t = stays _ new t.taken.new_is bound
+bounded old seat (Step.Sweep x) Answer.StillBehind new keeps bound t = stays _ new t.taken.new_is bound
+bounded old seat (Step.Sweep x) Answer.Done new keeps bound t = stays _ new t.taken.new_is bound
+bounded old seat step answer new keeps bound t = absurd t.taken
+
+-- and a legal journal leads to a sound state of which that holds
+led : StepsKeepSound → SoundHasData → (old new : StateOf) (js : List Entry) → IsSoundTable old → Bounded old → JournalLeads old js new → IsSoundTable new × Bounded new
+led steps law old new [] sound bound leads = (subst IsSoundTable (sym leads) sound, subst Bounded (sym leads) bound)
+led steps law old new (j ∷ js) sound bound leads =
+    led steps law leads.0 new js (steps old j.seat j.step j.answer leads.0 sound leads.1) (bounded old j.seat j.step j.answer leads.0 (law old sound) bound leads.1) leads.2
+
+-- ---- a snapshot serves
+
+begun_by : (clock s : ℕ) (o : Option Phase) → ((h : Phase) → o ≡ Some h → s ≤ clock) → o ≢ None → s ≤ clock
+begun_by clock s None begun some = absurd (some refl)
+begun_by clock s (Some h) begun some = begun h refl
+
+module _ (whole : StateOf) (e : Entries) (ts : Transactions) (sound : IsSoundTable whole) (keeps : KeepsData whole) (bound : Bounded whole) (quiet : IsQuiet whole)
+    (m : Mirrors whole.clock whole whole.entries whole.transactions) (is : IsSnapshotOf whole e) (none : (s : ℕ) → whole.clock < s → map.get ts s ≡ None) where
+  whole_lock : (x : Cell) (s : ℕ) → lock_at whole.entries x s ≡ None
+  whole_lock x s = none_if (lock_at whole.entries x s) (λ p there. elim (cases_lt s (2 ^ 64)) [
+    | inl fits ↦ none-some p (sym (quiet.unlocked x s fits) ∙ there)
+    | inr past ↦ omega (arith, past, sound.small, begun_by whole.clock s (phase_in whole s) (sound.begun s) (sound.past_reading s x (sound.lock_prewritten x s p there).0).1)
+  ])
+
+  whole_record : (x : Cell) (d : ℕ) → whole.clock < d → write_at whole.entries x d ≡ None
+  whole_record x d above = none_if (write_at whole.entries x d) (λ s there. omega (arith, above, (sound.stamped s d (inr (sound.record_committed x d s there))).1))
+
+  kept_record : (x : Cell) (d : ℕ) → whole.clock < d → write_at e x d ≡ None
+  kept_record x d above = none_if (write_at e x d) (λ s there. let k = is.only x d s there in omega (arith, above, k.1.low, k.2))
+
+  kept_data : (x : Cell) (s : ℕ) → whole.clock < s → data_at e x s ≡ None
+  kept_data x s above = none_if (data_at e x s) (λ k there. let n = is.no_more x s k there in omega (arith, above, n.2, m.entries_are.early x n.0.commit.0 n.0.start.0 n.1.low n.1.written))
+
+  whole_data : (x : Cell) (s : ℕ) → whole.clock < s → data_at whole.entries x s ≡ None
+  whole_data x s above = none_if (data_at whole.entries x s) (λ k there. omega (arith, above, bound x s k there))
+
+  there_on : (x : Cell) (v : Revision) → IsVersion whole.entries x whole.clock v → IsVersion e x whole.clock v
+  there_on x v there = record {
+    low = there.low;
+    written = (is.kept x v there).0;
+    content = (is.kept x v there).1;
+    newest = λ d above low. none_if (write_at e x d) (λ s here. let k = is.only x d s here in none-some k.0.start.0 (sym (there.newest d above low) ∙ ap (λ (n : ℕ). write_at whole.entries x n) (sym k.2) ∙ k.1.written));
+  }
+
+  there_back : (x : Cell) (v : Revision) → IsVersion e x whole.clock v → IsVersion whole.entries x whole.clock v
+  there_back x v here =
+      let k = is.only x v.commit.0 v.start.0 here.written in
+      record {
+        low = here.low;
+        written = ap (λ (n : ℕ). write_at whole.entries x n) (sym k.2) ∙ k.1.written ∙ ap (λ (n : ℕ). Some n) k.3;
+        content = ap (λ (n : ℕ). data_at whole.entries x n) (sym k.3) ∙ k.1.content ∙ sym (is.kept x k.0 k.1).1 ∙ ap (λ (n : ℕ). data_at e x n) k.3 ∙ here.content;
+        newest = λ d above low. k.1.newest d (omega (arith, above, k.2)) low;
+      }
+
+  serves : Mirrors whole.clock whole e ts
+  serves = record {
+    since = m.since;
+    room = m.room;
+    entries_are = record {
+      versions = λ x. record {
+        there = λ v. (there_on x v, there_back x v);
+        none = (
+          λ lacks d low. none_if (write_at e x d) (λ s here. let k = is.only x d s here in none-some k.0.start.0 (sym (lacks k.0.commit.0 k.1.low) ∙ k.1.written)),
+          λ lacks. elim (m.entries_are.told x) [
+            | inl v ↦ absurd (none-some v.0.start.0 (sym (lacks v.0.commit.0 v.1.low) ∙ (is.kept x v.0 v.1).0))
+            | inr none_there ↦ none_there
+          ],
+        );
+      };
+      told = m.entries_are.told;
+      early = m.entries_are.early;
+      kept_early = λ x d s low here. let k = is.only x d s here in omega (arith, k.3, m.entries_are.early x k.0.commit.0 k.0.start.0 k.1.low k.1.written);
+      records = λ x d above. kept_record x d above ∙ sym (whole_record x d above);
+      starts = m.entries_are.starts;
+      stored = λ x s above. kept_data x s above ∙ sym (whole_data x s above);
+      locks = λ x s. is.unlocked x s ∙ sym (whole_lock x s);
+      late = λ x s p there. absurd (none-some p (sym (whole_lock x s) ∙ there));
+    };
+    transactions_are = record {
+      same = λ s above. none s above ∙ sym (none_if (map.get whole.transactions s) (λ t there. omega (arith, above, keeps.begun s t there)));
+      phases = m.transactions_are.phases;
+    };
+  }
+
+serve : StepsKeepSound → OpeningIsSound → SoundHasData → QuietMirrorsItself → SnapshotsServe
+serve steps opens law mirror observers seats clock journal whole legal quiet room e ts is none =
+    let start : Bounded (opening observers seats clock) = λ x s k there. absurd (none-some k (sym (ap data_of (map.get-empty slot_cmp (slot_at x Sort.Data s))) ∙ there)) in
+    let known = led steps law (opening observers seats clock) whole journal (opens observers seats clock legal.fits) start legal.run in
+    serves whole e ts known.0 (law whole known.0) known.1 quiet (mirror whole known.0 quiet room) is none
+
+pub returns-clause-serve : goal.returns-clause-serve
+returns-clause-serve c = serve c.steps_keep_sound.ensures.step c.steps_keep_sound.ensures.opening c.sound_has_data.ensures c.old_may_be_dropped.ensures.itself
+
+pub returns-clause-sound : goal.returns-clause-sound
+returns-clause-sound c = sound
