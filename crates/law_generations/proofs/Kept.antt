@@ -1,5 +1,5 @@
 -- What stays of two tables of which one mirrors the other, where both are changed alike.
-use Rattle.std.proofs.Common.{◌≡◌, ◌⊎◌, ℕ, ◌<◌, ◌≤◌, inl, inr, sym, ◌∙◌, ap, subst, arith, Bool, true, false, cond, Option, Some, None}
+use Rattle.std.proofs.Common.{◌≡◌, ◌↔◌, ◌⊎◌, ℕ, ◌<◌, ◌≤◌, inl, inr, sym, ◌∙◌, ap, subst, arith, Bool, true, false, cond, Option, Some, None}
 use Rattle.std.specs.FinMap as map
 use Rattle.std.specs.Ordering.{nat_cmp, eq_by_cmp}
 use Rattle.std.specs.Cmp.{nat_cmp_total}
@@ -13,7 +13,7 @@ use Rattle.pb_steps.specs.Prewrite.{put_lock}
 use Rattle.pb_steps.specs.Commits.{commit_lock, erase_lock}
 use Rattle.pb_history.proofs.Updates.{set2, at_place, set2_there, placed_or_before as placed, left_after_clearing as cleared}
 use Rattle.pb_history.proofs.ViewsAfter.{lock_after_commit, data_after_commit, write_after_commit, lock_after_back, data_after_back, write_after_back, lock_after_put, data_after_put, write_after_put}
-use Rattle.law_generations.specs.Generations.{SameEntries, SameTransactions, IsLatePhase}
+use Rattle.law_generations.specs.Mirrored.{SameEntries, SameTransactions, IsLatePhase}
 
 -- ---- transactions
 
@@ -67,7 +67,12 @@ record Alike (c : ℕ) (whole kept whole' kept' : Entries) : Type 0 where
   locks : (x : Cell) (s : ℕ) → lock_at kept' x s ≡ lock_at whole' x s
   late : (x : Cell) (s : ℕ) (p : Cell) → lock_at whole' x s ≡ Some p → c < s
 
-changed : (c : ℕ) (whole kept whole' kept' : Entries) → SameEntries c whole kept → Alike c whole kept whole' kept' → SameEntries c whole' kept'
+-- then they are the same after it, and of no cell is the version at c another
+pub record Changes (c : ℕ) (whole whole' kept' : Entries) : Type 0 where
+  pub same : SameEntries c whole' kept'
+  pub versions : (x : Cell) (v : Revision) → IsVersion whole x c v ↔ IsVersion whole' x c v
+
+changed : (c : ℕ) (whole kept whole' kept' : Entries) → SameEntries c whole kept → Alike c whole kept whole' kept' → Changes c whole whole' kept'
 changed c whole kept whole' kept' m a =
     let early : (x : Cell) (d s : ℕ) → d ≤ c → write_at whole' x d ≡ Some s → s ≤ c = λ x d s low is. m.early x d s low (sym (a.written x d low) ∙ is) in
     let kept_early : (x : Cell) (d s : ℕ) → d ≤ c → write_at kept' x d ≡ Some s → s ≤ c = λ x d s low is. m.kept_early x d s low (sym (a.kept_written x d low) ∙ is) in
@@ -76,24 +81,27 @@ changed c whole kept whole' kept' m a =
     let kept_on : (x : Cell) (v : Revision) → IsVersion kept x c v → IsVersion kept' x c v = λ x v is. version_under c kept kept' x v (a.kept_written x) (a.kept_stored x) (m.kept_early x) is in
     let kept_off : (x : Cell) (v : Revision) → IsVersion kept' x c v → IsVersion kept x c v = λ x v is. version_under c kept' kept x v (λ d low. sym (a.kept_written x d low)) (λ s low. sym (a.kept_stored x s low)) (kept_early x) is in
     record {
-      versions = λ x. record {
-        there = λ v. (λ is. kept_on x v (((m.versions x).there v).0 (off x v is)), λ is. on x v (((m.versions x).there v).1 (kept_off x v is)));
-        none = (
-          λ is. none_under c kept kept' x (a.kept_written x) ((m.versions x).none.0 (none_under c whole' whole x (λ d low. sym (a.written x d low)) is)),
-          λ is. none_under c whole whole' x (a.written x) ((m.versions x).none.1 (none_under c kept' kept x (λ d low. sym (a.kept_written x d low)) is)),
-        );
+      same = record {
+        versions = λ x. record {
+          there = λ v. (λ is. kept_on x v (((m.versions x).there v).0 (off x v is)), λ is. on x v (((m.versions x).there v).1 (kept_off x v is)));
+          none = (
+            λ is. none_under c kept kept' x (a.kept_written x) ((m.versions x).none.0 (none_under c whole' whole x (λ d low. sym (a.written x d low)) is)),
+            λ is. none_under c whole whole' x (a.written x) ((m.versions x).none.1 (none_under c kept' kept x (λ d low. sym (a.kept_written x d low)) is)),
+          );
+        };
+        either = λ x. elim (m.either x) [
+          | inl v ↦ inl (v.0, on x v.0 v.1)
+          | inr none ↦ inr (none_under c whole whole' x (a.written x) none)
+        ];
+        early = early;
+        kept_early = kept_early;
+        records = a.records;
+        starts = a.starts;
+        stored = a.stored;
+        locks = a.locks;
+        late = a.late;
       };
-      told = λ x. elim (m.told x) [
-        | inl v ↦ inl (v.0, on x v.0 v.1)
-        | inr none ↦ inr (none_under c whole whole' x (a.written x) none)
-      ];
-      early = early;
-      kept_early = kept_early;
-      records = a.records;
-      starts = a.starts;
-      stored = a.stored;
-      locks = a.locks;
-      late = a.late;
+      versions = λ x v. (on x v, off x v);
     }
 
 module _ (c : ℕ) (whole kept : Entries) (m : SameEntries c whole kept) (x : Cell) (s : ℕ) (later : c < s) where
@@ -104,7 +112,7 @@ module _ (c : ℕ) (whole kept : Entries) (m : SameEntries c whole kept) (x : Ce
   both : {A : Type 0} (f g : Cell → ℕ → A) (t : ℕ) (v : A) (y : Cell) (u : ℕ) → f y u ≡ g y u → set2 f x t v y u ≡ set2 g x t v y u
   both f g t v y u is = ap (λ o. cond (at_place y u x t) v o) is
 
-  pub locked : (k : Content) (p : Cell) → SameEntries c (put_lock whole x s k p) (put_lock kept x s k p)
+  pub locked : (k : Content) (p : Cell) → Changes c whole (put_lock whole x s k p) (put_lock kept x s k p)
   locked k p = changed c whole kept (put_lock whole x s k p) (put_lock kept x s k p) m (record {
     written = λ y d low. at (write_after_put whole x s k p) y d;
     kept_written = λ y d low. at (write_after_put kept x s k p) y d;
@@ -120,7 +128,7 @@ module _ (c : ℕ) (whole kept : Entries) (m : SameEntries c whole kept) (x : Ce
     ];
   })
 
-  pub committed : (d : ℕ) → c < d → SameEntries c (commit_lock whole x s d) (commit_lock kept x s d)
+  pub committed : (d : ℕ) → c < d → Changes c whole (commit_lock whole x s d) (commit_lock kept x s d)
   committed d late = changed c whole kept (commit_lock whole x s d) (commit_lock kept x s d) m (record {
     written = λ y u low. at (write_after_commit whole x s d) y u ∙ set2_there (write_at whole) x d (Some s) y u (apart y u d low late);
     kept_written = λ y u low. at (write_after_commit kept x s d) y u ∙ set2_there (write_at kept) x d (Some s) y u (apart y u d low late);
@@ -136,7 +144,7 @@ module _ (c : ℕ) (whole kept : Entries) (m : SameEntries c whole kept) (x : Ce
     late = λ y u q is. m.late y u q (cleared (lock_at whole) x s y u q (sym (at (lock_after_commit whole x s d) y u) ∙ is)).0;
   })
 
-  pub rolled_back : SameEntries c (erase_lock whole x s) (erase_lock kept x s)
+  pub rolled_back : Changes c whole (erase_lock whole x s) (erase_lock kept x s)
   rolled_back = changed c whole kept (erase_lock whole x s) (erase_lock kept x s) m (record {
     written = λ y u low. at (write_after_back whole x s) y u;
     kept_written = λ y u low. at (write_after_back kept x s) y u;

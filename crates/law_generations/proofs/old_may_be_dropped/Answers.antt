@@ -16,7 +16,7 @@ use Rattle.pb_history.specs.Sound.{HasData}
 use Rattle.pb_history.specs.Laws.{SoundHasData}
 use Rattle.pb_history.proofs.Updates.{set2, set2_there, set2_none, left_after_clearing as cleared, at_or_apart as decide}
 use Rattle.pb_history.proofs.ViewsAfter.{remove_same, remove_other}
-use Rattle.law_generations.specs.Generations.{Mirrors, OldMayBeDropped, QuietMirrorsItself}
+use Rattle.law_generations.specs.Mirrored.{IsMirroredBy, OldMayBeDropped, QuietMirrorsItself, QuietCarriesOver, carried}
 use Rattle.law_generations.proofs.old_may_be_dropped.Goals as goal
 
 -- ---- a quiet table
@@ -75,7 +75,7 @@ itself law state sound quiet room =
       room = room;
       entries_are = record {
         versions = λ x. record { there = λ v. (λ is. is, λ is. is); none = (λ is. is, λ is. is) };
-        told = λ x. told_at state.entries keeps.whole x state.clock;
+        either = λ x. told_at state.entries keeps.whole x state.clock;
         early = λ x d s low is. omega (arith, (timely x d s is).0, low);
         kept_early = λ x d s low is. omega (arith, (timely x d s is).0, low);
         records = λ x d above. refl;
@@ -95,14 +95,14 @@ itself law state sound quiet room =
 at : {A : Type 0} {f g : Cell → ℕ → A} → f ≡ g → (x : Cell) (s : ℕ) → f x s ≡ g x s
 at is x s = ap (λ h. h x s) is
 
-module _ (c : ℕ) (whole : StateOf) (e : Entries) (ts : Transactions) (m : Mirrors c whole e ts) where
+module _ (c : ℕ) (whole : StateOf) (e : Entries) (ts : Transactions) (m : IsMirroredBy c whole e ts) where
   same_removed : (u s : ℕ) (o : Option TransactionOf) → c < u → s ≤ c → cond (eq_by_cmp nat_cmp u s) None o ≡ o
   same_removed u s o above low = ap (λ (b : Bool). cond b None o) (unsigned_tied u s ∙ differ u s (omega (arith, above, low)))
     where
       differ : (u s : ℕ) → s < u → nat_eq u s ≡ false
       differ u s under = grind (arith, under)
 
-  transaction : (s : ℕ) → s ≤ c → Mirrors c whole e (map.remove ts s)
+  transaction : (s : ℕ) → s ≤ c → IsMirroredBy c whole e (map.remove ts s)
   transaction s low = record {
     since = m.since;
     room = m.room;
@@ -113,7 +113,7 @@ module _ (c : ℕ) (whole : StateOf) (e : Entries) (ts : Transactions) (m : Mirr
   -- entries of which the versions at c, and all later, are those of e
   serves : (f : Entries) → ((x : Cell) (v : Revision) → IsVersion e x c v → IsVersion f x c v) → ((x : Cell) (d s : ℕ) → write_at f x d ≡ Some s → write_at e x d ≡ Some s) → ((x : Cell) → NoVersion e x c → NoVersion f x c)
       → ((x : Cell) (d : ℕ) → c < d → write_at f x d ≡ write_at e x d) → ((x : Cell) (s : ℕ) → c < s → data_at f x s ≡ data_at e x s) → ((x : Cell) (s : ℕ) → lock_at f x s ≡ lock_at e x s)
-      → ((x : Cell) (w v : Revision) → IsVersion whole.entries x c w → IsVersion f x c v → IsVersion e x c v) → Mirrors c whole f ts
+      → ((x : Cell) (w v : Revision) → IsVersion whole.entries x c w → IsVersion f x c v → IsVersion e x c v) → IsMirroredBy c whole f ts
   serves f on fewer none later store lock back = record {
     since = m.since;
     room = m.room;
@@ -121,20 +121,20 @@ module _ (c : ℕ) (whole : StateOf) (e : Entries) (ts : Transactions) (m : Mirr
       versions = λ x. record {
         there = λ v. (
           λ is. on x v (((m.entries_are.versions x).there v).0 is),
-          λ is. elim (m.entries_are.told x) [
+          λ is. elim (m.entries_are.either x) [
             | inl w ↦ ((m.entries_are.versions x).there v).1 (back x w.0 v w.1 is)
             | inr lacks ↦ absurd (none-some v.start.0 (sym ((m.entries_are.versions x).none.0 lacks v.commit.0 is.low) ∙ fewer x v.commit.0 v.start.0 is.written))
           ],
         );
         none = (
           λ is. none x ((m.entries_are.versions x).none.0 is),
-          λ is. elim (m.entries_are.told x) [
+          λ is. elim (m.entries_are.either x) [
             | inl w ↦ let kept = on x w.0 (((m.entries_are.versions x).there w.0).0 w.1) in absurd (none-some w.0.start.0 (sym (is w.0.commit.0 kept.low) ∙ kept.written))
             | inr lacks ↦ lacks
           ],
         );
       };
-      told = m.entries_are.told;
+      either = m.entries_are.either;
       early = m.entries_are.early;
       kept_early = λ x d s low is. m.entries_are.kept_early x d s low (fewer x d s is);
       records = λ x d above. later x d above ∙ m.entries_are.records x d above;
@@ -188,7 +188,7 @@ module _ (c : ℕ) (whole : StateOf) (e : Entries) (ts : Transactions) (m : Mirr
       ];
     }
 
-    record_goes : Mirrors c whole less ts
+    record_goes : IsMirroredBy c whole less ts
     record_goes = serves less on_less fewer
         (λ y is k low. at written_less y k ∙ set2_none (write_at e) x d y k (is k low))
         (λ y k above. at written_less y k ∙ set2_there (write_at e) x d None y k (λ same here. omega (arith, above, here, under, kept.low)))
@@ -210,7 +210,7 @@ module _ (c : ℕ) (whole : StateOf) (e : Entries) (ts : Transactions) (m : Mirr
     locked_without : lock_at without ≡ lock_at e
     locked_without = remove_other primary_of e x s Sort.Data Sort.Lock (λ q. cc)
 
-    data_goes : Mirrors c whole without ts
+    data_goes : IsMirroredBy c whole without ts
     data_goes = serves without
         (λ y v is. record {
           low = is.low;
@@ -237,8 +237,17 @@ dropped c whole e ts m = record {
   data_of = λ x s low other. data_goes c whole e ts m x s low other;
 }
 
+quiet_over : QuietCarriesOver
+quiet_over c whole e ts m = (
+  λ is. record { unmarked = is.unmarked; unlocked = λ x u fits. sym (m.entries_are.locks x u) ∙ is.unlocked x u fits },
+  λ is. record { unmarked = is.unmarked; unlocked = λ x u fits. m.entries_are.locks x u ∙ is.unlocked x u fits },
+)
+
 pub returns-clause-itself : goal.returns-clause-itself
 returns-clause-itself c = itself c.sound_has_data.ensures
 
 pub returns-clause-old : goal.returns-clause-old
 returns-clause-old c = dropped
+
+pub returns-clause-quiet : goal.returns-clause-quiet
+returns-clause-quiet c = quiet_over

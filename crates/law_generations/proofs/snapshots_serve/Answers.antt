@@ -24,7 +24,7 @@ use Rattle.pb_history.proofs.Updates.{placed_or_before as placed, left_after_cle
 use Rattle.pb_history.proofs.ViewsAfter.{data_after_commit, data_after_back, data_after_put}
 use Rattle.pb_history.specs.TableView.{TableView}
 use Rattle.pb_history.specs.Sound.{IsSoundView, IsSoundTable, KeepsData, IsCommittedAt, HasStamp}
-use Rattle.law_generations.specs.Generations.{Mirrors, QuietMirrorsItself}
+use Rattle.law_generations.specs.Mirrored.{IsMirroredBy, QuietMirrorsItself}
 use Rattle.law_generations.specs.Snapshots.{IsSnapshotOf, IsSnapshotView, SnapshotsServe}
 use Rattle.law_generations.proofs.snapshots_serve.Goals as goal
 
@@ -162,7 +162,7 @@ begun_by clock s None begun some = absurd (some refl)
 begun_by clock s (Some h) begun some = begun h refl
 
 module _ (whole : StateOf) (e : Entries) (ts : Transactions) (sound : IsSoundTable whole) (keeps : KeepsData whole) (bound : Bounded whole) (quiet : IsQuiet whole)
-    (m : Mirrors whole.clock whole whole.entries whole.transactions) (is : IsSnapshotOf whole e) (none : (s : ℕ) → whole.clock < s → map.get ts s ≡ None) where
+    (m : IsMirroredBy whole.clock whole whole.entries whole.transactions) (is : IsSnapshotOf whole e) (none : (s : ℕ) → whole.clock < s → map.get ts s ≡ None) where
   whole_lock : (x : Cell) (s : ℕ) → lock_at whole.entries x s ≡ None
   whole_lock x s = none_if (lock_at whole.entries x s) (λ p there. elim (cases_lt s (2 ^ 64)) [
     | inl fits ↦ none-some p (sym (quiet.unlocked x s fits) ∙ there)
@@ -199,7 +199,7 @@ module _ (whole : StateOf) (e : Entries) (ts : Transactions) (sound : IsSoundTab
         newest = λ d above low. k.1.newest d (omega (arith, above, k.2)) low;
       }
 
-  serves : Mirrors whole.clock whole e ts
+  serves : IsMirroredBy whole.clock whole e ts
   serves = record {
     since = m.since;
     room = m.room;
@@ -208,13 +208,13 @@ module _ (whole : StateOf) (e : Entries) (ts : Transactions) (sound : IsSoundTab
         there = λ v. (there_on x v, there_back x v);
         none = (
           λ lacks d low. none_if (write_at e x d) (λ s here. let k = is.only x d s here in none-some k.0.start.0 (sym (lacks k.0.commit.0 k.1.low) ∙ k.1.written)),
-          λ lacks. elim (m.entries_are.told x) [
+          λ lacks. elim (m.entries_are.either x) [
             | inl v ↦ absurd (none-some v.0.start.0 (sym (lacks v.0.commit.0 v.1.low) ∙ (is.kept x v.0 v.1).0))
             | inr none_there ↦ none_there
           ],
         );
       };
-      told = m.entries_are.told;
+      either = m.entries_are.either;
       early = m.entries_are.early;
       kept_early = λ x d s low here. let k = is.only x d s here in omega (arith, k.3, m.entries_are.early x k.0.commit.0 k.0.start.0 k.1.low k.1.written);
       records = λ x d above. kept_record x d above ∙ sym (whole_record x d above);
