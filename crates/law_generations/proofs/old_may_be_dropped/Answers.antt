@@ -16,7 +16,7 @@ use Rattle.pb_history.specs.Sound.{HasData}
 use Rattle.pb_history.specs.Laws.{SoundHasData}
 use Rattle.pb_history.proofs.Updates.{set2, set2_there, set2_none, left_after_clearing as cleared, at_or_apart as decide}
 use Rattle.pb_history.proofs.ViewsAfter.{remove_same, remove_other}
-use Rattle.law_generations.specs.Mirrored.{IsMirroredBy, OldMayBeDropped, QuietMirrorsItself, QuietCarriesOver, carried}
+use Rattle.law_generations.specs.Mirrored.{IsMirroredBy, OldMayBeDropped, QuietMirrorsItself, QuietCarriesOver}
 use Rattle.law_generations.proofs.old_may_be_dropped.Goals as goal
 
 -- ---- a quiet table
