@@ -1,9 +1,11 @@
 -- A table that is kept over any number of generations: it is opened, takes steps, and where it is quiet it may begin anew with
 -- a snapshot of itself. What holds of one table's legal journal holds of the journal of all its generations.
-use Rattle.std.specs.Prelude.{◌≡◌, ℕ, ◌<◌, ◌≤◌, List, [], ◌∷◌, ◌++◌, Some, slice_get}
+use Rattle.std.specs.Prelude.{◌≡◌, ℕ, ◌<◌, ◌≤◌, List, [], ◌∷◌, ◌++◌, Option, Some, None, slice_get}
 use Rattle.std.specs.FinMap as map
-use Rattle.law_generations.specs.Words.{Cell, Row, Entries, Step, Answer, StateOf, TransactionOf, Transactions, opening, acknowledged_in, last_timestamp, TableStep, ObserverOf, Entry, Received, Has, IsEntry, IsLegal, IsQuiet, TellsOneHandler, TellsHandlers}
+use Rattle.law_generations.specs.Words.{Cell, Row, Revision, Entries, Step, Answer, StateOf, TransactionOf, Transactions, opening, acknowledged_in, IsNewestVersion, NoLock, last_timestamp, TableStep, ObserverOf, Entry, Received, Has, IsEntry, IsLegal, IsQuiet, TellsOneHandler, TellsHandlers}
+use Rattle.pb_history.specs.History.{IsSnapshot, NoSnapshot}
 use Rattle.pb_history.specs.SnapshotsTold.{TellsSnapshots}
+use Rattle.pb_history.specs.Timestamps.{TellsTimestamps}
 use Rattle.pb_notify.specs.Conversations.{Reaches}
 use Rattle.pb_notify.specs.Forms.{IsHeld}
 use Rattle.pb_notify.specs.Runs.{RunOf, watch_of, fresh, next_of}
@@ -76,3 +78,16 @@ HandledWhenQuietInAll = OfKept (λ _ _ _ _ journal now. TellsHandlers journal no
 -- each read of any generation returns its snapshot of the history of them all
 abbrev pub SnapshotsInAll : Type 0
 SnapshotsInAll = OfKept (λ _ _ _ _ journal now. TellsSnapshots journal now)
+
+-- the newest write to x of a history, or that there is none
+abbrev pub IsNewestWrite : List ObserverOf → List Entry → Cell → Option Revision → Type 0
+IsNewestWrite observers journal x None = NoSnapshot observers journal last_timestamp x
+IsNewestWrite observers journal x (Some v) = IsSnapshot observers journal last_timestamp x v.start.0 v.commit.0 v.content
+
+-- what is newest of an unlocked cell is the newest write of all generations
+abbrev pub NewestInAll : Type 0
+NewestInAll = OfKept (λ _ _ _ _ journal now. (x : Cell) (v : Option Revision) → NoLock now.entries x → IsNewestVersion now.entries x v → IsNewestWrite now.observers journal x v)
+
+-- the timestamps of all generations rise, from above the clock as opened up to that of the table
+abbrev pub TimestampsRiseInAll : Type 0
+TimestampsRiseInAll = OfKept (λ _ _ clock _ journal now. TellsTimestamps clock journal now)

@@ -11,7 +11,7 @@ pub use Rattle.pb_store.specs.declared.slot.Sort.{Sort}
 pub use Rattle.pb_steps.specs.Commits.{commit_lock, commits, erase_lock, rolls_back}
 pub use Rattle.pb_steps.specs.CommitSecondary.{if_locked}
 pub use Rattle.pb_steps.specs.Prewrite.{put_lock}
-pub use Rattle.pb_steps.specs.Readings.{IsNewestVersion, IsVersion, NoVersion, data_at, data_of, last_timestamp, lock_at, write_at}
+pub use Rattle.pb_steps.specs.Readings.{IsNewestVersion, IsVersion, NoLock, NoVersion, data_at, data_of, last_timestamp, lock_at, write_at}
 pub use Rattle.pb_steps.specs.Reads.{acknowledged_in, read_up_to, stamp_of}
 pub use Rattle.pb_steps.specs.Reasons.{Reasons, first_reason, if_of_seat, own_reasons, reasons_of, no_seat}
 pub use Rattle.pb_steps.specs.State.{StateOf, TransactionOf, Transactions, opening, phase_in}
