@@ -9,10 +9,10 @@ use Rattle.pb_history.specs.MarksTold.{TellsMarks}
 use Rattle.pb_history.specs.TableView.{reads_recorded}
 use Rattle.pb_history.proofs.Acknowledgments.{stamp_stands}
 use Rattle.pb_history.proofs.Agreement.{Agrees, read_of, ts}
-use Rattle.pb_history.proofs.Updates.{none_if}
 use Rattle.pb_notify.specs.Forms.{IsHeld}
 use Rattle.law_generations.specs.Mirrored.{IsMirroredBy, SameEntries}
 use Rattle.law_generations.specs.KeptTables.{ReadsAcknowledged}
+use Rattle.law_generations.proofs.QuietTables.{no_record_above}
 
 -- each observer has acknowledged the version at c of each cell of its column
 abbrev pub AreAcknowledgedAt : List ObserverOf → ℕ → Entries → Type 0
@@ -23,19 +23,16 @@ AreAcknowledgedAt observers c e =
 -- ---- of a quiet table
 
 module _ (whole : StateOf) (sound : IsSoundTable whole) (marked : TellsMarks whole) (quiet : IsQuiet whole) (m : IsMirroredBy whole.clock whole whole.entries whole.transactions) where
-  no_record : (x : Cell) (d : ℕ) → whole.clock < d → write_at whole.entries x d ≡ None
-  no_record x d above = none_if (write_at whole.entries x d) (λ s there. omega (arith, above, (sound.stamped s d (inr (sound.record_committed x d s there))).1))
-
   newest : (x : Cell) (v : Revision) → IsVersion whole.entries x whole.clock v → IsVersion whole.entries x last_timestamp v
   newest x v is = record {
     low = omega (arith, is.low, m.room);
     written = is.written;
     content = is.content;
-    newest = λ d above low. elim (cases_lt whole.clock d) [ inl past ↦ no_record x d past | inr by_then ↦ is.newest d above by_then ];
+    newest = λ d above low. elim (cases_lt whole.clock d) [ inl past ↦ no_record_above whole sound x d past | inr by_then ↦ is.newest d above by_then ];
   }
 
   none_yet : (x : Cell) → NoVersion whole.entries x whole.clock → NoVersion whole.entries x last_timestamp
-  none_yet x is d low = elim (cases_lt whole.clock d) [ inl past ↦ no_record x d past | inr by_then ↦ is d by_then ]
+  none_yet x is d low = elim (cases_lt whole.clock d) [ inl past ↦ no_record_above whole sound x d past | inr by_then ↦ is d by_then ]
 
   module _ (o : ℕ) (row : Row) (observer : ObserverOf) (there : slice_get whole.observers o ≡ Some observer) (v : Revision) (is : IsVersion whole.entries (Cell.Data row observer.column) whole.clock v) where
     marks_differ : (b : Bool) → b ≡ false → b ≡ true → ⊥

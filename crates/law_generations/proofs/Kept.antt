@@ -3,14 +3,7 @@ use Rattle.std.proofs.Common.{◌≡◌, ◌↔◌, ◌⊎◌, ℕ, ◌<◌, ◌
 use Rattle.std.specs.FinMap as map
 use Rattle.std.specs.Ordering.{nat_cmp, eq_by_cmp}
 use Rattle.std.specs.Cmp.{nat_cmp_total}
-use Rattle.pb_base.specs.declared.cell.Cell.{Cell}
-use Rattle.pb_base.specs.declared.content.Content.{Content}
-use Rattle.pb_base.specs.declared.content.Revision.{Revision}
-use Rattle.pb_store.specs.Contents.{Entries}
-use Rattle.pb_steps.specs.State.{TransactionOf, Transactions}
-use Rattle.pb_steps.specs.Readings.{IsVersion, NoVersion, lock_at, write_at, data_at}
-use Rattle.pb_steps.specs.Prewrite.{put_lock}
-use Rattle.pb_steps.specs.Commits.{commit_lock, erase_lock}
+use Rattle.law_generations.specs.Words.{Cell, Content, Revision, Entries, TransactionOf, Transactions, IsVersion, NoVersion, lock_at, write_at, data_at, put_lock, commit_lock, erase_lock}
 use Rattle.pb_history.proofs.Updates.{set2, at_place, set2_there, placed_or_before as placed, left_after_clearing as cleared}
 use Rattle.pb_history.proofs.ViewsAfter.{lock_after_commit, data_after_commit, write_after_commit, lock_after_back, data_after_back, write_after_back, lock_after_put, data_after_put, write_after_put}
 use Rattle.law_generations.specs.Mirrored.{SameEntries, SameTransactions, IsLatePhase}
@@ -39,8 +32,8 @@ with_both c whole kept s t m later phase = record {
 
 -- ---- entries
 
-at : {A : Type 0} {f g : Cell → ℕ → A} → f ≡ g → (x : Cell) (s : ℕ) → f x s ≡ g x s
-at is x s = ap (λ h. h x s) is
+pub same_there : {A : Type 0} {f g : Cell → ℕ → A} → f ≡ g → (x : Cell) (s : ℕ) → f x s ≡ g x s
+same_there is x s = ap (λ h. h x s) is
 
 -- what stands up to c decides the version there
 version_under : (c : ℕ) (e f : Entries) (x : Cell) (v : Revision) → ((d : ℕ) → d ≤ c → write_at f x d ≡ write_at e x d) → ((s : ℕ) → s ≤ c → data_at f x s ≡ data_at e x s)
@@ -112,47 +105,47 @@ module _ (c : ℕ) (whole kept : Entries) (m : SameEntries c whole kept) (x : Ce
   both : {A : Type 0} (f g : Cell → ℕ → A) (t : ℕ) (v : A) (y : Cell) (u : ℕ) → f y u ≡ g y u → set2 f x t v y u ≡ set2 g x t v y u
   both f g t v y u is = ap (λ o. cond (at_place y u x t) v o) is
 
-  pub locked : (k : Content) (p : Cell) → Changes c whole (put_lock whole x s k p) (put_lock kept x s k p)
-  locked k p = changed c whole kept (put_lock whole x s k p) (put_lock kept x s k p) m (record {
-    written = λ y d low. at (write_after_put whole x s k p) y d;
-    kept_written = λ y d low. at (write_after_put kept x s k p) y d;
-    stored_early = λ y u low. at (data_after_put whole x s k p) y u ∙ set2_there (data_at whole) x s (Some k) y u (apart y u s low later);
-    kept_stored = λ y u low. at (data_after_put kept x s k p) y u ∙ set2_there (data_at kept) x s (Some k) y u (apart y u s low later);
-    records = λ y d above. at (write_after_put kept x s k p) y d ∙ m.records y d above ∙ sym (at (write_after_put whole x s k p) y d);
-    starts = λ y d u above is. m.starts y d u above (sym (at (write_after_put whole x s k p) y d) ∙ is);
-    stored = λ y u above. at (data_after_put kept x s k p) y u ∙ both (data_at kept) (data_at whole) s (Some k) y u (m.stored y u above) ∙ sym (at (data_after_put whole x s k p) y u);
-    locks = λ y u. at (lock_after_put kept x s k p) y u ∙ both (lock_at kept) (lock_at whole) s (Some p) y u (m.locks y u) ∙ sym (at (lock_after_put whole x s k p) y u);
-    late = λ y u q is. elim (placed (lock_at whole) x s p y u q (sym (at (lock_after_put whole x s k p) y u) ∙ is)) [
+  pub lock_put : (k : Content) (p : Cell) → Changes c whole (put_lock whole x s k p) (put_lock kept x s k p)
+  lock_put k p = changed c whole kept (put_lock whole x s k p) (put_lock kept x s k p) m (record {
+    written = λ y d low. same_there (write_after_put whole x s k p) y d;
+    kept_written = λ y d low. same_there (write_after_put kept x s k p) y d;
+    stored_early = λ y u low. same_there (data_after_put whole x s k p) y u ∙ set2_there (data_at whole) x s (Some k) y u (apart y u s low later);
+    kept_stored = λ y u low. same_there (data_after_put kept x s k p) y u ∙ set2_there (data_at kept) x s (Some k) y u (apart y u s low later);
+    records = λ y d above. same_there (write_after_put kept x s k p) y d ∙ m.records y d above ∙ sym (same_there (write_after_put whole x s k p) y d);
+    starts = λ y d u above is. m.starts y d u above (sym (same_there (write_after_put whole x s k p) y d) ∙ is);
+    stored = λ y u above. same_there (data_after_put kept x s k p) y u ∙ both (data_at kept) (data_at whole) s (Some k) y u (m.stored y u above) ∙ sym (same_there (data_after_put whole x s k p) y u);
+    locks = λ y u. same_there (lock_after_put kept x s k p) y u ∙ both (lock_at kept) (lock_at whole) s (Some p) y u (m.locks y u) ∙ sym (same_there (lock_after_put whole x s k p) y u);
+    late = λ y u q is. elim (placed (lock_at whole) x s p y u q (sym (same_there (lock_after_put whole x s k p) y u) ∙ is)) [
       | inl here ↦ subst (λ (n : ℕ). c < n) (sym here.1) later
       | inr there ↦ m.late y u q there.0
     ];
   })
 
-  pub committed : (d : ℕ) → c < d → Changes c whole (commit_lock whole x s d) (commit_lock kept x s d)
-  committed d late = changed c whole kept (commit_lock whole x s d) (commit_lock kept x s d) m (record {
-    written = λ y u low. at (write_after_commit whole x s d) y u ∙ set2_there (write_at whole) x d (Some s) y u (apart y u d low late);
-    kept_written = λ y u low. at (write_after_commit kept x s d) y u ∙ set2_there (write_at kept) x d (Some s) y u (apart y u d low late);
-    stored_early = λ y u low. at (data_after_commit whole x s d) y u;
-    kept_stored = λ y u low. at (data_after_commit kept x s d) y u;
-    records = λ y u above. at (write_after_commit kept x s d) y u ∙ both (write_at kept) (write_at whole) d (Some s) y u (m.records y u above) ∙ sym (at (write_after_commit whole x s d) y u);
-    starts = λ y u w above is. elim (placed (write_at whole) x d s y u w (sym (at (write_after_commit whole x s d) y u) ∙ is)) [
+  pub lock_committed : (d : ℕ) → c < d → Changes c whole (commit_lock whole x s d) (commit_lock kept x s d)
+  lock_committed d late = changed c whole kept (commit_lock whole x s d) (commit_lock kept x s d) m (record {
+    written = λ y u low. same_there (write_after_commit whole x s d) y u ∙ set2_there (write_at whole) x d (Some s) y u (apart y u d low late);
+    kept_written = λ y u low. same_there (write_after_commit kept x s d) y u ∙ set2_there (write_at kept) x d (Some s) y u (apart y u d low late);
+    stored_early = λ y u low. same_there (data_after_commit whole x s d) y u;
+    kept_stored = λ y u low. same_there (data_after_commit kept x s d) y u;
+    records = λ y u above. same_there (write_after_commit kept x s d) y u ∙ both (write_at kept) (write_at whole) d (Some s) y u (m.records y u above) ∙ sym (same_there (write_after_commit whole x s d) y u);
+    starts = λ y u w above is. elim (placed (write_at whole) x d s y u w (sym (same_there (write_after_commit whole x s d) y u) ∙ is)) [
       | inl here ↦ subst (λ (n : ℕ). c < n) here.2 later
       | inr there ↦ m.starts y u w above there.0
     ];
-    stored = λ y u above. at (data_after_commit kept x s d) y u ∙ m.stored y u above ∙ sym (at (data_after_commit whole x s d) y u);
-    locks = λ y u. at (lock_after_commit kept x s d) y u ∙ both (lock_at kept) (lock_at whole) s None y u (m.locks y u) ∙ sym (at (lock_after_commit whole x s d) y u);
-    late = λ y u q is. m.late y u q (cleared (lock_at whole) x s y u q (sym (at (lock_after_commit whole x s d) y u) ∙ is)).0;
+    stored = λ y u above. same_there (data_after_commit kept x s d) y u ∙ m.stored y u above ∙ sym (same_there (data_after_commit whole x s d) y u);
+    locks = λ y u. same_there (lock_after_commit kept x s d) y u ∙ both (lock_at kept) (lock_at whole) s None y u (m.locks y u) ∙ sym (same_there (lock_after_commit whole x s d) y u);
+    late = λ y u q is. m.late y u q (cleared (lock_at whole) x s y u q (sym (same_there (lock_after_commit whole x s d) y u) ∙ is)).0;
   })
 
-  pub rolled_back : Changes c whole (erase_lock whole x s) (erase_lock kept x s)
-  rolled_back = changed c whole kept (erase_lock whole x s) (erase_lock kept x s) m (record {
-    written = λ y u low. at (write_after_back whole x s) y u;
-    kept_written = λ y u low. at (write_after_back kept x s) y u;
-    stored_early = λ y u low. at (data_after_back whole x s) y u ∙ set2_there (data_at whole) x s None y u (apart y u s low later);
-    kept_stored = λ y u low. at (data_after_back kept x s) y u ∙ set2_there (data_at kept) x s None y u (apart y u s low later);
-    records = λ y u above. at (write_after_back kept x s) y u ∙ m.records y u above ∙ sym (at (write_after_back whole x s) y u);
-    starts = λ y u w above is. m.starts y u w above (sym (at (write_after_back whole x s) y u) ∙ is);
-    stored = λ y u above. at (data_after_back kept x s) y u ∙ both (data_at kept) (data_at whole) s None y u (m.stored y u above) ∙ sym (at (data_after_back whole x s) y u);
-    locks = λ y u. at (lock_after_back kept x s) y u ∙ both (lock_at kept) (lock_at whole) s None y u (m.locks y u) ∙ sym (at (lock_after_back whole x s) y u);
-    late = λ y u q is. m.late y u q (cleared (lock_at whole) x s y u q (sym (at (lock_after_back whole x s) y u) ∙ is)).0;
+  pub lock_erased : Changes c whole (erase_lock whole x s) (erase_lock kept x s)
+  lock_erased = changed c whole kept (erase_lock whole x s) (erase_lock kept x s) m (record {
+    written = λ y u low. same_there (write_after_back whole x s) y u;
+    kept_written = λ y u low. same_there (write_after_back kept x s) y u;
+    stored_early = λ y u low. same_there (data_after_back whole x s) y u ∙ set2_there (data_at whole) x s None y u (apart y u s low later);
+    kept_stored = λ y u low. same_there (data_after_back kept x s) y u ∙ set2_there (data_at kept) x s None y u (apart y u s low later);
+    records = λ y u above. same_there (write_after_back kept x s) y u ∙ m.records y u above ∙ sym (same_there (write_after_back whole x s) y u);
+    starts = λ y u w above is. m.starts y u w above (sym (same_there (write_after_back whole x s) y u) ∙ is);
+    stored = λ y u above. same_there (data_after_back kept x s) y u ∙ both (data_at kept) (data_at whole) s None y u (m.stored y u above) ∙ sym (same_there (data_after_back whole x s) y u);
+    locks = λ y u. same_there (lock_after_back kept x s) y u ∙ both (lock_at kept) (lock_at whole) s None y u (m.locks y u) ∙ sym (same_there (lock_after_back whole x s) y u);
+    late = λ y u q is. m.late y u q (cleared (lock_at whole) x s y u q (sym (same_there (lock_after_back whole x s) y u) ∙ is)).0;
   })

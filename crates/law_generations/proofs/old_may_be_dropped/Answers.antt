@@ -1,22 +1,17 @@
-use Rattle.std.proofs.Common.{◌≡◌, ◌≢◌, ◌⊎◌, ◌^◌, ℕ, zero, suc, ◌<◌, ◌≤◌, inl, inr, refl, sym, ◌∙◌, ap, subst, arith, Bool, true, false, cond, Option, Some, None, is_some, nat_eq}
+use Rattle.std.proofs.Common.{◌≡◌, ◌≢◌, ◌⊎◌, ℕ, zero, suc, ◌<◌, ◌≤◌, inl, inr, refl, sym, ◌∙◌, ap, subst, arith, Bool, true, false, cond, Option, Some, None, is_some, nat_eq}
 use Rattle.std.proofs.lemmas.Bool.{cases_lt}
 use Rattle.std.proofs.lemmas.Option.{none-some}
 use Rattle.std.specs.FinMap as map
 use Rattle.std.specs.Ordering.{nat_cmp, eq_by_cmp}
 use Rattle.std.specs.Cmp.{nat_cmp_total, unsigned_tied}
-use Rattle.pb_base.specs.declared.cell.Cell.{Cell}
-use Rattle.pb_base.specs.declared.content.Content.{Content}
-use Rattle.pb_base.specs.declared.content.Revision.{Revision}
-use Rattle.pb_store.specs.declared.slot.Sort.{Sort}
-use Rattle.pb_store.specs.Contents.{Entries, slot_at}
-use Rattle.pb_steps.specs.declared.phase.Phase.{Phase}
-use Rattle.pb_steps.specs.State.{StateOf, TransactionOf, Transactions, phase_in}
-use Rattle.pb_steps.specs.Readings.{IsVersion, NoVersion, lock_at, write_at, data_at, data_of, primary_of, start_of}
+use Rattle.law_generations.specs.Words.{Cell, Content, Revision, Sort, Entries, slot_at, StateOf, TransactionOf, Transactions, IsVersion, NoVersion, lock_at, write_at, data_at, data_of, SoundHasData}
+use Rattle.pb_steps.specs.Readings.{primary_of, start_of}
 use Rattle.pb_history.specs.Sound.{HasData}
-use Rattle.pb_history.specs.Laws.{SoundHasData}
 use Rattle.pb_history.proofs.Updates.{set2, set2_there, set2_none, left_after_clearing as cleared, at_or_apart as decide}
 use Rattle.pb_history.proofs.ViewsAfter.{remove_same, remove_other}
 use Rattle.law_generations.specs.Mirrored.{IsMirroredBy, OldMayBeDropped, QuietMirrorsItself, QuietCarriesOver}
+use Rattle.law_generations.proofs.Kept.{same_there}
+use Rattle.law_generations.proofs.QuietTables.{no_lock_at}
 use Rattle.law_generations.proofs.old_may_be_dropped.Goals as goal
 
 -- ---- a quiet table
@@ -62,10 +57,6 @@ module _ (e : Entries) (has : HasData e) (x : Cell) where
     | inr none ↦ at_top (suc n) (write_at e x (suc n)) refl (inr (inl (λ k under. none k (omega (arith, under)))))
   ]
 
-begun_by : (clock s : ℕ) (o : Option Phase) → ((h : Phase) → o ≡ Some h → s ≤ clock) → o ≢ None → s ≤ clock
-begun_by clock s None begun some = absurd (some refl)
-begun_by clock s (Some h) begun some = begun h refl
-
 itself : SoundHasData → QuietMirrorsItself
 itself law state sound quiet room =
     let keeps = law state sound in
@@ -82,18 +73,12 @@ itself law state sound quiet room =
         starts = λ x d s above is. absurd (omega (arith, above, (timely x d s is).1));
         stored = λ x s above. refl;
         locks = λ x s. refl;
-        late = λ x s p is. elim (cases_lt s (2 ^ 64)) [
-          | inl fits ↦ absurd (none-some p (sym (quiet.unlocked x s fits) ∙ is))
-          | inr past ↦ absurd (omega (arith, past, sound.small, begun_by state.clock s (phase_in state s) (sound.begun s) (sound.past_reading s x (sound.lock_prewritten x s p is).0).1))
-        ];
+        late = λ x s p is. absurd (none-some p (sym (no_lock_at state sound x quiet s) ∙ is));
       };
       transactions_are = record { same = λ s above. refl; phases = λ s t above is. absurd (omega (arith, above, keeps.begun s t is)) };
     }
 
 -- ---- what goes
-
-at : {A : Type 0} {f g : Cell → ℕ → A} → f ≡ g → (x : Cell) (s : ℕ) → f x s ≡ g x s
-at is x s = ap (λ h. h x s) is
 
 module _ (c : ℕ) (whole : StateOf) (e : Entries) (ts : Transactions) (m : IsMirroredBy c whole e ts) where
   same_removed : (u s : ℕ) (o : Option TransactionOf) → c < u → s ≤ c → cond (eq_by_cmp nat_cmp u s) None o ≡ o
@@ -164,36 +149,36 @@ module _ (c : ℕ) (whole : StateOf) (e : Entries) (ts : Transactions) (m : IsMi
     locked_less = remove_other primary_of e x d Sort.Write Sort.Lock (λ q. cc)
 
     top_stays : write_at less x w.commit.0 ≡ Some w.start.0
-    top_stays = at written_less x w.commit.0 ∙ set2_there (write_at e) x d None x w.commit.0 (λ same is. omega (arith, under, is)) ∙ kept.written
+    top_stays = same_there written_less x w.commit.0 ∙ set2_there (write_at e) x d None x w.commit.0 (λ same is. omega (arith, under, is)) ∙ kept.written
 
     on_less : (y : Cell) (v : Revision) → IsVersion e y c v → IsVersion less y c v
     on_less y v is = record {
       low = is.low;
-      written = at written_less y v.commit.0 ∙ set2_there (write_at e) x d None y v.commit.0 (λ same here. absurd (none-some w.start.0 (sym (is.newest w.commit.0 (omega (arith, here, under)) kept.low) ∙ ap (λ (z : Cell). write_at e z w.commit.0) same ∙ kept.written))) ∙ is.written;
-      content = at stored_less y v.start.0 ∙ is.content;
-      newest = λ k above low. at written_less y k ∙ set2_none (write_at e) x d y k (is.newest k above low);
+      written = same_there written_less y v.commit.0 ∙ set2_there (write_at e) x d None y v.commit.0 (λ same here. absurd (none-some w.start.0 (sym (is.newest w.commit.0 (omega (arith, here, under)) kept.low) ∙ ap (λ (z : Cell). write_at e z w.commit.0) same ∙ kept.written))) ∙ is.written;
+      content = same_there stored_less y v.start.0 ∙ is.content;
+      newest = λ k above low. same_there written_less y k ∙ set2_none (write_at e) x d y k (is.newest k above low);
     }
 
     fewer : (y : Cell) (k s : ℕ) → write_at less y k ≡ Some s → write_at e y k ≡ Some s
-    fewer y k s is = (cleared (write_at e) x d y k s (sym (at written_less y k) ∙ is)).0
+    fewer y k s is = (cleared (write_at e) x d y k s (sym (same_there written_less y k) ∙ is)).0
 
     back_less : (y : Cell) (a v : Revision) → IsVersion whole.entries y c a → IsVersion less y c v → IsVersion e y c v
     back_less y a v _ is = record {
       low = is.low;
       written = fewer y v.commit.0 v.start.0 is.written;
-      content = sym (at stored_less y v.start.0) ∙ is.content;
+      content = sym (same_there stored_less y v.start.0) ∙ is.content;
       newest = λ k above low. elim (decide y k x d) [
         | inl here ↦ absurd (none-some w.start.0 (sym (is.newest w.commit.0 (omega (arith, above, here.1, under)) kept.low) ∙ ap (λ (z : Cell). write_at less z w.commit.0) here.0 ∙ top_stays))
-        | inr apart ↦ sym (set2_there (write_at e) x d None y k apart) ∙ sym (at written_less y k) ∙ is.newest k above low
+        | inr apart ↦ sym (set2_there (write_at e) x d None y k apart) ∙ sym (same_there written_less y k) ∙ is.newest k above low
       ];
     }
 
     record_goes : IsMirroredBy c whole less ts
     record_goes = serves less on_less fewer
-        (λ y is k low. at written_less y k ∙ set2_none (write_at e) x d y k (is k low))
-        (λ y k above. at written_less y k ∙ set2_there (write_at e) x d None y k (λ same here. omega (arith, above, here, under, kept.low)))
-        (λ y s above. at stored_less y s)
-        (λ y s. at locked_less y s)
+        (λ y is k low. same_there written_less y k ∙ set2_none (write_at e) x d y k (is k low))
+        (λ y k above. same_there written_less y k ∙ set2_there (write_at e) x d None y k (λ same here. omega (arith, above, here, under, kept.low)))
+        (λ y s above. same_there stored_less y s)
+        (λ y s. same_there locked_less y s)
         back_less
 
   -- data by c that isn't the version's goes
@@ -214,20 +199,20 @@ module _ (c : ℕ) (whole : StateOf) (e : Entries) (ts : Transactions) (m : IsMi
     data_goes = serves without
         (λ y v is. record {
           low = is.low;
-          written = at written_without y v.commit.0 ∙ is.written;
-          content = at stored_without y v.start.0 ∙ set2_there (data_at e) x s None y v.start.0 (λ same here. other v (subst (λ (z : Cell). IsVersion whole.entries z c v) same (((m.entries_are.versions y).there v).1 is)) here) ∙ is.content;
-          newest = λ k above by_then. at written_without y k ∙ is.newest k above by_then;
+          written = same_there written_without y v.commit.0 ∙ is.written;
+          content = same_there stored_without y v.start.0 ∙ set2_there (data_at e) x s None y v.start.0 (λ same here. other v (subst (λ (z : Cell). IsVersion whole.entries z c v) same (((m.entries_are.versions y).there v).1 is)) here) ∙ is.content;
+          newest = λ k above by_then. same_there written_without y k ∙ is.newest k above by_then;
         })
-        (λ y k u is. sym (at written_without y k) ∙ is)
-        (λ y is k by_then. at written_without y k ∙ is k by_then)
-        (λ y k above. at written_without y k)
-        (λ y u above. at stored_without y u ∙ set2_there (data_at e) x s None y u (λ same here. omega (arith, above, here, low)))
-        (λ y u. at locked_without y u)
+        (λ y k u is. sym (same_there written_without y k) ∙ is)
+        (λ y is k by_then. same_there written_without y k ∙ is k by_then)
+        (λ y k above. same_there written_without y k)
+        (λ y u above. same_there stored_without y u ∙ set2_there (data_at e) x s None y u (λ same here. omega (arith, above, here, low)))
+        (λ y u. same_there locked_without y u)
         (λ y a v _ is. record {
           low = is.low;
-          written = sym (at written_without y v.commit.0) ∙ is.written;
-          content = (cleared (data_at e) x s y v.start.0 v.content (sym (at stored_without y v.start.0) ∙ is.content)).0;
-          newest = λ k above by_then. sym (at written_without y k) ∙ is.newest k above by_then;
+          written = sym (same_there written_without y v.commit.0) ∙ is.written;
+          content = (cleared (data_at e) x s y v.start.0 v.content (sym (same_there stored_without y v.start.0) ∙ is.content)).0;
+          newest = λ k above by_then. sym (same_there written_without y k) ∙ is.newest k above by_then;
         })
 
 dropped : OldMayBeDropped

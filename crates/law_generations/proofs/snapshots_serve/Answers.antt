@@ -1,31 +1,16 @@
-use Rattle.std.proofs.Common.{◌≡◌, ◌≢◌, ◌^◌, ℕ, ◌<◌, ◌≤◌, inl, inr, refl, sym, ◌∙◌, ap, subst, arith, Bool, true, false, List, [], ◌∷◌, Option, Some, None, is_some}
-use Rattle.std.proofs.lemmas.Bool.{cases_lt}
+use Rattle.std.proofs.Common.{◌≡◌, ℕ, ◌<◌, ◌≤◌, inl, inr, sym, ◌∙◌, ap, subst, arith, Bool, true, false, List, [], ◌∷◌, Option, Some, None, is_some}
 use Rattle.std.proofs.lemmas.Option.{none-some}
 use Rattle.std.specs.FinMap as map
-use Rattle.pb_base.specs.declared.cell.Cell.{Cell}
-use Rattle.pb_base.specs.declared.content.Content.{Content}
-use Rattle.pb_base.specs.declared.content.Revision.{Revision}
-use Rattle.pb_store.specs.Contents.{Entries, slot_at}
+use Rattle.law_generations.specs.Words.{Cell, Content, Revision, Entries, slot_at, Sort, Phase, Step, Answer, StateOf, Transactions, opening, IsVersion, data_of, data_at, lock_at, write_at, TableStep, commits, rolls_back, if_locked, Entry, JournalLeads, IsQuiet, SoundHasData, TableView, IsSoundView, IsSoundTable, IsCommittedAt}
 use Rattle.pb_store.specs.Slot.{slot_cmp}
-use Rattle.pb_store.specs.declared.slot.Sort.{Sort}
-use Rattle.pb_steps.specs.declared.phase.Phase.{Phase}
-use Rattle.pb_steps.specs.declared.step.Step.{Step}
-use Rattle.pb_steps.specs.declared.step.Answer.{Answer}
-use Rattle.pb_steps.specs.State.{StateOf, Transactions, opening, phase_in}
-use Rattle.pb_steps.specs.Readings.{IsVersion, data_of, data_at, lock_at, write_at}
-use Rattle.pb_steps.specs.Steps.{TableStep}
-use Rattle.pb_steps.specs.Commits.{commits, rolls_back}
-use Rattle.pb_steps.specs.CommitSecondary.{if_locked}
-use Rattle.pb_history.specs.declared.entry.Entry.{Entry}
-use Rattle.pb_history.specs.Journals.{JournalLeads}
-use Rattle.pb_history.specs.Handled.{IsQuiet}
-use Rattle.pb_history.specs.Laws.{StepsKeepSound, OpeningIsSound, SoundHasData}
+use Rattle.pb_history.specs.Laws.{StepsKeepSound, OpeningIsSound}
 use Rattle.pb_history.proofs.Updates.{placed_or_before as placed, left_after_clearing as cleared, none_if}
 use Rattle.pb_history.proofs.ViewsAfter.{data_after_commit, data_after_back, data_after_put}
-use Rattle.pb_history.specs.TableView.{TableView}
-use Rattle.pb_history.specs.Sound.{IsSoundView, IsSoundTable, KeepsData, IsCommittedAt, HasStamp}
+use Rattle.pb_history.specs.Sound.{KeepsData, HasStamp}
 use Rattle.law_generations.specs.Mirrored.{IsMirroredBy, QuietMirrorsItself}
 use Rattle.law_generations.specs.Snapshots.{IsSnapshotOf, IsSnapshotView, SnapshotsServe}
+use Rattle.law_generations.proofs.Kept.{same_there}
+use Rattle.law_generations.proofs.QuietTables.{no_lock_at, no_record_above}
 use Rattle.law_generations.proofs.snapshots_serve.Goals as goal
 
 -- ---- a snapshot is sound
@@ -99,14 +84,11 @@ module _ (v : TableView) (m : IsSnapshotView v) where
 abbrev Bounded : StateOf → Type 0
 Bounded state = (x : Cell) (s : ℕ) (k : Content) → data_at state.entries x s ≡ Some k → s ≤ state.clock
 
-at : {A : Type 0} {f g : Cell → ℕ → A} → f ≡ g → (x : Cell) (s : ℕ) → f x s ≡ g x s
-at is x s = ap (λ h. h x s) is
-
 committed_stays : (old : StateOf) (x : Cell) (s d : ℕ) → Bounded old → Bounded (commits old x s d)
-committed_stays old x s d bound y u k is = bound y u k (sym (at (data_after_commit old.entries x s d) y u) ∙ is)
+committed_stays old x s d bound y u k is = bound y u k (sym (same_there (data_after_commit old.entries x s d) y u) ∙ is)
 
 back_stays : (old : StateOf) (x : Cell) (s : ℕ) → Bounded old → Bounded (rolls_back old x s)
-back_stays old x s bound y u k is = bound y u k (cleared (data_at old.entries) x s y u k (sym (at (data_after_back old.entries x s) y u) ∙ is)).0
+back_stays old x s bound y u k is = bound y u k (cleared (data_at old.entries) x s y u k (sym (same_there (data_after_back old.entries x s) y u) ∙ is)).0
 
 if_stays : (old : StateOf) (b : Bool) (x : Cell) (s d : ℕ) → Bounded old → Bounded (if_locked old b x s d)
 if_stays old true x s d bound = committed_stays old x s d bound
@@ -126,7 +108,7 @@ bounded old seat (Step.ReadAt s x u) Answer.Absent new keeps bound t = stays _ n
 bounded old seat (Step.Declare s what) Answer.Done new keeps bound t = stays _ new t.taken.new_is bound
 bounded old seat (Step.Prewrite s x) Answer.Done new keeps bound t =
     let is = t.taken in
-    stays _ new is.new_is (λ y u k there. elim (placed (data_at old.entries) x s.0 is.content y u k (sym (at (data_after_put old.entries x s.0 is.content is.primary) y u) ∙ there)) [
+    stays _ new is.new_is (λ y u k there. elim (placed (data_at old.entries) x s.0 is.content y u k (sym (same_there (data_after_put old.entries x s.0 is.content is.primary) y u) ∙ there)) [
       | inl here ↦ omega (arith, here.1, keeps.begun s.0 is.t is.own.there)
       | inr elsewhere ↦ bound y u k elsewhere.0
     ])
@@ -157,20 +139,13 @@ led steps law old new (j ∷ js) sound bound leads =
 
 -- ---- a snapshot serves
 
-begun_by : (clock s : ℕ) (o : Option Phase) → ((h : Phase) → o ≡ Some h → s ≤ clock) → o ≢ None → s ≤ clock
-begun_by clock s None begun some = absurd (some refl)
-begun_by clock s (Some h) begun some = begun h refl
-
 module _ (whole : StateOf) (e : Entries) (ts : Transactions) (sound : IsSoundTable whole) (keeps : KeepsData whole) (bound : Bounded whole) (quiet : IsQuiet whole)
     (m : IsMirroredBy whole.clock whole whole.entries whole.transactions) (is : IsSnapshotOf whole e) (none : (s : ℕ) → whole.clock < s → map.get ts s ≡ None) where
   whole_lock : (x : Cell) (s : ℕ) → lock_at whole.entries x s ≡ None
-  whole_lock x s = none_if (lock_at whole.entries x s) (λ p there. elim (cases_lt s (2 ^ 64)) [
-    | inl fits ↦ none-some p (sym (quiet.unlocked x s fits) ∙ there)
-    | inr past ↦ omega (arith, past, sound.small, begun_by whole.clock s (phase_in whole s) (sound.begun s) (sound.past_reading s x (sound.lock_prewritten x s p there).0).1)
-  ])
+  whole_lock x s = no_lock_at whole sound x quiet s
 
   whole_record : (x : Cell) (d : ℕ) → whole.clock < d → write_at whole.entries x d ≡ None
-  whole_record x d above = none_if (write_at whole.entries x d) (λ s there. omega (arith, above, (sound.stamped s d (inr (sound.record_committed x d s there))).1))
+  whole_record x d above = no_record_above whole sound x d above
 
   kept_record : (x : Cell) (d : ℕ) → whole.clock < d → write_at e x d ≡ None
   kept_record x d above = none_if (write_at e x d) (λ s there. let k = is.only x d s there in omega (arith, above, k.1.low, k.2))
