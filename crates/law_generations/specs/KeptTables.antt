@@ -1,16 +1,17 @@
 -- A table that is kept over any number of generations: it is opened, takes steps, and where it is quiet it may begin anew with
 -- a snapshot of itself. What holds of one table's legal journal holds of the journal of all its generations.
-use Rattle.std.specs.Prelude.{◌≡◌, ℕ, ◌<◌, ◌≤◌, List, [], ◌∷◌, ◌++◌, Option, Some, None, slice_get}
-use Rattle.std.specs.FinMap as map
-use Rattle.law_generations.specs.Words.{Cell, Row, Revision, Entries, Step, Answer, StateOf, TransactionOf, Transactions, opening, acknowledged_in, IsNewestVersion, NoLock, last_timestamp, TableStep, ObserverOf, Entry, Received, Has, IsEntry, IsLegal, IsQuiet, TellsOneHandler, TellsHandlers}
+use Rattle.std.specs.Prelude.{◌≡◌, ℕ, ◌<◌, List, [], ◌∷◌, ◌++◌, Option, Some, None, slice_get}
+use Rattle.law_generations.specs.Words.{Cell, Row, Revision, Entries, Step, Answer, StateOf, Transactions, opening, acknowledged_in, IsNewestVersion, NoLock, last_timestamp, TableStep, ObserverOf, Entry, Received, Has, IsEntry, IsLegal, IsQuiet, TellsOneHandler, TellsHandlers}
 use Rattle.pb_history.specs.History.{IsSnapshot, NoSnapshot}
 use Rattle.pb_history.specs.SnapshotsTold.{TellsSnapshots}
 use Rattle.pb_history.specs.Timestamps.{TellsTimestamps}
+use Rattle.pb_txn.specs.Changes.{ChangeOf}
+use Rattle.pb_txn.specs.Changes as changes
 use Rattle.pb_notify.specs.Conversations.{Reaches}
 use Rattle.pb_notify.specs.Forms.{IsHeld}
 use Rattle.pb_notify.specs.Runs.{RunOf, watch_of, fresh, next_of}
 use Rattle.law_generations.specs.Mirrored.{IsMirroredBy, carried}
-use Rattle.law_generations.specs.Snapshots.{IsSnapshotOf}
+use Rattle.law_generations.specs.Snapshots.{AreEnded, IsSnapshotOf}
 
 -- ---- the steps of jobs
 
@@ -38,11 +39,11 @@ RunsAskSteps =
     (observers : List ObserverOf) (journal : List Entry) (seat o : ℕ) (observer : ObserverOf) (row : Row) (said : List Received) (k : RunOf) (step : Step) → slice_get observers o ≡ Some observer
     → Reaches (fresh (watch_of o observer row)) said k → ((r : Received) → Has said r → IsEntry journal seat r.step r.answer) → next_of k ≡ Some step → IsStepOfJob observers journal step
 
--- ---- the tables
+-- and so is what a change asks next
+abbrev pub ChangesAskSteps : Type 0
+ChangesAskSteps = (observers : List ObserverOf) (journal : List Entry) (j : ChangeOf) (step : Step) → changes.next_of j ≡ Some step → IsStepOfJob observers journal step
 
--- each had begun by then, and is of no seat that the table has, so that no step names it
-abbrev pub AreEnded : StateOf → Transactions → Type 0
-AreEnded old ts = (s : ℕ) (t : TransactionOf) → map.get ts s ≡ Some t → (s ≤ old.clock) × (old.seats ≤ t.seat)
+-- ---- the tables
 
 -- opened with these observers, seats and clock, a table is kept over generations: the last began at c; this is the journal of them
 -- all, and this the table as it is now

@@ -14,7 +14,7 @@ pub use Rattle.pb_steps.specs.Prewrite.{put_lock}
 pub use Rattle.pb_steps.specs.Readings.{IsNewestVersion, IsVersion, NoLock, NoVersion, data_at, data_of, last_timestamp, lock_at, write_at}
 pub use Rattle.pb_steps.specs.Reads.{acknowledged_in, read_up_to, stamp_of}
 pub use Rattle.pb_steps.specs.Reasons.{Reasons, first_reason, if_of_seat, own_reasons, reasons_of, no_seat}
-pub use Rattle.pb_steps.specs.State.{StateOf, TransactionOf, Transactions, opening, phase_in}
+pub use Rattle.pb_steps.specs.State.{StateOf, TransactionOf, Transactions, is_in, opening, phase_in}
 pub use Rattle.pb_steps.specs.Steps.{TableStep, step_reason}
 pub use Rattle.pb_steps.specs.declared.phase.Phase.{Phase}
 pub use Rattle.pb_steps.specs.declared.seen.RecordedRead.{RecordedRead}

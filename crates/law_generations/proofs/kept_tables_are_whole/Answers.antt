@@ -13,8 +13,8 @@ use Rattle.pb_history.proofs.StepsAgree.{legal_agrees}
 use Rattle.pb_history.proofs.TransactionAfter.{case_observers}
 use Rattle.law_generations.specs.Mirrored.{IsMirroredBy, QuietMirrorsItself, QuietCarriesOver, carried}
 use Rattle.law_generations.specs.LateSteps.{Carries, StepsCarryOver}
-use Rattle.law_generations.specs.Snapshots.{IsSnapshotOf, SnapshotsServe, SnapshotsCarryOver}
-use Rattle.law_generations.specs.KeptTables.{IsKeptTable, opened, stepped, anew, IsStepOfJob, AreEnded, StandsForWhole}
+use Rattle.law_generations.specs.Snapshots.{AreEnded, IsSnapshotOf, SnapshotsServe, SnapshotsCarryOver}
+use Rattle.law_generations.specs.KeptTables.{IsKeptTable, opened, stepped, anew, IsStepOfJob, StandsForWhole}
 use Rattle.law_generations.proofs.LateStarts.{AreUnseated, ReadsLate, late_step, unseated_after}
 use Rattle.law_generations.proofs.AcknowledgedReads.{AreAcknowledgedAt, quiet_acknowledges, acknowledged_late}
 use Rattle.law_generations.proofs.kept_tables_are_whole.Goals as goal
