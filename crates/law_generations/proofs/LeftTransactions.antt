@@ -13,7 +13,7 @@ use Rattle.pb_history.specs.TableView.{view_of, declared_by, prewritten_by, read
 use Rattle.pb_history.proofs.Agreement.{ts}
 use Rattle.pb_history.proofs.HistoryTold.{same_stamp}
 use Rattle.law_generations.specs.Mirrored.{carried}
-use Rattle.law_generations.specs.Snapshots.{IsSnapshotOf, IsSnapshotView, IsLeft, AreLeft, AreEnded, LeftAreSound}
+use Rattle.law_generations.specs.Snapshots.{IsSnapshotOf, IsSnapshotView, IsLeftOf, AreLeft, AreEnded, LeftAreSound}
 use Rattle.law_generations.proofs.SnapshotViews.{snapshot_sound}
 
 -- ---- options and lists
@@ -28,7 +28,7 @@ first_content [] p is = absurd (none-some p is)
 first_content (w ∷ ws) p is = (
   w.1,
   subst (λ (y : Cell). cond (eq_by_cmp cell_cmp y w.0) (Some w.1) (content_in ws y) ≡ Some w.1) (same_some w.0 p is)
-  (ap (λ b. cond b (Some w.1) (content_in ws w.0)) (ap is_eq (tied_itself cell_cmp_total w.0))),
+      (ap (λ b. cond b (Some w.1) (content_in ws w.0)) (ap is_eq (tied_itself cell_cmp_total w.0))),
 )
 
 -- a cell has one version up to a timestamp
@@ -99,7 +99,7 @@ module _ (whole : StateOf) (e : Entries) (had : Transactions) (sound : IsSoundTa
     by (Some t) there is = subst (λ rs. Has rs r) (left.each s t there).unread is
 
   module _ (s : ℕ) (t : TransactionOf) (there : map.get had s ≡ Some t) where
-    abbrev its : IsLeft whole e s t
+    abbrev its : IsLeftOf whole e s t
     its = left.each s t there
 
     phase_there : v.phase s ≡ Some t.phase

@@ -1,13 +1,15 @@
--- What is newest of an unlocked cell, in a table to which a legal journal leads, is the newest write of the journal's history.
+-- What is newest of an unlocked cell, in a table to which a legal journal leads, is the newest write of the journal's history, and
+-- what serves for the table has each later one.
 use Rattle.std.proofs.Common.{◌≡◌, ℕ, ◌≤◌, inl, inr, arith, List, Option, Some, None, sym, ap, ◌∙◌}
 use Rattle.std.proofs.lemmas.Bool.{cases_lt}
 use Rattle.std.proofs.lemmas.Option.{none-some}
-use Rattle.law_generations.specs.Words.{Cell, Content, Revision, IsNewestVersion, NoLock, last_timestamp, write_at, StateOf, Entry, IsSoundTable}
+use Rattle.law_generations.specs.Words.{Cell, Content, Revision, IsNewestVersion, NoLock, last_timestamp, write_at, StateOf, Entry, IsSoundTable, Entries, data_at}
 use Rattle.pb_history.specs.History.{Member, InHistory, WritesTo}
 use Rattle.pb_history.specs.TableView.{view_of}
 use Rattle.pb_history.proofs.Agreement.{Agrees}
 use Rattle.pb_history.proofs.SnapshotsTold.{phase_in_view, content_in_view, stands_at, written_by}
-use Rattle.law_generations.specs.KeptTables.{IsNewestWrite}
+use Rattle.law_generations.specs.KeptTables.{IsNewestWrite, HasWritesAbove}
+use Rattle.law_generations.specs.Mirrored.{SameEntries}
 
 module _ (journal : List Entry) (whole : StateOf) (g : Agrees journal whole) (i : IsSoundTable whole) (x : Cell) (unlocked : NoLock whole.entries x) where
   -- a committed write up to the last timestamp has its write record
@@ -38,3 +40,17 @@ module _ (journal : List Entry) (whole : StateOf) (g : Agrees journal whole) (i 
           | inr fine ↦ fine
         ];
       }
+
+  -- and its content
+  has_content : (n : Member) (k : Content) → InHistory whole.observers journal n → WritesTo n x k → write_at whole.entries x n.commit ≡ Some n.start → data_at whole.entries x n.start ≡ Some k
+  has_content n k there writes written = i.record_data x n.commit n.start written ∙ content_in_view journal whole g i n there x ∙ writes
+
+  -- what serves for the table has those above c
+  pub writes_above : (c : ℕ) (e : Entries) → SameEntries c whole.entries e → HasWritesAbove whole.observers c journal e x
+  writes_above c e m = record {
+    each = λ n k there writes above.
+        let low = (i.stamped n.start n.commit (inr (phase_in_view journal whole g i n there))).1 in
+        let written = recorded n k there writes (omega (arith, low, i.small)) in
+        (m.records x n.commit above ∙ written, m.stored x n.start (m.starts x n.commit n.start above written) ∙ has_content n k there writes written);
+    only = λ d s above there. written_by journal whole g i x d s (sym (m.records x d above) ∙ there);
+  }

@@ -1,8 +1,9 @@
 -- A table that is kept over any number of generations: it is opened, takes steps, and where it is quiet it may begin anew with
 -- a snapshot of itself. What holds of one table's legal journal holds of the journal of all its generations.
 use Rattle.std.specs.Prelude.{◌≡◌, ℕ, ◌<◌, List, [], ◌∷◌, ◌++◌, Option, Some, None, slice_get}
-use Rattle.law_generations.specs.Words.{Cell, Row, Revision, Entries, Step, Answer, StateOf, Transactions, opening, acknowledged_in, IsNewestVersion, NoLock, last_timestamp, TableStep, ObserverOf, Entry, Received, Has, IsEntry, IsLegal, IsQuiet, TellsOneHandler, TellsHandlers}
-use Rattle.pb_history.specs.History.{IsSnapshot, NoSnapshot}
+use Rattle.law_generations.specs.Words.{Cell, Content, Row, Revision, Entries, data_at, write_at, Step, Answer, StateOf, Transactions, opening, acknowledged_in, IsNewestVersion, NoLock, last_timestamp, TableStep, ObserverOf, Entry, Received, Has, IsEntry, IsLegal, IsQuiet, TellsOneHandler, TellsHandlers}
+use Rattle.pb_history.specs.History.{InHistory, IsSnapshot, Member, NoSnapshot, WritesTo}
+use Rattle.pb_history.specs.RecordsTold.{WroteAt}
 use Rattle.pb_history.specs.SnapshotsTold.{TellsSnapshots}
 use Rattle.pb_history.specs.Timestamps.{TellsTimestamps}
 use Rattle.pb_txn.specs.Changes.{ChangeOf}
@@ -92,3 +93,12 @@ NewestInAll = OfKept (λ _ _ _ _ journal now. (x : Cell) (v : Option Revision) �
 -- the timestamps of all generations rise, from above the clock as opened up to that of the table
 abbrev pub TimestampsRiseInAll : Type 0
 TimestampsRiseInAll = OfKept (λ _ _ clock _ journal now. TellsTimestamps clock journal now)
+
+-- entries have each write to x of a commit above c, with its content, and no other write record there
+pub record HasWritesAbove (observers : List ObserverOf) (c : ℕ) (journal : List Entry) (e : Entries) (x : Cell) : Type 0 where
+  pub each : (m : Member) (k : Content) → InHistory observers journal m → WritesTo m x k → c < m.commit → (write_at e x m.commit ≡ Some m.start) × (data_at e x m.start ≡ Some k)
+  pub only : (d s : ℕ) → c < d → write_at e x d ≡ Some s → WroteAt observers journal x d s
+
+-- of an unlocked cell, the table has each write since its last generation began
+abbrev pub LaterWritesInAll : Type 0
+LaterWritesInAll = OfKept (λ _ _ _ c journal now. (x : Cell) → NoLock now.entries x → HasWritesAbove now.observers c journal now.entries x)

@@ -5,12 +5,12 @@ use Rattle.pb_history.specs.Timestamps.{TellsTimestamps}
 use Rattle.pb_history.proofs.JournalsAreSound.{legal_sound}
 use Rattle.pb_history.proofs.StepsAgree.{legal_agrees}
 use Rattle.law_generations.specs.Mirrored.{IsMirroredBy}
-use Rattle.law_generations.specs.KeptTables.{IsNewestWrite}
-use Rattle.law_generations.proofs.NewestWrites.{newest_write}
+use Rattle.law_generations.specs.KeptTables.{IsNewestWrite, HasWritesAbove}
+use Rattle.law_generations.proofs.NewestWrites.{newest_write, writes_above}
 use Rattle.law_generations.proofs.VersionsAbove.{whole_version, whole_none}
 use Rattle.law_generations.proofs.promises_hold_over_generations.Goals as goal
 
--- each is a law of the whole table's journal; all but that on the newest versions speak of no entry of the table
+-- each is a law of the whole table's journal; all but two speak of no entry of the table
 
 pub returns-clause-once : goal.returns-clause-once
 returns-clause-once c observers seats clock g journal now kept =
@@ -45,3 +45,10 @@ returns-clause-timestamps c observers seats clock g journal now kept =
     let w = c.kept_tables_are_whole.ensures observers seats clock g journal now kept in
     let told = c.timestamps_rise.ensures observers seats clock journal w.whole w.legal in
     subst (λ (s : StateOf). TellsTimestamps clock journal s) (sym w.now_is) (record { rising = told.rising; commits = told.commits })
+
+pub returns-clause-later : goal.returns-clause-later
+returns-clause-later c observers seats clock g journal now kept x unlocked =
+    let w = c.kept_tables_are_whole.ensures observers seats clock g journal now kept in
+    subst (λ (s : StateOf). HasWritesAbove s.observers g journal now.entries x) (sym w.now_is)
+    (writes_above journal w.whole (legal_agrees observers seats clock journal w.whole w.legal) (legal_sound observers seats clock journal w.whole w.legal) x
+    (λ u fits. sym (w.mirrors.entries_are.locks x u) ∙ unlocked u fits) g now.entries w.mirrors.entries_are)
