@@ -1,13 +1,14 @@
 -- A table that is kept over any number of generations: it is opened, takes steps, and where it is quiet it may begin anew with
 -- a snapshot of itself. What holds of one table's legal journal holds of the journal of all its generations.
 use Rattle.std.specs.Prelude.{◌≡◌, ℕ, ◌<◌, List, [], ◌∷◌, ◌++◌, Option, Some, None, slice_get}
-use Rattle.law_generations.specs.Words.{Cell, Content, Row, Revision, Entries, data_at, write_at, Step, Answer, StateOf, Transactions, opening, acknowledged_in, IsNewestVersion, NoLock, last_timestamp, TableStep, ObserverOf, Entry, Received, Has, IsEntry, IsLegal, IsQuiet, TellsOneHandler, TellsHandlers}
+use Rattle.law_generations.specs.Words.{Cell, Content, Row, Revision, Entries, data_at, write_at, Step, Answer, StateOf, Transactions, opening, acknowledged_in, IsNewestVersion, NoLock, last_timestamp, TableStep, ObserverOf, Entry, Received, Has, IsEntry, IsLegal, JournalLeads, IsQuiet, TellsOneHandler, TellsHandlers}
 use Rattle.pb_history.specs.History.{InHistory, IsSnapshot, Member, NoSnapshot, WritesTo}
 use Rattle.pb_history.specs.RecordsTold.{WroteAt}
 use Rattle.pb_history.specs.SnapshotsTold.{TellsSnapshots}
 use Rattle.pb_history.specs.Timestamps.{TellsTimestamps}
 use Rattle.pb_txn.specs.Changes.{ChangeOf}
 use Rattle.pb_txn.specs.Changes as changes
+use Rattle.pb_notify.specs.Allowed.{entries_by}
 use Rattle.pb_notify.specs.Conversations.{Reaches}
 use Rattle.pb_notify.specs.Forms.{IsHeld}
 use Rattle.pb_notify.specs.Runs.{RunOf, watch_of, fresh, next_of}
@@ -54,6 +55,20 @@ pub data IsKeptTable (observers : List ObserverOf) (seats clock : ℕ) : ℕ →
       → IsStepOfJob observers journal e.step → TableStep old e.seat e.step e.answer new → IsKeptTable observers seats clock c (journal ++ e ∷ []) new
   anew : (c : ℕ) (journal : List Entry) (old : StateOf) (f : Entries) (ts : Transactions) → IsKeptTable observers seats clock c journal old
       → IsQuiet old → old.clock < last_timestamp → IsSnapshotOf old f → AreEnded old ts → IsKeptTable observers seats clock old.clock journal (carried old f ts)
+
+-- so it is after a run of an observer, as far as that went
+abbrev pub RunsKeepTables : Type 0
+RunsKeepTables =
+    (observers : List ObserverOf) (seats clock c : ℕ) (journal : List Entry) (old new : StateOf) → IsKeptTable observers seats clock c journal old
+    → (seat o : ℕ) (observer : ObserverOf) (row : Row) (said : List Received) (k : RunOf) → slice_get observers o ≡ Some observer → Reaches (fresh (watch_of o observer row)) said k
+    → JournalLeads old (entries_by seat said) new → IsKeptTable observers seats clock c (journal ++ entries_by seat said) new
+
+-- and after a change, as far as that went
+abbrev pub ChangesKeepTables : Type 0
+ChangesKeepTables =
+    (observers : List ObserverOf) (seats clock c : ℕ) (journal : List Entry) (old new : StateOf) → IsKeptTable observers seats clock c journal old
+    → (seat : ℕ) (j k : ChangeOf) (said : List Received) → changes.Converses j said k
+    → JournalLeads old (entries_by seat said) new → IsKeptTable observers seats clock c (journal ++ entries_by seat said) new
 
 -- the journal of all generations is a legal one of a whole table, and what is there now serves for that
 pub record StandsForWhole (observers : List ObserverOf) (seats clock c : ℕ) (journal : List Entry) (now : StateOf) : Type 0 where
