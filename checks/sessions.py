@@ -62,6 +62,7 @@ class Session:
         self.sent = b""
         self.watch()
         self.compare("the first line", self.running.stdout.readline(), f"open {len(self.kept.lines)}\n".encode())
+        self.timer.cancel()
 
     def watch(self):
         """From now on the program has so many seconds for what it is asked next."""
@@ -122,6 +123,8 @@ class Session:
             self.met[" ".join(answer.split(" ")[: 2 if answer.startswith("refused") else 1])] += 1
             self.met["unquiet"] += answer.endswith(" unquiet")
         sender.join()
+        # the model takes its own time for what comes next
+        self.timer.cancel()
 
     def is_answer(self, came, answer):
         """Whether a line is this answer. How many bytes the log had is compared at the end, with its records."""
