@@ -16,7 +16,7 @@ import socket
 import subprocess
 import threading
 from contextlib import suppress
-from dataclasses import dataclass
+from typing import NamedTuple
 
 MADE = re.compile(r"made (\d+)(?: runs (\d+)| unquiet)")
 CELL = re.compile(r"cell (\d+) (\d+) commit (\d+) (?:value ([0-9a-f]+)|deleted)")
@@ -43,16 +43,14 @@ class Unmade(Exception):
         self.commit = commit
 
 
-@dataclass(frozen=True)
-class Made:
+class Made(NamedTuple):
     """A change that was made: its commit, and how many runs of observers followed, or None where they didn't come to rest."""
 
     commit: int
     runs: int | None
 
 
-@dataclass(frozen=True)
-class Cell:
+class Cell(NamedTuple):
     """A write of a cell: its commit, and what it left there, without the zeros at its end, or None where it deleted."""
 
     row: int
@@ -111,7 +109,8 @@ class Table:
 
     def changes(self, lines: list[str]) -> list[Made]:
         """Makes many changes, each a line of operations joined by `; `. They are sent while their answers are read, since neither pipe
-        holds all of them. Those that wait together share a record of the log."""
+        holds all of them. Those that wait together share a record of the log. Where some are refused or unmade, the others are made all the same, and the
+        first of these faults is raised."""
 
         def send() -> None:
             # that the program has ended is seen where its answers are read
@@ -120,11 +119,19 @@ class Table:
 
         sender = threading.Thread(target=send)
         sender.start()
+        made, fault = [], None
         try:
-            answers = [self._read() for _ in lines]
+            for line in lines:
+                answer = self._read()
+                try:
+                    made.append(self._made(line, answer))
+                except (Refused, Unmade) as refusal:
+                    fault = fault or refusal
         finally:
             sender.join()
-        return [self._made(line, answer) for line, answer in zip(lines, answers)]
+        if fault:
+            raise fault
+        return made
 
     def group(self, lines: list[str]) -> list[Made]:
         """Makes changes by one record of the log: after a crash all of them are there, or none."""
