@@ -102,7 +102,7 @@ counted_one_more : (p : Slot × Item) (es : List (Slot × Item)) → count_by (�
 counted_one_more p es = sum_by-cons (λ q. cond (is_lock q.0.sort) 1 0) p es
 
 -- a lock that stands is counted
-counted_none : (es : List (Slot × Item)) (k : Slot) (item : Item) → is_lock k.sort ≡ true → map.find slot_cmp k es ≡ Some item → count_by (λ p. is_lock p.0.sort) es ≡ 0 → ⊥
+pub counted_none : (es : List (Slot × Item)) (k : Slot) (item : Item) → is_lock k.sort ≡ true → map.find slot_cmp k es ≡ Some item → count_by (λ p. is_lock p.0.sort) es ≡ 0 → ⊥
 counted_none [] k item lock found none = cc
 counted_none (p ∷ es) k item lock found none = by (counted_none es k item lock) (eq_by_cmp slot_cmp k p.0) refl found
   where
@@ -132,7 +132,7 @@ found_again (q ∷ es) p has = by (found_again es p) (eq_by_cmp slot_cmp p.0 q.0
     by more false same (inl is) = (let here : eq_by_cmp slot_cmp p.0 q.0 ≡ true = ap (λ (z : Slot × Item). eq_by_cmp slot_cmp p.0 z.0) is ∙ itself p.0 in absurd cc)
     by more false same (inr rest) = (let r = more rest in (r.0, ap (λ b. cond b (Some q.1) (map.find slot_cmp p.0 es)) same ∙ r.1))
 
-lock_item : (o : Option Item) (p : Cell) → primary_of o ≡ Some p → o ≡ Some (Item.Lock p)
+pub lock_item : (o : Option Item) (p : Cell) → primary_of o ≡ Some p → o ≡ Some (Item.Lock p)
 lock_item o p e = grind arith
 
 -- a map without a marked cell has no length

@@ -1,5 +1,5 @@
 -- Functions of a timestamp, and of a cell and a timestamp, changed at one place, and lists with an item more.
-use Rattle.std.proofs.Common.{arith, ◌≡◌, ◌≢◌, ℕ, Bool, true, false, cond, ◌⊎◌, ◌&&◌, List, [], ◌∷◌, ◌++◌, Option, Some, None, refl, ap, ◌∙◌, inl, inr, nat_eq}
+use Rattle.std.proofs.Common.{arith, ◌≡◌, ◌≢◌, ℕ, zero, suc, ◌<◌, Bool, true, false, cond, ◌⊎◌, ◌&&◌, List, [], ◌∷◌, ◌++◌, Option, Some, None, refl, ap, ◌∙◌, inl, inr, nat_eq, length, get_or, Contains}
 use Rattle.std.specs.Ordering.{is_eq, eq_by_cmp}
 use Rattle.std.specs.Cmp.{Equal-is, tied_itself}
 use Rattle.std.proofs.lemmas.Bool.{eqb-true, eq-eqb, false_from_ne_true as not_true}
@@ -118,3 +118,14 @@ pub has_which : {A : Type 0} (xs ys : List A) (z : A) → Has (xs ++ ys) z → H
 has_which [] ys z h = inr h
 has_which (x ∷ xs) ys z (inl e) = inl (inl e)
 has_which (x ∷ xs) ys z (inr h) = elim (has_which xs ys z h) [ inl k ↦ inl (inr k) | inr k ↦ inr k ]
+
+-- a member stands at some place, and what stands at a place is a member
+pub has_contains : {A : Type 0} (xs : List A) (x : A) → Has xs x → Contains xs x
+has_contains [] x h = absurd h
+has_contains (y ∷ xs) x (inl e) = (zero, omega arith, e)
+has_contains (y ∷ xs) x (inr h) = let c = has_contains xs x h in (suc c.0, (let lt = c.1 in omega arith), c.2)
+
+pub has_at : {A : Type 0} (xs : List A) (k : ℕ) (x : A) → k < length xs → get_or xs k x ≡ x → Has xs x
+has_at [] k x lt e = absurd (omega arith)
+has_at (y ∷ xs) zero x lt e = inl e
+has_at (y ∷ xs) (suc k) x lt e = inr (has_at xs k x (omega arith) e)

@@ -9,7 +9,7 @@ use Rattle.pb_script.specs.Committed.{IsWrite, Gathers}
 use Rattle.pb_script.specs.Puts.{put_by, if_committed, written_in, puts_of_entry, puts_by}
 use Rattle.pb_base.proofs.Logic.{and_true as both}
 use Rattle.pb_base.proofs.SameCells.{cell_is}
-use Rattle.pb_history.proofs.Updates.{has_before as has_left, has_right, has_which}
+use Rattle.pb_history.proofs.Updates.{has_at, has_before as has_left, has_contains, has_right, has_which}
 
 -- the writes that these entries declared, if they are committed
 abbrev pub all_puts : StateOf → List Entry → List Put
@@ -52,16 +52,6 @@ in_block : {A B : Type 0} (f : A → List B) (xs : List A) (x : A) (y : B) → H
 in_block f [] x y h k = absurd h
 in_block f (z ∷ xs) x y (inl e) k = has_left (f z) (flat_map f xs) y (subst (λ w. Has (f w) y) (sym e) k)
 in_block f (z ∷ xs) x y (inr h) k = has_right (f z) (flat_map f xs) y (in_block f xs x y h k)
-
-has_contains : {A : Type 0} (xs : List A) (x : A) → Has xs x → Contains xs x
-has_contains [] x h = absurd h
-has_contains (y ∷ xs) x (inl e) = (zero, omega arith, e)
-has_contains (y ∷ xs) x (inr h) = let c = has_contains xs x h in (suc c.0, (let lt = c.1 in omega arith), c.2)
-
-has_at : {A : Type 0} (xs : List A) (k : ℕ) (x : A) → k < length xs → get_or xs k x ≡ x → Has xs x
-has_at [] k x lt e = absurd (omega arith)
-has_at (y ∷ xs) zero x lt e = inl e
-has_at (y ∷ xs) (suc k) x lt e = inr (has_at xs k x (omega arith) e)
 
 contains_has : {A : Type 0} (xs : List A) (x : A) → Contains xs x → Has xs x
 contains_has xs x c = has_at xs c.0 x c.1 c.2
