@@ -11,3 +11,8 @@ mod Walking
 mod SameCells
 mod SameRuns
 mod Behind
+pub mod SnapshotViews
+mod VersionOrder
+mod Carrying
+pub mod GotParts
+mod CarriedSound

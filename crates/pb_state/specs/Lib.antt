@@ -5,3 +5,5 @@ pub mod Keeping
 pub mod Behind
 pub mod Admitted
 pub mod Lending
+pub mod CarriedOver
+pub mod SnapshotViews

@@ -1,5 +1,5 @@
 -- The words of the crates below, for this crate's definitions and proofs.
-pub use Rattle.pb_base.specs.Batch.{Writes, content_in, primary_in}
+pub use Rattle.pb_base.specs.Batch.{Writes, content_in, is_unstamped, primary_in}
 pub use Rattle.pb_base.specs.Cell.{cell_cmp, cell_cmp-IsAntisymmetric, cell_cmp_total}
 pub use Rattle.pb_base.specs.Same.{is_same, same_is}
 unfoldable pub use Rattle.pb_base.specs.Same.{same}
@@ -28,7 +28,7 @@ pub use Rattle.pb_steps.specs.Declarations.{AreReplies, IsItsRun, IsReadOf, MayD
 pub use Rattle.pb_steps.specs.Marks.{AllUpToDate, SomeBehind, is_marked, stamp_in, with_mark}
 pub use Rattle.pb_steps.specs.Phases.{is_reading}
 pub use Rattle.pb_steps.specs.Read.{ReadsAbsent, read_step, with_read}
-pub use Rattle.pb_steps.specs.Readings.{IsLockOn, IsNewestVersion, IsVersion, NoLock, NoLockUpTo, NoVersion, NoWriteFrom, SomeLock, SomeWriteFrom, data_of, is_lock, last_timestamp, lock_at, primary_of, start_of, write_at}
+pub use Rattle.pb_steps.specs.Readings.{IsLockOn, IsNewestVersion, IsVersion, NoLock, NoLockUpTo, NoVersion, NoWriteFrom, SomeLock, SomeWriteFrom, data_at, data_of, is_lock, last_timestamp, lock_at, primary_of, start_of, write_at}
 pub use Rattle.pb_steps.specs.Reads.{acknowledged_in, asked_cell, found_answer, read_up_to, value_code, value_in, version_in}
 pub use Rattle.pb_steps.specs.Reasons.{IsOwn}
 pub use Rattle.pb_steps.specs.State.{StateOf, TransactionOf, Transactions, batch_in, cells_of, is_in, opening, with_transaction}
@@ -40,4 +40,6 @@ pub use Rattle.pb_steps.specs.declared.step.Answer.{Answer}
 pub use Rattle.pb_steps.specs.declared.step.Declared.{Declared}
 pub use Rattle.pb_steps.specs.declared.step.Step.{Step}
 pub use Rattle.pb_steps.specs.declared.step.Work.{Work}
-pub use Rattle.pb_history.specs.Sound.{IsSoundTable}
+pub use Rattle.pb_history.specs.History.{Has}
+pub use Rattle.pb_history.specs.Sound.{IsCommittedAt, IsSoundTable, IsSoundView}
+pub use Rattle.pb_history.specs.TableView.{TableView}

@@ -1,12 +1,14 @@
 //! What a transaction has declared that it writes, as it is kept: shared with the step and the journal.
-ghost use Rattle.std.specs.Prelude.{◌≡◌};
+ghost use Rattle.std.specs.Prelude.{◌≡◌, IfOk};
 ghost use Rattle.std.specs.List.{list_all};
-ghost use Rattle.pb_base.specs.Batch.{content_in};
+ghost use Rattle.pb_base.specs.Batch.{content_in, primary_in};
 ghost use Rattle.pb_steps.specs.State.{is_in};
 ghost use Rattle.pb_state.specs.Cells.{run_writes};
 
-use pb_base::{Batch, Cell, Content, Ts};
+use crate::room::{append, make_room};
+use pb_base::{Batch, Cell, Content, NoMemory, Ts};
 use pb_steps::{Declaration, Declared};
+use std::alloc::Global;
 
 /// What a transaction has declared that it writes. Only a run's acknowledgment is kept beside its declaration, since
 /// that has what its program writes alone.
@@ -21,6 +23,8 @@ pub(crate) enum Cells {
         stamp: Ts,
         what: Declaration,
     },
+    /// What is left of a transaction of which a state began with versions, since its declaration is gone.
+    Left(Vec<(Cell, Content)>),
 }
 
 // What the writes give a cell.
@@ -60,6 +64,27 @@ fn has_writes(cells: &[Cell], writes: &[(Cell, Content)]) -> bool
     true
 }
 
+// The first cell that is written.
+fn first_cell(writes: &[(Cell, Content)]) -> Option<Cell>
+    ensures { result ≡ primary_in writes.now }
+{
+    match writes.first() {
+        Some(write) => Some(write.0),
+        None => None,
+    }
+}
+
+// What a batch writes, in a list.
+fn batch_list(alloc: Global, batch: &Batch) -> Result<Vec<(Cell, Content)>, NoMemory>
+    ensures { IfOk result (λ list. list.items ≡ batch.now) }
+{
+    let mut list = Vec::new(alloc);
+    for next in 0..batch.len() {
+        list.push(batch.at(next))?;
+    }
+    Ok(list)
+}
+
 // What a run's program writes.
 fn run_writes(what: &Declared) -> &[(Cell, Content)]
     ensures { result.now ≡ run_writes what.now }
@@ -71,9 +96,8 @@ fn run_writes(what: &Declared) -> &[(Cell, Content)]
 }
 
 impl Cells {
-    ghost use Rattle.std.specs.Prelude.{◌≡◌, length};
-    ghost use Rattle.pb_base.specs.Batch.{primary_in};
-    ghost use Rattle.pb_state.specs.Cells.{cells_in};
+    ghost use Rattle.std.specs.Prelude.{◌≡◌, ◌++◌, ◌∷◌, [], length, IfOk, OnOk};
+    ghost use Rattle.pb_state.specs.Cells.{cells_in, HasCellRoom};
 
     /// How many there are.
     pub(crate) fn len(&self) -> usize
@@ -86,6 +110,7 @@ impl Cells {
                 Declared::Run(_, _) => 0,
             },
             Cells::Run { what, .. } => run_writes(what.get()).len() + 1,
+            Cells::Left(list) => list.len(),
         }
     }
 
@@ -100,6 +125,7 @@ impl Cells {
                 Declared::Run(_, _) => None,
             },
             Cells::Run { acknowledgment, .. } => Some(*acknowledgment),
+            Cells::Left(list) => first_cell(list),
         }
     }
 
@@ -123,6 +149,7 @@ impl Cells {
                 }
                 content_in(run_writes(what.get()), &cell)
             }
+            Cells::Left(list) => content_in(list, &cell),
         }
     }
 
@@ -141,6 +168,55 @@ impl Cells {
                 what,
                 ..
             } => list.contains(acknowledgment) && has_writes(list, run_writes(what.get())),
+            Cells::Left(writes) => has_writes(list, writes),
+        }
+    }
+
+    // All of them in a list.
+    fn to_list(&self, alloc: Global) -> Result<Vec<(Cell, Content)>, NoMemory>
+        ensures { IfOk result (λ list. list.items ≡ cells_in self.now) }
+    {
+        match self {
+            Cells::Nothing => Ok(Vec::new(alloc)),
+            Cells::Batch(what) => match what.get() {
+                Declared::Script(batch) => batch_list(alloc, batch),
+                Declared::Run(_, _) => Ok(Vec::new(alloc)),
+            },
+            Cells::Run {
+                acknowledgment,
+                stamp,
+                what,
+            } => {
+                let mut list = Vec::new(alloc);
+                list.push((*acknowledgment, Content::Stamp(*stamp)))?;
+                list.extend_from_slice(run_writes(what.get()))?;
+                Ok(list)
+            }
+            Cells::Left(list) => Ok(list.clone()?),
+        }
+    }
+
+    /// Makes them a list of their own, which those of a transaction that is left are, with room for one more.
+    pub(crate) fn make_room(&mut self, alloc: Global) -> Result<(), NoMemory>
+        ensures cells { cells_in self.new ≡ cells_in self.old }
+        ensures room { OnOk result (HasCellRoom self.new) }
+    {
+        if let Cells::Left(list) = self {
+            return make_room(list, 1);
+        }
+        let mut list = self.to_list(alloc)?;
+        make_room(&mut list, 1)?;
+        *self = Cells::Left(list);
+        Ok(())
+    }
+
+    /// Adds one where there is room.
+    pub(crate) fn append(&mut self, cell: Cell, content: Content)
+        requires { HasCellRoom self.old }
+        ensures { cells_in self.new ≡ cells_in self.old ++ (cell, content) ∷ [] }
+    {
+        if let Cells::Left(list) = self {
+            append(list, (cell, content));
         }
     }
 }

@@ -13,6 +13,8 @@
 
 mod admitted;
 mod begin;
+mod carry_fault;
+mod carry_over;
 mod cells;
 mod clear;
 mod commit;
@@ -25,6 +27,7 @@ mod parts;
 mod prewrite;
 mod read;
 mod readings;
+mod room;
 mod settle;
 mod stamp;
 mod state;
@@ -33,6 +36,8 @@ mod transaction;
 mod transactions;
 
 pub use admitted::{Admitted, TransactionAt};
+pub use carry_fault::CarryFault;
+pub use carry_over::is_content_of;
 pub use pb_finished::Finished;
 pub use pb_helpers::Record;
 pub use pb_steps::{

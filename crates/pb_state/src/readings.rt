@@ -111,7 +111,7 @@ fn first_after_data<T: Tablet>(table: &Table<T>, cell: &Cell) -> Option<Sort>
 }
 
 // Whether a write record of this timestamp or later stands on the cell.
-fn is_written<T: Tablet>(table: &Table<T>, cell: &Cell, from: Ts) -> bool
+pub(crate) fn is_written<T: Tablet>(table: &Table<T>, cell: &Cell, from: Ts) -> bool
     ensures { MatchBool result (SomeWriteFrom table.now.contents.entries cell.now from.0)
         (NoWriteFrom table.now.contents.entries cell.now from.0) }
 {

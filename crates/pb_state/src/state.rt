@@ -2,10 +2,11 @@
 ghost use Rattle.std.specs.Prelude.{◌≡◌};
 
 use crate::admitted::Admitted;
+use crate::carry_fault::CarryFault;
 use crate::parts::Parts;
 use crate::readings::{count_locks, count_marks};
 use crate::transactions::Transactions;
-use pb_base::{MAX_OBSERVERS, MAX_SEATS, NoMemory, Reason, Refusal, Ts};
+use pb_base::{Cell, MAX_OBSERVERS, MAX_SEATS, NoMemory, Reason, Refusal, Revision, Ts};
 use pb_steps::{Answer, Phase, Step};
 use pb_store::{Table, Tablet};
 use pb_verify::Observer;
@@ -35,7 +36,7 @@ impl<T: Tablet> Model for State<T> {
 }
 
 impl<T: Tablet> State<T> {
-    ghost use Rattle.std.specs.Prelude.{◌≤◌, ◌<◌, ◌^◌, OnOk, OnErr, IfOk, IfErr, None, true, Some, option_map, length, if◌then◌else◌};
+    ghost use Rattle.std.specs.Prelude.{◌≤◌, ◌<◌, ◌^◌, OnOk, OnErr, IfOk, IfErr, None, true, Some, option_map, length, take, ℕ, if◌then◌else◌};
     ghost use Rattle.std.specs.FinMap as map;
     ghost use Rattle.pb_base.specs.Reasons.{refusal_by, memory_refusal};
     ghost use Rattle.pb_base.specs.declared.refusal.Reason.TheVariants as reasons;
@@ -45,6 +46,7 @@ impl<T: Tablet> State<T> {
     ghost use Rattle.pb_steps.specs.Readings.{lock_count};
     ghost use Rattle.pb_steps.specs.Steps.{step_reason, TableStep};
     ghost use Rattle.pb_state.specs.Admitted.{Admits, TellsAdmission, step_admitted};
+    ghost use Rattle.pb_state.specs.CarriedOver.{AreInOrder, IsCarriedOver, WhyNotCarried};
 
     /// A state over an empty table, with seats numbered from 0 and the last timestamp given out. It has no entry, no mark
     /// and no transaction.
@@ -71,6 +73,23 @@ impl<T: Tablet> State<T> {
                 transactions: Transactions::new(alloc),
             },
         }
+    }
+
+    /// Begins with these versions, of which the last timestamp was given out by then. They stand by rising starts, and
+    /// by rising cells within one start; the transactions that wrote them followed one another. What is left of these is
+    /// committed, and of no seat. No step may have been taken.
+    ///
+    /// Refused, it has begun with those before the first that can't come next, or for which memory was refused.
+    pub fn carry_over(&mut self, last: Ts, cells: &[(Cell, Revision)]) -> Result<(), CarryFault>
+        requires opened { self.old ≡ opening self.old.observers self.old.seats 0 }
+        ensures ok { OnOk result
+            (IsCarriedOver self.old.observers self.old.seats last.0 cells.now self.new) }
+        ensures ordered { OnOk result (AreInOrder self.old.observers last.0 cells.now) }
+        ensures err { IfErr result (λ e. (n : ℕ)
+            × IsCarriedOver self.old.observers self.old.seats last.0 (take n cells.now) self.new
+            × WhyNotCarried self.old.observers last.0 cells.now n e) }
+    {
+        self.parts.carry_over(last, cells)
     }
 
     /// The last timestamp given out.

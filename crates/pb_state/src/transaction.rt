@@ -1,7 +1,7 @@
 //! A transaction, with the lists that grow while it goes on.
-ghost use Rattle.std.specs.Prelude.{◌≡◌, ◌<◌, ◌++◌, ◌∷◌, [], OnOk, vec_len, vec_capacity};
 
 use crate::cells::Cells;
+use crate::room::{append, make_room};
 use pb_base::{Cell, Content, NoMemory, Reason, Ts};
 use pb_steps::{Answer, Phase, RecordedRead, Work};
 use pb_store::{Edit, Table, Tablet};
@@ -45,11 +45,12 @@ impl Model for Transaction {
 }
 
 impl Transaction {
-    ghost use Rattle.std.specs.Prelude.{◌≡◌, OnOk, OnErr, ◌++◌, ◌∷◌, [], MatchOption, Some, is_some, true, false};
+    ghost use Rattle.std.specs.Prelude.{◌≡◌, IfOk, OnOk, OnErr, ◌++◌, ◌∷◌, [], MatchOption, Some, is_some, true, false};
     ghost use Rattle.pb_base.specs.Batch.{content_in, primary_in};
     ghost use Rattle.pb_store.specs.Contents.{AreEdits, after_edits};
     ghost use Rattle.pb_steps.specs.State.{new_transaction, is_in};
     ghost use Rattle.pb_state.specs.Cells.{cells_in};
+    ghost use Rattle.pb_state.specs.CarriedOver.{left_transaction, with_cell};
     ghost use Rattle.pb_steps.specs.Read.{with_read};
     ghost use Rattle.pb_steps.specs.Stamp.{is_whole};
     ghost use Rattle.pb_steps.specs.Phases.{is_reading, is_stamped};
@@ -183,33 +184,61 @@ impl Transaction {
         Ok(())
     }
 
+    /// What is left of one that an earlier generation committed, with its first cell.
+    pub(crate) fn left(
+        alloc: Global,
+        seat: u32,
+        commit: Ts,
+        cell: &Cell,
+        content: Content,
+    ) -> Result<Transaction, NoMemory>
+        ensures { IfOk result (λ t. t ≡ left_transaction seat commit cell.now content) }
+    {
+        let mut list = Vec::new(alloc);
+        let mut prewritten = Vec::new(alloc);
+        make_room(&mut list, 1)?;
+        make_room(&mut prewritten, 1)?;
+        append(&mut list, (*cell, content));
+        append(&mut prewritten, *cell);
+        Ok(Transaction {
+            seat,
+            work: Work::Script,
+            phase: Phase::Committed(commit),
+            reads: Vec::new(alloc),
+            cells: Cells::Left(list),
+            prewritten,
+        })
+    }
+
+    // Does the edits in the table and adds a cell that was declared and prewritten, or neither.
+    pub(crate) fn add_cell<T: Tablet>(
+        &mut self,
+        alloc: Global,
+        table: &mut Table<T>,
+        cell: &Cell,
+        content: Content,
+        edits: &[Edit],
+    ) -> Result<(), NoMemory>
+        requires { AreEdits edits.now }
+        ensures ok { OnOk result (self.new ≡ with_cell self.old cell.now content) }
+        ensures applied { OnOk result (table.new.contents
+            ≡ after_edits edits.now table.old.contents) }
+        ensures err { OnErr result (self.new ≡ self.old) }
+        ensures kept { OnErr result (table.new.contents ≡ table.old.contents) }
+    {
+        // Room in both lists comes before the edits, so that nothing has changed where one is refused.
+        make_room(&mut self.prewritten, 1)?;
+        self.cells.make_room(alloc)?;
+        table.apply(edits)?;
+        self.cells.append(*cell, content);
+        append(&mut self.prewritten, *cell);
+        Ok(())
+    }
+
     /// Whether every cell that it declared is prewritten.
     pub(crate) fn is_whole(&self) -> bool
         ensures { result ≡ is_whole self.now }
     {
         self.cells.are_in(&self.prewritten)
     }
-}
-
-// Makes room for one item more: for a few in all while there are fewer, since mostly there are no more, and beyond that
-// in steps that grow, so that long lists don't move with each item.
-fn make_room<X>(list: &mut Vec<X>, few: usize) -> Result<(), NoMemory>
-    ensures items { list.new.items ≡ list.old.items }
-    ensures room { OnOk result (vec_len list.new < vec_capacity list.new) }
-{
-    let len = list.len();
-    if len < few {
-        list.reserve_exact(few - len)?;
-    } else {
-        list.reserve(1)?;
-    }
-    Ok(())
-}
-
-// Pushes where there is room, so that it can't be refused.
-fn append<X: Drop>(list: &mut Vec<X>, item: X)
-    requires { vec_len list.old < vec_capacity list.old }
-    ensures { list.new.items ≡ list.old.items ++ item ∷ [] }
-{
-    list.push(item).unwrap();
 }

@@ -3,8 +3,10 @@ ghost use Rattle.std.specs.Prelude.{◌≡◌, ◌<◌, MatchOption};
 ghost use Rattle.pb_state.specs.Starts.{StartsRise, IsStartAt, IsNoStart};
 
 use crate::admitted::TransactionAt;
+use crate::room::{append, make_room};
 use crate::transaction::Transaction;
 use pb_base::{NoMemory, Ts};
+use pb_store::{Edit, Table, Tablet};
 use std::alloc::Global;
 use std::marker::Model;
 
@@ -79,6 +81,7 @@ impl Transactions {
     ghost use Rattle.std.specs.Prelude.{◌≡◌, ◌<◌, ℕ, OnOk, OnErr, Some, None};
     ghost use Rattle.std.specs.FinMap as map;
     ghost use Rattle.std.specs.Borrow.{sem};
+    ghost use Rattle.pb_store.specs.Contents.{AreEdits, after_edits};
     ghost use Rattle.pb_steps.specs.State.{TransactionOf};
     ghost use Rattle.pb_state.specs.Admitted.{IsTransactionAt};
     ghost use Rattle.pb_state.specs.Lending.{LendsTransaction};
@@ -119,6 +122,28 @@ impl Transactions {
         ensures err { OnErr result (self.new ≡ self.old) }
     {
         self.list.push((start.0, transaction))?;
+        Ok(())
+    }
+
+    /// Adds one that began last and does the edits in the table, or neither.
+    pub(crate) fn add_with<T: Tablet>(
+        &mut self,
+        start: Ts,
+        transaction: Transaction,
+        table: &mut Table<T>,
+        edits: &[Edit],
+    ) -> Result<(), NoMemory>
+        requires last { (s : ℕ) (t : TransactionOf) → map.get self.old s ≡ Some t → s < start.0 }
+        requires edits { AreEdits edits.now }
+        ensures ok { OnOk result (self.new ≡ map.insert self.old start.0 transaction) }
+        ensures applied { OnOk result (table.new.contents
+            ≡ after_edits edits.now table.old.contents) }
+        ensures err { OnErr result (self.new ≡ self.old) }
+        ensures kept { OnErr result (table.new.contents ≡ table.old.contents) }
+    {
+        make_room(&mut self.list, 1)?;
+        table.apply(edits)?;
+        append(&mut self.list, (start.0, transaction));
         Ok(())
     }
 }
