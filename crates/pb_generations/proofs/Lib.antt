@@ -1,0 +1,10 @@
+pub mod Kept
+pub mod VersionsAbove
+pub mod QuietTables
+pub mod LeftTransactions
+pub mod LateStarts
+pub mod AcknowledgedReads
+pub mod NewestWrites
+pub mod SeatEntries
+pub mod LateNames
+pub mod TimelyChanges

@@ -1,0 +1,57 @@
+-- The later steps of a table that was carried over: each is one of the whole table, with the same answer. So its past, with what
+-- came later, is one legal journal, of which all laws of journals hold as they stand.
+use Rattle.std.specs.Prelude.{◌≡◌, ℕ, ◌<◌, ◌≤◌, ◌↔◌, List, [], ◌∷◌, ◌++◌}
+use Rattle.pb_generations.specs.Words.{Cell, Revision, ObserverOf, Entries, Step, Answer, StateOf, Transactions, IsVersion, TableStep, Entry, JournalLeads, IsLegal}
+use Rattle.pb_generations.specs.Mirrored.{IsMirroredBy, carried}
+
+-- the step names no transaction that had begun by c
+abbrev pub NamesLate : ℕ → Step → Type 0
+NamesLate c (Step.Read s x) = c < s.0
+NamesLate c (Step.ReadAt s x t) = c < s.0
+NamesLate c (Step.Declare s what) = c < s.0
+NamesLate c (Step.Prewrite s x) = c < s.0
+NamesLate c (Step.Stamp s) = c < s.0
+NamesLate c (Step.CommitPrimary s) = c < s.0
+NamesLate c (Step.CommitSecondary s x) = c < s.0
+NamesLate c _ = Unit {0}
+
+-- it names none, and reads at no timestamp below the version that its cell had at c
+abbrev pub IsLateStep : ℕ → StateOf → Step → Type 0
+IsLateStep c old (Step.ReadAt s x t) = NamesLate c (Step.ReadAt s x t) × ((v : Revision) → IsVersion old.entries x c v → v.commit.0 ≤ t.0)
+IsLateStep c old step = NamesLate c step
+
+-- The whole table takes the step too, with the same answer. What the carried one leaves serves for what it leaves, and of no cell
+-- is the version at c another.
+pub record Carries (c : ℕ) (whole : StateOf) (seat : ℕ) (step : Step) (answer : Answer) (new : StateOf) : Type 0 where
+  pub after : StateOf
+  pub entries : Entries
+  pub transactions : Transactions
+  pub taken : TableStep whole seat step answer after
+  pub mirrors : IsMirroredBy c after entries transactions
+  pub new_is : new ≡ carried after entries transactions
+  pub versions : (x : Cell) (v : Revision) → IsVersion whole.entries x c v ↔ IsVersion after.entries x c v
+
+-- a late step of a carried table is one of the whole table
+abbrev pub StepsCarryOver : Type 0
+StepsCarryOver =
+    (c : ℕ) (whole new : StateOf) (e : Entries) (ts : Transactions) (seat : ℕ) (step : Step) (answer : Answer) → IsMirroredBy c whole e ts → IsLateStep c (carried whole e ts) step
+    → TableStep (carried whole e ts) seat step answer new → Carries c whole seat step answer new
+
+-- each step of the journal is late, where the table takes it
+abbrev pub AreLateSteps : ℕ → StateOf → List Entry → Type 0
+AreLateSteps c old [] = Unit {0}
+AreLateSteps c old (e ∷ es) = IsLateStep c old e.step × ((new : StateOf) → TableStep old e.seat e.step e.answer new → AreLateSteps c new es)
+
+-- the journal is a legal one of a whole table, and what is there now serves for that
+pub record StandsForWhole (observers : List ObserverOf) (seats clock c : ℕ) (journal : List Entry) (now : StateOf) : Type 0 where
+  pub whole : StateOf
+  pub legal : IsLegal observers seats clock journal whole
+  pub mirrors : IsMirroredBy c whole now.entries now.transactions
+  pub now_is : now ≡ carried whole now.entries now.transactions
+
+-- what a carried table does is a legal journal of the whole: the past, and then what came later
+abbrev pub GenerationsAreOne : Type 0
+GenerationsAreOne =
+    (observers : List ObserverOf) (seats clock c : ℕ) (past later : List Entry) (whole now : StateOf) (e : Entries) (ts : Transactions)
+    → IsLegal observers seats clock past whole → IsMirroredBy c whole e ts → AreLateSteps c (carried whole e ts) later → JournalLeads (carried whole e ts) later now
+    → StandsForWhole observers seats clock c (past ++ later) now
