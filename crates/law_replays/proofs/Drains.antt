@@ -1,5 +1,5 @@
 -- Changes with their drains have one outcome on one table.
-use Rattle.std.proofs.Common.{arith, ◌≡◌, ℕ, ◌+◌, ◌<◌, ◌≤◌, ◌^◌, inl, inr, List, [], ◌∷◌, ◌++◌, length, Option, Some, None, refl, sym, ap, subst, ◌∙◌, slice_get}
+use Rattle.std.proofs.Common.{arith, ◌≡◌, ℕ, ◌+◌, ◌<◌, ◌≤◌, inl, inr, List, [], ◌∷◌, ◌++◌, length, Option, Some, None, refl, sym, ap, subst, ◌∙◌, slice_get}
 use Rattle.pb_base.specs.Batch.{Writes}
 use Rattle.pb_base.specs.Cell.{row_of}
 use Rattle.pb_base.specs.declared.cell.Cell.{Cell}
@@ -7,7 +7,7 @@ use Rattle.pb_base.specs.declared.names.Ts.{Ts}
 use Rattle.pb_base.proofs.Logic.{one_value}
 use Rattle.pb_verify.specs.Observers.{ObserverOf}
 use Rattle.pb_sound.specs.OneMeaning.{EachHasOneMeaning}
-use Rattle.pb_steps.specs.State.{StateOf, opening}
+use Rattle.pb_steps.specs.State.{StateOf}
 use Rattle.pb_steps.specs.declared.step.Step.{Step}
 use Rattle.pb_steps.specs.declared.step.Work.{Work}
 use Rattle.pb_steps.specs.declared.step.Answer.{Answer}
@@ -26,10 +26,12 @@ use Rattle.pb_notify.specs.Led.{MachinesAreLed}
 use Rattle.pb_notify.specs.Runs.{watch_of}
 use Rattle.pb_passes.specs.declared.passes.TheConstants.{MAX_PASSES}
 use Rattle.pb_passes.specs.Passes.{job_on, IsRun, IsOfOther, AreRuns, before_all, runs as ran_then, passes_by, IsWalk, at_beginning, found, IsPass, ArePasses, at_first, one_more, IsDrain}
+use Rattle.pb_generations.specs.Snapshots.{LeftAreSound}
 use Rattle.pb_keeper.specs.Keeps.{AreMade, none, one_more as one_more_change}
 use Rattle.pb_keeper.specs.Leads.{IsEndedChange}
 use Rattle.pb_keeper.specs.Made.{IsMade}
 use Rattle.law_replays.specs.Replays.{AreJudged, ReplayHasOneOutcome}
+use Rattle.pb_keeper.proofs.Resting.{first_sound}
 use Rattle.pb_keeper.proofs.Wholes.{leads_parts, stays_sound}
 use Rattle.law_replays.proofs.Runs.{AreOne, words_once, run_once}
 
@@ -259,9 +261,6 @@ module _ (once : StepsHaveOneOutcome) (keeps : StepsKeepSound) where
         let same = same_snoc ks ls batch other e in
         joined m a b s t u v p q sound (λ i j h k. all_once ks ls s u m i j same.0 f g sound h k) (λ i w after h k. made_once batch other c d t v i a b same.1 is is2 after h k)
 
-small : 0 < 2 ^ 64
-small = grind arith
-
-pub replay_once : StepsHaveOneOutcome → StepsKeepSound → OpeningIsSound → EachHasOneMeaning → MachinesAreLed → ReplayHasOneOutcome
-replay_once once keeps opens meaning led observers changes a b judged f g =
-    (all_once once keeps meaning led observers judged changes changes f.said g.said (opening observers 1 0) a.state b.state refl f.form.form g.form.form (opens observers 1 0 small) f.leads g.leads).state_is
+pub replay_once : StepsHaveOneOutcome → StepsKeepSound → OpeningIsSound → LeftAreSound → EachHasOneMeaning → MachinesAreLed → ReplayHasOneOutcome
+replay_once once keeps opens left meaning led first changes a b judged f g =
+    (all_once once keeps meaning led first.state.observers judged changes changes f.leads.said g.leads.said first.state a.state b.state refl f.leads.form.form g.leads.form.form (first_sound keeps opens left f.past first f.began) f.leads.leads g.leads.leads).state_is

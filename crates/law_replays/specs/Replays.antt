@@ -10,6 +10,6 @@ use Rattle.pb_keeper.specs.Stats.{KeptTable}
 abbrev pub AreJudged : List ObserverOf → Type 0
 AreJudged observers = (n : ℕ) (o : ObserverOf) → slice_get observers n ≡ Some o → o.program.record_size ≤ MAX_RECORD_BYTES
 
--- entries, marks, clock and transactions follow from the changes
+-- entries, marks, clock and transactions follow from the changes since a generation began, and from the table that it began with
 abbrev pub ReplayHasOneOutcome : Type 0
-ReplayHasOneOutcome = (observers : List ObserverOf) (changes : List Writes) (a b : KeptTable) → AreJudged observers → Keeps observers changes a → Keeps observers changes b → a.state ≡ b.state
+ReplayHasOneOutcome = (first : KeptTable) (changes : List Writes) (a b : KeptTable) → AreJudged first.state.observers → Keeps first changes a → Keeps first changes b → a.state ≡ b.state

@@ -1,23 +1,25 @@
 //! That replay is the same table: a law on changes that are kept, on which no other law is built.
 //!
-//! By `pb_keeper` some legal journal leads to a table that keeps changes. This law says that there is one such table: made
-//! anew of the same changes, in the same order, it has the same entries, marks, clock and transactions, acknowledgments
-//! and timestamps included. So a log of changes stands for its table.
+//! By `pb_keeper` some conversation of the only seat leads to a table that keeps changes. This law says that there is one such
+//! table: made anew of the same changes, in the same order, from the same beginning, it has the same entries, marks, clock
+//! and transactions, acknowledgments and timestamps included. So a log of a snapshot and of changes stands for its table.
 #![tactic(auto)]
 
 ghost use Rattle.law_replays.specs.Replays.{ReplayHasOneOutcome};
 
+use pb_generations::snapshots_serve;
 use pb_history::{steps_have_one_outcome, steps_keep_sound};
 use pb_notify::machines_are_led;
 use pb_sound::each_has_one_meaning;
 
-/// Two tables that were opened with the same observers and keep the same changes are the same, if the observers'
+/// Two tables that keep the same changes since a generation began with the same table are the same, if the observers'
 /// programs are judged for records of a size that there is, as each is by `Accepted::known`.
 pub fn replay_has_one_outcome()
     ensures { ReplayHasOneOutcome }
 {
     steps_have_one_outcome();
     steps_keep_sound();
+    snapshots_serve();
     each_has_one_meaning();
     machines_are_led();
 }

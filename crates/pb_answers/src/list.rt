@@ -3,13 +3,15 @@ ghost use Rattle.std.specs.Prelude.{◌≡◌, ◌∷◌, [], IfOk, OnOk, List, 
 ghost use Rattle.std.specs.FinMap as map;
 ghost use Rattle.pb_store.specs.declared.slot.Item.{Item};
 ghost use Rattle.pb_store.specs.declared.slot.Slot.{Slot};
+ghost use Rattle.pb_keeper.specs.Stats.{kept_table};
 ghost use Rattle.pb_answers.specs.Lists.{IsListAnswer};
 ghost use Rattle.pb_answers.specs.Records.{HasNewestUpTo, is_up_to};
 
 use crate::quiet::{locks_of, marks_of};
 use crate::records::put_in;
-use crate::runs::tallies_of;
+use crate::tallies::tallies_of;
 use pb_base::{Cell, NoMemory, Ts};
+use pb_keeper::ObserverStats;
 use pb_script::{Newest, Put, note, report_of};
 use pb_state::State;
 use pb_store::{Item, Slot, Table, Tablet};
@@ -64,12 +66,18 @@ fn newest_cells<T: Tablet>(
 }
 
 /// The answer to `list`: the report of the table, and `end`. A cell's line is of what the snapshot at the table's clock has
-/// there, and an observer's of how many of its runs the table records.
-pub fn answer_list<T: Tablet>(alloc: Global, state: &State<T>) -> Result<String, NoMemory>
-    ensures { IfOk result (λ s. IsListAnswer state.now (string_bytes s)) }
+/// there, and an observer's of how many of its runs are committed. Those the caller gives, as for `stats`: a table that was
+/// carried over has the acknowledgments of some of them alone.
+pub fn answer_list<T: Tablet>(
+    alloc: Global,
+    state: &State<T>,
+    stats: &[ObserverStats],
+) -> Result<String, NoMemory>
+    ensures { IfOk result
+        (λ s. IsListAnswer (kept_table state.now stats.now) (string_bytes s)) }
 {
     let newest = newest_cells(alloc, state.table(), state.clock())?;
-    let tallies = tallies_of(alloc, state)?;
+    let tallies = tallies_of(alloc, state, stats)?;
     let marks = marks_of(alloc, state)?;
     let locks = locks_of(alloc, state)?;
     let mut text = report_of(alloc, &newest, tallies.as_slice(), marks, locks)?;

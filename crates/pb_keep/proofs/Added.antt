@@ -1,6 +1,5 @@
 -- A line more that waits.
 use Rattle.std.proofs.Common.{◌≡◌, ℕ, ◌≤◌, Bool, true, false, List, [], ◌∷◌, ◌++◌, length, refl, ap, sym, subst, ◌∙◌, arith}
-use Rattle.std.specs.Prelude.{string_bytes}
 use Rattle.pb_keep.specs.Words.{MAX_CHANGES, Writes}
 use Rattle.pb_keep.specs.declared.waiting.TheConstants.{MAX_RECORD}
 use Rattle.pb_keep.specs.declared.waiting.Waits.{Waits}

@@ -41,18 +41,18 @@ pub none_waited : (state : StateOf) (lines : List (List ℕ)) (items : List Wait
 none_waited state lines items group none_held e = refl
 none_waited state lines items group (one_held ls l is i g h any) e = absurd (last_is_some is i e)
 
-same_answered : (start now : KeptTable) (group : Group) (lines lines2 : List (List ℕ)) (made made2 : List Writes) (text text2 : List ℕ) → lines ≡ lines2 → made ≡ made2 → text ≡ text2 → AreAnswered start lines made group now text → AreAnswered start lines2 made2 group now text2
-same_answered start now group lines lines2 made made2 text text2 e f g a =
-    subst (λ t. AreAnswered start lines2 made2 group now t) g (subst (λ m. AreAnswered start lines2 m group now text) f (subst (λ l. AreAnswered start l made group now text) e a))
+same_answered : (since : ℕ) (start now : KeptTable) (group : Group) (lines lines2 : List (List ℕ)) (made made2 : List Writes) (text text2 : List ℕ) → lines ≡ lines2 → made ≡ made2 → text ≡ text2 → AreAnswered since start lines made group now text → AreAnswered since start lines2 made2 group now text2
+same_answered since start now group lines lines2 made made2 text text2 e f g a =
+    subst (λ t. AreAnswered since start lines2 made2 group now t) g (subst (λ m. AreAnswered since start lines2 m group now text) f (subst (λ l. AreAnswered since start l made group now text) e a))
 
-module _ (start old : KeptTable) (answered : List (List ℕ)) (made : List Writes) (text : List ℕ) (told : AreAnswered start answered made Group.alone old text) where
+module _ (since : ℕ) (start old : KeptTable) (answered : List (List ℕ)) (made : List Writes) (text : List ℕ) (told : AreAnswered since start answered made Group.alone old text) where
   one_held_answered : (lines : List (List ℕ)) (line : List ℕ) (items : List Waits) (item : Waits) (group : Group) (new : KeptTable) (more : List ℕ)
-      → ((between : KeptTable) (before : List ℕ) → AreAnswers items old between before → AreAnswered start (answered ++ lines) (made ++ changes_in items) group between (text ++ before))
+      → ((between : KeptTable) (before : List ℕ) → AreAnswers items old between before → AreAnswered since start (answered ++ lines) (made ++ changes_in items) group between (text ++ before))
       → ((s : StateOf) → (items ≡ [] → s ≡ old.state) → IsLineHeld group s line item) → LastAnswer items item old new more
-      → AreAnswered start (answered ++ (lines ++ line ∷ [])) (made ++ changes_in (items ++ item ∷ [])) (group_after group (length line) item) new (text ++ more)
+      → AreAnswered since start (answered ++ (lines ++ line ∷ [])) (made ++ changes_in (items ++ item ∷ [])) (group_after group (length line) item) new (text ++ more)
   one_held_answered lines line items item group new more first any l =
       let held = any l.between.state (λ none_before. ap (λ t. t.state) (none_answered items old l.between l.before l.front none_before).0) in
-      same_answered start new (group_after group (length line) item)
+      same_answered since start new (group_after group (length line) item)
       ((answered ++ lines) ++ line ∷ []) (answered ++ (lines ++ line ∷ []))
       ((made ++ changes_in items) ++ changes_in (item ∷ [])) (made ++ changes_in (items ++ item ∷ []))
       ((text ++ l.before) ++ l.after) (text ++ more)
@@ -63,10 +63,10 @@ module _ (start old : KeptTable) (answered : List (List ℕ)) (made : List Write
 
   -- lines that wait after lines that are answered, and now are answered too
   pub held_answered : (pending : List (List ℕ)) (items : List Waits) (group : Group) (new : KeptTable) (more : List ℕ) → AreHeld old.state pending items group → AreAnswers items old new more
-      → AreAnswered start (answered ++ pending) (made ++ changes_in items) group new (text ++ more)
+      → AreAnswered since start (answered ++ pending) (made ++ changes_in items) group new (text ++ more)
   held_answered pending items group new more none_held a =
       let e = none_answered [] old new more a refl in
-      subst (λ s. AreAnswered start (answered ++ []) (made ++ []) Group.alone s (text ++ more)) (sym e.0)
-      (same_answered start old Group.alone answered (answered ++ []) made (made ++ []) text (text ++ more) (sym (append-nil answered)) (sym (append-nil made)) (sym (append-nil text) ∙ ap (λ t. text ++ t) (sym e.1)) told)
+      subst (λ s. AreAnswered since start (answered ++ []) (made ++ []) Group.alone s (text ++ more)) (sym e.0)
+      (same_answered since start old Group.alone answered (answered ++ []) made (made ++ []) text (text ++ more) (sym (append-nil answered)) (sym (append-nil made)) (sym (append-nil text) ∙ ap (λ t. text ++ t) (sym e.1)) told)
   held_answered pending items group new more (one_held ls l is i g h any) a =
       one_held_answered ls l is i g new more (λ between before b. held_answered ls is g between before h b) any (last_answer (is ++ i ∷ []) old new more a is i refl)

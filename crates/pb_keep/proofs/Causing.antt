@@ -3,9 +3,9 @@ use Rattle.std.proofs.Common.{◌≡◌, ℕ, ◌≤◌, ◌^◌, Bool, true, Li
 use Rattle.pb_log.specs.declared.fault.LogFault.{LogFault}
 use Rattle.pb_log.specs.Causes.{IsNotBegun}
 use Rattle.pb_keeper.specs.Stops.{IsStop}
-use Rattle.pb_keep.specs.Words.{StateOf, Stopped, WhyNotPut}
+use Rattle.pb_keep.specs.Words.{HasRecords, ObserverOf, StateOf, Stopped, WhyNotPut}
 use Rattle.pb_keep.specs.declared.fault.KeepFault.{KeepFault}
-use Rattle.pb_keep.specs.Causes.{IsOfAnew, IsOfPut, WhyNotKept, WhyNotMadeAgain, WhyNotServed}
+use Rattle.pb_keep.specs.Causes.{IsOfAnew, IsOfFirst, IsOfPut, WhyNotKept, WhyNotMadeAgain, WhyNotServed}
 use Rattle.pb_keep.specs.Conversations.{KeeperView}
 use Rattle.pb_keep.specs.Left.{fault_by, IsOfLog, IsOfMaking, IsRightOf}
 
@@ -28,6 +28,7 @@ pub of_put : (before now end : ℕ) (e : KeepFault) → IsOfPut before now end e
 of_put before now end (KeepFault.Log e) h = tt
 of_put before now end (KeepFault.NoMemory e) h = absurd h
 of_put before now end KeepFault.Record h = absurd h
+of_put before now end KeepFault.Snapshot h = absurd h
 of_put before now end KeepFault.NoTimestamp h = absurd h
 of_put before now end KeepFault.Output h = absurd h
 of_put before now end KeepFault.Input h = absurd h
@@ -37,6 +38,7 @@ pub not_both : (e : KeepFault) → IsOfMaking e → IsOfLog e → ⊥
 not_both (KeepFault.Log e) making of = absurd making
 not_both (KeepFault.NoMemory e) making of = of
 not_both KeepFault.Record making of = of
+not_both KeepFault.Snapshot making of = of
 not_both KeepFault.NoTimestamp making of = of
 not_both KeepFault.Output making of = of
 not_both KeepFault.Input making of = of
@@ -48,6 +50,7 @@ module _ (before now : ℕ) (failed : Bool) (k : KeeperView) where
   not_put (KeepFault.Log e) h = h
   not_put (KeepFault.NoMemory e) h = absurd h
   not_put KeepFault.Record h = absurd h
+  not_put KeepFault.Snapshot h = absurd h
   not_put KeepFault.NoTimestamp h = absurd h
   not_put KeepFault.Output h = absurd h
   not_put KeepFault.Input h = absurd h
@@ -56,6 +59,7 @@ module _ (before now : ℕ) (failed : Bool) (k : KeeperView) where
   not_made (KeepFault.Log e) of right = absurd of
   not_made (KeepFault.NoMemory e) of right = tt
   not_made KeepFault.Record of right = absurd of
+  not_made KeepFault.Snapshot of right = absurd of
   not_made KeepFault.NoTimestamp of right = right
   not_made KeepFault.Output of right = absurd of
   not_made KeepFault.Input of right = absurd of
@@ -68,16 +72,27 @@ module _ (before now : ℕ) (failed : Bool) (k : KeeperView) where
   not_served (KeepFault.Log e) h = h
   not_served (KeepFault.NoMemory e) h = tt
   not_served KeepFault.Record h = absurd h
+  not_served KeepFault.Snapshot h = absurd h
   not_served KeepFault.NoTimestamp h = h
   not_served KeepFault.Output h = h
   not_served KeepFault.Input h = absurd h
 
 -- ---- when a log is opened
 
-pub not_made_again : (manifest : List ℕ) (before now : ℕ) (file : List ℕ) (e : KeepFault) → IsOfAnew e → WhyNotMadeAgain manifest before now file e
-not_made_again manifest before now file (KeepFault.Log e) of = absurd of
-not_made_again manifest before now file (KeepFault.NoMemory e) of = tt
-not_made_again manifest before now file KeepFault.Record of = tt
-not_made_again manifest before now file KeepFault.NoTimestamp of = tt
-not_made_again manifest before now file KeepFault.Output of = absurd of
-not_made_again manifest before now file KeepFault.Input of = absurd of
+pub not_made_again : (observers : List ObserverOf) (manifest : List ℕ) (before now : ℕ) (file : List ℕ) (e : KeepFault) → IsOfAnew e → WhyNotMadeAgain observers manifest before now file e
+not_made_again observers manifest before now file (KeepFault.Log e) of = absurd of
+not_made_again observers manifest before now file (KeepFault.NoMemory e) of = tt
+not_made_again observers manifest before now file KeepFault.Record of = tt
+not_made_again observers manifest before now file KeepFault.Snapshot of = absurd of
+not_made_again observers manifest before now file KeepFault.NoTimestamp of = tt
+not_made_again observers manifest before now file KeepFault.Output of = absurd of
+not_made_again observers manifest before now file KeepFault.Input of = absurd of
+
+pub not_begun : (observers : List ObserverOf) (manifest : List ℕ) (before now : ℕ) (file : List ℕ) (records : List (List ℕ)) (e : KeepFault) → IsOfFirst observers records e → HasRecords manifest records file → WhyNotMadeAgain observers manifest before now file e
+not_begun observers manifest before now file records (KeepFault.Log e) of has = absurd of
+not_begun observers manifest before now file records (KeepFault.NoMemory e) of has = tt
+not_begun observers manifest before now file records KeepFault.Record of has = absurd of
+not_begun observers manifest before now file records KeepFault.Snapshot of has = (records, has, of)
+not_begun observers manifest before now file records KeepFault.NoTimestamp of has = absurd of
+not_begun observers manifest before now file records KeepFault.Output of has = absurd of
+not_begun observers manifest before now file records KeepFault.Input of has = absurd of

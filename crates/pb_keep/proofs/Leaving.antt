@@ -3,36 +3,38 @@ use Rattle.std.proofs.Common.{◌≡◌, ℕ, List, [], ◌++◌, Option, sym, a
 use Rattle.pb_keep.specs.Words.{AppendsPart, KeptTable, Writes}
 use Rattle.pb_keep.specs.declared.fault.KeepFault.{KeepFault}
 use Rattle.pb_keep.specs.declared.waiting.Waits.{Waits}
-use Rattle.pb_keep.specs.Kept.{IsLogOf}
+use Rattle.pb_keep.specs.Kept.{IsLogOf, Origin}
 use Rattle.pb_keep.specs.Waits.{changes_in, AreAnswers, AreSomeAnswers}
 use Rattle.pb_keep.specs.Left.{IsLeftBy, IsLeftInLog, IsLeftMade, IsOfLog, IsOfMaking}
 use Rattle.std.proofs.lemmas.List.{append-nil}
 use Rattle.pb_keep.proofs.Putting.{rest_has_changes}
 
-module _ (manifest : List ℕ) (changes : List Writes) (items : List Waits) (old new : KeptTable) (was_written written : Option (List ℕ)) (may_leave : List ℕ → Type 0) where
-  pub left_in_log : (e : KeepFault) → IsOfLog e → IsLeftInLog manifest changes items old new was_written written may_leave → IsLeftBy manifest changes items old new was_written written may_leave e
+module _ (origin : Origin) (changes : List Writes) (items : List Waits) (old new : KeptTable) (was_written written : Option (List ℕ)) (may_leave : List ℕ → Type 0) where
+  pub left_in_log : (e : KeepFault) → IsOfLog e → IsLeftInLog origin changes items old new was_written written may_leave → IsLeftBy origin changes items old new was_written written may_leave e
   left_in_log (KeepFault.Log e) of l = l
   left_in_log (KeepFault.NoMemory e) of l = absurd of
   left_in_log KeepFault.Record of l = absurd of
+  left_in_log KeepFault.Snapshot of l = absurd of
   left_in_log KeepFault.NoTimestamp of l = absurd of
   left_in_log KeepFault.Output of l = absurd of
   left_in_log KeepFault.Input of l = absurd of
 
-  pub left_in_making : (e : KeepFault) → IsOfMaking e → IsLeftMade manifest changes items old was_written written may_leave → IsLeftBy manifest changes items old new was_written written may_leave e
+  pub left_in_making : (e : KeepFault) → IsOfMaking e → IsLeftMade origin changes items old was_written written may_leave → IsLeftBy origin changes items old new was_written written may_leave e
   left_in_making (KeepFault.Log e) of l = absurd of
   left_in_making (KeepFault.NoMemory e) of l = l
   left_in_making KeepFault.Record of l = absurd of
+  left_in_making KeepFault.Snapshot of l = absurd of
   left_in_making KeepFault.NoTimestamp of l = l
   left_in_making KeepFault.Output of l = absurd of
   left_in_making KeepFault.Input of l = absurd of
 
-  pub left_in_writing : (e : KeepFault) → e ≡ KeepFault.Output → IsLeftMade manifest changes items old was_written written may_leave → IsLeftBy manifest changes items old new was_written written may_leave e
-  left_in_writing e is l = subst (λ f. IsLeftBy manifest changes items old new was_written written may_leave f) (sym is) l
+  pub left_in_writing : (e : KeepFault) → e ≡ KeepFault.Output → IsLeftMade origin changes items old was_written written may_leave → IsLeftBy origin changes items old new was_written written may_leave e
+  left_in_writing e is l = subst (λ f. IsLeftBy origin changes items old new was_written written may_leave f) (sym is) l
 
-  pub left_made : (seen : List ℕ) (end : ℕ) (text : List ℕ) → IsLogOf manifest (changes ++ changes_in items) seen may_leave end → AreSomeAnswers items old [] text → AppendsPart was_written written text
-      → IsLeftMade manifest changes items old was_written written may_leave
+  pub left_made : (seen : List ℕ) (end : ℕ) (text : List ℕ) → IsLogOf origin (changes ++ changes_in items) seen may_leave end → AreSomeAnswers items old [] text → AppendsPart was_written written text
+      → IsLeftMade origin changes items old was_written written may_leave
   left_made seen end text log answers part = record {
-    crash = rest_has_changes manifest (changes ++ changes_in items) seen may_leave end log;
+    crash = rest_has_changes origin (changes ++ changes_in items) seen may_leave end log;
     text = text;
     answers = answers;
     is_written = part;

@@ -1,6 +1,8 @@
 pub mod Mapping
 pub mod Scripts
 pub mod Records
+pub mod Origins
+pub mod Quiet
 pub mod Added
 pub mod Putting
 pub mod Lasts

@@ -33,10 +33,6 @@ pub both_errs : {T E : Type 0} {P Q R : E → Type 0} (r : Result T E) → ((e :
 both_errs (Ok x) f p q = tt
 both_errs (Err e) f p q = f e p q
 
-pub if_then_ok : {T E Q : Type 0} {P : T → Type 0} (r : Result T E) → ((x : T) → P x → Q) → IfOk r P → OnOk r Q
-if_then_ok (Ok x) f p = f x p
-if_then_ok (Err e) f p = tt
-
 -- what follows of what stands after a call, whether it succeeded or failed
 pub of_both : {T E P Q S : Type 0} (r : Result T E) → OnOk r P → OnErr r Q → (P → S) → (Q → S) → S
 of_both (Ok x) p q f g = f p

@@ -1,11 +1,21 @@
 -- What a record more makes.
-use Rattle.std.proofs.Common.{arith, ◌≡◌, inl, inr, ℕ, ◌+◌, List, [], ◌∷◌, ◌++◌, Ok, map, refl, sym, ap, ◌∙◌}
+use Rattle.std.proofs.Common.{arith, ◌≡◌, inl, inr, ℕ, ◌+◌, true, false, not, ◌==◌, List, [], ◌∷◌, ◌++◌, codes, length, Option, None, Some, Ok, Err, map, refl, sym, ap, subst, ◌∙◌}
+use Rattle.std.specs.List.{flat_map, list_all, AllByRecursion}
 use Rattle.pb_log.specs.Laws.{FilesHaveOneReading}
-use Rattle.pb_keep.specs.Words.{HasRecords, Writes, header, script_of, ◌>>=◌}
+use Rattle.pb_parse.specs.ScriptLines.{with_line, with_operation}
+use Rattle.pb_parse.specs.ScriptWords.{write_of}
+use Rattle.pb_reading.specs.Reading.{lines_of}
+use Rattle.pb_reading.specs.Faults.{in_lines}
+use Rattle.pb_snapshots.specs.RecordLaws.{RecordsAreOfOneSnapshot}
+use Rattle.pb_snapshots.specs.Snapshot.{number_bytes, snapshot_magic, stats_bytes, version_bytes}
+use Rattle.pb_keep.specs.Words.{HasRecords, ScriptCode, SnapshotOf, Writes, header, script_code, script_of, snapshot_bytes, ◌>>=◌}
+use Rattle.pb_reading.proofs.Parts.{lacks_if}
 use Rattle.pb_reading.proofs.Readings.{ok_is, then_ok}
-use Rattle.pb_keep.specs.Kept.{changes_of, reported_count}
+use Rattle.pb_keep.specs.Kept.{changes_of, reported_count, snapshot_records, FitsIfAny}
 use Rattle.pb_keep.specs.Laws.{FilesHaveOneList}
 use Rattle.std.proofs.lemmas.List.{append_assoc, append-nil}
+use Rattle.std.proofs.lemmas.List.Elements.{All-from_recursion}
+use Rattle.std.proofs.lemmas.List.Splits.{slice_split_at}
 
 -- the changes of the first record, and of the others
 record Parts (r : List ℕ) (rs : List (List ℕ)) (cs : List Writes) : Type 0 where
@@ -58,6 +68,56 @@ same_records one manifest rs ss file (inl l) (inr m) = absurd (none_or_some (hea
 same_records one manifest rs ss file (inr l) (inl m) = absurd (none_or_some (header manifest) ss (one file (header manifest ∷ ss) [] m l.1))
 same_records one manifest rs ss file (inr l) (inr m) = l.0 ∙ sym m.0
 
-pub one_list : FilesHaveOneReading → FilesHaveOneList
-one_list one manifest changes others file h k =
-    ok_is changes others (sym h.make ∙ ap changes_of (same_records one manifest h.records k.records file h.has k.has) ∙ k.make)
+-- ---- a snapshot's record is no script
+
+-- the first line of each, and it is no change
+first_line : (rest : List ℕ) → lines_of (snapshot_magic ++ rest) ≡ (255 ∷ codes "snapshot 1") ∷ lines_of rest
+first_line rest = slice_split_at (λ b. b == 10) (255 ∷ codes "snapshot 1") 10 rest (All-from_recursion (λ b. (b == 10) ≡ false) (255 ∷ codes "snapshot 1") (by_test refl)) refl
+  where
+    by_test : list_all (λ b. not (b == 10)) (255 ∷ codes "snapshot 1") ≡ true → AllByRecursion (λ b. (b == 10) ≡ false) (255 ∷ codes "snapshot 1")
+    by_test h = lacks_if 10 (255 ∷ codes "snapshot 1") h
+
+no_change : with_line [] (255 ∷ codes "snapshot 1") ≡ Err ScriptCode.Form
+unfolding with_line with_operation write_of
+no_change = refl
+
+err_or_ok : (fault : ℕ × ℕ) (changes : List Writes) → Err fault ≡ Ok changes → ⊥
+err_or_ok fault changes e = absurd cc
+
+first_fails : (before : List Writes) (line : List ℕ) (lines : List (List ℕ)) (code : ScriptCode) → with_line before line ≡ Err code → (fault : ℕ × ℕ) × (in_lines script_code with_line 0 before (line ∷ lines) ≡ Err fault)
+first_fails before line lines code h = ((1, script_code code), rw (h) refl)
+
+no_script : (before : List Writes) (line : List ℕ) (lines : List (List ℕ)) (code : ScriptCode) (changes : List Writes) → with_line before line ≡ Err code → in_lines script_code with_line 0 before (line ∷ lines) ≡ Ok changes → ⊥
+no_script before line lines code changes h e = let f = first_fails before line lines code h in err_or_ok f.0 changes (sym f.1 ∙ e)
+
+is_no_script : (s : SnapshotOf) (changes : List Writes) → script_of (snapshot_bytes s) ≡ Ok changes → ⊥
+is_no_script s changes e =
+    let rest = number_bytes s.clock ++ (number_bytes (length s.stats) ++ (flat_map stats_bytes s.stats ++ flat_map version_bytes s.cells)) in
+    let line : List ℕ = 255 ∷ codes "snapshot 1" in
+    let cut : lines_of (snapshot_bytes s) ≡ line ∷ lines_of rest = first_line rest in
+    let read : in_lines script_code with_line 0 [] (line ∷ lines_of rest) ≡ Ok changes = subst (λ ls. in_lines script_code with_line 0 [] ls ≡ Ok changes) cut e in
+    no_script [] line (lines_of rest) ScriptCode.Form changes no_change read
+
+-- the rest of a record of a snapshot, in front of which stands its first byte
+starts_so : (a b : List ℕ) (rs ss : List (List ℕ)) → a ∷ rs ≡ b ∷ ss → a ≡ b
+starts_so a b rs ss e = cc
+
+not_first : (s : SnapshotOf) (scripts others : List (List ℕ)) (changes : List Writes) → changes_of scripts ≡ Ok changes → scripts ≡ snapshot_bytes s ∷ others → ⊥
+not_first s scripts others changes make e =
+    let p = parts_of (snapshot_bytes s) others changes (ap changes_of (sym e) ∙ make) in
+    is_no_script s p.first p.of_first
+
+-- records that begin with a snapshot or not, before scripts, begin with one snapshot
+module _ (one : RecordsAreOfOneSnapshot) where
+  one_snapshot : (a b : Option SnapshotOf) (rs ss : List (List ℕ)) (changes others : List Writes) → FitsIfAny a → FitsIfAny b → changes_of rs ≡ Ok changes → changes_of ss ≡ Ok others
+      → snapshot_records a ++ rs ≡ snapshot_records b ++ ss → (a ≡ b) × (rs ≡ ss)
+  one_snapshot None None rs ss changes others f g m n e = (refl, e)
+  one_snapshot None (Some u) rs ss changes others f g m n e = absurd (not_first u rs ss changes m e)
+  one_snapshot (Some s) None rs ss changes others f g m n e = absurd (not_first s ss rs others n (sym e))
+  one_snapshot (Some s) (Some u) rs ss changes others f g m n e = (ap (λ z. Some z) (one s u f g (starts_so (snapshot_bytes s) (snapshot_bytes u) rs ss e)), rest_of (snapshot_bytes s) (snapshot_bytes u) rs ss e)
+
+pub one_list : FilesHaveOneReading → RecordsAreOfOneSnapshot → FilesHaveOneList
+one_list one records origin other changes others file same h k =
+    let both = same_records one other.manifest (snapshot_records origin.snapshot ++ h.scripts) (snapshot_records other.snapshot ++ k.scripts) file (subst (λ m. HasRecords m (snapshot_records origin.snapshot ++ h.scripts) file) same h.has) k.has in
+    let parts = one_snapshot records origin.snapshot other.snapshot h.scripts k.scripts changes others h.fits k.fits h.make k.make both in
+    (parts.0, ok_is changes others (sym h.make ∙ ap changes_of parts.1 ∙ k.make))

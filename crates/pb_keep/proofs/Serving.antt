@@ -2,11 +2,11 @@
 use Rattle.std.specs.Prelude.{string_bytes}
 use Rattle.std.proofs.Common.{◌≡◌, ◌⊎◌, inl, inr, ℕ, Bool, true, false, List, [], ◌∷◌, ◌++◌, length, Option, Some, None, Result, Ok, Err, refl, ap, sym, subst, ◌∙◌}
 use Rattle.std.specs.Io.KnownBytes.{Appends}
-use Rattle.pb_keep.specs.Words.{AppendsPart, Condition, Keeps, KeptTable, ObserverOf, Request, ScriptCode, StateOf, Writes}
+use Rattle.pb_keep.specs.Words.{AppendsPart, Condition, Keeps, KeptTable, Request, ScriptCode, StateOf, Writes}
 use Rattle.pb_keep.specs.declared.fault.KeepFault.{KeepFault}
 use Rattle.pb_keep.specs.declared.waiting.Waits.{Waits}
 use Rattle.pb_keep.specs.declared.waiting.Waiting.{Waiting}
-use Rattle.pb_keep.specs.Kept.{HasChanges, IsLogOf}
+use Rattle.pb_keep.specs.Kept.{kept_since, HasChanges, IsLogOf, Origin}
 use Rattle.pb_keep.specs.Waits.{changes_in, none as no_answer, AreAnswers, AreSomeAnswers, Group, group_after, group_of, grouped, IsNoLine}
 use Rattle.pb_keep.specs.Held.{IsAnswerTo, IsLineHeld, IsHeldAs, IsReadAs}
 use Rattle.pb_keep.specs.Taken.{is_question, IsLineReady, IsReadyFor, MayHaveAnswered, WaitsNow}
@@ -82,9 +82,9 @@ none_waits_now now z none =
     (subst (λ g. AreHeld z [] [] (grouped g now.changes (length (string_bytes now.script)))) (sym none.alone) none_held)
 
 -- no line is served yet
-pub serves_none : (manifest : List ℕ) (observers : List ObserverOf) (changes : List Writes) (k : KeeperView)
-    → IsLogOf manifest changes k.seen k.may_leave k.end → Keeps observers changes k.table → IsNoLine k.waiting → Serves (beginning manifest observers changes k.table k.written) [] k
-serves_none manifest observers changes k log keeps none = record {
+pub serves_none : (origin : Origin) (first : KeptTable) (changes : List Writes) (k : KeeperView)
+    → k.since ≡ kept_since origin → IsLogOf origin changes k.seen k.may_leave k.end → Keeps first changes k.table → IsNoLine k.waiting → Serves (beginning origin first changes k.table k.written) [] k
+serves_none origin first changes k since log keeps none = record {
   answered = [];
   pending = [];
   parts = refl;
@@ -92,8 +92,9 @@ serves_none manifest observers changes k log keeps none = record {
   text = [];
   told = none_yet;
   is_written = none_appended k.written;
-  log = subst (λ l. IsLogOf manifest l k.seen k.may_leave k.end) (sym (append-nil changes)) log;
-  keeps = subst (λ l. Keeps observers l k.table) (sym (append-nil changes)) keeps;
+  since = since;
+  log = subst (λ l. IsLogOf origin l k.seen k.may_leave k.end) (sym (append-nil changes)) log;
+  keeps = subst (λ l. Keeps first l k.table) (sym (append-nil changes)) keeps;
   held = none_waits_now k.waiting k.table.state none;
 }
 
@@ -129,6 +130,7 @@ module _ {b : Beginning} {lines : List (List ℕ)} {k : KeeperView} (s : Serves 
         text = s.text;
         told = s.told;
         is_written = s.is_written;
+        since = s.since;
         log = s.log;
         keeps = s.keeps;
         held = subst (λ g. AreHeld k.table.state (s.pending ++ line ∷ []) now.items.items g) (sym w.group)
@@ -139,14 +141,14 @@ module _ {b : Beginning} {lines : List (List ℕ)} {k : KeeperView} (s : Serves 
   all_answered : k.waiting.items.items ≡ [] → lines ≡ s.answered
   all_answered e = s.parts ∙ ap (λ l. s.answered ++ l) (none_waited k.table.state s.pending k.waiting.items.items (group_of k.waiting) s.held e) ∙ append-nil s.answered
 
-  answered_one : (line text : List ℕ) (question : Request) → k.waiting.items.items ≡ [] → IsReadAs line (Ok question) → IsAnswerTo question k.table text
-      → AreAnswered b.table (lines ++ line ∷ []) s.made Group.alone k.table (s.text ++ text)
+  answered_one : (line text : List ℕ) (question : Request) → k.waiting.items.items ≡ [] → IsReadAs line (Ok question) → IsAnswerTo k.since question k.table text
+      → AreAnswered (kept_since b.origin) b.table (lines ++ line ∷ []) s.made Group.alone k.table (s.text ++ text)
   answered_one line text question none reads answer =
-      subst (λ l. AreAnswered b.table (l ++ line ∷ []) s.made Group.alone k.table (s.text ++ text)) (sym (all_answered none))
-      (one_asked s.answered line s.made k.table s.text text s.told (record { request = question; reads = reads; answer = answer }))
+      subst (λ l. AreAnswered (kept_since b.origin) b.table (l ++ line ∷ []) s.made Group.alone k.table (s.text ++ text)) (sym (all_answered none))
+      (one_asked s.answered line s.made k.table s.text text s.told (record { request = question; reads = reads; answer = subst (λ n. IsAnswerTo n question k.table text) s.since answer }))
 
   -- a question more is answered
-  pub serves_asked : (line text : List ℕ) (question : Request) (now : Option (List ℕ)) → IsNoLine k.waiting → IsReadAs line (Ok question) → IsAnswerTo question k.table text → Appends k.written now text
+  pub serves_asked : (line text : List ℕ) (question : Request) (now : Option (List ℕ)) → IsNoLine k.waiting → IsReadAs line (Ok question) → IsAnswerTo k.since question k.table text → Appends k.written now text
       → Serves b (lines ++ line ∷ []) (record k { written = now })
   serves_asked line text question now none reads answer more = record {
     answered = lines ++ line ∷ [];
@@ -156,24 +158,25 @@ module _ {b : Beginning} {lines : List (List ℕ)} {k : KeeperView} (s : Serves 
     text = s.text ++ text;
     told = answered_one line text question none.items reads answer;
     is_written = appends_both b.written k.written now s.text text s.is_written more;
+    since = s.since;
     log = s.log;
     keeps = s.keeps;
     held = none_waits_now k.waiting k.table.state none;
   }
 
   lines_answered : (new : KeptTable) (text : List ℕ) → k.waiting.is_group ≡ false → AreAnswers k.waiting.items.items k.table new text
-      → AreAnswered b.table lines (s.made ++ changes_in k.waiting.items.items) Group.alone new (s.text ++ text)
+      → AreAnswered (kept_since b.origin) b.table lines (s.made ++ changes_in k.waiting.items.items) Group.alone new (s.text ++ text)
   lines_answered new text alone a =
       let w = k.waiting in
-      subst (λ l. AreAnswered b.table l (s.made ++ changes_in w.items.items) Group.alone new (s.text ++ text)) (sym s.parts)
-      (subst (λ g. AreAnswered b.table (s.answered ++ s.pending) (s.made ++ changes_in w.items.items) (grouped g w.changes (length (string_bytes w.script))) new (s.text ++ text)) alone
-      (held_answered b.table k.table s.answered s.made s.text s.told s.pending w.items.items (group_of w) new text s.held a))
+      subst (λ l. AreAnswered (kept_since b.origin) b.table l (s.made ++ changes_in w.items.items) Group.alone new (s.text ++ text)) (sym s.parts)
+      (subst (λ g. AreAnswered (kept_since b.origin) b.table (s.answered ++ s.pending) (s.made ++ changes_in w.items.items) (grouped g w.changes (length (string_bytes w.script))) new (s.text ++ text)) alone
+      (held_answered (kept_since b.origin) b.table k.table s.answered s.made s.text s.told s.pending w.items.items (group_of w) new text s.held a))
 
   -- what waited is kept
-  pub serves_kept : (now : KeeperView) (text : List ℕ) → k.waiting.is_group ≡ false → IsNoLine now.waiting
-      → IsLogOf b.manifest ((b.changes ++ s.made) ++ changes_in k.waiting.items.items) now.seen now.may_leave now.end → Keeps b.observers ((b.changes ++ s.made) ++ changes_in k.waiting.items.items) now.table
+  pub serves_kept : (now : KeeperView) (text : List ℕ) → k.waiting.is_group ≡ false → IsNoLine now.waiting → now.since ≡ k.since
+      → IsLogOf b.origin ((b.changes ++ s.made) ++ changes_in k.waiting.items.items) now.seen now.may_leave now.end → Keeps b.first ((b.changes ++ s.made) ++ changes_in k.waiting.items.items) now.table
       → AreAnswers k.waiting.items.items k.table now.table text → Appends k.written now.written text → Serves b lines now
-  serves_kept now text alone none log keeps a more =
+  serves_kept now text alone none same log keeps a more =
       let all = append_assoc b.changes s.made (changes_in k.waiting.items.items) in
       record {
         answered = lines;
@@ -183,18 +186,19 @@ module _ {b : Beginning} {lines : List (List ℕ)} {k : KeeperView} (s : Serves 
         text = s.text ++ text;
         told = lines_answered now.table text alone a;
         is_written = appends_both b.written k.written now.written s.text text s.is_written more;
-        log = subst (λ l. IsLogOf b.manifest l now.seen now.may_leave now.end) all log;
-        keeps = subst (λ l. Keeps b.observers l now.table) all keeps;
+        since = same ∙ s.since;
+        log = subst (λ l. IsLogOf b.origin l now.seen now.may_leave now.end) all log;
+        keeps = subst (λ l. Keeps b.first l now.table) all keeps;
         held = none_waits_now now.waiting now.table.state none;
       }
 
   -- ---- what a crash leaves
 
-  has_made : (file : List ℕ) → k.may_leave file → HasChanges b.manifest (b.changes ++ s.made) file
-  has_made file m = rest_has_changes b.manifest (b.changes ++ s.made) k.seen k.may_leave k.end s.log file m
+  has_made : (file : List ℕ) → k.may_leave file → HasChanges b.origin (b.changes ++ s.made) file
+  has_made file m = rest_has_changes b.origin (b.changes ++ s.made) k.seen k.may_leave k.end s.log file m
 
-  leaves : (file : List ℕ) (now : Option (List ℕ)) → (HasChanges b.manifest (b.changes ++ s.made) file × AppendsPart b.written now s.text)
-      ⊎ (HasChanges b.manifest ((b.changes ++ s.made) ++ changes_in k.waiting.items.items) file
+  leaves : (file : List ℕ) (now : Option (List ℕ)) → (HasChanges b.origin (b.changes ++ s.made) file × AppendsPart b.written now s.text)
+      ⊎ (HasChanges b.origin ((b.changes ++ s.made) ++ changes_in k.waiting.items.items) file
       × ((more : List ℕ) × AreSomeAnswers k.waiting.items.items k.table [] more × AppendsPart b.written now (s.text ++ more))) → LeavesFirst b lines now file
   leaves file now has = record {
     answered = s.answered;
@@ -218,11 +222,11 @@ module _ {b : Beginning} {lines : List (List ℕ)} {k : KeeperView} (s : Serves 
   no_answers : AreSomeAnswers k.waiting.items.items k.table [] []
   no_answers = record { front = []; rest = k.waiting.items.items; parts = refl; now = k.table; text = []; answers = no_answer k.table; added = refl }
 
-  left_made : (now : Option (List ℕ)) (may_leave : List ℕ → Type 0) → IsLeftMade b.manifest (b.changes ++ s.made) k.waiting.items.items k.table k.written now may_leave
+  left_made : (now : Option (List ℕ)) (may_leave : List ℕ → Type 0) → IsLeftMade b.origin (b.changes ++ s.made) k.waiting.items.items k.table k.written now may_leave
       → (file : List ℕ) → may_leave file → LeavesFirst b lines now file
   left_made now may_leave l file m = leaves file now (inr (l.crash file m, (l.text, l.answers, part_appended b.written k.written now s.text l.text s.is_written l.is_written)))
 
-  left_in_log : (new : KeptTable) (now : Option (List ℕ)) (may_leave : List ℕ → Type 0) → IsLeftInLog b.manifest (b.changes ++ s.made) k.waiting.items.items k.table new k.written now may_leave
+  left_in_log : (new : KeptTable) (now : Option (List ℕ)) (may_leave : List ℕ → Type 0) → IsLeftInLog b.origin (b.changes ++ s.made) k.waiting.items.items k.table new k.written now may_leave
       → (file : List ℕ) → may_leave file → LeavesFirst b lines now file
   left_in_log new now may_leave l file m =
       let same : AppendsPart b.written now s.text = all_appended b.written now s.text (subst (λ w. Appends b.written w s.text) (sym l.unwritten) s.is_written) in
@@ -232,17 +236,18 @@ module _ {b : Beginning} {lines : List (List ℕ)} {k : KeeperView} (s : Serves 
       ]
 
   -- where lines could not be kept, these, or with them those of the lines that waited
-  pub leaves_left : (new : KeptTable) (now : Option (List ℕ)) (may_leave : List ℕ → Type 0) (e : KeepFault) → IsLeftBy b.manifest (b.changes ++ s.made) k.waiting.items.items k.table new k.written now may_leave e
+  pub leaves_left : (new : KeptTable) (now : Option (List ℕ)) (may_leave : List ℕ → Type 0) (e : KeepFault) → IsLeftBy b.origin (b.changes ++ s.made) k.waiting.items.items k.table new k.written now may_leave e
       → (file : List ℕ) → may_leave file → LeavesFirst b lines now file
   leaves_left new now may_leave (KeepFault.Log e) l file m = left_in_log new now may_leave l file m
   leaves_left new now may_leave (KeepFault.NoMemory e) l file m = left_made now may_leave l file m
   leaves_left new now may_leave KeepFault.Record l file m = left_made now may_leave l file m
+  leaves_left new now may_leave KeepFault.Snapshot l file m = left_made now may_leave l file m
   leaves_left new now may_leave KeepFault.NoTimestamp l file m = left_made now may_leave l file m
   leaves_left new now may_leave KeepFault.Output l file m = left_made now may_leave l file m
   leaves_left new now may_leave KeepFault.Input l file m = left_made now may_leave l file m
 
   -- where a question could not be answered, those of the lines before it
-  pub leaves_asked : (line : List ℕ) (question : Request) (now : Option (List ℕ)) → IsNoLine k.waiting → IsReadAs line (Ok question) → MayHaveAnswered question k.table k.written now
+  pub leaves_asked : (line : List ℕ) (question : Request) (now : Option (List ℕ)) → IsNoLine k.waiting → IsReadAs line (Ok question) → MayHaveAnswered k.since question k.table k.written now
       → (file : List ℕ) → k.may_leave file → LeavesFirst b (lines ++ line ∷ []) now file
   leaves_asked line question now none reads (inl same) file m =
       more_lines (line ∷ []) (subst (λ w. LeavesFirst b lines w file) (sym same) (leaves_served file m))

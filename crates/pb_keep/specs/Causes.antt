@@ -1,8 +1,9 @@
 -- Why a table is kept no longer. Of memory nothing is known: it may be refused in any call.
 use Rattle.std.specs.Prelude.{◌≡◌, ℕ, Bool, true, List}
-use Rattle.pb_keep.specs.Words.{WhyNotOpened, WhyNotPut, last_timestamp}
+use Rattle.pb_keep.specs.Words.{HasRecords, ObserverOf, WhyNotOpened, WhyNotPut, last_timestamp}
 use Rattle.pb_keep.specs.declared.fault.KeepFault.{KeepFault}
 use Rattle.pb_keep.specs.Conversations.{KeeperView}
+use Rattle.pb_keep.specs.Kept.{LacksSnapshot}
 
 -- a put into the log failed, by how many calls of its disk had failed before and have failed now, and where the log ends
 abbrev pub IsOfPut : ℕ → ℕ → ℕ → KeepFault → Type 0
@@ -14,6 +15,12 @@ abbrev pub IsOfAnswer : Bool → KeepFault → Type 0
 IsOfAnswer failed (KeepFault.NoMemory e) = Unit {0}
 IsOfAnswer failed KeepFault.Output = failed ≡ true
 IsOfAnswer failed _ = ⊥
+
+-- the first record is of no snapshot that the table can begin with, or memory was refused
+abbrev pub IsOfFirst : List ObserverOf → List (List ℕ) → KeepFault → Type 0
+IsOfFirst observers records (KeepFault.NoMemory e) = Unit {0}
+IsOfFirst observers records KeepFault.Snapshot = LacksSnapshot observers records
+IsOfFirst observers records _ = ⊥
 
 -- a record is no script, no timestamp was left for a change, or memory was refused
 abbrev pub IsOfAnew : KeepFault → Type 0
@@ -29,6 +36,7 @@ WhyNotKept before now failed k (KeepFault.NoMemory e) = Unit {0}
 WhyNotKept before now failed k KeepFault.NoTimestamp = k.table.state.clock ≡ last_timestamp
 WhyNotKept before now failed k KeepFault.Output = failed ≡ true
 WhyNotKept before now failed k KeepFault.Record = ⊥
+WhyNotKept before now failed k KeepFault.Snapshot = ⊥
 WhyNotKept before now failed k KeepFault.Input = ⊥
 
 -- the same where lines are read, of whose faults nothing is known
@@ -36,7 +44,12 @@ abbrev pub WhyNotServed : ℕ → ℕ → Bool → KeeperView → KeepFault → 
 WhyNotServed before now failed k KeepFault.Input = Unit {0}
 WhyNotServed before now failed k e = WhyNotKept before now failed k e
 
+-- the file is a log of this manifest, and its first record after the header is of no snapshot that the table can begin with
+abbrev pub LacksSnapshotIn : List ObserverOf → List ℕ → List ℕ → Type 0
+LacksSnapshotIn observers manifest file = (records : List (List ℕ)) × HasRecords manifest records file × LacksSnapshot observers records
+
 -- why a log of this manifest isn't opened, where this is the file, or its changes aren't made again
-abbrev pub WhyNotMadeAgain : List ℕ → ℕ → ℕ → List ℕ → KeepFault → Type 0
-WhyNotMadeAgain manifest before now file (KeepFault.Log e) = WhyNotOpened manifest before now file e
-WhyNotMadeAgain manifest before now file e = IsOfAnew e
+abbrev pub WhyNotMadeAgain : List ObserverOf → List ℕ → ℕ → ℕ → List ℕ → KeepFault → Type 0
+WhyNotMadeAgain observers manifest before now file (KeepFault.Log e) = WhyNotOpened manifest before now file e
+WhyNotMadeAgain observers manifest before now file KeepFault.Snapshot = LacksSnapshotIn observers manifest file
+WhyNotMadeAgain observers manifest before now file e = IsOfAnew e

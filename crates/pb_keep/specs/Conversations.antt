@@ -1,50 +1,52 @@
 -- What was answered to lines, and what a log and a table have of them: the lines as they came, one after the other.
 use Rattle.std.specs.Prelude.{◌≡◌, ◌⊎◌, ℕ, List, [], ◌∷◌, ◌++◌, length, Option}
 use Rattle.std.specs.Io.KnownBytes.{Appends}
-use Rattle.pb_keep.specs.Words.{AppendsPart, Keeps, KeptTable, ObserverOf, StateOf, Writes, kept_table}
+use Rattle.pb_keep.specs.Words.{AppendsPart, Keeps, KeptTable, StateOf, Writes, kept_table}
 use Rattle.pb_keep.specs.declared.keeper.Keeper.{Keeper}
 use Rattle.pb_keep.specs.declared.waiting.Waits.{Waits}
 use Rattle.pb_keep.specs.declared.waiting.Waiting.{Waiting}
-use Rattle.pb_keep.specs.Kept.{HasChanges, IsLogOf}
+use Rattle.pb_keep.specs.Kept.{kept_since, HasChanges, IsLogOf, Origin}
 use Rattle.pb_keep.specs.Waits.{changes_in, AreSomeAnswers, Group, group_after, group_of, IsAnswer}
 use Rattle.pb_keep.specs.Held.{IsAsked, IsLineHeld}
 
--- Lines are answered one after the other, from this table on: these changes were made, and this text is the answers. The group is
--- that in which the next line stands.
-pub data AreAnswered (start : KeptTable) : List (List ℕ) → List Writes → Group → KeptTable → List ℕ → Type 0 where
-  none_yet : AreAnswered start [] [] Group.alone start []
-  one_answered : (lines : List (List ℕ)) (line : List ℕ) (made : List Writes) (group : Group) (item : Waits) (between new : KeptTable) (text more : List ℕ) → AreAnswered start lines made group between text → IsLineHeld group between.state line item → IsAnswer item between new more
-      → AreAnswered start (lines ++ line ∷ []) (made ++ changes_in (item ∷ [])) (group_after group (length line) item) new (text ++ more)
-  one_asked : (lines : List (List ℕ)) (line : List ℕ) (made : List Writes) (table : KeptTable) (text more : List ℕ) → AreAnswered start lines made Group.alone table text → IsAsked table line more → AreAnswered start (lines ++ line ∷ []) made Group.alone table (text ++ more)
+-- Lines are answered one after the other, from this table on, which has all writes above `since`: these changes were made, and this
+-- text is the answers. The group is that in which the next line stands.
+pub data AreAnswered (since : ℕ) (start : KeptTable) : List (List ℕ) → List Writes → Group → KeptTable → List ℕ → Type 0 where
+  none_yet : AreAnswered since start [] [] Group.alone start []
+  one_answered : (lines : List (List ℕ)) (line : List ℕ) (made : List Writes) (group : Group) (item : Waits) (between new : KeptTable) (text more : List ℕ) → AreAnswered since start lines made group between text → IsLineHeld group between.state line item → IsAnswer item between new more
+      → AreAnswered since start (lines ++ line ∷ []) (made ++ changes_in (item ∷ [])) (group_after group (length line) item) new (text ++ more)
+  one_asked : (lines : List (List ℕ)) (line : List ℕ) (made : List Writes) (table : KeptTable) (text more : List ℕ) → AreAnswered since start lines made Group.alone table text → IsAsked since table line more → AreAnswered since start (lines ++ line ∷ []) made Group.alone table (text ++ more)
 
 -- Lines wait as these, from this state on. Only the first may depend on the state: the others wait so in each.
 pub data AreHeld (state : StateOf) : List (List ℕ) → List Waits → Group → Type 0 where
   none_held : AreHeld state [] [] Group.alone
   one_held : (lines : List (List ℕ)) (line : List ℕ) (items : List Waits) (item : Waits) (group : Group) → AreHeld state lines items group → ((s : StateOf) → (items ≡ [] → s ≡ state) → IsLineHeld group s line item) → AreHeld state (lines ++ line ∷ []) (items ++ item ∷ []) (group_after group (length line) item)
 
--- where lines begin to be taken: a log of this manifest, with these changes, a table that keeps them, and what was written by then
+-- where lines begin to be taken: a log of this origin, with these changes, the table before them, a table that keeps them, and what was
+-- written by then
 pub record Beginning : Type 0 where
-  pub manifest : List ℕ
-  pub observers : List ObserverOf
+  pub origin : Origin
+  pub first : KeptTable
   pub changes : List Writes
   pub table : KeptTable
   pub written : Option (List ℕ)
 
-abbrev pub beginning : List ℕ → List ObserverOf → List Writes → KeptTable → Option (List ℕ) → Beginning
-beginning manifest observers changes table written = record { manifest = manifest; observers = observers; changes = changes; table = table; written = written }
+abbrev pub beginning : Origin → KeptTable → List Writes → KeptTable → Option (List ℕ) → Beginning
+beginning origin first changes table written = record { origin = origin; first = first; changes = changes; table = table; written = written }
 
--- a keeper and its output: what its disk has and what a crash may leave there, where its log ends, its table, the lines that wait, and
--- what was written
+-- a keeper and its output: what its disk has and what a crash may leave there, where its log ends, its table, the commit above which
+-- all writes are there, the lines that wait, and what was written
 pub record KeeperView : Type 1 where
   pub seen : List ℕ
   pub may_leave : List ℕ → Type 0
   pub end : ℕ
   pub table : KeptTable
+  pub since : ℕ
   pub waiting : Waiting
   pub written : Option (List ℕ)
 
 abbrev pub keeper_view : {T D : Type 0} → (D → List ℕ) → (D → List ℕ → Type 0) → Keeper T D → Option (List ℕ) → KeeperView
-keeper_view seen may_leave keeper written = record { seen = seen keeper.log.disk; may_leave = may_leave keeper.log.disk; end = keeper.log.end; table = kept_table keeper.state keeper.stats.items; waiting = keeper.waiting; written = written }
+keeper_view seen may_leave keeper written = record { seen = seen keeper.log.disk; may_leave = may_leave keeper.log.disk; end = keeper.log.end; table = kept_table keeper.state keeper.stats.items; since = keeper.since.0; waiting = keeper.waiting; written = written }
 
 -- Of these lines the first are answered, and the others wait: the log and the table have the changes of those that are answered, and
 -- nothing was written but the answers.
@@ -54,10 +56,11 @@ pub record Serves (b : Beginning) (lines : List (List ℕ)) (k : KeeperView) : T
   pub parts : lines ≡ answered ++ pending
   pub made : List Writes
   pub text : List ℕ
-  pub told : AreAnswered b.table answered made Group.alone k.table text
+  pub told : AreAnswered (kept_since b.origin) b.table answered made Group.alone k.table text
   pub is_written : Appends b.written k.written text
-  pub log : IsLogOf b.manifest (b.changes ++ made) k.seen k.may_leave k.end
-  pub keeps : Keeps b.observers (b.changes ++ made) k.table
+  pub since : k.since ≡ kept_since b.origin
+  pub log : IsLogOf b.origin (b.changes ++ made) k.seen k.may_leave k.end
+  pub keeps : Keeps b.first (b.changes ++ made) k.table
   pub held : AreHeld k.table.state pending k.waiting.items.items (group_of k.waiting)
 
 -- A crash leaves the changes of the first of these lines, with all that are answered. Either it leaves those of the lines that were
@@ -71,10 +74,10 @@ pub record LeavesFirst (b : Beginning) (lines : List (List ℕ)) (written : Opti
   pub made : List Writes
   pub table : KeptTable
   pub text : List ℕ
-  pub told : AreAnswered b.table answered made Group.alone table text
+  pub told : AreAnswered (kept_since b.origin) b.table answered made Group.alone table text
   pub items : List Waits
   pub group : Group
   pub held : AreHeld table.state pending items group
-  pub has : (HasChanges b.manifest (b.changes ++ made) file × AppendsPart b.written written text)
-      ⊎ (HasChanges b.manifest ((b.changes ++ made) ++ changes_in items) file
+  pub has : (HasChanges b.origin (b.changes ++ made) file × AppendsPart b.written written text)
+      ⊎ (HasChanges b.origin ((b.changes ++ made) ++ changes_in items) file
       × ((more : List ℕ) × AreSomeAnswers items table [] more × AppendsPart b.written written (text ++ more)))

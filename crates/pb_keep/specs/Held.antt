@@ -1,9 +1,9 @@
 -- What a line asks for, and as what it waits for its answer.
-use Rattle.std.specs.Prelude.{◌≡◌, ℕ, ◌||◌, ◌==◌, Bool, if◌then◌else◌, List, ◌∷◌, length, Option, Some, None, Result, Ok, Err, IsUtf8}
+use Rattle.std.specs.Prelude.{◌≡◌, ℕ, ◌<◌, ◌≤◌, ◌||◌, ◌==◌, Bool, if◌then◌else◌, List, ◌∷◌, ◌++◌, length, codes, decimal, Option, Some, None, Result, Ok, Err, IsUtf8}
 use Rattle.std.specs.List.{list_any}
 use Rattle.pb_keep.specs.Words.{Writes, Cell, Condition, IsListAnswer, IsSeenIn, IsValueAnswer, IsWritesAnswer, KeptTable, Newest, Request, ScriptCode, StateOf, Ts, asked_by, batch_of, cut, is_skipped, last_line, lock_count, script_code, stats_text}
 use Rattle.std.specs.FinMap as map
-use Rattle.pb_keep.specs.declared.take.TheConstants.{OUT_OF_PLACE}
+use Rattle.pb_keep.specs.declared.take.TheConstants.{GONE, OUT_OF_PLACE}
 use Rattle.pb_keep.specs.declared.waiting.Waits.{Waits}
 use Rattle.pb_keep.specs.Waits.{Group, has_line_room}
 
@@ -95,20 +95,29 @@ pub record IsLineHeld (group : Group) (state : StateOf) (line : List ℕ) (item 
 abbrev pub IsStatsOf : KeptTable → List ℕ → Type 0
 IsStatsOf table text = (log : ℕ) × (text ≡ stats_text table.state table.stats log)
 
--- the answer to a question
-abbrev pub IsAnswerTo : Request → KeptTable → List ℕ → Type 0
-IsAnswerTo (Request.Get row column) table text = IsValueAnswer table.state (Cell.Data row column) text
-IsAnswerTo (Request.Since above) table text = IsWritesAnswer table.state above.0 text
-IsAnswerTo Request.List table text = IsListAnswer table.state text
-IsAnswerTo Request.IsQuiet table text = text ≡ last_line (map.len table.state.marks) (lock_count table.state.entries)
-IsAnswerTo Request.Stats table text = IsStatsOf table text
-IsAnswerTo Request.Change table text = ⊥
-IsAnswerTo (Request.ChangeIf condition) table text = ⊥
-IsAnswerTo Request.Begin table text = ⊥
-IsAnswerTo Request.End table text = ⊥
+-- the writes up to this commit are gone, but for those that a snapshot kept
+abbrev pub gone_line : ℕ → List ℕ
+gone_line since = codes "refused " ++ (decimal GONE ++ (codes " " ++ (decimal since ++ codes "\n")))
+
+-- the writes above a commit, where all above `since` are there
+pub record IsSinceAnswer (since : ℕ) (state : StateOf) (above : ℕ) (text : List ℕ) : Type 0 where
+  pub gone : above < since → text ≡ gone_line since
+  pub there : since ≤ above → IsWritesAnswer state above text
+
+-- the answer to a question, where all writes above `since` are there
+abbrev pub IsAnswerTo : ℕ → Request → KeptTable → List ℕ → Type 0
+IsAnswerTo since (Request.Get row column) table text = IsValueAnswer table.state (Cell.Data row column) text
+IsAnswerTo since (Request.Since above) table text = IsSinceAnswer since table.state above.0 text
+IsAnswerTo since Request.List table text = IsListAnswer table text
+IsAnswerTo since Request.IsQuiet table text = text ≡ last_line (map.len table.state.marks) (lock_count table.state.entries)
+IsAnswerTo since Request.Stats table text = IsStatsOf table text
+IsAnswerTo since Request.Change table text = ⊥
+IsAnswerTo since (Request.ChangeIf condition) table text = ⊥
+IsAnswerTo since Request.Begin table text = ⊥
+IsAnswerTo since Request.End table text = ⊥
 
 -- a line is a question, and this its answer
-pub record IsAsked (table : KeptTable) (line text : List ℕ) : Type 0 where
+pub record IsAsked (since : ℕ) (table : KeptTable) (line text : List ℕ) : Type 0 where
   pub request : Request
   pub reads : IsReadAs line (Ok request)
-  pub answer : IsAnswerTo request table text
+  pub answer : IsAnswerTo since request table text

@@ -1,6 +1,6 @@
--- The changes that the records of a log make.
-use Rattle.std.specs.Prelude.{◌≡◌, ℕ, ◌-◌, ◌^◌, min, List, [], ◌∷◌, ◌++◌, Result, Ok}
-use Rattle.pb_keep.specs.Words.{Writes, script_of, IsAtRest, HasRecords, header, ◌>>=◌}
+-- What the records of a log are: a snapshot, if it begins with one, and scripts, whose changes are made.
+use Rattle.std.specs.Prelude.{◌≡◌, ℕ, ◌-◌, ◌^◌, ◌==◌, min, Bool, true, false, List, [], ◌∷◌, ◌++◌, length, Option, Some, None, Result, Ok}
+use Rattle.pb_keep.specs.Words.{AreInOrder, FitsSnapshot, IsAtRest, IsCarriedOver, HasRecords, KeptTable, ObserverOf, SnapshotOf, Writes, header, opened_table, script_of, snapshot_bytes, ◌>>=◌}
 
 -- the changes of records, each of them a script, in order; or the fault of the first that is none
 unfoldable pub changes_of : List (List ℕ) → Result (List Writes) (ℕ × ℕ)
@@ -14,14 +14,80 @@ changes_of (script ∷ scripts) = do
 abbrev pub reported_count : ℕ → ℕ
 reported_count n = min n (2 ^ 64 - 1)
 
--- a file is the log of this manifest, and its records make these changes
-pub record HasChanges (manifest : List ℕ) (changes : List Writes) (file : List ℕ) : Type 0 where
-  pub records : List (List ℕ)
-  pub has : HasRecords manifest records file
-  pub make : changes_of records ≡ Ok changes
+-- ---- what a log begins with
 
--- The log of this manifest is at rest, all of it is on the disk, and its records make these changes.
-pub record IsLogOf (manifest : List ℕ) (changes : List Writes) (seen : List ℕ) (may_leave : List ℕ → Type 0) (end : ℕ) : Type 0 where
-  pub records : List (List ℕ)
-  pub at_rest : IsAtRest seen may_leave end (header manifest ∷ records)
-  pub make : changes_of records ≡ Ok changes
+-- its manifest, and where an earlier generation went before, the snapshot that was left of that
+pub record Origin : Type 0 where
+  pub manifest : List ℕ
+  pub snapshot : Option SnapshotOf
+
+abbrev pub origin_of : List ℕ → Option SnapshotOf → Origin
+origin_of manifest snapshot = record { manifest = manifest; snapshot = snapshot }
+
+-- the record of the snapshot, if there is one
+abbrev pub snapshot_records : Option SnapshotOf → List (List ℕ)
+snapshot_records None = []
+snapshot_records (Some s) = snapshot_bytes s ∷ []
+
+-- the first record begins as that of a snapshot, with a byte that no text has
+abbrev pub begins_as_snapshot : List (List ℕ) → Bool
+begins_as_snapshot [] = false
+begins_as_snapshot ([] ∷ records) = false
+begins_as_snapshot ((b ∷ rest) ∷ records) = b == 255
+
+-- its numbers are within their bounds
+abbrev pub FitsIfAny : Option SnapshotOf → Type 0
+FitsIfAny None = Unit {0}
+FitsIfAny (Some s) = FitsSnapshot s
+
+-- above this commit all writes are there
+abbrev pub since_in : Option SnapshotOf → ℕ
+since_in None = 0
+since_in (Some s) = s.clock
+
+abbrev pub kept_since : Origin → ℕ
+kept_since origin = since_in origin.snapshot
+
+-- the table with which the first change finds itself: as opened, or as the snapshot has it
+abbrev pub IsFirstOf : List ObserverOf → Option SnapshotOf → KeptTable → Type 0
+IsFirstOf observers None first = first ≡ opened_table observers
+IsFirstOf observers (Some s) first = IsCarriedOver observers 1 s.clock s.cells first.state × (first.stats ≡ s.stats)
+
+-- a table with these observers can begin with this snapshot, and this is its record
+pub record IsSnapshotFor (observers : List ObserverOf) (bytes : List ℕ) (s : SnapshotOf) : Type 0 where
+  pub fits : FitsSnapshot s
+  pub written : bytes ≡ snapshot_bytes s
+  pub as_many : length s.stats ≡ length observers
+  pub in_order : AreInOrder observers s.clock s.cells
+
+-- the first record begins as that of a snapshot, and is of none that a table with these observers can begin with
+pub record LacksSnapshot (observers : List ObserverOf) (records : List (List ℕ)) : Type 0 where
+  pub first : List ℕ
+  pub others : List (List ℕ)
+  pub records_are : records ≡ first ∷ others
+  pub begins_so : begins_as_snapshot records ≡ true
+  pub lacks : (s : SnapshotOf) → IsSnapshotFor observers first s → ⊥
+
+-- what a table begins with that was opened with these records: their snapshot is taken off, and its clock is known
+pub record IsBegunWith (observers : List ObserverOf) (records scripts : List (List ℕ)) (since : ℕ) (first : KeptTable) : Type 0 where
+  pub snapshot : Option SnapshotOf
+  pub fits : FitsIfAny snapshot
+  pub records_are : records ≡ snapshot_records snapshot ++ scripts
+  pub first_is : IsFirstOf observers snapshot first
+  pub since_is : since ≡ since_in snapshot
+
+-- ---- what a file has
+
+-- a file is a log of this origin, and its scripts make these changes
+pub record HasChanges (origin : Origin) (changes : List Writes) (file : List ℕ) : Type 0 where
+  pub fits : FitsIfAny origin.snapshot
+  pub scripts : List (List ℕ)
+  pub has : HasRecords origin.manifest (snapshot_records origin.snapshot ++ scripts) file
+  pub make : changes_of scripts ≡ Ok changes
+
+-- The log of this origin is at rest, all of it is on the disk, and its scripts make these changes.
+pub record IsLogOf (origin : Origin) (changes : List Writes) (seen : List ℕ) (may_leave : List ℕ → Type 0) (end : ℕ) : Type 0 where
+  pub fits : FitsIfAny origin.snapshot
+  pub scripts : List (List ℕ)
+  pub at_rest : IsAtRest seen may_leave end (header origin.manifest ∷ (snapshot_records origin.snapshot ++ scripts))
+  pub make : changes_of scripts ≡ Ok changes

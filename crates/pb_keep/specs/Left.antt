@@ -1,9 +1,10 @@
 -- What is left where lines that wait can't be kept.
 use Rattle.std.specs.Prelude.{◌≡◌, ◌⊎◌, ℕ, List, [], ◌++◌, Option}
+use Rattle.pb_state.specs.declared.carry_fault.CarryFault.{CarryFault}
 use Rattle.pb_keep.specs.Words.{AppendsPart, KeptTable, StateOf, Stopped, Writes, last_timestamp}
 use Rattle.pb_keep.specs.declared.fault.KeepFault.{KeepFault}
 use Rattle.pb_keep.specs.declared.waiting.Waits.{Waits}
-use Rattle.pb_keep.specs.Kept.{HasChanges}
+use Rattle.pb_keep.specs.Kept.{HasChanges, Origin}
 use Rattle.pb_keep.specs.Waits.{changes_in, AreSomeAnswers}
 
 -- the log failed
@@ -17,6 +18,11 @@ fault_by (Stopped.NoMemory refused) = KeepFault.NoMemory refused
 fault_by (Stopped.Refused why) = KeepFault.NoTimestamp
 fault_by Stopped.Conflict = KeepFault.NoTimestamp
 
+-- the fault of versions that aren't carried over
+abbrev pub fault_of_carried : CarryFault → KeepFault
+fault_of_carried (CarryFault.NoMemory refused) = KeepFault.NoMemory refused
+fault_of_carried _ = KeepFault.Snapshot
+
 -- where it names timestamps, the table has given out the last one
 abbrev pub IsRightOf : StateOf → KeepFault → Type 0
 IsRightOf state KeepFault.NoTimestamp = state.clock ≡ last_timestamp
@@ -29,19 +35,19 @@ IsOfMaking KeepFault.NoTimestamp = Unit {0}
 IsOfMaking _ = ⊥
 
 -- where the log failed: nothing is made or written, and a crash leaves the changes of before, or with those that waited
-pub record IsLeftInLog (manifest : List ℕ) (changes : List Writes) (items : List Waits) (old new : KeptTable) (was_written written : Option (List ℕ)) (may_leave : List ℕ → Type 0) : Type 0 where
+pub record IsLeftInLog (origin : Origin) (changes : List Writes) (items : List Waits) (old new : KeptTable) (was_written written : Option (List ℕ)) (may_leave : List ℕ → Type 0) : Type 0 where
   pub table : new ≡ old
   pub unwritten : written ≡ was_written
-  pub crash : (c : List ℕ) → may_leave c → HasChanges manifest changes c ⊎ HasChanges manifest (changes ++ changes_in items) c
+  pub crash : (c : List ℕ) → may_leave c → HasChanges origin changes c ⊎ HasChanges origin (changes ++ changes_in items) c
 
 -- where another fault came later: a crash leaves all changes that waited, and a beginning of some answers was written
-pub record IsLeftMade (manifest : List ℕ) (changes : List Writes) (items : List Waits) (old : KeptTable) (was_written written : Option (List ℕ)) (may_leave : List ℕ → Type 0) : Type 0 where
-  pub crash : (c : List ℕ) → may_leave c → HasChanges manifest (changes ++ changes_in items) c
+pub record IsLeftMade (origin : Origin) (changes : List Writes) (items : List Waits) (old : KeptTable) (was_written written : Option (List ℕ)) (may_leave : List ℕ → Type 0) : Type 0 where
+  pub crash : (c : List ℕ) → may_leave c → HasChanges origin (changes ++ changes_in items) c
   pub text : List ℕ
   pub answers : AreSomeAnswers items old [] text
   pub is_written : AppendsPart was_written written text
 
 -- what a fault leaves
-abbrev pub IsLeftBy : List ℕ → List Writes → List Waits → KeptTable → KeptTable → Option (List ℕ) → Option (List ℕ) → (List ℕ → Type 0) → KeepFault → Type 0
-IsLeftBy manifest changes items old new was_written written may_leave (KeepFault.Log e) = IsLeftInLog manifest changes items old new was_written written may_leave
-IsLeftBy manifest changes items old new was_written written may_leave _ = IsLeftMade manifest changes items old was_written written may_leave
+abbrev pub IsLeftBy : Origin → List Writes → List Waits → KeptTable → KeptTable → Option (List ℕ) → Option (List ℕ) → (List ℕ → Type 0) → KeepFault → Type 0
+IsLeftBy origin changes items old new was_written written may_leave (KeepFault.Log e) = IsLeftInLog origin changes items old new was_written written may_leave
+IsLeftBy origin changes items old new was_written written may_leave _ = IsLeftMade origin changes items old was_written written may_leave

@@ -4,8 +4,10 @@ pub mod Waits
 pub mod Held
 pub mod Taken
 pub mod Conversations
+pub mod Opened
 pub mod Left
 pub mod Causes
 pub mod Input
 pub mod Served
+pub mod Anew
 pub mod Laws

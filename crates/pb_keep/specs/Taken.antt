@@ -48,8 +48,8 @@ pub record WaitsNow (state : StateOf) (line : List ℕ) (read : Result Request S
   pub held : IsHeldAs (group_of old) state line read item
 
 -- nothing was written, or a beginning of the answer to a question
-abbrev pub MayHaveAnswered : Request → KeptTable → Option (List ℕ) → Option (List ℕ) → Type 0
-MayHaveAnswered question table old new = (new ≡ old) ⊎ ((text : List ℕ) × IsAnswerTo question table text × AppendsPart old new text)
+abbrev pub MayHaveAnswered : ℕ → Request → KeptTable → Option (List ℕ) → Option (List ℕ) → Type 0
+MayHaveAnswered since question table old new = (new ≡ old) ⊎ ((text : List ℕ) × IsAnswerTo since question table text × AppendsPart old new text)
 
 -- with what the runs did stand the bytes of this log
 abbrev pub NamesLog : Request → KeptTable → ℕ → List ℕ → Type 0

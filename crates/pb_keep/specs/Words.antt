@@ -6,6 +6,8 @@ pub use Rattle.pb_base.specs.declared.limits.TheConstants.{MAX_CHANGES}
 pub use Rattle.pb_base.specs.declared.names.Ts.{Ts}
 pub use Rattle.pb_store.specs.Contents.{IsNextMark}
 pub use Rattle.pb_verify.specs.Observers.{ObserverOf}
+pub use Rattle.pb_history.specs.Handled.{IsQuiet}
+pub use Rattle.pb_state.specs.CarriedOver.{AreInOrder, IsCarriedOver}
 pub use Rattle.pb_steps.specs.Readings.{last_timestamp, lock_count}
 pub use Rattle.pb_steps.specs.State.{StateOf}
 pub use Rattle.pb_reading.specs.Reading.{is_skipped, ◌>>=◌}
@@ -23,7 +25,7 @@ pub use Rattle.pb_answers.specs.Stats.{stats_text}
 pub use Rattle.pb_answers.specs.Values.{IsValueAnswer}
 pub use Rattle.pb_answers.specs.Writes.{IsWritesAnswer}
 pub use Rattle.pb_keeper.specs.Counts.{commit_count}
-pub use Rattle.pb_keeper.specs.Keeps.{Keeps}
+pub use Rattle.pb_keeper.specs.Keeps.{opened_table, IsFirstTable, Keeps, KeepsFrom}
 pub use Rattle.pb_keeper.specs.Leads.{SaidLeads}
 pub use Rattle.pb_keeper.specs.Made.{IsMade}
 pub use Rattle.pb_keeper.specs.Stats.{Counted, KeptTable, kept_table}
@@ -32,3 +34,5 @@ pub use Rattle.pb_keeper.specs.declared.passes.Made.{Made}
 pub use Rattle.pb_log.specs.Causes.{WhyNotOpened, WhyNotPut}
 pub use Rattle.pb_log.specs.Records.{IsAtRest}
 pub use Rattle.pb_log.specs.Header.{HasRecords, header}
+pub use Rattle.pb_snapshots.specs.Snapshot.{FitsSnapshot, SnapshotOf, are_of_their_cells, snapshot_bytes}
+pub use Rattle.pb_snapshots.specs.Taken.{IsSnapshotTaken}

@@ -1,10 +1,9 @@
 //! The changes of a log, made again when it is opened.
 ghost use Rattle.std.specs.Prelude.{◌≡◌, ◌++◌, List, length, map, IfOk, IfErr, OnOk, Ok};
 ghost use Rattle.pb_base.specs.Batch.{Writes};
-ghost use Rattle.pb_verify.specs.Observers.{ObserverOf};
 ghost use Rattle.pb_parse.specs.ScriptLines.{script_of};
 ghost use Rattle.pb_keeper.specs.Keeps.{Keeps};
-ghost use Rattle.pb_keeper.specs.Stats.{kept_table};
+ghost use Rattle.pb_keeper.specs.Stats.{kept_table, KeptTable};
 ghost use Rattle.pb_keep.specs.Causes.{IsOfAnew};
 ghost use Rattle.pb_keep.specs.Kept.{changes_of, reported_count};
 
@@ -41,9 +40,9 @@ fn make_all_counted<R: Wait, T: Tablet>(
     stats: &mut Vec<ObserverStats>,
     batches: Vec<Batch>,
 ) -> Result<(), Stopped>
-    ensures { (observers : List ObserverOf) (changes : List Writes)
-        → Keeps observers changes (kept_table state.old stats.old.items)
-        → OnOk result (Keeps observers (changes ++ batches.items)
+    ensures { (first : KeptTable) (changes : List Writes)
+        → Keeps first changes (kept_table state.old stats.old.items)
+        → OnOk result (Keeps first (changes ++ batches.items)
         (kept_table state.new stats.new.items)) }
 {
     make_all(rt, alloc, state, stats, batches)
@@ -57,10 +56,11 @@ fn make_anew<R: Wait, T: Tablet>(
     stats: &mut Vec<ObserverStats>,
     record: &[u8],
 ) -> Result<usize, KeepFault>
-    ensures keeps { (observers : List ObserverOf) (changes : List Writes)
-        → Keeps observers changes (kept_table state.old stats.old.items)
-        → IfOk result (λ n. (script : List Writes) × (script_of «record».now ≡ Ok script)
-        × Keeps observers (changes ++ script) (kept_table state.new stats.new.items)
+    ensures keeps { IfOk result (λ n. (script : List Writes)
+        × (script_of «record».now ≡ Ok script)
+        × ((first : KeptTable) (changes : List Writes)
+        → Keeps first changes (kept_table state.old stats.old.items)
+        → Keeps first (changes ++ script) (kept_table state.new stats.new.items))
         × (n ≡ length script)) }
     ensures why { IfErr result IsOfAnew }
 {
@@ -79,11 +79,11 @@ pub fn make_records_anew<R: Wait, T: Tablet>(
     stats: &mut Vec<ObserverStats>,
     records: Vec<Vec<u8>>,
 ) -> Result<u64, KeepFault>
-    ensures keeps { (observers : List ObserverOf) (changes : List Writes)
-        → Keeps observers changes (kept_table state.old stats.old.items)
-        → IfOk result (λ n. (more : List Writes)
+    ensures keeps { IfOk result (λ n. (more : List Writes)
         × (changes_of (map (λ v. v.items) records.items) ≡ Ok more)
-        × Keeps observers (changes ++ more) (kept_table state.new stats.new.items)
+        × ((first : KeptTable) (changes : List Writes)
+        → Keeps first changes (kept_table state.old stats.old.items)
+        → Keeps first (changes ++ more) (kept_table state.new stats.new.items))
         × (n ≡ reported_count (length more))) }
     ensures why { IfErr result IsOfAnew }
 {

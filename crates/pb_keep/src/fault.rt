@@ -1,12 +1,13 @@
 //! Why a table is kept no longer.
 ghost use Rattle.std.specs.Prelude.{◌≡◌};
 ghost use Rattle.pb_base.specs.Growths.{refused_growth};
-ghost use Rattle.pb_keep.specs.Left.{fault_by};
+ghost use Rattle.pb_keep.specs.Left.{fault_by, fault_of_carried};
 ghost use Rattle.pb_keep.specs.declared.fault.KeepFault.TheVariants as ends;
 
 use pb_base::NoMemory;
 use pb_keeper::Stopped;
 use pb_log::LogFault;
+use pb_state::CarryFault;
 use std::alloc::{AllocError, AllocFailed};
 use thiserror::Error;
 
@@ -22,6 +23,9 @@ pub enum KeepFault {
     /// A record of the log is no script: another program wrote it.
     #[error("a record of the log can't be read")]
     Record,
+    /// The record of the snapshot that the log begins with isn't that of a table with these observers.
+    #[error("the snapshot of the log is damaged")]
+    Snapshot,
     /// The table has given out its last timestamp.
     #[error("no timestamp is left")]
     NoTimestamp,
@@ -60,6 +64,17 @@ impl From<LogFault> for KeepFault {
 
     fn from(e: LogFault) -> KeepFault {
         KeepFault::Log(e)
+    }
+}
+
+impl From<CarryFault> for KeepFault {
+    ghost from_gives = { λ e f. f ≡ fault_of_carried e };
+
+    fn from(e: CarryFault) -> KeepFault {
+        match e {
+            CarryFault::NoMemory(refused) => KeepFault::NoMemory(refused),
+            _ => KeepFault::Snapshot,
+        }
     }
 }
 

@@ -3,22 +3,23 @@ ghost use Rattle.std.specs.Prelude.{◌≡◌, ◌⊎◌, ◌++◌, ◌<◌, ◌
 ghost use Rattle.sqlite_disk.specs.Disk.{Only};
 ghost use Rattle.pb_base.specs.Batch.{Writes};
 ghost use Rattle.std.specs.Io.KnownBytes.{Appends};
-ghost use Rattle.pb_verify.specs.Observers.{ObserverOf};
-ghost use Rattle.pb_keeper.specs.Keeps.{Keeps};
-ghost use Rattle.pb_keeper.specs.Stats.{kept_table};
-ghost use Rattle.pb_keep.specs.Kept.{reported_count, HasChanges, IsLogOf};
+ghost use Rattle.pb_keeper.specs.Keeps.{opened_table, IsFirstTable, Keeps};
+ghost use Rattle.pb_keeper.specs.Stats.{kept_table, KeptTable};
+ghost use Rattle.pb_keep.specs.Kept.{HasChanges, IsLogOf, Origin};
 ghost use Rattle.pb_keep.specs.Waits.{changes_in, AreAnswers, IsNoLine, IsWaiting};
 ghost use Rattle.pb_keep.specs.Conversations.{beginning, keeper_view, Beginning, LeavesFirst, Serves};
+ghost use Rattle.pb_keep.specs.Opened.{IsOpenedLog};
 ghost use Rattle.pb_keep.specs.Causes.{IsOfPut, WhyNotKept, WhyNotMadeAgain};
 ghost use Rattle.pb_keep.specs.Left.{IsLeftBy, IsOfLog};
 
 use crate::anew::make_records_anew;
 use crate::fault::KeepFault;
+use crate::first::begin;
 use crate::made::make_and_answer;
 use crate::take::write;
 use crate::waiting::Waiting;
-use pb_base::Sink;
-use pb_keeper::ObserverStats;
+use pb_base::{Sink, Ts};
+use pb_keeper::{ObserverStats, tables_keep_their_changes};
 use pb_log::Log;
 use pb_state::State;
 use pb_store::Tablet;
@@ -27,13 +28,15 @@ use std::alloc::Global;
 use std::mem;
 use std::sync::Wait;
 
-/// A table that is kept: its log, its state, what the runs of its observers did, and the lines that wait. It ends by `close`
-/// alone.
+/// A table that is kept: its log, its state, what the runs of its observers did, the lines that wait, and since when its writes
+/// are there. It ends by `close` alone.
 pub struct Keeper<T: Tablet, D: Disk + Drop> {
     pub log: Log<D>,
     pub state: State<T>,
     pub stats: Vec<ObserverStats>,
     pub waiting: Waiting,
+    /// All writes above this commit are there; of those before, only what its log's snapshot has.
+    pub since: Ts,
 }
 
 // Puts the changes that wait into the log, if there are any.
@@ -45,15 +48,15 @@ fn put_script<D: Disk + Drop>(
     requires usable { IsTrue (D.is_usable log.old.disk) }
     requires waiting { IsWaiting waiting.now }
     ensures usable { OnOk result (IsTrue (D.is_usable log.new.disk)) }
-    ensures put { (manifest : List ℕ) (changes : List Writes)
-        → IsLogOf manifest changes (D.seen log.old.disk) (D.may_leave log.old.disk) log.old.end
-        → OnOk result (IsLogOf manifest (changes ++ changes_in waiting.now.items.items)
+    ensures put { (origin : Origin) (changes : List Writes)
+        → IsLogOf origin changes (D.seen log.old.disk) (D.may_leave log.old.disk) log.old.end
+        → OnOk result (IsLogOf origin (changes ++ changes_in waiting.now.items.items)
         (D.seen log.new.disk) (D.may_leave log.new.disk) log.new.end) }
-    ensures crash { (manifest : List ℕ) (changes : List Writes)
-        → IsLogOf manifest changes (D.seen log.old.disk) (D.may_leave log.old.disk) log.old.end
+    ensures crash { (origin : Origin) (changes : List Writes)
+        → IsLogOf origin changes (D.seen log.old.disk) (D.may_leave log.old.disk) log.old.end
         → (c : List ℕ) → D.may_leave log.new.disk c
-        → HasChanges manifest changes c
-        ⊎ HasChanges manifest (changes ++ changes_in waiting.now.items.items) c }
+        → HasChanges origin changes c
+        ⊎ HasChanges origin (changes ++ changes_in waiting.now.items.items) c }
     ensures cause { IfErr result
         (IsOfPut (D.faults log.old.disk) (D.faults log.new.disk) log.new.end) }
     ensures faultless { OnOk result (D.faults log.new.disk ≡ D.faults log.old.disk) }
@@ -72,6 +75,7 @@ impl<T: Tablet, D: Disk + Drop> Keeper<T, D> {
         ensures state { result.state ≡ state }
         ensures stats { result.stats.items ≡ stats.items }
         ensures idle { IsNoLine result.waiting }
+        ensures since { result.since.0 ≡ 0 }
         ensures waiting { IsWaiting result.waiting }
     {
         Keeper {
@@ -79,11 +83,12 @@ impl<T: Tablet, D: Disk + Drop> Keeper<T, D> {
             state,
             stats,
             waiting: Waiting::new(alloc),
+            since: Ts(0),
         }
     }
 
-    /// Opens the log of this manifest, or makes it, and makes its changes again, in order. Returns how many they are. The
-    /// manifest has less than 2^31 bytes.
+    /// Opens the log of this manifest, or makes it, begins with its snapshot, if it has one, and makes its changes again, in
+    /// order. Returns how many they are. The manifest has less than 2^31 bytes.
     pub fn open<R: Wait>(
         &mut self,
         rt: &R,
@@ -93,31 +98,33 @@ impl<T: Tablet, D: Disk + Drop> Keeper<T, D> {
         requires usable { IsTrue (D.is_usable self.old.log.disk) }
         requires restarted { Only (D.seen self.old.log.disk) (D.may_leave self.old.log.disk) }
         requires short { length manifest.now < 2 ^ 31 }
+        requires opened { kept_table self.old.state self.old.stats.items
+            ≡ opened_table self.old.state.observers }
         ensures usable { OnOk result (IsTrue (D.is_usable self.new.log.disk)) }
         ensures waiting { self.new.waiting ≡ self.old.waiting }
-        ensures kept { (observers : List ObserverOf)
-            → Keeps observers [] (kept_table self.old.state self.old.stats.items)
-            → IfOk result (λ n. IsTrue (D.is_clean self.new.log.disk)
-            → (changes : List Writes) × HasChanges manifest.now changes (D.seen self.old.log.disk)
-            × IsLogOf manifest.now changes (D.seen self.new.log.disk)
-            (D.may_leave self.new.log.disk) self.new.log.end
-            × Keeps observers changes (kept_table self.new.state self.new.stats.items)
-            × (n ≡ reported_count (length changes))) }
-        // Then no line is served yet.
-        ensures serves { (observers : List ObserverOf) (written : Option (List ℕ))
-            → Keeps observers [] (kept_table self.old.state self.old.stats.items)
-            → IsNoLine self.old.waiting
-            → OnOk result (IsTrue (D.is_clean self.new.log.disk)
-            → (changes : List Writes) × HasChanges manifest.now changes (D.seen self.old.log.disk)
-            × Serves (beginning manifest.now observers changes
-            (kept_table self.new.state self.new.stats.items) written) []
+        ensures kept { (written : Option (List ℕ)) → IfOk result (λ n.
+            IsTrue (D.is_clean self.new.log.disk)
+            → IsOpenedLog manifest.now (D.seen self.old.log.disk) self.old.state.observers n
             (keeper_view D.seen D.may_leave self.new written)) }
+        // Then no line is served yet.
+        ensures serves { (written : Option (List ℕ))
+            → IsNoLine self.old.waiting
+            → IfOk result (λ n. IsTrue (D.is_clean self.new.log.disk)
+            → (o : IsOpenedLog manifest.now (D.seen self.old.log.disk) self.old.state.observers n
+            (keeper_view D.seen D.may_leave self.new written))
+            × ((past : List Writes) → IsFirstTable past o.first
+            → Serves (beginning o.origin o.first o.changes
+            (kept_table self.new.state self.new.stats.items) written) []
+            (keeper_view D.seen D.may_leave self.new written))) }
         // A fault of the log has its cause in the file or the disk.
         ensures cause { IfErr result (λ e. IsTrue (D.is_clean self.new.log.disk)
-            → WhyNotMadeAgain manifest.now (D.faults self.old.log.disk)
+            → WhyNotMadeAgain self.old.state.observers manifest.now (D.faults self.old.log.disk)
             (D.faults self.new.log.disk) (D.seen self.old.log.disk) e) }
     {
-        let records = self.log.open(alloc, manifest)?;
+        // For the proof: as it begins, a table keeps no change of its own.
+        tables_keep_their_changes();
+        let mut records = self.log.open(alloc, manifest)?;
+        self.since = begin(alloc, &mut self.state, &mut self.stats, &mut records)?;
         make_records_anew(rt, alloc, &mut self.state, &mut self.stats, records)
     }
 
@@ -132,31 +139,32 @@ impl<T: Tablet, D: Disk + Drop> Keeper<T, D> {
         requires waiting { IsWaiting self.old.waiting }
         ensures usable { OnOk result (IsTrue (D.is_usable self.new.log.disk)) }
         ensures idle { OnOk result (IsNoLine self.new.waiting) }
-        ensures kept { (manifest : List ℕ) (observers : List ObserverOf) (changes : List Writes)
-            → IsLogOf manifest changes (D.seen self.old.log.disk)
+        ensures since { self.new.since ≡ self.old.since }
+        ensures kept { (origin : Origin) (first : KeptTable) (changes : List Writes)
+            → IsLogOf origin changes (D.seen self.old.log.disk)
             (D.may_leave self.old.log.disk) self.old.log.end
-            → Keeps observers changes (kept_table self.old.state self.old.stats.items)
-            → OnOk result (IsLogOf manifest (changes ++ changes_in self.old.waiting.items.items)
+            → Keeps first changes (kept_table self.old.state self.old.stats.items)
+            → OnOk result (IsLogOf origin (changes ++ changes_in self.old.waiting.items.items)
             (D.seen self.new.log.disk) (D.may_leave self.new.log.disk) self.new.log.end
-            × Keeps observers (changes ++ changes_in self.old.waiting.items.items)
+            × Keeps first (changes ++ changes_in self.old.waiting.items.items)
             (kept_table self.new.state self.new.stats.items)) }
         ensures answers { OnOk result ((text : List ℕ)
             × AreAnswers self.old.waiting.items.items
             (kept_table self.old.state self.old.stats.items)
             (kept_table self.new.state self.new.stats.items) text
             × Appends (S.taken out.old) (S.taken out.new) text) }
-        ensures err { (manifest : List ℕ) (changes : List Writes)
-            → IsLogOf manifest changes (D.seen self.old.log.disk)
+        ensures err { (origin : Origin) (changes : List Writes)
+            → IsLogOf origin changes (D.seen self.old.log.disk)
             (D.may_leave self.old.log.disk) self.old.log.end
-            → IfErr result (IsLeftBy manifest changes self.old.waiting.items.items
+            → IfErr result (IsLeftBy origin changes self.old.waiting.items.items
             (kept_table self.old.state self.old.stats.items)
             (kept_table self.new.state self.new.stats.items)
             (S.taken out.old) (S.taken out.new) (D.may_leave self.new.log.disk)) }
         ensures unmade { IfErr result (λ e. IsOfLog e → (self.new.state ≡ self.old.state)
             × (self.new.stats.items ≡ self.old.stats.items)
             × (S.taken out.new ≡ S.taken out.old)) }
-        ensures cause { (observers : List ObserverOf) (changes : List Writes)
-            → Keeps observers changes (kept_table self.old.state self.old.stats.items)
+        ensures cause { (first : KeptTable) (changes : List Writes)
+            → Keeps first changes (kept_table self.old.state self.old.stats.items)
             → IfErr result (WhyNotKept (D.faults self.old.log.disk)
             (D.faults self.new.log.disk) (S.failed out.new)
             (keeper_view D.seen D.may_leave self.new (S.taken out.new))) }
@@ -225,6 +233,7 @@ impl<T: Tablet, D: Disk + Drop> Keeper<T, D> {
             state,
             stats: _,
             waiting: _,
+            since: _,
         } = self;
         state.close();
     }

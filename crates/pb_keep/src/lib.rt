@@ -10,7 +10,9 @@
 #![tactic(auto)]
 
 mod anew;
+mod compact;
 mod fault;
+mod first;
 mod keeper;
 mod laws;
 mod lines;
@@ -20,6 +22,7 @@ mod take;
 mod waiting;
 
 pub use anew::make_records_anew;
+pub use compact::SnapshotFault;
 pub use fault::KeepFault;
 pub use keeper::Keeper;
 pub use laws::files_have_one_list;

@@ -1,13 +1,12 @@
 //! Changes made one after the other, and the answers to lines that waited.
 ghost use Rattle.std.specs.Prelude.{◌≡◌, ◌++◌, ◌∷◌, [], ℕ, List, None, true, IfOk, OnOk, IfErr, OnErr, string_bytes, codes, decimal};
 ghost use Rattle.pb_base.specs.Batch.{Writes};
-ghost use Rattle.pb_verify.specs.Observers.{ObserverOf};
 ghost use Rattle.pb_store.specs.Contents.{IsNextMark};
 ghost use Rattle.pb_keeper.specs.Counts.{commit_count};
 ghost use Rattle.pb_keeper.specs.Keeps.{Keeps};
 ghost use Rattle.pb_keeper.specs.Leads.{SaidLeads};
 ghost use Rattle.pb_keeper.specs.Made.{IsMade};
-ghost use Rattle.pb_keeper.specs.Stats.{kept_table, Counted};
+ghost use Rattle.pb_keeper.specs.Stats.{kept_table, Counted, KeptTable};
 ghost use Rattle.pb_keeper.specs.Stops.{IsStop};
 ghost use Rattle.pb_keep.specs.Left.{IsOfMaking, IsRightOf};
 ghost use Rattle.pb_keep.specs.Waits.{changes_in, made_line, AreAnswers, AreSomeAnswers, IsAnswer};
@@ -70,12 +69,12 @@ fn make_counted<R: Wait, T: Tablet>(
         × (m.drained.runs ≡ commit_count leads.form.form.drain)) }
     ensures quiet { IfOk result
         (λ m. m.drained.rests ≡ true → IsNextMark state.new.marks None None) }
-    ensures keeps { (observers : List ObserverOf) (changes : List Writes)
-        → Keeps observers changes (kept_table state.old stats.old.items)
-        → OnOk result (Keeps observers (changes ++ batch ∷ [])
+    ensures keeps { (first : KeptTable) (changes : List Writes)
+        → Keeps first changes (kept_table state.old stats.old.items)
+        → OnOk result (Keeps first (changes ++ batch ∷ [])
         (kept_table state.new stats.new.items)) }
-    ensures stops { (observers : List ObserverOf) (changes : List Writes)
-        → Keeps observers changes (kept_table state.old stats.old.items)
+    ensures stops { (first : KeptTable) (changes : List Writes)
+        → Keeps first changes (kept_table state.old stats.old.items)
         → IfErr result (λ e. IsStop e state.new) }
 {
     make(rt, alloc, state, stats, batch)
@@ -94,14 +93,14 @@ fn answer<R: Wait, T: Tablet>(
         × (string_bytes text.new ≡ string_bytes text.old ++ more)
         × IsAnswer item (kept_table state.old stats.old.items)
         (kept_table state.new stats.new.items) more) }
-    ensures keeps { (observers : List ObserverOf) (changes : List Writes)
-        → Keeps observers changes (kept_table state.old stats.old.items)
-        → OnOk result (Keeps observers (changes ++ changes_in (item ∷ []))
+    ensures keeps { (first : KeptTable) (changes : List Writes)
+        → Keeps first changes (kept_table state.old stats.old.items)
+        → OnOk result (Keeps first (changes ++ changes_in (item ∷ []))
         (kept_table state.new stats.new.items)) }
     ensures unanswered { OnErr result (string_bytes text.new ≡ string_bytes text.old) }
     ensures why { IfErr result IsOfMaking }
-    ensures right { (observers : List ObserverOf) (changes : List Writes)
-        → Keeps observers changes (kept_table state.old stats.old.items)
+    ensures right { (first : KeptTable) (changes : List Writes)
+        → Keeps first changes (kept_table state.old stats.old.items)
         → IfErr result (IsRightOf state.new) }
 {
     match item {
@@ -130,15 +129,15 @@ pub(crate) fn make_and_answer<R: Wait, T: Tablet>(
         × (string_bytes text.new ≡ string_bytes text.old ++ more)
         × AreAnswers items.items (kept_table state.old stats.old.items)
         (kept_table state.new stats.new.items) more) }
-    ensures keeps { (observers : List ObserverOf) (changes : List Writes)
-        → Keeps observers changes (kept_table state.old stats.old.items)
-        → OnOk result (Keeps observers (changes ++ changes_in items.items)
+    ensures keeps { (first : KeptTable) (changes : List Writes)
+        → Keeps first changes (kept_table state.old stats.old.items)
+        → OnOk result (Keeps first (changes ++ changes_in items.items)
         (kept_table state.new stats.new.items)) }
     ensures some { OnErr result (AreSomeAnswers items.items (kept_table state.old stats.old.items)
         (string_bytes text.old) (string_bytes text.new)) }
     ensures why { IfErr result IsOfMaking }
-    ensures right { (observers : List ObserverOf) (changes : List Writes)
-        → Keeps observers changes (kept_table state.old stats.old.items)
+    ensures right { (first : KeptTable) (changes : List Writes)
+        → Keeps first changes (kept_table state.old stats.old.items)
         → IfErr result (IsRightOf state.new) }
 {
     for item in items {

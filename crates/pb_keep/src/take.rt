@@ -11,7 +11,7 @@ ghost use Rattle.pb_script.specs.declared.reports.lines.Newest.{Newest};
 ghost use Rattle.pb_keep.specs.declared.fault.KeepFault.TheVariants as ends;
 ghost use Rattle.pb_keeper.specs.Stats.{kept_table};
 ghost use Rattle.pb_keep.specs.Conversations.{keeper_view, Beginning, LeavesFirst, Serves};
-ghost use Rattle.pb_keep.specs.Held.{change_as_line, commit_seen, waits_for, waits_within, IsAnswerTo, IsHeldIf};
+ghost use Rattle.pb_keep.specs.Held.{change_as_line, commit_seen, waits_for, waits_within, IsAnswerTo, IsHeldIf, IsSinceAnswer};
 ghost use Rattle.pb_keep.specs.Causes.{IsOfAnswer, WhyNotKept};
 ghost use Rattle.pb_keep.specs.Taken.{is_question, IsLineReady, IsReadyFor, IsToWait, MayHaveAnswered, NamesLog, WaitsNow};
 ghost use Rattle.pb_keep.specs.Waits.{IsNoLine, IsWaiting};
@@ -32,6 +32,9 @@ use std::sync::Wait;
 
 /// The code of a line that may not stand in a group, and of an `end` without its `begin`.
 pub const OUT_OF_PLACE: u8 = 76;
+
+/// The code of a question about writes that are gone: those up to the snapshot that the log begins with.
+pub const GONE: u8 = 77;
 
 // Whether a text has a newline.
 fn has_newline(text: &str) -> bool
@@ -248,19 +251,35 @@ fn is_kept_before(waiting: &Waiting, line: &str, read: &Result<Request, ScriptCo
     }
 }
 
+// The text that a question about the writes above a commit is answered with, where those above `since` are there.
+fn answer_above<T: Tablet>(
+    alloc: Global,
+    state: &State<T>,
+    since: Ts,
+    above: Ts,
+) -> Result<String, NoMemory>
+    ensures { IfOk result (λ s. IsSinceAnswer since.0 state.now above.0 (string_bytes s)) }
+{
+    if above < since {
+        let text = format!(in alloc; "refused {GONE} {}\n", since.0)?;
+        return Ok(text);
+    }
+    answer_since(alloc, state, above)
+}
+
 impl<T: Tablet, D: Disk + Drop> Keeper<T, D> {
     // The text that a question is answered with.
     fn answer_to(&self, alloc: Global, question: Request) -> Result<String, NoMemory>
         requires { is_question question ≡ true }
-        ensures answer { IfOk result (λ s. IsAnswerTo question
+        ensures answer { IfOk result (λ s. IsAnswerTo self.now.since.0 question
             (kept_table self.now.state self.now.stats.items) (string_bytes s)) }
         ensures log { IfOk result (λ s. NamesLog question
             (kept_table self.now.state self.now.stats.items) self.now.log.end (string_bytes s)) }
     {
         match question {
             Request::Get(row, column) => answer_get(alloc, &self.state, row, column),
-            Request::Since(above) => answer_since(alloc, &self.state, above),
-            Request::List => answer_list(alloc, &self.state),
+            Request::Since(above) => answer_above(alloc, &self.state, self.since, above),
+            Request::List => answer_list(alloc, &self.state, &self.stats),
             Request::IsQuiet => answer_quiet(alloc, &self.state),
             Request::Stats => answer_stats(alloc, &self.state, &self.stats, self.log.end),
             _ => unreachable!(),
@@ -276,11 +295,12 @@ impl<T: Tablet, D: Disk + Drop> Keeper<T, D> {
     ) -> Result<(), KeepFault>
         requires { is_question question ≡ true }
         ensures ok { OnOk result ((text : List ℕ)
-            × IsAnswerTo question (kept_table self.now.state self.now.stats.items) text
+            × IsAnswerTo self.now.since.0 question
+            (kept_table self.now.state self.now.stats.items) text
             × NamesLog question (kept_table self.now.state self.now.stats.items)
             self.now.log.end text
             × Appends (S.taken out.old) (S.taken out.new) text) }
-        ensures err { OnErr result (MayHaveAnswered question
+        ensures err { OnErr result (MayHaveAnswered self.now.since.0 question
             (kept_table self.now.state self.now.stats.items)
             (S.taken out.old) (S.taken out.new)) }
         ensures why { IfErr result (IsOfAnswer (S.failed out.new)) }

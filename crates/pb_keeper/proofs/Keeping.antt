@@ -1,34 +1,45 @@
--- Changes that are kept, one after another.
-use Rattle.std.proofs.Common.{arith, ◌≡◌, ℕ, zero, suc, ◌<◌, ◌^◌, List, [], ◌∷◌, ◌++◌, length, replicate, slice_index_or, refl, ap, subst, ◌∙◌}
-use Rattle.std.proofs.lemmas.List.{length-replicate}
+-- Changes that are kept, one after another, and from generation to generation.
+use Rattle.std.proofs.Common.{arith, ◌≡◌, ℕ, zero, suc, ◌<◌, List, [], ◌∷◌, ◌++◌, length, replicate, slice_index_or, refl, sym, ap, subst, ◌∙◌}
+use Rattle.std.proofs.lemmas.List.{append_assoc, append-nil, length-replicate}
 use Rattle.pb_base.specs.Batch.{Writes}
 use Rattle.pb_base.specs.declared.names.Ts.{Ts}
 use Rattle.pb_verify.specs.Observers.{ObserverOf}
-use Rattle.pb_steps.specs.State.{opening}
+use Rattle.pb_steps.specs.Readings.{last_timestamp}
+use Rattle.pb_steps.specs.State.{StateOf}
+use Rattle.pb_history.specs.Laws.{StepsKeepSound, OpeningIsSound}
+use Rattle.pb_history.specs.declared.entry.Received.{Received}
 use Rattle.pb_notify.specs.Allowed.{entries_by}
+use Rattle.pb_generations.specs.KeptTables.{IsKeptTable, opened as opened_kept, anew as anew_kept, RunsKeepTables, WholeChangesKeepTables, MarksKeepTables}
+use Rattle.pb_generations.specs.Snapshots.{LeftAreSound}
 use Rattle.pb_keeper.specs.Leads.{SaidLeads}
 use Rattle.pb_keeper.specs.Made.{IsMade}
-use Rattle.pb_keeper.specs.Keeps.{none, one_more, AreMade, Keeps, KeptIsCounted, OpeningKeepsNone, KeptIsLegal}
-use Rattle.pb_keeper.specs.Stats.{no_runs, saturated, Counted, KeptTable, first_stats}
+use Rattle.pb_keeper.specs.Keeps.{none, one_more, AreMade, Keeps, KeepsFrom, IsFirstTable, opened, anew, BeginningKeepsNone, IsWholeTable, KeptIsWhole}
+use Rattle.pb_keeper.specs.Stats.{no_runs, sum_of, saturated, AreKeptStats, Counted, KeptTable, nothing_said}
+use Rattle.pb_keeper.specs.Stops.{WasKept}
+use Rattle.pb_keeper.proofs.EachPart.{of_all}
+use Rattle.pb_keeper.proofs.KeptTables.{parts_leave}
 use Rattle.pb_keeper.proofs.Leading.{leads_none, leads_on, leads_observers}
-use Rattle.pb_keeper.proofs.Statistics.{none_plus, counted_none, counted_on}
+use Rattle.pb_keeper.proofs.NoConflicts.{changes_count_none}
+use Rattle.pb_keeper.proofs.Resting.{first_sound, first_free, from_sound}
+use Rattle.pb_keeper.proofs.Statistics.{counted_none, counted_on, stats_append}
 
 -- one more change
-pub kept_on : (observers : List ObserverOf) (changes : List Writes) (batch : Writes) (commit : Ts) (old new : KeptTable) → Keeps observers changes old → SaidLeads (Counted old.state.observers old.stats new.stats (IsMade old.state.observers batch commit)) old.state new.state
-    → Keeps observers (changes ++ batch ∷ []) new
-kept_on observers changes batch commit old new k h =
-    let same : old.state.observers ≡ observers = leads_observers (opening observers 1 0) old.state k in
-    leads_on (opening observers 1 0) old.state new.state k (subst (λ (l : List ObserverOf). SaidLeads (Counted l old.stats new.stats (IsMade l batch commit)) old.state new.state) same h)
-    (λ said more. counted_on observers (first_stats observers) old.stats new.stats (AreMade observers changes) (IsMade observers batch commit) (AreMade observers (changes ++ batch ∷ [])) said more (λ p q. one_more changes said more batch commit p q))
+pub kept_on : (first : KeptTable) (changes : List Writes) (batch : Writes) (commit : Ts) (old new : KeptTable) → Keeps first changes old → SaidLeads (Counted old.state.observers old.stats new.stats (IsMade old.state.observers batch commit)) old.state new.state
+    → Keeps first (changes ++ batch ∷ []) new
+kept_on first changes batch commit old new k h =
+    let observers = first.state.observers in
+    let same : old.state.observers ≡ observers = leads_observers first.state old.state k.leads in
+    record {
+      past = k.past;
+      began = k.began;
+      leads = leads_on first.state old.state new.state k.leads (subst (λ (l : List ObserverOf). SaidLeads (Counted l old.stats new.stats (IsMade l batch commit)) old.state new.state) same h)
+          (λ said more. counted_on observers first.stats old.stats new.stats (AreMade observers changes) (IsMade observers batch commit) (AreMade observers (changes ++ batch ∷ [])) said more (λ p q. one_more changes said more batch commit p q));
+    }
 
-pub opening_keeps_none : OpeningKeepsNone
-opening_keeps_none observers = leads_none (opening observers 1 0) (counted_none observers (first_stats observers) (AreMade observers []) [] tt none)
+pub beginning_keeps_none : BeginningKeepsNone
+beginning_keeps_none past first began = record { past = past; began = began; leads = leads_none first.state (counted_none first.state.observers first.stats (AreMade first.state.observers []) [] tt none) }
 
-small : 0 < 2 ^ 64
-small = grind arith
-
-pub kept_is_legal : KeptIsLegal
-kept_is_legal observers changes table k = (entries_by 0 k.said, record { fits = small; run = k.leads })
+-- ---- all generations
 
 -- where no run was made, nothing is counted
 none_counted : (n o : ℕ) → slice_index_or (replicate n no_runs) o no_runs ≡ saturated no_runs
@@ -36,12 +47,70 @@ none_counted zero o = refl
 none_counted (suc n) zero = refl
 none_counted (suc n) (suc o) = none_counted n o
 
-pub kept_is_counted : KeptIsCounted
-kept_is_counted observers changes table k = record {
-  said = k.said;
-  leads = k.leads;
-  total = k.form.total;
-  did = k.form.did;
-  as_many = k.form.as_many ∙ length-replicate (length observers) no_runs;
-  are = λ o lt. k.form.grows (λ p. no_runs) (λ p more. none_counted (length observers) p) o lt ∙ ap saturated (none_plus (k.form.total o));
-}
+made_on : (observers : List ObserverOf) (past changes : List Writes) (said more : List Received) → AreMade observers past said → AreMade observers changes more → AreMade observers (past ++ changes) (said ++ more)
+made_on observers past changes said more a none = subst (λ cs. AreMade observers cs (said ++ [])) (sym (append-nil past)) (subst (λ l. AreMade observers past l) (sym (append-nil said)) a)
+made_on observers past changes said more a (one_more cs before last batch commit b is) =
+    subst (λ l. AreMade observers (past ++ (cs ++ batch ∷ [])) l) (append_assoc said before last)
+    (subst (λ l. AreMade observers l ((said ++ before) ++ last)) (append_assoc past cs (batch ∷ [])) (one_more (past ++ cs) (said ++ before) last batch commit (made_on observers past cs said before a b) is))
+
+module _ (keeps : StepsKeepSound) (opens : OpeningIsSound) (left : LeftAreSound) (runs : RunsKeepTables) (whole : WholeChangesKeepTables) (marks : MarksKeepTables) where
+  -- a generation's changes, after those of the generations before
+  whole_on : (observers : List ObserverOf) (past changes : List Writes) (first table : KeptTable) → IsFirstTable past first → first.state.observers ≡ observers → IsWholeTable observers past first → KeepsFrom first changes table → IsWholeTable observers (past ++ changes) table
+  whole_on observers past changes first table began same w k = on (subst (λ (l : List ObserverOf). SaidLeads (Counted l first.stats table.stats (AreMade l changes)) first.state table.state) same k) where
+    on : SaidLeads (Counted observers first.stats table.stats (AreMade observers changes)) first.state table.state → IsWholeTable observers (past ++ changes) table
+    on g = record {
+      said = w.said ++ g.said;
+      made = made_on observers past changes w.said g.said w.made g.form.form;
+      c = w.c;
+      kept = of_all observers (parts_leave observers runs whole marks) changes g.said g.form.form w.c w.said first.state table.state w.kept g.leads;
+      total = λ o. sum_of (w.total o) (g.form.total o);
+      did = stats_append observers w.said g.said w.total g.form.total w.did g.form.did;
+      clean = λ o.
+          let later = changes_count_none keeps observers changes g.said g.form.total first.state table.state g.form.form g.form.did (first_sound keeps opens left past first began) (first_free keeps opens left past first began) g.leads o in
+          omega (arith, w.clean o, later);
+      as_many = g.form.as_many ∙ w.as_many;
+      are = g.form.grows w.total w.are;
+    }
+
+  room_at_first : 0 < last_timestamp
+  room_at_first = grind arith
+
+  first_whole : (past : List Writes) (first : KeptTable) → IsFirstTable past first → IsWholeTable first.state.observers past first
+  first_whole past first (opened observers) = record {
+    said = [];
+    made = none;
+    c = 0;
+    kept = opened_kept room_at_first;
+    total = λ o. no_runs;
+    did = nothing_said;
+    clean = λ o. refl;
+    as_many = length-replicate (length observers) no_runs;
+    are = λ o lt. none_counted (length observers) o;
+  }
+  first_whole past first (anew before changes start old new began k quiet room is stats) =
+      over (whole_on start.state.observers before changes start old began refl (first_whole before start began) k)
+    where
+      over : IsWholeTable start.state.observers (before ++ changes) old → IsWholeTable first.state.observers (before ++ changes) first
+      over w =
+          let sound = from_sound keeps opens left before changes start old began k in
+          let ended = (left old.state first.state.entries first.state.transactions sound is.snapshot is.left).1 in
+          let observers = start.state.observers in
+          let same : first.state.observers ≡ observers = ap (λ (z : StateOf). z.observers) is.is ∙ leads_observers start.state old.state k in
+          subst (λ (l : List ObserverOf). IsWholeTable l (before ++ changes) first) (sym same) (record {
+            said = w.said;
+            made = w.made;
+            c = old.state.clock;
+            kept = subst (λ (z : StateOf). IsKeptTable observers 1 0 old.state.clock (entries_by 0 w.said) z) (sym is.is) (anew_kept w.c (entries_by 0 w.said) old.state first.state.entries first.state.transactions w.kept quiet room is.snapshot ended);
+            total = w.total;
+            did = w.did;
+            clean = w.clean;
+            as_many = ap length stats ∙ w.as_many;
+            are = subst (AreKeptStats w.total) (sym stats) w.are;
+          })
+
+  pub kept_is_whole : KeptIsWhole
+  kept_is_whole first changes table k = whole_on first.state.observers k.past changes first table k.began refl (first_whole k.past first k.began) k.leads
+
+  -- so it is kept over generations
+  pub kept_before : (first : KeptTable) (changes : List Writes) (table : KeptTable) → Keeps first changes table → WasKept table.state
+  kept_before first changes table k = let w = kept_is_whole first changes table k in record { observers = first.state.observers; c = w.c; said = w.said; kept = w.kept }

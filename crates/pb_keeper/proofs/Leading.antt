@@ -11,7 +11,7 @@ use Rattle.pb_txn.specs.Conversations.{told}
 use Rattle.pb_notify.specs.Allowed.{entries_by}
 use Rattle.pb_keeper.specs.Leads.{SaidLeads}
 
-entries_on : (n : List Received) (m : List Received) → entries_by 0 (n ++ m) ≡ entries_by 0 n ++ entries_by 0 m
+pub entries_on : (n : List Received) (m : List Received) → entries_by 0 (n ++ m) ≡ entries_by 0 n ++ entries_by 0 m
 entries_on [] m = refl
 entries_on (r ∷ n) m = ap (λ l. record { seat = 0; step = r.step; answer = r.answer } ∷ l) (entries_on n m)
 
@@ -19,7 +19,7 @@ leads_then : (old mid new : StateOf) (es fs : List Entry) → JournalLeads old e
 leads_then old mid new [] fs a b = subst (λ (s : StateOf). JournalLeads s fs new) a b
 leads_then old mid new (e ∷ es) fs a b = (a.0, a.1, leads_then a.0 mid new es fs a.2 b)
 
-case_observers : (old : StateOf) (seat : ℕ) (new : StateOf) (step : Step) (answer : Answer) → StepCase old seat step answer new → new.observers ≡ old.observers
+pub case_observers : (old : StateOf) (seat : ℕ) (new : StateOf) (step : Step) (answer : Answer) → StepCase old seat step answer new → new.observers ≡ old.observers
 case_observers old seat new step answer m = grind arith
 
 journal_observers : (old : StateOf) (es : List Entry) (new : StateOf) → JournalLeads old es new → new.observers ≡ old.observers

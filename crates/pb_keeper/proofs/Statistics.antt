@@ -94,7 +94,7 @@ pub change_begins_none : (batch : Writes) (o : Outcome) (said : List Received) �
 change_begins_none batch o said g = subst BeginNoRun (sym g.1.said_is) (refl, whole_begins_none g.0 _ _ g.1.rest o g.1.whole)
 
 module _ (observers : List ObserverOf) where
-  stats_append : (a b : List Received) (m n : ℕ → ObserverStats) → AreStatsOf observers a m → AreStatsOf observers b n → AreStatsOf observers (a ++ b) (λ o. sum_of (m o) (n o))
+  pub stats_append : (a b : List Received) (m n : ℕ → ObserverStats) → AreStatsOf observers a m → AreStatsOf observers b n → AreStatsOf observers (a ++ b) (λ o. sum_of (m o) (n o))
   stats_append a b m n p nothing_said = subst (λ l. AreStatsOf observers l (λ o. sum_of (m o) no_runs)) (sym (append-nil a)) (subst (λ (t : ℕ → ObserverStats). AreStatsOf observers a t) (sym (λ i o. plus_none (m o) i)) p)
   stats_append a b m n p (other_step said total r q isnt) =
       subst (λ l. AreStatsOf observers l (λ o. sum_of (m o) (total o))) (append_assoc a said (r ∷ [])) (other_step (a ++ said) (λ o. sum_of (m o) (total o)) r (stats_append a said m total p q) isnt)

@@ -111,8 +111,10 @@ change_commits keeps batch o m n sound free g =
 
 -- ---- looks
 
--- the step changes no entry where no lock stands
+-- the step begins and stamps no transaction, and changes no entry where no lock stands
 abbrev pub is_plain : Step → Bool
+is_plain (Step.Begin work) = false
+is_plain (Step.Stamp s) = false
 is_plain (Step.Prewrite s x) = false
 is_plain (Step.CommitPrimary s) = false
 is_plain (Step.CommitSecondary s x) = false
@@ -239,27 +241,40 @@ module _ (s : Ts) where
 
 -- ---- a run
 
+-- it committed, or found nothing to do
+abbrev pub IsUndisturbed : JobEnd → Type 0
+IsUndisturbed (JobEnd.Ran result) = Unit {0}
+IsUndisturbed JobEnd.Clean = Unit {0}
+IsUndisturbed _ = ⊥
+
+pub lost_none : (c : Ts) → Outcome.Lost ≡ Outcome.Committed c → ⊥
+lost_none c e = cc
+
+pub conflicted_none : (c : Ts) → Outcome.Conflicted ≡ Outcome.Committed c → ⊥
+conflicted_none c e = cc
+
 -- a run on a table without locks meets none, commits if it declares, and leaves none
-pub run_rests : StepsKeepSound → (o : Watch) (said : List Received) (end : JobEnd) (run : Option Meant) (m n : StateOf) → IsRunConversation o said end run → IsSoundTable m → IsUnlocked m → JournalLeads m (entries_by 0 said) n → IsUnlocked n
-run_rests keeps o said end run m n (absent s k before w look none few can) sound free r = (plain_after s _ m n (from_more s before _ (looked_from s _ None 0 (its_begin o s) k before look (begin_from s o)) (refl, tt)) sound free r).free
-run_rests keeps o said end run m n (clean s seen k before w i late few can) sound free r = (plain_after s _ m n (from_more s before _ (acknowledged_from s o seen k before i) (refl, tt)) sound free r).free
+pub run_rests : StepsKeepSound → (o : Watch) (said : List Received) (end : JobEnd) (run : Option Meant) (m n : StateOf) → IsRunConversation o said end run → IsSoundTable m → IsUnlocked m → JournalLeads m (entries_by 0 said) n
+    → IsUndisturbed end × IsUnlocked n
+run_rests keeps o said end run m n (absent s k before w look none few can) sound free r = (tt, (plain_after s _ m n (from_more s before _ (looked_from s _ None 0 (its_begin o s) k before look (begin_from s o)) (refl, tt)) sound free r).free)
+run_rests keeps o said end run m n (clean s seen k before w i late few can) sound free r = (tt, (plain_after s _ m n (from_more s before _ (acknowledged_from s o seen k before i) (refl, tt)) sound free r).free)
 run_rests keeps o said end run m n (ran s seen talk k before plan f c w i few on whole can) sound free r =
     let p = leads_parts m n (before ++ plan) (told (Step.Sweep _) w ∷ []) r in
     let q = leads_parts m p.0 before plan p.1 in
     let a = plain_after s before m q.0 (asked_from s o seen talk k before i) sound free q.1 in
     let e = whole_commits keeps s (Declared.Run o.observer f) _ plan (Outcome.Committed c) q.0 p.0 whole (stays_sound keeps m q.0 before sound q.1) a.free a.below q.2 in
     let t = plain_walk p.0 n (told (Step.Sweep _) w ∷ []) e.1 (refl, tt) p.2 in
-    λ y u. ap (λ (z : Entries). lock_at z y u) t.0 ∙ e.1 y u
+    (tt, λ y u. ap (λ (z : Entries). lock_at z y u) t.0 ∙ e.1 y u)
 run_rests keeps o said end run m n (conflicted s seen talk k before plan f i few on whole) sound free r =
     let q = leads_parts m n before plan r in
     let a = plain_after s before m q.0 (asked_from s o seen talk k before i) sound free q.1 in
     let e = whole_commits keeps s (Declared.Run o.observer f) _ plan Outcome.Conflicted q.0 n whole (stays_sound keeps m q.0 before sound q.1) a.free a.below q.2 in
-    e.1
+    absurd (conflicted_none e.0.0 e.0.1)
 run_rests keeps o said end run m n (lost_run s seen talk k before plan f i few on whole) sound free r =
     let q = leads_parts m n before plan r in
     let a = plain_after s before m q.0 (asked_from s o seen talk k before i) sound free q.1 in
     let e = whole_commits keeps s (Declared.Run o.observer f) _ plan Outcome.Lost q.0 n whole (stays_sound keeps m q.0 before sound q.1) a.free a.below q.2 in
-    e.1
+    absurd (lost_none e.0.0 e.0.1)
 run_rests keeps o said end run m n (blocked s x at j base k before t primary from rounds last) sound free r =
     let a = plain_after s _ m n (from_more s before _ (rounds_from s x at j base k before rounds (base_from s o x at j base from)) (read_plain s x at, tt)) sound free r in
     absurd (true_false (no_lock_last before (told (read_step s x at) (Answer.Locked t primary)) a.none))

@@ -1,13 +1,19 @@
--- A table that was opened with nothing in it, and to which these changes led, and nothing else.
-use Rattle.std.specs.Prelude.{◌≡◌, ℕ, List, [], ◌∷◌, ◌++◌, length}
+-- A table that is kept over generations: it is opened with nothing in it, or begins anew from a quiet one, and then these changes led
+-- to it, and nothing else.
+use Rattle.std.specs.Prelude.{◌≡◌, ℕ, ◌<◌, List, [], ◌∷◌, ◌++◌, length}
 use Rattle.pb_base.specs.Batch.{Writes}
 use Rattle.pb_base.specs.declared.names.Ts.{Ts}
 use Rattle.pb_verify.specs.Observers.{ObserverOf}
-use Rattle.pb_steps.specs.State.{opening}
-use Rattle.pb_history.specs.declared.entry.Entry.{Entry}
+use Rattle.pb_steps.specs.Readings.{last_timestamp}
+use Rattle.pb_steps.specs.State.{StateOf, opening}
+use Rattle.pb_history.specs.Handled.{IsQuiet}
+use Rattle.pb_history.specs.Sound.{IsCommittedAt}
+use Rattle.pb_history.specs.TableView.{view_of}
 use Rattle.pb_history.specs.declared.entry.Received.{Received}
-use Rattle.pb_history.specs.Journals.{IsLegal, JournalLeads}
 use Rattle.pb_notify.specs.Allowed.{entries_by}
+use Rattle.pb_generations.specs.KeptTables.{IsKeptTable}
+use Rattle.pb_generations.specs.Mirrored.{carried}
+use Rattle.pb_generations.specs.Snapshots.{AreLeft, IsSnapshotOf}
 use Rattle.pb_keeper.specs.Leads.{SaidLeads}
 use Rattle.pb_keeper.specs.Made.{IsMade}
 use Rattle.pb_keeper.specs.Stats.{AreKeptStats, AreStatsOf, Counted, KeptTable, first_stats, kept_table}
@@ -19,30 +25,63 @@ pub data AreMade (observers : List ObserverOf) : List Writes → List Received �
   none : AreMade observers [] []
   one_more : (changes : List Writes) (said more : List Received) (batch : Writes) (commit : Ts) → AreMade observers changes said → IsMade observers batch commit more → AreMade observers (changes ++ batch ∷ []) (said ++ more)
 
--- They led from the table as opened to this one, by steps of its only seat, and what its runs did is counted.
-abbrev pub Keeps : List ObserverOf → List Writes → KeptTable → Type 0
-Keeps observers changes table = SaidLeads (Counted observers (first_stats observers) table.stats (AreMade observers changes)) (opening observers 1 0) table.state
+-- ---- a generation
 
--- a table as opened keeps no change
-abbrev pub OpeningKeepsNone : Type 0
-OpeningKeepsNone = (observers : List ObserverOf) → Keeps observers [] (kept_table (opening observers 1 0) (first_stats observers))
+-- steps of its only seat led from this table to that one, which made these changes, and what its runs did is counted
+abbrev pub KeepsFrom : KeptTable → List Writes → KeptTable → Type 0
+KeepsFrom first changes table = SaidLeads (Counted first.state.observers first.stats table.stats (AreMade first.state.observers changes)) first.state table.state
 
--- all laws of journals hold of what is kept, since a legal journal leads to it
-abbrev pub KeptIsLegal : Type 0
-KeptIsLegal = (observers : List ObserverOf) (changes : List Writes) (table : KeptTable) → Keeps observers changes table → (journal : List Entry) × IsLegal observers 1 0 journal table.state
+-- a table as opened, of one seat
+abbrev pub opened_table : List ObserverOf → KeptTable
+opened_table observers = kept_table (opening observers 1 0) (first_stats observers)
+
+-- carried over from a quiet table: what stands is a snapshot of it, with what is left of its transactions
+pub record IsAnew (old new : StateOf) : Type 0 where
+  pub is : new ≡ carried old new.entries new.transactions
+  pub snapshot : IsSnapshotOf old new.entries
+  pub left : AreLeft old new.entries new.transactions
+
+-- a table as a generation begins with it, and the changes of all generations before
+pub data IsFirstTable : List Writes → KeptTable → Type 0 where
+  opened : (observers : List ObserverOf) → IsFirstTable [] (opened_table observers)
+  anew : (past changes : List Writes) (first old new : KeptTable) → IsFirstTable past first → KeepsFrom first changes old → IsQuiet old.state → old.state.clock < last_timestamp
+      → IsAnew old.state new.state → new.stats ≡ old.stats → IsFirstTable (past ++ changes) new
+
+-- a table of the generation that begins with the first: these changes were made since
+pub record Keeps (first : KeptTable) (changes : List Writes) (table : KeptTable) : Type 0 where
+  pub past : List Writes
+  pub began : IsFirstTable past first
+  pub leads : KeepsFrom first changes table
+
+-- ---- what holds of it
+
+-- as a generation begins, it keeps no change of its own
+abbrev pub BeginningKeepsNone : Type 0
+BeginningKeepsNone = (past : List Writes) (first : KeptTable) → IsFirstTable past first → Keeps first [] first
 
 -- no lock stands in a table that keeps changes
 abbrev pub KeptIsUnlocked : Type 0
-KeptIsUnlocked = (observers : List ObserverOf) (changes : List Writes) (table : KeptTable) → Keeps observers changes table → IsUnlocked table.state
+KeptIsUnlocked = (first : KeptTable) (changes : List Writes) (table : KeptTable) → Keeps first changes table → IsUnlocked table.state
 
--- What is kept of an observer is what its runs did in all: in one legal conversation that leads to the table.
-pub record StatsAreCounted (observers : List ObserverOf) (table : KeptTable) : Type 0 where
+-- committed transactions of a table that keeps changes follow one another, since one seat makes one after another: what began after
+-- another began after that was committed
+abbrev pub KeptFollowOneAnother : Type 0
+KeptFollowOneAnother =
+    (first : KeptTable) (changes : List Writes) (table : KeptTable) → Keeps first changes table → (s c u d : ℕ) → IsCommittedAt (view_of table.state) s c → IsCommittedAt (view_of table.state) u d → s < u → c < u
+
+-- One conversation, of all generations, makes these changes and leads to the table; what is kept of an observer is what its runs did
+-- in it. No run met a conflict, since the table has one seat, which makes one thing after another.
+pub record IsWholeTable (observers : List ObserverOf) (changes : List Writes) (table : KeptTable) : Type 0 where
   pub said : List Received
-  pub leads : JournalLeads (opening observers 1 0) (entries_by 0 said) table.state
+  pub made : AreMade observers changes said
+  pub c : ℕ
+  pub kept : IsKeptTable observers 1 0 c (entries_by 0 said) table.state
   pub total : ℕ → ObserverStats
   pub did : AreStatsOf observers said total
+  pub clean : (o : ℕ) → (total o).conflicts ≡ 0
   pub as_many : length table.stats ≡ length observers
   pub are : AreKeptStats total table.stats
 
-abbrev pub KeptIsCounted : Type 0
-KeptIsCounted = (observers : List ObserverOf) (changes : List Writes) (table : KeptTable) → Keeps observers changes table → StatsAreCounted observers table
+-- so each change of all generations was made once and in order, and all promises over generations hold of what is kept
+abbrev pub KeptIsWhole : Type 0
+KeptIsWhole = (first : KeptTable) (changes : List Writes) (table : KeptTable) → (k : Keeps first changes table) → IsWholeTable first.state.observers (k.past ++ changes) table

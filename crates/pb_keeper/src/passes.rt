@@ -3,19 +3,19 @@ ghost use Rattle.std.specs.Prelude.{◌≡◌, ◌<◌, ◌^◌, ◌∷◌, ◌+
 ghost use Rattle.pb_base.specs.Batch.{Writes};
 ghost use Rattle.pb_base.specs.Cell.{column_of, row_of};
 ghost use Rattle.pb_store.specs.Contents.{IsNextMark};
-ghost use Rattle.pb_verify.specs.Observers.{ObserverOf};
 ghost use Rattle.pb_keeper.specs.Counts.{CountsCommits, commit_count};
 ghost use Rattle.pb_keeper.specs.Keeps.{Keeps};
-ghost use Rattle.pb_keeper.specs.Stats.{Counted, kept_table};
+ghost use Rattle.pb_keeper.specs.Stats.{Counted, KeptTable, kept_table};
 ghost use Rattle.pb_passes.specs.Passes.{AreAllRuns, IsPassThat, IsDrain};
 ghost use Rattle.pb_keeper.specs.Leads.{SaidLeads, IsAny};
 ghost use Rattle.pb_keeper.specs.Made.{IsMade, IsItsTurn};
-ghost use Rattle.pb_keeper.specs.Stops.{WasOpened, IsStop};
+ghost use Rattle.pb_keeper.specs.Stops.{WasKept, IsStop};
 
 use crate::change::{Stopped, ask, commit};
 use crate::run::run_one;
 use crate::stats::{ObserverStats, add_run};
 use pb_base::{Batch, Cell, ObserverNo, Ts};
+use pb_generations::{jobs_are_in_time, jobs_keep_tables, snapshots_serve};
 use pb_history::steps_keep_sound;
 use pb_notify::JobEnd;
 use pb_passes::{MAX_PASSES, is_observer_of, job_on};
@@ -78,7 +78,7 @@ fn run_place<R: Wait, T: Tablet>(
         (CountsCommits (IsItsTurn state.old.observers place cell.now) runs))
         state.old state.new) }
     ensures err { OnErr result (SaidLeads IsAny state.old state.new) }
-    ensures stops { WasOpened state.old → IfErr result (λ e. IsStop e state.new) }
+    ensures stops { WasKept state.old → IfErr result (λ e. IsStop e state.new) }
 {
     let observers = state.observers();
     if !is_observer_of(observers, place, cell) {
@@ -114,8 +114,10 @@ fn run_all<R: Wait, T: Tablet>(
         (CountsCommits (AreAllRuns state.old.observers cell.now) runs))
         state.old state.new) }
     ensures err { OnErr result (SaidLeads IsAny state.old state.new) }
-    ensures stops { WasOpened state.old → IfErr result (λ e. IsStop e state.new) }
+    ensures stops { WasKept state.old → IfErr result (λ e. IsStop e state.new) }
 {
+    // For the proof: a table that is kept over generations is so after each run.
+    jobs_keep_tables();
     let mut runs = 0u64;
     let many = state.observers().len();
     for place in 0..many {
@@ -138,8 +140,11 @@ fn pass<R: Wait, T: Tablet>(
     ensures quiet { IfOk result
         (λ p. p.marked ≡ false → IsNextMark state.new.marks None None) }
     ensures err { OnErr result (SaidLeads IsAny state.old state.new) }
-    ensures stops { WasOpened state.old → IfErr result (λ e. IsStop e state.new) }
+    ensures stops { WasKept state.old → IfErr result (λ e. IsStop e state.new) }
 {
+    // For the proof: a table that is kept over generations is so after each run and each look for a mark, and allows that look.
+    jobs_keep_tables();
+    jobs_are_in_time();
     let mut runs = 0u64;
     let mut last = None;
     for _turn in rt.forever() {
@@ -168,8 +173,10 @@ fn make_passes<R: Wait, T: Tablet>(
         (CountsCommits (IsDrain state.old.observers) d.runs)) state.old state.new) }
     ensures quiet { IfOk result (λ d. d.rests ≡ true → IsNextMark state.new.marks None None) }
     ensures err { OnErr result (SaidLeads IsAny state.old state.new) }
-    ensures stops { WasOpened state.old → IfErr result (λ e. IsStop e state.new) }
+    ensures stops { WasKept state.old → IfErr result (λ e. IsStop e state.new) }
 {
+    // For the proof: a table that is kept over generations is so after each pass.
+    jobs_keep_tables();
     let mut runs = 0u64;
     for _count in 0..MAX_PASSES {
         let passed = pass(rt, alloc, state, stats)?;
@@ -196,7 +203,7 @@ pub fn drain<R: Wait, T: Tablet>(
     // Where it rests no cell is marked.
     ensures quiet { IfOk result (λ d. d.rests ≡ true → IsNextMark state.new.marks None None) }
     ensures err { OnErr result (SaidLeads IsAny state.old state.new) }
-    ensures stops { WasOpened state.old → IfErr result (λ e. IsStop e state.new) }
+    ensures stops { WasKept state.old → IfErr result (λ e. IsStop e state.new) }
 {
     let drained = make_passes(rt, alloc, state, stats)?;
     // For the proof: each run took a timestamp, so that there are no more of them than 64 bits can say.
@@ -220,18 +227,20 @@ pub fn make<R: Wait, T: Tablet>(
     ensures quiet { IfOk result
         (λ m. m.drained.rests ≡ true → IsNextMark state.new.marks None None) }
     // Behind the changes that are kept it is one more.
-    ensures keeps { (observers : List ObserverOf) (changes : List Writes)
-        → Keeps observers changes (kept_table state.old stats.old)
-        → OnOk result (Keeps observers (changes ++ batch ∷ [])
+    ensures keeps { (first : KeptTable) (changes : List Writes)
+        → Keeps first changes (kept_table state.old stats.old)
+        → OnOk result (Keeps first (changes ++ batch ∷ [])
         (kept_table state.new stats.new)) }
     ensures err { OnErr result (SaidLeads IsAny state.old state.new) }
     // On a table that keeps changes it conflicts with nothing.
-    ensures stops { (observers : List ObserverOf) (changes : List Writes)
-        → Keeps observers changes (kept_table state.old stats.old)
+    ensures stops { (first : KeptTable) (changes : List Writes)
+        → Keeps first changes (kept_table state.old stats.old)
         → IfErr result (λ e. IsStop e state.new) }
 {
-    // For the proof: on a table without locks a change commits.
+    // For the proof: on a table without locks a change commits, and one that is kept over generations is so after it.
     steps_keep_sound();
+    snapshots_serve();
+    jobs_keep_tables();
     let outcome = commit(rt, alloc, state, batch)?;
     let Outcome::Committed(commit) = outcome else {
         return Err(Stopped::Conflict);
@@ -248,12 +257,12 @@ pub fn make_all<R: Wait, T: Tablet>(
     stats: &mut [ObserverStats],
     batches: Vec<Batch>,
 ) -> Result<(), Stopped>
-    ensures keeps { (observers : List ObserverOf) (changes : List Writes)
-        → Keeps observers changes (kept_table state.old stats.old)
-        → OnOk result (Keeps observers (changes ++ batches.items)
+    ensures keeps { (first : KeptTable) (changes : List Writes)
+        → Keeps first changes (kept_table state.old stats.old)
+        → OnOk result (Keeps first (changes ++ batches.items)
         (kept_table state.new stats.new)) }
-    ensures stops { (observers : List ObserverOf) (changes : List Writes)
-        → Keeps observers changes (kept_table state.old stats.old)
+    ensures stops { (first : KeptTable) (changes : List Writes)
+        → Keeps first changes (kept_table state.old stats.old)
         → IfErr result (λ e. IsStop e state.new) }
 {
     for batch in batches {

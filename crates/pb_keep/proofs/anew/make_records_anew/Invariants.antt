@@ -1,6 +1,6 @@
 use Rattle.std.proofs.Common.{◌≡◌, ◌++◌, List, map, Ok, length}
 use Rattle.std.specs.Vec.Iter.{into_iter_items, into_iter_len}
-use Rattle.pb_keep.specs.Words.{Writes, ObserverOf, Keeps, kept_table}
+use Rattle.pb_keep.specs.Words.{Writes, Keeps, KeptTable, kept_table}
 use Rattle.pb_keep.specs.Kept.{changes_of, reported_count}
 use Rattle.pb_keep.proofs.anew.make_records_anew.Given as goal
 
@@ -9,6 +9,6 @@ abbrev pub invariant-loop-record : goal.invariant-loop-record
 invariant-loop-record g l = record {
   parts : l.fn.records.items ≡ l.yielded ++ into_iter_items l.record-iterator;
   counted : into_iter_len l.record-iterator ≡ length (into_iter_items l.record-iterator);
-  keeps : (observers : List ObserverOf) (changes : List Writes) → Keeps observers changes (kept_table l.initial.state l.initial.stats.items)
-      → (more : List Writes) × (changes_of (map (λ v. v.items) l.yielded) ≡ Ok more) × Keeps observers (changes ++ more) (kept_table l.state l.stats.items) × (l.count ≡ reported_count (length more));
+  keeps : (more : List Writes) × (changes_of (map (λ v. v.items) l.yielded) ≡ Ok more)
+      × ((first : KeptTable) (changes : List Writes) → Keeps first changes (kept_table l.initial.state l.initial.stats.items) → Keeps first (changes ++ more) (kept_table l.state l.stats.items)) × (l.count ≡ reported_count (length more));
 }

@@ -17,6 +17,6 @@ returns-in_ok-push_made-in-Change-clause-answer g c =
     )
 
 pub returns-in_err-made-in-Change-clause-right : goal.returns-in_err-made-in-Change-clause-right
-returns-in_err-made-in-Change-clause-right g c = λ observers changes k.
+returns-in_err-made-in-Change-clause-right g c = λ first changes k.
     passed_on c.from_residual.result c.from_residual.ensures.1
-    (λ e is. subst (IsRightOf c.make_counted.new.state) (sym is) (stopped_rightly c.in_err-made-in-Change.field-0.0 c.make_counted.new.state (c.in_err-made-in-Change.ensures.stops observers changes k)))
+    (λ e is. subst (IsRightOf c.make_counted.new.state) (sym is) (stopped_rightly c.in_err-made-in-Change.field-0.0 c.make_counted.new.state (c.in_err-made-in-Change.ensures.stops first changes k)))

@@ -14,7 +14,7 @@ loop-item-init g c = record {
   parts = grind (arith, c.into_iter-item-iterator.ensures.into_iter_gives);
   counted = grind (arith, c.into_iter-item-iterator.ensures.into_iter_gives);
   answers = ([], sym (append-nil (string_bytes c.args.text.now)), AreAnswers.none (kept_table c.args.state.now c.args.stats.now.items));
-  keeps = λ observers changes k. subst (λ l. Keeps observers l (kept_table c.args.state.now c.args.stats.now.items)) (sym (append-nil changes)) k;
+  keeps = λ first changes k. subst (λ l. Keeps first l (kept_table c.args.state.now c.args.stats.now.items)) (sym (append-nil changes)) k;
 }
 
 pub loop-item-preserved : goal.loop-item-preserved
@@ -28,11 +28,11 @@ loop-item-preserved g c = record {
         a.1 ∙ ap (λ l. l ++ a.0) i.1 ∙ append_assoc (string_bytes c.args.text.now) i.0 a.0,
         AreAnswers.one_more c.loop-item.yielded c.in-Some.item (kept_table c.args.state.now c.args.stats.now.items) (kept_table c.loop-item.state c.loop-item.stats.items) (kept_table c.answer.new.state c.answer.new.stats.items) i.0 a.0 i.2 a.2,
       );
-  keeps = λ observers changes k.
+  keeps = λ first changes k.
       let is : changes ++ changes_in (c.loop-item.yielded ++ c.in-Some.item ∷ []) ≡ (changes ++ changes_in c.loop-item.yielded) ++ changes_in (c.in-Some.item ∷ []) =
       ap (λ l. changes ++ l) (changes_of_both c.loop-item.yielded (c.in-Some.item ∷ [])) ∙ sym (append_assoc changes (changes_in c.loop-item.yielded) (changes_in (c.in-Some.item ∷ []))) in
-      subst (λ l. Keeps observers l (kept_table c.answer.new.state c.answer.new.stats.items)) (sym is)
-      (c.in_ok-answer.ensures.keeps observers (changes ++ changes_in c.loop-item.yielded) (c.loop-item.invariant.keeps observers changes k));
+      subst (λ l. Keeps first l (kept_table c.answer.new.state c.answer.new.stats.items)) (sym is)
+      (c.in_ok-answer.ensures.keeps first (changes ++ changes_in c.loop-item.yielded) (c.loop-item.invariant.keeps first changes k));
 }
 
 pub returns-in_err-answer-clause-some : goal.returns-in_err-answer-clause-some
@@ -53,6 +53,6 @@ returns-in_err-answer-clause-some g c =
     ]
 
 pub returns-in_err-answer-clause-right : goal.returns-in_err-answer-clause-right
-returns-in_err-answer-clause-right g c = λ observers changes k.
+returns-in_err-answer-clause-right g c = λ first changes k.
     passed_on c.from_residual.result c.from_residual.ensures.1
-    (λ e is. subst (IsRightOf c.answer.new.state) (sym is) (c.in_err-answer.ensures.right observers (changes ++ changes_in c.loop-item.yielded) (c.loop-item.invariant.keeps observers changes k)))
+    (λ e is. subst (IsRightOf c.answer.new.state) (sym is) (c.in_err-answer.ensures.right first (changes ++ changes_in c.loop-item.yielded) (c.loop-item.invariant.keeps first changes k)))

@@ -1,7 +1,7 @@
 use Rattle.std.proofs.Common.{◌≡◌, ◌++◌, ℕ, List, length}
 use Rattle.std.specs.Prelude.{string_bytes}
 use Rattle.std.specs.Vec.Iter.{into_iter_items, into_iter_len}
-use Rattle.pb_keep.specs.Words.{Writes, ObserverOf, Keeps, kept_table}
+use Rattle.pb_keep.specs.Words.{Writes, Keeps, KeptTable, kept_table}
 use Rattle.pb_keep.specs.Waits.{changes_in, AreAnswers}
 use Rattle.pb_keep.proofs.made.make_and_answer.Given as goal
 
@@ -11,5 +11,5 @@ invariant-loop-item g l = record {
   parts : l.fn.items.items ≡ l.yielded ++ into_iter_items l.item-iterator;
   counted : into_iter_len l.item-iterator ≡ length (into_iter_items l.item-iterator);
   answers : (more : List ℕ) × (string_bytes l.text ≡ string_bytes l.initial.text ++ more) × AreAnswers l.yielded (kept_table l.initial.state l.initial.stats.items) (kept_table l.state l.stats.items) more;
-  keeps : (observers : List ObserverOf) (changes : List Writes) → Keeps observers changes (kept_table l.initial.state l.initial.stats.items) → Keeps observers (changes ++ changes_in l.yielded) (kept_table l.state l.stats.items);
+  keeps : (first : KeptTable) (changes : List Writes) → Keeps first changes (kept_table l.initial.state l.initial.stats.items) → Keeps first (changes ++ changes_in l.yielded) (kept_table l.state l.stats.items);
 }

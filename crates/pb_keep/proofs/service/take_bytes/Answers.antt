@@ -1,4 +1,4 @@
-use Rattle.std.proofs.Common.{◌∷◌, ◌++◌, [], Err}
+use Rattle.std.proofs.Common.{◌∷◌, [], Err}
 use Rattle.pb_keep.specs.Words.{ScriptCode}
 use Rattle.pb_keep.proofs.Reading.{no_text}
 use Rattle.pb_keep.proofs.Serving.{leaves_served, more_lines, serves_held}

@@ -1,4 +1,4 @@
-use Rattle.std.proofs.Common.{◌∷◌, ◌++◌, [], Err, subst, sym}
+use Rattle.std.proofs.Common.{Err, subst, sym}
 use Rattle.pb_keep.specs.Causes.{WhyNotKept}
 use Rattle.pb_keep.specs.Conversations.{keeper_view}
 use Rattle.pb_keep.specs.Input.{IsLineRead}

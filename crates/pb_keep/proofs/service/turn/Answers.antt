@@ -1,4 +1,4 @@
-use Rattle.std.proofs.Common.{subst, sym, ◌∙◌}
+use Rattle.std.proofs.Common.{subst, sym}
 use Rattle.std.specs.Io.Buffered.{reader_remaining}
 use Rattle.pb_keep.specs.Conversations.{keeper_view}
 use Rattle.pb_keep.specs.Input.{IsLineRead}

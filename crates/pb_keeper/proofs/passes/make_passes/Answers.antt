@@ -1,7 +1,9 @@
 use Rattle.std.proofs.Common.{refl, ◌∙◌}
+use Rattle.pb_passes.specs.Passes.{ArePasses}
 use Rattle.pb_keeper.specs.Leads.{SaidLeads, IsAny}
 use Rattle.std.proofs.lemmas.Result.{err_from_is_err_and}
-use Rattle.pb_keeper.proofs.InTime.{opened_on}
+use Rattle.pb_keeper.proofs.EachPart.{of_passes}
+use Rattle.pb_keeper.proofs.KeptTables.{kept_while, parts_leave}
 use Rattle.pb_keeper.proofs.Leading.{leads_observers}
 use Rattle.pb_keeper.proofs.PassAlong.{no_passes, pass_on, last_pass, any_on, on_err}
 use Rattle.pb_keeper.proofs.passes.make_passes.Goals as goal
@@ -22,6 +24,7 @@ loop-count-preserved g c = record {
 }
 
 pub returns-in_err-passed-clause-stops : goal.returns-in_err-passed-clause-stops
-returns-in_err-passed-clause-stops g c opened =
+returns-in_err-passed-clause-stops g c kept =
+    let observers = c.args.state.now.observers in
     let p = err_from_is_err_and c.from_residual.result c.from_residual.ensures.1 in
-    rw (p.1, p.2) (c.in_err-passed.ensures.stops (opened_on c.args.state.now c.loop-count.state opened c.loop-count.invariant.leads))
+    rw (p.1, p.2) (c.in_err-passed.ensures.stops (kept_while (ArePasses observers c.loop-count._count) c.args.stats.now c.loop-count.stats c.loop-count.runs c.args.state.now c.loop-count.state kept (of_passes observers (parts_leave observers c.jobs_keep_tables.ensures.runs c.jobs_keep_tables.ensures.whole c.jobs_keep_tables.ensures.marks) c.loop-count._count) c.loop-count.invariant.leads))

@@ -1,15 +1,19 @@
-use Rattle.std.proofs.Common.{◌≡◌, ℕ, List, refl, sym, subst, ◌∙◌}
+use Rattle.std.proofs.Common.{◌≡◌, ℕ, List, Option, refl, sym, subst, ◌∙◌}
 use Rattle.pb_steps.specs.declared.step.Step.{Step}
 use Rattle.pb_steps.specs.declared.step.Answer.{Answer}
 use Rattle.pb_steps.specs.State.{StateOf}
 use Rattle.pb_steps.specs.Steps.{TableStep}
 use Rattle.pb_base.specs.declared.cell.Cell.{Cell}
 use Rattle.pb_verify.specs.Observers.{ObserverOf}
-use Rattle.pb_passes.specs.Passes.{AreAllRuns}
+use Rattle.pb_passes.specs.Passes.{AreAllRuns, IsWalk}
+use Rattle.pb_generations.specs.KeptTables.{RunsKeepTables, WholeChangesKeepTables, MarksKeepTables}
 use Rattle.pb_keeper.specs.declared.stats.ObserverStats.{ObserverStats}
 use Rattle.pb_keeper.specs.Leads.{SaidLeads, IsAny}
 use Rattle.std.proofs.lemmas.Result.{err_from_is_err_and}
-use Rattle.pb_keeper.proofs.InTime.{mark_stops, opened_on}
+use Rattle.pb_keeper.specs.Stops.{WasKept}
+use Rattle.pb_keeper.proofs.EachPart.{of_walk}
+use Rattle.pb_keeper.proofs.InTime.{mark_stops}
+use Rattle.pb_keeper.proofs.KeptTables.{LeavesKept, kept_after, kept_while, mark_leaves, parts_leave}
 use Rattle.pb_keeper.proofs.Leading.{leads_observers, leads_one}
 use Rattle.pb_keeper.proofs.PassAlong.{Led, no_walk, no_cell_is_marked, walk_on, walk_ends, any_on, on_err}
 use Rattle.pb_passes.proofs.Marks.{no_mark}
@@ -45,13 +49,24 @@ loop-turn-preserved g c =
       same = all_ran c.ask.new.state.observers c.loop-turn.stats c.run_all.new.stats c.in-Marked.cell c.in_ok-more.more c.ask.new.state c.run_all.new.state c.in_ok-more.ensures.ok ∙ same;
     }
 
+-- as far as the walk went, the table is kept over generations
+module _ (runs : RunsKeepTables) (whole : WholeChangesKeepTables) (marks : MarksKeepTables) (s t : List ObserverStats) (last : Option Cell) (m : ℕ) (a b : StateOf) (kept : WasKept a) (walk : Led a.observers s t (λ said. IsWalk a.observers said last) m a b) where
+  kept_here : WasKept b
+  kept_here = kept_while (λ said. IsWalk a.observers said last) s t m a b kept (λ said w. of_walk a.observers (parts_leave a.observers runs whole marks) said last w) walk
+
+  kept_there : (c : StateOf) (answer : Answer) → TableStep b 0 (Step.NextMark last) answer c → WasKept c
+  kept_there c answer taken = kept_after b c kept_here (λ said is. subst (LeavesKept b.observers) (sym is) (mark_leaves b.observers marks last answer)) (leads_one b c (Step.NextMark last) answer taken)
+
 pub returns-in_err-next-clause-stops : goal.returns-in_err-next-clause-stops
-returns-in_err-next-clause-stops g c opened =
+returns-in_err-next-clause-stops g c kept =
     let p = err_from_is_err_and c.from_residual.result c.from_residual.ensures.1 in
-    rw (p.1, p.2) (mark_stops c.loop-turn.state c.ask.new.state c.loop-turn.last c.in_err-next.field-0.0 (opened_on c.args.state.now c.loop-turn.state opened c.loop-turn.invariant.leads) c.in_err-next.ensures.same c.in_err-next.ensures.why)
+    let here = kept_here c.jobs_keep_tables.ensures.runs c.jobs_keep_tables.ensures.whole c.jobs_keep_tables.ensures.marks c.args.stats.now c.loop-turn.stats c.loop-turn.last c.loop-turn.runs c.args.state.now c.loop-turn.state kept c.loop-turn.invariant.leads in
+    rw (p.1, p.2) (mark_stops c.jobs_are_in_time.ensures.marks c.loop-turn.state c.ask.new.state c.loop-turn.last c.in_err-next.field-0.0 here c.in_err-next.ensures.same c.in_err-next.ensures.why)
 
 pub returns-in_err-more-clause-stops : goal.returns-in_err-more-clause-stops
-returns-in_err-more-clause-stops g c opened =
+returns-in_err-more-clause-stops g c kept =
     let p = err_from_is_err_and c.from_residual-in_err-more.result c.from_residual-in_err-more.ensures.1 in
-    let before = opened_on c.args.state.now c.loop-turn.state opened c.loop-turn.invariant.leads in
-    rw (p.1, p.2) (c.in_err-more.ensures.stops (opened_on c.loop-turn.state c.ask.new.state before (leads_one c.loop-turn.state c.ask.new.state (Step.NextMark c.loop-turn.last) c.in_ok-next.next c.in_ok-next.ensures.taken)))
+    rw (p.1, p.2)
+    (c.in_err-more.ensures.stops
+    (kept_there c.jobs_keep_tables.ensures.runs c.jobs_keep_tables.ensures.whole c.jobs_keep_tables.ensures.marks c.args.stats.now c.loop-turn.stats c.loop-turn.last c.loop-turn.runs c.args.state.now c.loop-turn.state kept c.loop-turn.invariant.leads
+    c.ask.new.state c.in_ok-next.next c.in_ok-next.ensures.taken))

@@ -1,47 +1,70 @@
-use Rattle.std.proofs.Common.{[], map, subst, sym}
+use Rattle.std.proofs.Common.{◌∷◌, [], map, refl, subst, sym}
 use Rattle.pb_keep.specs.Causes.{WhyNotMadeAgain}
 use Rattle.pb_keep.specs.Conversations.{KeeperView}
-use Rattle.pb_keep.specs.Words.{kept_table}
-use Rattle.pb_keep.proofs.Causing.{not_made_again}
-use Rattle.pb_keep.proofs.Mapping.{if_err, if_ok, if_then_ok, passed_on}
+use Rattle.pb_keep.specs.Kept.{origin_of}
+use Rattle.pb_keep.specs.Words.{HasRecords, IsAtRest, header, kept_table}
+use Rattle.pb_keep.proofs.Causing.{not_begun, not_made_again}
+use Rattle.pb_keep.proofs.Mapping.{if_err, if_ok, passed_on}
 use Rattle.pb_keep.proofs.Serving.{serves_none}
 use Rattle.pb_keep.proofs.keeper.Keeper.open.Goals as goal
 
 pub returns-clause-kept : goal.returns-clause-kept
-returns-clause-kept g c = λ observers k.
+returns-clause-kept g c = λ written.
+    let log = c.open.new.self in
+    let b = c.in_ok-self.ensures.begun in
+    let first = kept_table c.begin.new.state c.begin.new.stats.items in
     if_ok c.make_records_anew.result
-    (λ n h clean. (
-      h.0,
-      record { records = map (λ v. v.items) c.in_ok-records.records.items; has = c.in_ok-records.ensures.records clean; make = h.1 },
-      record { records = map (λ v. v.items) c.in_ok-records.records.items; at_rest = c.in_ok-records.ensures.at_rest clean; make = h.1 },
-      h.2,
-      h.3,
-    ))
-    (c.make_records_anew.ensures.keeps observers [] k)
+    (λ n h clean. record {
+      origin = origin_of c.args.manifest.now b.snapshot;
+      manifest_is = refl;
+      first = first;
+      first_is = b.first_is;
+      changes = h.0;
+      had = record {
+        fits = b.fits;
+        scripts = map (λ v. v.items) c.begin.new.records.items;
+        has = subst (λ rs. HasRecords c.args.manifest.now rs (g.D.Disk.seen c.args.self.now.log.disk)) b.records_are (c.in_ok-records.ensures.records clean);
+        make = h.1;
+      };
+      log = record {
+        fits = b.fits;
+        scripts = map (λ v. v.items) c.begin.new.records.items;
+        at_rest = subst (λ rs. IsAtRest (g.D.Disk.seen log.disk) (g.D.Disk.may_leave log.disk) log.end (header c.args.manifest.now ∷ rs)) b.records_are (c.in_ok-records.ensures.at_rest clean);
+        make = h.1;
+      };
+      since = b.since_is;
+      keeps = λ past began. (h.2 first [] (c.tables_keep_their_changes.ensures.beginning past first began)).leads;
+      count = h.3;
+    })
+    c.make_records_anew.ensures.keeps
 
 pub returns-clause-serves : goal.returns-clause-serves
-returns-clause-serves g c = λ observers written k idle.
+returns-clause-serves g c = λ written idle.
     let log = c.open.new.self in
     let made = c.make_records_anew.new in
-    let new : KeeperView = record { seen = g.D.Disk.seen log.disk; may_leave = g.D.Disk.may_leave log.disk; end = log.end; table = kept_table made.state made.stats.items; waiting = c.args.self.now.waiting; written = written } in
-    if_then_ok c.make_records_anew.result
-    (λ n h clean. (
-      h.0,
-      record { records = map (λ v. v.items) c.in_ok-records.records.items; has = c.in_ok-records.ensures.records clean; make = h.1 },
-      serves_none c.args.manifest.now observers h.0 new
-          (record { records = map (λ v. v.items) c.in_ok-records.records.items; at_rest = c.in_ok-records.ensures.at_rest clean; make = h.1 }) h.2 idle,
-    ))
-    (c.make_records_anew.ensures.keeps observers [] k)
+    let new : KeeperView = record { seen = g.D.Disk.seen log.disk; may_leave = g.D.Disk.may_leave log.disk; end = log.end; table = kept_table made.state made.stats.items; since = c.in_ok-self.field-0.0; waiting = c.args.self.now.waiting; written = written } in
+    if_ok c.make_records_anew.result
+    (λ n opened clean.
+    let o = opened clean in
+    (o, λ past began. serves_none o.origin o.first o.changes new o.since o.log (record { past = past; began = began; leads = o.keeps past began }) idle))
+    (returns-clause-kept g c written)
 
 pub returns-in_err-records-clause-cause : goal.returns-in_err-records-clause-cause
 returns-in_err-records-clause-cause g c =
-    let old = c.args.self.now.log.disk in
+    let old = c.args.self.now in
     passed_on c.from_residual.result c.from_residual.ensures.1
-    (λ e is clean. subst (λ f. WhyNotMadeAgain c.args.manifest.now (g.D.Disk.faults old) (g.D.Disk.faults c.open.new.self.disk) (g.D.Disk.seen old) f) (sym is) (c.in_err-records.ensures.cause clean))
+    (λ e is clean. subst (λ f. WhyNotMadeAgain old.state.observers c.args.manifest.now (g.D.Disk.faults old.log.disk) (g.D.Disk.faults c.open.new.self.disk) (g.D.Disk.seen old.log.disk) f) (sym is) (c.in_err-records.ensures.cause clean))
+
+pub returns-in_err-self-clause-cause : goal.returns-in_err-self-clause-cause
+returns-in_err-self-clause-cause g c =
+    let old = c.args.self.now in
+    passed_on c.from_residual-in_err-self.result c.from_residual-in_err-self.ensures.1
+    (λ e is clean. subst (λ f. WhyNotMadeAgain old.state.observers c.args.manifest.now (g.D.Disk.faults old.log.disk) (g.D.Disk.faults c.open.new.self.disk) (g.D.Disk.seen old.log.disk) f) (sym is)
+    (not_begun old.state.observers c.args.manifest.now (g.D.Disk.faults old.log.disk) (g.D.Disk.faults c.open.new.self.disk) (g.D.Disk.seen old.log.disk) (map (λ v. v.items) c.in_ok-records.records.items) c.in_err-self.field-0.0 c.in_err-self.ensures.why (c.in_ok-records.ensures.records clean)))
 
 pub returns-clause-cause : goal.returns-clause-cause
 returns-clause-cause g c =
-    let old = c.args.self.now.log.disk in
+    let old = c.args.self.now in
     if_err c.make_records_anew.result
-    (λ e of clean. not_made_again c.args.manifest.now (g.D.Disk.faults old) (g.D.Disk.faults c.open.new.self.disk) (g.D.Disk.seen old) e of)
+    (λ e of clean. not_made_again old.state.observers c.args.manifest.now (g.D.Disk.faults old.log.disk) (g.D.Disk.faults c.open.new.self.disk) (g.D.Disk.seen old.log.disk) e of)
     c.make_records_anew.ensures.why

@@ -1,10 +1,10 @@
-use Rattle.std.proofs.Common.{◌∷◌, ◌++◌, [], Ok, length, ap, subst, sym, ◌∙◌}
+use Rattle.std.proofs.Common.{◌∷◌, [], Ok, length, ap, subst, sym, ◌∙◌}
 use Rattle.pb_keep.specs.Words.{asked_by}
 use Rattle.pb_keep.specs.Causes.{WhyNotKept}
 use Rattle.pb_keep.specs.Conversations.{keeper_view}
 use Rattle.pb_keep.specs.Taken.{IsLineReady}
 use Rattle.pb_keep.proofs.Holding.{ready_now}
-use Rattle.pb_keep.proofs.Mapping.{if_err, of_both, on_ok, passed_on}
+use Rattle.pb_keep.proofs.Mapping.{of_both, on_ok, passed_on}
 use Rattle.pb_keep.proofs.Reading.{is_read, read_as}
 use Rattle.pb_keep.proofs.Serving.{leaves_asked, leaves_served, more_lines, none_before_question, serves_asked, serves_held}
 use Rattle.pb_keep.proofs.keeper.Keeper.take.Goals as goal

@@ -1,0 +1,113 @@
+//! A log that begins with a snapshot, in the place of all that led to it.
+ghost use Rattle.std.specs.Prelude.{◌≡◌, ◌<◌, ◌^◌, true, false, length, IfOk, IfErr, IsTrue};
+ghost use Rattle.sqlite_disk.specs.Disk.{Only};
+ghost use Rattle.pb_keeper.specs.Stats.{kept_table};
+ghost use Rattle.pb_history.specs.Handled.{IsQuiet};
+ghost use Rattle.pb_keep.specs.Anew.{BeginsAnew, IsLeftToDo, WhyNotAnew};
+ghost use Rattle.pb_base.specs.Growths.{refused_growth};
+ghost use Rattle.pb_keep.specs.declared.compact.SnapshotFault.TheVariants as ends;
+
+use crate::keeper::Keeper;
+use pb_answers::is_quiet;
+use pb_base::NoMemory;
+use pb_log::{Log, LogFault};
+use pb_snapshots::{snapshot_record, take_snapshot};
+use pb_store::Tablet;
+use sqlite_disk::Disk;
+use std::alloc::{AllocError, Global};
+use thiserror::Error;
+
+// One more than the most bytes of a record.
+const TOO_LONG: usize = 4_294_967_296;
+
+/// Why no log was begun with a snapshot of a table.
+#[derive(Debug, Drop, Error)]
+pub enum SnapshotFault {
+    #[error("{0}")]
+    NoMemory(NoMemory),
+    /// The new log failed.
+    #[error("{0}")]
+    Log(LogFault),
+    /// A cell is marked, a lock stands, or a line waits.
+    #[error("the table is not quiet")]
+    NotQuiet,
+    /// The table has given out its last timestamp, so that none would be left for a change.
+    #[error("no timestamp is left")]
+    NoTimestamp,
+    /// The new log has records.
+    #[error("the new log has records")]
+    NotNew,
+    /// A cell holds what no snapshot has: data a stamp, or an acknowledgment anything but the start of its transaction.
+    #[error("the table can't be written")]
+    Unwritable,
+    /// The record of the snapshot would have 2^32 bytes or more.
+    #[error("the snapshot is too large")]
+    TooLarge,
+}
+
+impl From<NoMemory> for SnapshotFault {
+    ghost from_gives = { λ e f. f ≡ ends.NoMemory e };
+
+    fn from(e: NoMemory) -> SnapshotFault {
+        SnapshotFault::NoMemory(e)
+    }
+}
+
+impl From<LogFault> for SnapshotFault {
+    ghost from_gives = { λ e f. f ≡ ends.Log e };
+
+    fn from(e: LogFault) -> SnapshotFault {
+        SnapshotFault::Log(e)
+    }
+}
+
+impl<T: Tablet, D: Disk + Drop> Keeper<T, D> {
+    // Whether nothing is left to do: no line waits, no cell is marked, and no lock stands.
+    fn is_idle(&self, alloc: Global) -> Result<bool, NoMemory>
+        ensures idle { IfOk result (λ b. b ≡ true → IsQuiet self.now.state) }
+        ensures busy { IfOk result (λ b. b ≡ false → IsLeftToDo self.now.waiting.items.items
+            self.now.state) }
+    {
+        Ok(self.waiting.items.is_empty() && is_quiet(alloc, &self.state)?)
+    }
+
+    /// Begins a new log of this manifest with a snapshot of the table, which has to be quiet: the newest version of each cell.
+    /// Returns how many versions it has. The keeper's own log is left as it is.
+    pub fn snapshot_into<E: Disk + Drop>(
+        &self,
+        alloc: Global,
+        log: &mut Log<E>,
+        manifest: &[u8],
+    ) -> Result<usize, SnapshotFault>
+        requires usable { IsTrue (E.is_usable log.old.disk) }
+        requires restarted { Only (E.seen log.old.disk) (E.may_leave log.old.disk) }
+        requires short { length manifest.now < 2 ^ 31 }
+        ensures begun { IfOk result (λ n. IsTrue (E.is_clean log.new.disk)
+            → BeginsAnew manifest.now (kept_table self.now.state self.now.stats.items) n
+            (E.seen log.new.disk) (E.may_leave log.new.disk) log.new.end) }
+        // A fault has its cause.
+        ensures cause { IfErr result (λ e. IsTrue (E.is_clean log.new.disk)
+            → WhyNotAnew self.now.waiting.items.items
+            (kept_table self.now.state self.now.stats.items)
+            manifest.now (E.seen log.old.disk) e) }
+    {
+        if !self.is_idle(alloc)? {
+            return Err(SnapshotFault::NotQuiet);
+        }
+        if self.state.clock().0 == u64::MAX {
+            return Err(SnapshotFault::NoTimestamp);
+        }
+        let snapshot = take_snapshot(alloc, &self.state, &self.stats)?;
+        let Some(record) = snapshot_record(alloc, &snapshot)? else {
+            return Err(SnapshotFault::Unwritable);
+        };
+        if record.len() >= TOO_LONG {
+            return Err(SnapshotFault::TooLarge);
+        }
+        if !log.open(alloc, manifest)?.is_empty() {
+            return Err(SnapshotFault::NotNew);
+        }
+        log.put(alloc, &record)?;
+        Ok(snapshot.cells.len())
+    }
+}

@@ -1,0 +1,327 @@
+-- Committed transactions of a table with one seat follow one another: none began before an earlier one was committed.
+use Rattle.std.proofs.Common.{arith, ◌≡◌, ℕ, ◌<◌, ◌≤◌, ◌==◌, ◌⊎◌, inl, inr, Bool, true, false, cond, suc, List, [], ◌∷◌, ◌++◌, Option, Some, None, option_map, refl, sym, ap, subst, ◌∙◌}
+use Rattle.std.specs.FinMap as finite
+use Rattle.std.specs.Ordering.{nat_cmp}
+use Rattle.std.specs.Cmp.{unsigned_tied, nat_cmp_total}
+use Rattle.std.proofs.lemmas.Bool.{eqb-true, eq-eqb}
+use Rattle.pb_base.specs.Batch.{Writes}
+use Rattle.pb_base.specs.declared.cell.Cell.{Cell}
+use Rattle.pb_base.specs.declared.names.Ts.{Ts}
+use Rattle.pb_finished.specs.Finished.{Meant}
+use Rattle.pb_verify.specs.Observers.{ObserverOf}
+use Rattle.pb_steps.specs.Begin.{Begins}
+use Rattle.pb_steps.specs.Read.{read_step}
+use Rattle.pb_steps.specs.Readings.{write_at}
+use Rattle.pb_steps.specs.State.{StateOf, TransactionOf, phase_in, new_transaction}
+use Rattle.pb_steps.specs.Steps.{StepCase}
+use Rattle.pb_steps.specs.declared.phase.Phase.{Phase}
+use Rattle.pb_steps.specs.declared.step.Step.{Step}
+use Rattle.pb_steps.specs.declared.step.Answer.{Answer}
+use Rattle.pb_steps.specs.declared.step.Work.{Work}
+use Rattle.pb_steps.specs.declared.step.Declared.{Declared}
+use Rattle.pb_history.specs.Journals.{JournalLeads}
+use Rattle.pb_history.specs.Laws.{StepsKeepSound, OpeningIsSound}
+use Rattle.pb_history.specs.Sound.{IsSoundTable, IsCommittedAt}
+use Rattle.pb_history.specs.TableView.{view_of}
+use Rattle.pb_history.specs.declared.entry.Received.{Received}
+use Rattle.pb_history.specs.TransactionsTold.{names_start, committed_phase, transaction_after}
+use Rattle.pb_history.proofs.Agreement.{got}
+use Rattle.pb_history.proofs.TransactionAfter.{told_after, case_tells}
+use Rattle.pb_txn.specs.Conversations.{told}
+use Rattle.pb_txn.specs.Forms.{IsWhole, AreCleared, committed, conflicted_first, conflicted_later, lost, prewrites, secondaries}
+use Rattle.pb_txn.specs.declared.place.Outcome.{Outcome}
+use Rattle.pb_notify.specs.Allowed.{entries_by}
+use Rattle.pb_notify.specs.Forms.{its_begin, IsRunConversation, absent, clean, ran, conflicted, lost as lost_run, blocked}
+use Rattle.pb_notify.specs.Runs.{Watch}
+use Rattle.pb_notify.specs.declared.need.JobEnd.{JobEnd}
+use Rattle.pb_generations.specs.Snapshots.{LeftAreSound}
+use Rattle.pb_keeper.specs.Leads.{IsEndedChange}
+use Rattle.pb_keeper.specs.Keeps.{IsFirstTable, IsAnew, opened, anew, KeepsFrom, KeptFollowOneAnother}
+use Rattle.pb_keeper.specs.Stats.{KeptTable}
+use Rattle.pb_keeper.proofs.EachPart.{HoldsOfParts, of_all}
+use Rattle.pb_keeper.proofs.Resting.{first_sound, from_sound}
+use Rattle.pb_keeper.proofs.Wholes.{is_plain, ArePlain, IsPlainFrom, looked_from, rounds_from, base_from, begin_from, acknowledged_from, asked_from, read_plain, leads_parts, stays_sound}
+
+-- ---- steps
+
+-- how far a transaction has come that is committed, or stamped, at c
+abbrev is_phase_at : ℕ → Option Phase → Bool
+is_phase_at c (Some (Phase.Stamped d)) = d.0 == c
+is_phase_at c (Some (Phase.Committed d)) = d.0 == c
+is_phase_at c _ = false
+
+-- there is one
+abbrev has_phase : Option Phase → Bool
+has_phase (Some h) = true
+has_phase None = false
+
+-- the step begins no transaction, and stamps none but this
+abbrev is_step_within : ℕ → Step → Bool
+is_step_within s (Step.Begin work) = false
+is_step_within s (Step.Stamp u) = u.0 == s
+is_step_within s _ = true
+
+-- it begins and stamps none
+abbrev stamps_none : Step → Bool
+stamps_none (Step.Begin work) = false
+stamps_none (Step.Stamp u) = false
+stamps_none _ = true
+
+within_any : (s : ℕ) (step : Step) → stamps_none step ≡ true → is_step_within s step ≡ true
+within_any s step p = grind arith
+
+-- ---- one step
+
+-- the transaction is there
+abbrev has_transaction : Option TransactionOf → Bool
+has_transaction o = has_phase (option_map (λ (t : TransactionOf). t.phase) o)
+
+-- it has this commit
+abbrev has_this_commit : ℕ → Option TransactionOf → Bool
+has_this_commit c o = is_phase_at c (option_map (λ (t : TransactionOf). t.phase) o)
+
+there_is : (c : ℕ) (o : Option TransactionOf) → has_this_commit c o ≡ true → has_transaction o ≡ true
+there_is c None e = absurd cc
+there_is c (Some t) e = refl
+
+module _ (observers : List ObserverOf) (s u : ℕ) where
+  -- a step within a transaction begins none
+  none_begun : (step : Step) (answer : Answer) (o : Option TransactionOf) → is_step_within s step ≡ true → has_transaction (told_after observers u 0 step answer o) ≡ true → has_transaction o ≡ true
+  none_begun step answer None w e = grind arith
+  none_begun step answer (Some t) w e = refl
+
+  -- and gives a commit to that alone
+  after_commit : (c : ℕ) (step : Step) (answer : Answer) (t : TransactionOf) → names_start u step answer ≡ true → is_step_within s step ≡ true → has_this_commit c (transaction_after observers 0 step answer (Some t)) ≡ true
+      → (has_this_commit c (Some t) ≡ true) ⊎ (u ≡ s)
+  after_commit c (Step.Begin work) answer t n w e = absurd cc
+  after_commit c (Step.Read a x) (Answer.Found start commit content) t n w e = inl e
+  after_commit c (Step.Read a x) Answer.Absent t n w e = inl e
+  after_commit c (Step.ReadAt a x at) (Answer.Found start commit content) t n w e = inl e
+  after_commit c (Step.ReadAt a x at) Answer.Absent t n w e = inl e
+  after_commit c (Step.Declare a what) Answer.Done t n w e = absurd cc
+  after_commit c (Step.Prewrite a x) Answer.Done t n w e = inl e
+  after_commit c (Step.Prewrite a x) Answer.Conflict t n w e = absurd cc
+  after_commit c (Step.Stamp a) (Answer.At d) t n w e = inr (eqb-true u a.0 n ∙ eqb-true a.0 s w)
+  after_commit c (Step.CommitPrimary a) Answer.Committed t n w e = inl (as_was t.phase e)
+    where
+      as_was : (h : Phase) → is_phase_at c (Some (committed_phase h)) ≡ true → is_phase_at c (Some h) ≡ true
+      as_was h e = grind arith
+  after_commit c (Step.CommitPrimary a) Answer.Lost t n w e = absurd cc
+  after_commit c _ _ t n w e = inl e
+
+  none_stamped : (c : ℕ) (step : Step) (answer : Answer) (o : Option TransactionOf) → is_step_within s step ≡ true → has_this_commit c (told_after observers u 0 step answer o) ≡ true → (has_this_commit c o ≡ true) ⊎ (u ≡ s)
+  none_stamped c step answer None w e = absurd (let no : false ≡ true = none_begun step answer None w (there_is c (told_after observers u 0 step answer None) e) in cc)
+  none_stamped c step answer (Some t) w e = elim (names_start u step answer) as (λ b. names_start u step answer ≡ b → has_this_commit c (cond b (transaction_after observers 0 step answer (Some t)) (Some t)) ≡ true → (has_this_commit c (Some t) ≡ true) ⊎ (u ≡ s)) [
+    | true ↦ λ n k. after_commit c step answer t n w k
+    | false ↦ λ n k. inl k
+  ] refl e
+
+-- what begins after a transaction that has a commit begins after that
+abbrev pub Follow : StateOf → Type 0
+Follow m = (s c u : ℕ) → has_this_commit c (got m s) ≡ true → has_transaction (got m u) ≡ true → s < u → c < u
+
+-- no transaction began after this one
+abbrev IsLast : ℕ → StateOf → Type 0
+IsLast s m = (u : ℕ) → has_transaction (got m u) ≡ true → u ≤ s
+
+-- a step within the last transaction
+within_step : (s : ℕ) (old new : StateOf) (step : Step) (answer : Answer) → is_step_within s step ≡ true → StepCase old 0 step answer new → Follow old → IsLast s old → Follow new × IsLast s new
+within_step s old new step answer w m follow last = (
+  λ a c u stamped there low.
+      let begun = none_begun old.observers s u step answer (got old u) w (ap has_transaction (sym (case_tells old 0 new u step answer m)) ∙ there) in
+      elim (none_stamped old.observers s a c step answer (got old a) w (ap (has_this_commit c) (sym (case_tells old 0 new a step answer m)) ∙ stamped)) [
+        | inl k ↦ follow a c u k begun low
+        | inr is ↦ (let most = last u begun in absurd (omega (arith, most, is, low)))
+      ],
+  λ u there. last u (none_begun old.observers s u step answer (got old u) w (ap has_transaction (sym (case_tells old 0 new u step answer m)) ∙ there)),
+)
+
+-- a step that begins and stamps none
+plain_follow : (old new : StateOf) (step : Step) (answer : Answer) → stamps_none step ≡ true → StepCase old 0 step answer new → Follow old → Follow new
+plain_follow old new step answer p m follow = λ a c u stamped there low.
+    let begun = none_begun old.observers (suc a) u step answer (got old u) (within_any (suc a) step p) (ap has_transaction (sym (case_tells old 0 new u step answer m)) ∙ there) in
+    elim (none_stamped old.observers (suc a) a c step answer (got old a) (within_any (suc a) step p) (ap (has_this_commit c) (sym (case_tells old 0 new a step answer m)) ∙ stamped)) [
+      | inl k ↦ follow a c u k begun low
+      | inr is ↦ absurd (omega (arith, is))
+    ]
+
+has_stamp : (o : Option Phase) (c : ℕ) → is_phase_at c o ≡ true → (o ≡ Some (Phase.Stamped (record { 0 = c }))) ⊎ (o ≡ Some (Phase.Committed (record { 0 = c })))
+has_stamp o c e = grind arith
+
+some_phase : (o : Option Phase) → has_phase o ≡ true → (h : Phase) × (o ≡ Some h)
+some_phase None e = absurd cc
+some_phase (Some h) e = (h, refl)
+
+some_transaction : (o : Option TransactionOf) → has_transaction o ≡ true → (t : TransactionOf) × (o ≡ Some t)
+some_transaction None e = absurd cc
+some_transaction (Some t) e = (t, refl)
+
+-- a transaction as it begins, after all commits
+begin_step : (old new : StateOf) (work : Work) (s : ℕ) → IsSoundTable old → Begins old 0 work s new → Follow old → Follow new × IsLast s new
+begin_step old new work s sound b follow = (
+  λ a c u stamped there low. elim (begun a) [
+    | inl e ↦ absurd (let no : is_phase_at c (Some Phase.Reading) ≡ true = ap (has_this_commit c) (sym e.1) ∙ stamped in cc)
+    | inr e ↦ elim (begun u) [
+      | inl k ↦ (let high = commit_low a c (ap (has_this_commit c) (sym e) ∙ stamped) in let fresh = b.fresh in let is = k.0 in omega (arith, high, fresh, is))
+      | inr k ↦ follow a c u (ap (has_this_commit c) (sym e) ∙ stamped) (ap has_transaction (sym k) ∙ there) low
+    ]
+  ],
+  λ u there. elim (begun u) [
+    | inl k ↦ (let is = k.0 in omega (arith, is))
+    | inr k ↦ (let low = start_low u (ap has_transaction (sym k) ∙ there) in let fresh = b.fresh in omega (arith, low, fresh))
+  ],
+)
+  where
+    begun : (u : ℕ) → ((u ≡ s) × (got new u ≡ Some (new_transaction 0 work))) ⊎ (got new u ≡ got old u)
+    begun u = elim (u == s) as (λ z. (u == s) ≡ z → ((u ≡ s) × (got new u ≡ Some (new_transaction 0 work))) ⊎ (got new u ≡ got old u)) [
+      | true ↦ λ e. inl (eqb-true u s e, got_new u ∙ ap (λ z. cond z (Some (new_transaction 0 work)) (got old u)) e)
+      | false ↦ λ e. inr (got_new u ∙ ap (λ z. cond z (Some (new_transaction 0 work)) (got old u)) e)
+    ] refl
+      where
+        got_new : (u : ℕ) → got new u ≡ cond (u == s) (Some (new_transaction 0 work)) (got old u)
+        got_new u = ap (λ (z : StateOf). got z u) b.new_is ∙ finite.get-insert nat_cmp_total old.transactions s (new_transaction 0 work) u ∙ ap (λ z. cond z (Some (new_transaction 0 work)) (got old u)) (unsigned_tied u s)
+
+    commit_low : (a c : ℕ) → has_this_commit c (got old a) ≡ true → c ≤ old.clock
+    commit_low a c e = (sound.stamped a c (has_stamp (phase_in old a) c e)).1
+
+    start_low : (u : ℕ) → has_transaction (got old u) ≡ true → u ≤ old.clock
+    start_low u e = let h = some_phase (phase_in old u) e in sound.begun u h.0 h.1
+
+-- ---- conversations
+
+-- all of it is within a transaction
+abbrev AreWithin : ℕ → List Received → Type 0
+AreWithin s [] = Unit {0}
+AreWithin s (r ∷ rs) = (is_step_within s r.step ≡ true) × AreWithin s rs
+
+within_on : (s : ℕ) (a b : List Received) → AreWithin s a → AreWithin s b → AreWithin s (a ++ b)
+within_on s [] b p q = q
+within_on s (r ∷ a) b p q = (p.0, within_on s a b p.1 q)
+
+-- it is that of one transaction
+record IsOfOne (said : List Received) : Type 0 where
+  pub s : Ts
+  pub work : Work
+  pub rest : List Received
+  pub said_is : said ≡ told (Step.Begin work) (Answer.At s) ∷ rest
+  pub within : AreWithin s.0 rest
+
+one_more : (said more : List Received) (o : IsOfOne said) → AreWithin o.s.0 more → IsOfOne (said ++ more)
+one_more said more o w = record { s = o.s; work = o.work; rest = o.rest ++ more; said_is = ap (λ l. l ++ more) o.said_is; within = within_on o.s.0 o.rest more o.within w }
+
+plain_within : (s : ℕ) (said : List Received) → ArePlain said → AreWithin s said
+plain_within s [] p = tt
+plain_within s (r ∷ said) p = (plain_is s r.step p.0, plain_within s said p.1)
+  where
+    plain_is : (s : ℕ) (step : Step) → is_plain step ≡ true → is_step_within s step ≡ true
+    plain_is s step p = grind arith
+
+-- a transaction's own conversation
+module _ (s : Ts) where
+  itself : (s.0 == s.0) ≡ true
+  itself = eq-eqb s.0 s.0 refl
+
+  prewrites_within : (xs : List Cell) → AreWithin s.0 (prewrites s xs)
+  prewrites_within [] = tt
+  prewrites_within (x ∷ xs) = (refl, prewrites_within xs)
+
+  secondaries_within : (xs : List Cell) → AreWithin s.0 (secondaries s xs)
+  secondaries_within [] = tt
+  secondaries_within (x ∷ xs) = (refl, secondaries_within xs)
+
+  cleared_within : (xs : List Cell) (rs : List Received) → AreCleared xs rs → AreWithin s.0 rs
+  cleared_within [] rs is = subst (AreWithin s.0) (sym is) tt
+  cleared_within (x ∷ xs) [] is = absurd is
+  cleared_within (x ∷ xs) (r ∷ rs) is = (ap (is_step_within s.0) is.0, cleared_within xs rs is.2)
+
+  whole_within : (what : Declared) (cells : List Cell) (said : List Received) (o : Outcome) → IsWhole s what cells said o → AreWithin s.0 said
+  whole_within what cells said o (committed x others c) =
+      (refl, within_on s.0 (prewrites s (x ∷ others)) (told (Step.Stamp s) (Answer.At c) ∷ told (Step.CommitPrimary s) Answer.Committed ∷ secondaries s others) (prewrites_within (x ∷ others)) (itself, (refl, secondaries_within others)))
+  whole_within what cells said o (conflicted_first x after) = (refl, (refl, tt))
+  whole_within what cells said o (conflicted_later x y before after z cs can are) =
+      (refl, within_on s.0 (prewrites s (x ∷ before)) (told (Step.Prewrite s y) Answer.Conflict ∷ told (Step.Settle x) z ∷ cs) (prewrites_within (x ∷ before)) (refl, (refl, cleared_within before cs are)))
+  whole_within what cells said o (lost x others c cs are) =
+      (refl, within_on s.0 (prewrites s (x ∷ others)) (told (Step.Stamp s) (Answer.At c) ∷ told (Step.CommitPrimary s) Answer.Lost ∷ cs) (prewrites_within (x ∷ others)) (itself, (refl, cleared_within others cs are)))
+
+  planned : (before plan : List Received) → IsPlainFrom s before → AreWithin s.0 plan → IsOfOne (before ++ plan)
+  planned before plan f w = one_more before plan (record { s = s; work = f.work; rest = f.rest; said_is = f.said_is; within = plain_within s.0 f.rest f.plain }) w
+
+run_is_of_one : (o : Watch) (said : List Received) (end : JobEnd) (run : Option Meant) → IsRunConversation o said end run → IsOfOne said
+run_is_of_one o said end run (absent s k before w look none few can) = planned s before _ (looked_from s _ None 0 (its_begin o s) k before look (begin_from s o)) (refl, tt)
+run_is_of_one o said end run (clean s seen k before w i late few can) = planned s before _ (acknowledged_from s o seen k before i) (refl, tt)
+run_is_of_one o said end run (ran s seen talk k before plan f c w i few on whole can) =
+    one_more (before ++ plan) _ (planned s before plan (asked_from s o seen talk k before i) (whole_within s _ _ plan (Outcome.Committed c) whole)) (refl, tt)
+run_is_of_one o said end run (conflicted s seen talk k before plan f i few on whole) = planned s before plan (asked_from s o seen talk k before i) (whole_within s _ _ plan Outcome.Conflicted whole)
+run_is_of_one o said end run (lost_run s seen talk k before plan f i few on whole) = planned s before plan (asked_from s o seen talk k before i) (whole_within s _ _ plan Outcome.Lost whole)
+run_is_of_one o said end run (blocked s x at j base k before t primary from rounds last) =
+    planned s before _ (rounds_from s x at j base k before rounds (base_from s o x at j base from)) (plain_within s.0 (told (read_step s x at) (Answer.Locked t primary) ∷ []) (read_plain s x at, tt))
+
+change_is_of_one : (batch : Writes) (o : Outcome) (said : List Received) → IsEndedChange batch o said → IsOfOne said
+change_is_of_one batch o said is = record { s = is.0; work = Work.Script; rest = is.1.rest; said_is = is.1.said_is; within = whole_within is.0 _ _ is.1.rest o is.1.whole }
+
+-- after which transactions follow one another where they did before
+abbrev KeepsFollowing : List Received → Type 0
+KeepsFollowing said = (m n : StateOf) → IsSoundTable m → Follow m → JournalLeads m (entries_by 0 said) n → Follow n
+
+within_walk : (s : ℕ) (said : List Received) (m n : StateOf) → AreWithin s said → Follow m → IsLast s m → JournalLeads m (entries_by 0 said) n → Follow n
+within_walk s [] m n w follow last r = subst Follow (sym r) follow
+within_walk s (x ∷ said) m n w follow last r =
+    let one = within_step s m r.0 x.step x.answer w.0 r.1.taken follow last in
+    within_walk s said r.0 n w.1 one.0 one.1 r.2
+
+one_keeps : (said : List Received) → IsOfOne said → KeepsFollowing said
+one_keeps said o m n sound follow g =
+    let r = subst (λ l. JournalLeads m (entries_by 0 l) n) o.said_is g in
+    let begun = begin_step m r.0 o.work o.s.0 sound r.1.taken follow in
+    within_walk o.s.0 o.rest r.0 n o.within begun.0 begun.1 r.2
+
+module _ (keeps : StepsKeepSound) (observers : List ObserverOf) where
+  parts_follow : HoldsOfParts observers KeepsFollowing
+  parts_follow = record {
+    nothing = λ m n sound follow r. subst Follow (sym r) follow;
+    on = λ a b p q m n sound follow r.
+        let parts = leads_parts m n a b r in
+        q parts.0 n (stays_sound keeps m parts.0 a sound parts.1) (p m parts.0 sound follow parts.1) parts.2;
+    mark = λ after a m n sound follow r. subst Follow (sym r.2) (plain_follow m r.0 (Step.NextMark after) a refl r.1.taken follow);
+    run = λ i x said is. one_keeps said (run_is_of_one _ said is.end is.run is.talk);
+    change = λ batch o said is. one_keeps said (change_is_of_one batch o said is);
+  }
+
+-- ---- generations
+
+module _ (keeps : StepsKeepSound) (opens : OpeningIsSound) (left : LeftAreSound) where
+  from_follow : (past changes : List Writes) (first table : KeptTable) → IsFirstTable past first → Follow first.state → KeepsFrom first changes table → Follow table.state
+  from_follow past changes first table began follow k =
+      of_all first.state.observers (parts_follow keeps first.state.observers) changes k.said k.form.form first.state table.state (first_sound keeps opens left past first began) follow k.leads
+
+  first_follow : (past : List Writes) (first : KeptTable) → IsFirstTable past first → Follow first.state
+  first_follow past first (opened observers) = λ s c u stamped there low. absurd (let no : false ≡ true = ap has_transaction (sym (finite.get-empty nat_cmp u)) ∙ there in cc)
+  first_follow past first (anew before changes start old new began k quiet room is stats) =
+      let sound = from_sound keeps opens left before changes start old began k in
+      let was = from_follow before changes start old began (first_follow before start began) k in
+      subst Follow (sym is.is) (λ s c u stamped there low. was s c u (stays old.state first.state sound is s c stamped) (stays_there old.state first.state sound is u there) low)
+    where
+      committed_at : (old new : StateOf) → IsSoundTable old → IsAnew old new → (s : ℕ) (t : TransactionOf) → got new s ≡ Some t → (c : Ts) × (t.phase ≡ Phase.Committed c) × IsCommittedAt (view_of old) s c.0
+      committed_at old new sound is s t e =
+          let l = is.left.each s t e in
+          let v = is.snapshot.only l.some.0 l.commit.0 s l.some.1 in
+          let stands = v.1.written in
+          (l.commit, l.phase, sound.record_committed l.some.0 l.commit.0 s (ap (write_at old.entries l.some.0) (sym v.2) ∙ stands ∙ ap Some v.3))
+
+      stays : (old new : StateOf) → IsSoundTable old → IsAnew old new → (s c : ℕ) → has_this_commit c (got new s) ≡ true → has_this_commit c (got old s) ≡ true
+      stays old new sound is s c e =
+          let t = some_transaction (got new s) (there_is c (got new s) e) in
+          let k = committed_at old new sound is s t.0 t.1 in
+          ap (is_phase_at c) (k.2 ∙ ap Some (sym k.1)) ∙ ap (has_this_commit c) (sym t.1) ∙ e
+
+      stays_there : (old new : StateOf) → IsSoundTable old → IsAnew old new → (s : ℕ) → has_transaction (got new s) ≡ true → has_transaction (got old s) ≡ true
+      stays_there old new sound is s e =
+          let t = some_transaction (got new s) e in
+          ap has_phase (committed_at old new sound is s t.0 t.1).2
+
+  pub kept_follow : KeptFollowOneAnother
+  kept_follow first changes table k s c u d earlier later low =
+      from_follow k.past changes first table k.began (first_follow k.past first k.began) k.leads s c u (at_commit (phase_in table.state s) c earlier) (ap has_phase later) low
+    where
+      at_commit : (o : Option Phase) (c : ℕ) → o ≡ Some (Phase.Committed (record { 0 = c })) → is_phase_at c o ≡ true
+      at_commit o c e = ap (is_phase_at c) e ∙ eq-eqb c c refl

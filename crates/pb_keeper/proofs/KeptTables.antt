@@ -1,0 +1,76 @@
+-- What the only seat says while it makes changes leaves a table that is kept over generations one that is.
+use Rattle.std.proofs.Common.{◌≡◌, ℕ, List, [], ◌∷◌, ◌++◌, Option, refl, sym, subst, ◌∙◌}
+use Rattle.std.proofs.lemmas.List.{append_assoc, append-nil}
+use Rattle.pb_base.specs.Batch.{Writes}
+use Rattle.pb_base.specs.Cell.{row_of}
+use Rattle.pb_base.specs.declared.cell.Cell.{Cell}
+use Rattle.pb_verify.specs.Observers.{ObserverOf}
+use Rattle.pb_steps.specs.State.{StateOf}
+use Rattle.pb_steps.specs.declared.step.Step.{Step}
+use Rattle.pb_steps.specs.declared.step.Answer.{Answer}
+use Rattle.pb_history.specs.Journals.{JournalLeads}
+use Rattle.pb_history.specs.declared.entry.Entry.{Entry}
+use Rattle.pb_history.specs.declared.entry.Received.{Received}
+use Rattle.pb_txn.specs.Conversations.{told}
+use Rattle.pb_txn.specs.declared.place.Outcome.{Outcome}
+use Rattle.pb_notify.specs.Allowed.{entries_by}
+use Rattle.pb_passes.specs.Passes.{IsRun}
+use Rattle.pb_generations.specs.KeptTables.{IsKeptTable, opened, stepped, anew, RunsKeepTables, WholeChangesKeepTables, MarksKeepTables}
+use Rattle.pb_keeper.specs.Leads.{SaidLeads, IsEndedChange}
+use Rattle.pb_keeper.specs.Counts.{CountsCommits}
+use Rattle.pb_keeper.specs.Stats.{Counted}
+use Rattle.pb_keeper.specs.Stops.{WasKept}
+use Rattle.pb_keeper.specs.declared.stats.ObserverStats.{ObserverStats}
+use Rattle.pb_keeper.proofs.EachPart.{HoldsOfParts}
+use Rattle.pb_keeper.proofs.Leading.{case_observers, entries_on}
+use Rattle.pb_keeper.proofs.PassAlong.{Led}
+use Rattle.pb_keeper.proofs.Wholes.{leads_parts}
+
+-- over all generations its observers are those that it was opened with
+pub kept_observers : (observers : List ObserverOf) (seats clock c : ℕ) (journal : List Entry) (now : StateOf) → IsKeptTable observers seats clock c journal now → now.observers ≡ observers
+kept_observers observers seats clock c journal now (opened room) = refl
+kept_observers observers seats clock c journal now (stepped g before old e new k job step) = case_observers old e.seat now e.step e.answer step.taken ∙ kept_observers observers seats clock g before old k
+kept_observers observers seats clock c journal now (anew g before old f ts k quiet room snapshot ended) = kept_observers observers seats clock g journal old k
+
+-- a conversation after which a table is kept that was kept before it
+abbrev pub LeavesKept : List ObserverOf → List Received → Type 0
+LeavesKept observers said = (c : ℕ) (before : List Received) (m n : StateOf) → IsKeptTable observers 1 0 c (entries_by 0 before) m → JournalLeads m (entries_by 0 said) n → IsKeptTable observers 1 0 c (entries_by 0 (before ++ said)) n
+
+module _ (observers : List ObserverOf) where
+  nothing_leaves : LeavesKept observers []
+  nothing_leaves c before m n k r =
+      subst (λ (l : List Received). IsKeptTable observers 1 0 c (entries_by 0 l) n) (sym (append-nil before)) (subst (λ (s : StateOf). IsKeptTable observers 1 0 c (entries_by 0 before) s) (sym r) k)
+
+  leaves_on : (a b : List Received) → LeavesKept observers a → LeavesKept observers b → LeavesKept observers (a ++ b)
+  leaves_on a b p q c before m n k r =
+      let parts = leads_parts m n a b r in
+      subst (λ (l : List Received). IsKeptTable observers 1 0 c (entries_by 0 l) n) (append_assoc before a b) (q c (before ++ a) parts.0 n (p c before m parts.0 k parts.1) parts.2)
+
+  -- one journal after another is that of both conversations
+  as_one : (c : ℕ) (before said : List Received) (n : StateOf) → IsKeptTable observers 1 0 c (entries_by 0 before ++ entries_by 0 said) n → IsKeptTable observers 1 0 c (entries_by 0 (before ++ said)) n
+  as_one c before said n k = subst (λ (es : List Entry). IsKeptTable observers 1 0 c es n) (sym (entries_on before said)) k
+
+  pub mark_leaves : MarksKeepTables → (after : Option Cell) (a : Answer) → LeavesKept observers (told (Step.NextMark after) a ∷ [])
+  mark_leaves marks after a c before m n k r = let said = told (Step.NextMark after) a ∷ [] in as_one c before said n (marks observers 1 0 c (entries_by 0 before) m n k 0 after a said refl r)
+
+  pub change_leaves : WholeChangesKeepTables → (batch : Writes) (o : Outcome) (said : List Received) → IsEndedChange batch o said → LeavesKept observers said
+  change_leaves whole batch o said is c before m n k r = as_one c before said n (whole observers 1 0 c (entries_by 0 before) m n k 0 batch is.0 said o is.1 r)
+
+  run_leaves : RunsKeepTables → (i : ℕ) (x : Cell) (said : List Received) → IsRun observers i x said → LeavesKept observers said
+  run_leaves runs i x said is c before m n k r = as_one c before said n (runs observers 1 0 c (entries_by 0 before) m n k 0 i is.o (row_of x) said is.job is.observer.there is.reaches r)
+
+  pub parts_leave : RunsKeepTables → WholeChangesKeepTables → MarksKeepTables → HoldsOfParts observers (LeavesKept observers)
+  parts_leave runs whole marks = record { nothing = nothing_leaves; on = leaves_on; mark = mark_leaves marks; run = run_leaves runs; change = change_leaves whole }
+
+-- so the table is kept after such a conversation
+pub kept_after : {P : List Received → Type 0} (a b : StateOf) → WasKept a → ((said : List Received) → P said → LeavesKept a.observers said) → SaidLeads P a b → WasKept b
+kept_after a b k leaves g = record {
+  observers = k.observers;
+  c = k.c;
+  said = k.said ++ g.said;
+  kept = subst (λ (l : List ObserverOf). LeavesKept l g.said) (kept_observers k.observers 1 0 k.c (entries_by 0 k.said) a k.kept) (leaves g.said g.form) k.c k.said a b k.kept g.leads;
+}
+
+-- and after one whose runs are counted
+pub kept_while : (P : List Received → Type 0) (s t : List ObserverStats) (m : ℕ) (a b : StateOf) → WasKept a → ((said : List Received) → P said → LeavesKept a.observers said) → Led a.observers s t P m a b → WasKept b
+kept_while P s t m a b k leaves g = kept_after {P = Counted a.observers s t (CountsCommits P m)} a b k (λ said f. leaves said f.form.form) g

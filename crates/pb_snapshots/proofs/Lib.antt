@@ -1,0 +1,9 @@
+pub mod Fields
+pub mod Versions
+pub mod Lists
+pub mod NoText
+pub mod Appending
+pub mod VersionWalks
+pub mod QuietBegins
+pub mod Beginning
+pub mod TakenOrder

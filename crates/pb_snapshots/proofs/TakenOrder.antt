@@ -1,0 +1,224 @@
+-- The versions of a snapshot of a kept table are in the order in which a state takes them over.
+use Rattle.std.proofs.Common.{arith, ◌≡◌, ℕ, zero, suc, ◌<◌, ◌≤◌, ◌⊎◌, inl, inr, Bool, true, false, cond, ◌&&◌, ◌||◌, nat_lt, List, [], ◌∷◌, map, take, Option, Some, None, slice_get, Ordering, Less, Equal, Greater, refl, sym, ap, subst, ◌∙◌}
+use Rattle.std.specs.Cmp.{Equal-is, tied_itself}
+use Rattle.std.specs.List.{AllByRecursion, list_all}
+use Rattle.std.specs.List.Sorted.{IsStrictlySortedBy}
+use Rattle.std.specs.FinMap.{nat_cmp-IsAntisymmetric}
+use Rattle.std.specs.Ordering.{eq_by_cmp, is_lt, nat_cmp, ordering_then}
+use Rattle.std.proofs.lemmas.Bool.{cases_lt, eq-eqb}
+use Rattle.pb_base.proofs.Logic.{and_true, same_some}
+use Rattle.pb_base.specs.Batch.{Writes, content_in, is_batch, is_data_write}
+use Rattle.pb_base.specs.Cell.{cell_cmp, cell_cmp-IsAntisymmetric}
+use Rattle.pb_base.specs.declared.cell.Cell.{Cell}
+use Rattle.pb_base.specs.declared.content.Content.{Content}
+use Rattle.pb_base.specs.declared.content.Revision.{Revision}
+use Rattle.pb_base.specs.declared.names.Row.{Row}
+use Rattle.pb_base.specs.declared.names.Ts.{Ts}
+use Rattle.pb_verify.specs.Observers.{ObserverOf, acknowledgment}
+use Rattle.pb_steps.specs.Readings.{IsVersion, NoLock, last_timestamp, write_at}
+use Rattle.pb_steps.specs.State.{StateOf, phase_in}
+use Rattle.pb_steps.specs.declared.phase.Phase.{Phase}
+use Rattle.pb_steps.specs.declared.step.Work.{Work}
+use Rattle.pb_history.specs.History.{Has, InHistory, Member}
+use Rattle.pb_history.specs.Laws.{OpeningIsSound, RunsAreTold, ScriptsWriteBatches, StepsKeepSound}
+use Rattle.pb_history.specs.RunsTold.{IsObserverRun}
+use Rattle.pb_history.specs.Sound.{IsCommittedAt, IsSoundTable}
+use Rattle.pb_history.specs.TableView.{view_of}
+use Rattle.pb_history.specs.declared.entry.Entry.{Entry}
+use Rattle.pb_history.proofs.DeclaredCells.{batch_plain, run_plain}
+use Rattle.pb_history.proofs.Updates.{none_if}
+use Rattle.pb_notify.specs.Allowed.{entries_by}
+use Rattle.pb_generations.specs.KeptTables.{KeptTablesAreWhole, NewestInAll}
+use Rattle.pb_generations.specs.Snapshots.{LeftAreSound}
+use Rattle.pb_state.specs.CarriedOver.{IsAmiss, MayFollow, comes_before, has_its_observer, is_content_of, is_of_column, is_stamp_of}
+use Rattle.pb_state.specs.declared.carry_fault.CarryFault.{CarryFault}
+use Rattle.pb_keeper.specs.Keeps.{Keeps, KeptFollowOneAnother, KeptIsUnlocked, KeptIsWhole}
+use Rattle.pb_keeper.specs.Stats.{KeptTable}
+use Rattle.pb_keeper.proofs.Leading.{leads_observers}
+use Rattle.pb_keeper.proofs.Resting.{kept_sound}
+use Rattle.pb_snapshots.specs.TakenOrder.{IsForMemory, TakenAreAccepted, TakenAreInOrder}
+use Rattle.pb_snapshots.specs.VersionWalks.{start_cmp, start_of_version}
+use Rattle.pb_snapshots.proofs.VersionWalks.{key_total, one_version}
+
+-- ---- an ordered list
+
+all_at : {A B : Type 0} (P : B → Type 0) (f : A → B) (xs : List A) (n : ℕ) (c : A) → AllByRecursion P (map f xs) → slice_get xs n ≡ Some c → P (f c)
+all_at P f [] n c all is = absurd cc
+all_at P f (x ∷ xs) zero c all is = subst (λ z. P (f z)) (same_some x c is) all.0
+all_at P f (x ∷ xs) (suc n) c all is = all_at P f xs n c all.1 is
+
+has_got : {A : Type 0} (xs : List A) (n : ℕ) (c : A) → slice_get xs n ≡ Some c → Has xs c
+has_got [] n c is = absurd cc
+has_got (x ∷ xs) zero c is = inl (same_some x c is)
+has_got (x ∷ xs) (suc n) c is = inr (has_got xs n c is)
+
+has_taken : {A : Type 0} (xs : List A) (n : ℕ) (d : A) → Has (take n xs) d → Has xs d
+has_taken [] zero d has = has
+has_taken [] (suc n) d has = has
+has_taken (x ∷ xs) zero d has = absurd has
+has_taken (x ∷ xs) (suc n) d (inl e) = inl e
+has_taken (x ∷ xs) (suc n) d (inr h) = inr (has_taken xs n d h)
+
+-- what stands before another is below it
+below_at : {A K : Type 0} (cmp : K → K → Ordering) (key : A → K) (xs : List A) (n : ℕ) (c d : A) → IsStrictlySortedBy cmp (map key xs) → slice_get xs n ≡ Some c → Has (take n xs) d → cmp (key d) (key c) ≡ Less
+unfolding IsStrictlySortedBy
+below_at cmp key [] n c d rising is has = absurd cc
+below_at cmp key (x ∷ xs) zero c d rising is has = absurd has
+below_at cmp key (x ∷ xs) (suc n) c d rising is (inl e) = subst (λ z. cmp (key z) (key c) ≡ Less) e (all_at (λ y. cmp (key x) y ≡ Less) key xs n c rising.0 is)
+below_at cmp key (x ∷ xs) (suc n) c d rising is (inr h) = below_at cmp key xs n c d rising.1 is h
+
+-- ---- the order of versions
+
+less_parts : (a b : Ts × Cell) → start_cmp a b ≡ Less → (a.0.0 < b.0.0) ⊎ ((a.0.0 ≡ b.0.0) × (cell_cmp a.1 b.1 ≡ Less))
+less_parts a b e = elim (less_of _ _ e) [
+  | inl less ↦ inl (below _ _ less)
+  | inr p ↦ inr (nat_cmp-IsAntisymmetric _ _ p.0, p.1)
+]
+  where
+    below : (m n : ℕ) → nat_cmp m n ≡ Less → m < n
+    below m n less = grind arith
+
+    less_of : (o p : Ordering) → ordering_then o p ≡ Less → (o ≡ Less) ⊎ ((o ≡ Equal) × (p ≡ Less))
+    less_of Less p e = inl refl
+    less_of Equal p e = inr (refl, e)
+    less_of Greater p e = absurd cc
+
+not_below_itself : (k : Ts × Cell) → start_cmp k k ≡ Less → ⊥
+not_below_itself k e = let tied = tied_itself key_total k in cc
+
+or_below : (b : Bool) (m n : ℕ) → m < n → (b || nat_lt m n) ≡ true
+or_below b m n h = grind arith
+
+one_commit : (c d : ℕ) (o : Option Phase) → o ≡ Some (Phase.Committed (record { 0 = c })) → o ≡ Some (Phase.Committed (record { 0 = d })) → c ≡ d
+one_commit c d o p q = ap commit_in (sym p ∙ q)
+  where
+    commit_in : Option Phase → ℕ
+    commit_in (Some (Phase.Committed e)) = e.0
+    commit_in _ = 0
+
+-- ---- contents
+
+-- what plain writes hold
+plain_at : (ws : Writes) (x : Cell) (k : Content) → list_all is_data_write ws ≡ true → content_in ws x ≡ Some k → is_data_write (x, k) ≡ true
+plain_at [] x k plain is = absurd cc
+plain_at (w ∷ ws) x k plain is =
+    let p = and_true (is_data_write w) (list_all is_data_write ws) plain in
+    elim (eq_by_cmp cell_cmp x w.0) as (λ b. eq_by_cmp cell_cmp x w.0 ≡ b → cond b (Some w.1) (content_in ws x) ≡ Some k → is_data_write (x, k) ≡ true) [
+      | true ↦ λ e found. let same = cell_cmp-IsAntisymmetric x w.0 ((Equal-is (cell_cmp x w.0)).0 e) in subst (λ (y : Cell). is_data_write (y, k) ≡ true) (sym same) (subst (λ (z : Content). is_data_write (w.0, z) ≡ true) (same_some w.1 k found) p.0)
+      | false ↦ λ e found. plain_at ws x k p.1 found
+    ] refl is
+
+-- the version has a content of its cell, of an observer that is there
+abbrev IsOwnVersion : List ObserverOf → Cell → Revision → Type 0
+IsOwnVersion observers x v = (is_content_of x v ≡ true) × (has_its_observer observers x ≡ true)
+
+plain_own : (observers : List ObserverOf) (x : Cell) (v : Revision) → is_data_write (x, v.content) ≡ true → IsOwnVersion observers x v
+plain_own observers (Cell.Data row column) v plain = (plain, refl)
+plain_own observers (Cell.Ack o row column) v plain = absurd cc
+
+stamp_own : (observers : List ObserverOf) (o : ℕ) (row : Row) (observer : ObserverOf) (s : ℕ) (x : Cell) (v : Revision) → slice_get observers o ≡ Some observer → x ≡ acknowledgment observers o row → s ≡ v.start.0
+    → Content.Stamp (record { 0 = s }) ≡ v.content → IsOwnVersion observers x v
+stamp_own observers o row observer s x v there is start content =
+    let P : Cell → Type 0 = λ y. IsOwnVersion observers y v in
+    subst P (sym is) (
+      ap (is_stamp_of v.start) (sym content) ∙ eq-eqb s v.start.0 start,
+      ap (λ z. is_of_column z (observed_of z)) there ∙ eq-eqb observer.column observer.column refl,
+    )
+  where
+    observed_of : Option ObserverOf → ℕ
+    observed_of None = 0
+    observed_of (Some z) = z.column
+
+module _ (observers : List ObserverOf) (journal : List Entry) (m : Member) (x : Cell) (v : Revision) (start : m.start ≡ v.start.0) (writes : content_in m.writes x ≡ Some v.content) where
+  run_own : (o : ℕ) (row : Row) → IsObserverRun observers journal m o row → IsOwnVersion observers x v
+  run_own o row r =
+      let ack = acknowledgment observers o row in
+      let its : Content = Content.Stamp (record { 0 = m.start }) in
+      elim (eq_by_cmp cell_cmp x ack) as (λ b. eq_by_cmp cell_cmp x ack ≡ b → cond b (Some its) (content_in r.writes x) ≡ Some v.content → IsOwnVersion observers x v) [
+        | true ↦ λ e found. stamp_own observers o row r.observer m.start x v r.observer_is (cell_cmp-IsAntisymmetric x ack ((Equal-is (cell_cmp x ack)).0 e)) start (same_some its v.content found)
+        | false ↦ λ e found. plain_own observers x v (plain_at r.writes x v.content (run_plain r.writes r.few) found)
+      ] refl (ap (λ ws. content_in ws x) (sym r.writes_are) ∙ writes)
+
+  own : (work : Work) → m.work ≡ work → (m.work ≡ Work.Script → is_batch m.writes ≡ true) → ((o : ℕ) (row : Row) → m.work ≡ Work.Run o row → IsObserverRun observers journal m o row) → IsOwnVersion observers x v
+  own Work.Script is scripts runs = plain_own observers x v (plain_at m.writes x v.content (batch_plain m.writes (scripts is)) writes)
+  own (Work.Run o row) is scripts runs = run_own o row (runs o row is)
+
+true_is_false : {b : Bool} → b ≡ true → b ≡ false → ⊥
+true_is_false p q = cc
+
+-- what may come next isn't amiss
+none_amiss : (e : CarryFault) (observers : List ObserverOf) (last : ℕ) (before : List (Cell × Revision)) (next : Cell × Revision) → MayFollow observers last before next → IsAmiss observers last before next e → IsForMemory e
+none_amiss (CarryFault.NoMemory m) observers last before next may amiss = tt
+none_amiss CarryFault.NotAboveStart observers last before next may amiss = let above = may.above in omega (arith, above, amiss)
+none_amiss CarryFault.AboveLast observers last before next may amiss = let low = may.by_then in omega (arith, low, amiss)
+none_amiss CarryFault.OutOfOrder observers last before next may amiss = true_is_false (may.in_order amiss.0 amiss.1) amiss.2
+none_amiss CarryFault.CellTwice observers last before next may amiss = may.once amiss.0 amiss.1
+none_amiss CarryFault.NotItsContent observers last before next may amiss = true_is_false may.its_content amiss
+none_amiss CarryFault.NoItsObserver observers last before next may amiss = true_is_false may.observed amiss
+
+-- ---- a kept table
+
+module _ (keeps : StepsKeepSound) (opens : OpeningIsSound) (left : LeftAreSound) (follow : KeptFollowOneAnother) (unlocked : KeptIsUnlocked) (whole : KeptIsWhole) (newest : NewestInAll) (wholes : KeptTablesAreWhole)
+    (runs : RunsAreTold) (scripts : ScriptsWriteBatches) where
+  module _ (first : KeptTable) (changes : List Writes) (table : KeptTable) (k : Keeps first changes table) where
+    sound : IsSoundTable table.state
+    sound = kept_sound keeps opens left first changes table k
+
+    -- a version at the clock is of a committed transaction
+    committed : (x : Cell) (v : Revision) → IsVersion table.state.entries x table.state.clock v → IsCommittedAt (view_of table.state) v.start.0 v.commit.0
+    committed x v is = sound.record_committed x v.commit.0 v.start.0 is.written
+
+    above : (x : Cell) (v : Revision) → IsVersion table.state.entries x table.state.clock v → v.start.0 < v.commit.0
+    above x v is = (sound.stamped v.start.0 v.commit.0 (inr (committed x v is))).0
+
+    -- and it is the newest
+    is_newest : (x : Cell) (v : Revision) → IsVersion table.state.entries x table.state.clock v → IsVersion table.state.entries x last_timestamp v
+    is_newest x v is = record {
+      low = let low = is.low in let small = sound.small in omega (arith, low, small);
+      written = is.written;
+      content = is.content;
+      newest = λ c higher low. elim (cases_lt table.state.clock c) [
+        | inl later ↦ none_if (write_at table.state.entries x c) (λ s e.
+            let most = (sound.stamped s c (inr (sound.record_committed x c s e))).1 in
+            omega (arith, most, later))
+        | inr by_then ↦ is.newest c higher by_then
+      ];
+    }
+
+    is_own : (x : Cell) (v : Revision) → IsVersion table.state.entries x table.state.clock v → IsOwnVersion first.state.observers x v
+    is_own x v is =
+        let w = whole first changes table k in
+        let journal = entries_by 0 w.said in
+        let free : NoLock table.state.entries x = λ u low. unlocked first changes table k x u in
+        let write = newest first.state.observers 1 0 w.c journal table.state w.kept x (Some v) free (is_newest x v is) in
+        let stands = wholes first.state.observers 1 0 w.c journal table.state w.kept in
+        let same : table.state.observers ≡ stands.whole.observers = ap (λ (z : StateOf). z.observers) stands.now_is in
+        let m = write.m in
+        let h : InHistory stands.whole.observers journal m = subst (λ l. InHistory l journal m) same write.in_history in
+        let one = own stands.whole.observers journal m x v write.start_is write.writes m.work refl ((scripts first.state.observers 1 0 journal stands.whole stands.legal).batch m h) (λ o row. (runs first.state.observers 1 0 journal stands.whole stands.legal).run m o row h) in
+        subst (λ l. IsOwnVersion l x v) (sym same ∙ leads_observers first.state table.state k.leads) one
+
+  pub taken_are_in_order : TakenAreInOrder
+  taken_are_in_order first changes table s k taken rising n c is = record {
+    above = above first changes table k c.0 c.1 version;
+    by_then = subst (λ (z : ℕ). c.1.commit.0 ≤ z) (sym taken.clock) version.low;
+    in_order = λ d before. comes d before (taken.each d.0 d.1 (has_taken s.cells n d before)) (less_parts (start_of_version d) (start_of_version c) (below_at start_cmp start_of_version s.cells n c d rising is before));
+    once = λ v before.
+        let same = one_version table.state.entries c.0 table.state.clock v c.1 (taken.each c.0 v (has_taken s.cells n (c.0, v) before)) version in
+        let less = below_at start_cmp start_of_version s.cells n c (c.0, v) rising is before in
+        not_below_itself (c.1.start, c.0) (subst (λ (w : Revision). start_cmp (w.start, c.0) (c.1.start, c.0) ≡ Less) same less);
+    its_content = (is_own first changes table k c.0 c.1 version).0;
+    observed = (is_own first changes table k c.0 c.1 version).1;
+  }
+    where
+      version : IsVersion table.state.entries c.0 table.state.clock c.1
+      version = taken.each c.0 c.1 (has_got s.cells n c is)
+
+      comes : (d : Cell × Revision) → Has (take n s.cells) d → IsVersion table.state.entries d.0 table.state.clock d.1 → (d.1.start.0 < c.1.start.0) ⊎ ((d.1.start.0 ≡ c.1.start.0) × (cell_cmp d.0 c.0 ≡ Less)) → comes_before d c ≡ true
+      comes d before its (inl low) = or_below _ d.1.commit.0 c.1.start.0 (follow first changes table k d.1.start.0 d.1.commit.0 c.1.start.0 c.1.commit.0 (committed first changes table k d.0 d.1 its) (committed first changes table k c.0 c.1 version) low)
+      comes d before its (inr same) =
+          let commits = one_commit d.1.commit.0 c.1.commit.0 (phase_in table.state c.1.start.0) (sym (ap (phase_in table.state) same.0) ∙ committed first changes table k d.0 d.1 its) (committed first changes table k c.0 c.1 version) in
+          λ i. (eq-eqb d.1.start.0 c.1.start.0 same.0 i && (eq-eqb d.1.commit.0 c.1.commit.0 commits i && is_lt (same.1 i))) || nat_lt d.1.commit.0 c.1.start.0
+
+  pub taken_are_accepted : TakenAreAccepted
+  taken_are_accepted first changes table s k taken rising n e why = none_amiss e first.state.observers s.clock (take n s.cells) why.0 (taken_are_in_order first changes table s k taken rising n why.0 why.1) why.2

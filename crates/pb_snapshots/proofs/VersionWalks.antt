@@ -1,0 +1,189 @@
+-- The versions of a table, gathered entry by entry, and listed.
+use Rattle.std.specs.BTreeMap as tree
+use Rattle.std.specs.BTreeMap.{BTreeMap}
+use Rattle.std.proofs.Common.{◌≡◌, ℕ, ◌<◌, ◌⊎◌, inl, inr, Bool, true, false, cond, List, [], ◌∷◌, Option, Some, None, is_some, refl, sym, ap, ◌∙◌, subst, arith, length, zero, suc, drop, get_or, slice_get, map, Contains, Equal}
+use Rattle.std.specs.Cmp.{IsTotalOrder, nat_cmp_total, tied_itself, Equal-is}
+use Rattle.std.specs.Ordering.{eq_by_cmp, is_eq}
+use Rattle.std.specs.Map.{lookup}
+use Rattle.std.specs.FinMap as fin
+use Rattle.std.specs.FinMap.{nat_cmp-IsAntisymmetric}
+use Rattle.std.specs.FinMap.Entries.{find}
+use Rattle.std.specs.List.Sorted.{IsStrictlySortedBy}
+use Rattle.std.proofs.lemmas.Bool.{cases_Bool}
+use Rattle.std.proofs.lemmas.Cmp.{on_total, then_total}
+use Rattle.std.proofs.lemmas.Map.Views.{btree_map_get_iff}
+use Rattle.pb_base.specs.Cell.{both_equal, cell_cmp_total, cell_cmp-IsAntisymmetric}
+use Rattle.pb_base.specs.declared.cell.Cell.{Cell}
+use Rattle.pb_base.specs.declared.content.Revision.{Revision}
+use Rattle.pb_base.specs.declared.names.Ts.{Ts}
+use Rattle.pb_store.specs.Contents.{Entries}
+use Rattle.pb_store.specs.Slot.{slot_cmp, slot_cmp-IsAntisymmetric}
+use Rattle.pb_store.specs.declared.slot.Item.{Item}
+use Rattle.pb_store.specs.declared.slot.Slot.{Slot}
+use Rattle.pb_steps.specs.Readings.{IsVersion, start_of}
+use Rattle.pb_history.specs.History.{Has}
+use Rattle.pb_history.proofs.Updates.{has_at, has_contains}
+use Rattle.pb_snapshots.specs.VersionWalks.{AreVersions, HasVersions, IsVersionIn, NoVersionIn, start_cmp, start_of_version, version_listed, version_slot}
+
+-- ---- one version
+
+-- a cell has one version at most
+pub one_version : (e : Entries) (x : Cell) (s : ℕ) (v w : Revision) → IsVersion e x s v → IsVersion e x s w → v ≡ w
+one_version e x s v w a b = grind arith
+
+-- ---- keys
+
+pub key_total : IsTotalOrder start_cmp
+key_total = then_total (on_total (λ k. k.0.0) nat_cmp_total) (on_total (λ k. k.1) cell_cmp_total)
+
+-- keys that tie are one
+key_exact : (x y : Ts × Cell) → start_cmp x y ≡ Equal → x ≡ y
+key_exact x y e =
+    let b = both_equal _ _ e in
+    let t = nat_cmp-IsAntisymmetric _ _ b.0 in
+    let c = cell_cmp-IsAntisymmetric _ _ b.1 in
+    λ i. (record { 0 = t i }, c i)
+
+key_is : (x y : Ts × Cell) → tree.is_at (start_cmp x) y ≡ true → x ≡ y
+key_is x y h = key_exact x y ((Equal-is (start_cmp x y)).0 h)
+
+key_tied : (x : Ts × Cell) → tree.is_at (start_cmp x) x ≡ true
+key_tied x = ap is_eq (tied_itself key_total x)
+
+-- ---- a walk
+
+-- a list whose first item and rest are known
+pub begins_with : {E : Type 0} (xs ys : List E) (e : E) → Some e ≡ slice_get xs 0 → ys ≡ drop 1 xs → xs ≡ e ∷ ys
+begins_with [] ys e p r = cc
+begins_with (x ∷ xs) ys e p r = let same : e ≡ x = cc in ap (λ y. y ∷ xs) (sym same) ∙ ap (λ zs. e ∷ zs) (sym r)
+
+-- one with no first item is empty
+pub nothing_left : {E : Type 0} (xs : List E) → None ≡ slice_get xs 0 → xs ≡ []
+nothing_left [] p = refl
+nothing_left (x ∷ xs) p = cc
+
+record_there : (o : Option Item) (s : ℕ) → start_of o ≡ Some s → is_some o ≡ true
+record_there None s h = cc
+record_there (Some i) s h = refl
+
+here_or_left : (slot : Slot) (item : Item) (q : Slot) (rest : List (Slot × Item)) → is_some (find slot_cmp q ((slot, item) ∷ rest)) ≡ true → (slot ≡ q) ⊎ (is_some (find slot_cmp q rest) ≡ true)
+here_or_left slot item q rest h =
+    elim (eq_by_cmp slot_cmp q slot) as (λ b. eq_by_cmp slot_cmp q slot ≡ b → is_some (cond b (Some item) (find slot_cmp q rest)) ≡ true → (slot ≡ q) ⊎ (is_some (find slot_cmp q rest) ≡ true)) [
+      | true ↦ λ t _. inl (sym (slot_cmp-IsAntisymmetric q slot ((Equal-is (slot_cmp q slot)).0 t)))
+      | false ↦ λ _ k. inr k
+    ] refl h
+
+module _ (e : Entries) (s : ℕ) where
+  -- before it nothing is noted, and each version's record is left
+  pub none_noted : (m : BTreeMap (Ts × Cell) Revision) → m.entries ≡ [] → tree.IsOrdered start_cmp m → HasVersions e s (fin.entries e) m
+  none_noted m empty rising = record {
+    sound = λ k v g. let none : tree.get start_cmp m k ≡ None = ap (λ es. lookup (tree.is_at (start_cmp k)) es) empty in absurd cc;
+    whole = λ x v is. inr (ap is_some (sym (fin.get-entries e (version_slot x v))) ∙ record_there (fin.get e (version_slot x v)) v.start.0 is.written);
+    rising = rising;
+  }
+
+  module _ (slot : Slot) (item : Item) (rest : List (Slot × Item)) (old : BTreeMap (Ts × Cell) Revision) (so : HasVersions e s ((slot, item) ∷ rest) old) where
+    -- an entry that is no version's record is passed over
+    pub not_noted : NoVersionIn e s slot → HasVersions e s rest old
+    not_noted none = record {
+      sound = so.sound;
+      whole = λ x v is. elim (so.whole x v is) [
+        | inl g ↦ inl g
+        | inr l ↦ elim (here_or_left slot item (version_slot x v) rest l) [
+          | inl here ↦
+              let cell : slot.cell ≡ x = ap (λ (q : Slot). q.cell) here in
+              absurd (none v (subst (λ (y : Cell). IsVersion e y s v × (slot ≡ version_slot y v)) (sym cell) (is, here)))
+          | inr left ↦ inr left
+        ]
+      ];
+      rising = so.rising;
+    }
+
+    module _ (v : Revision) (is : IsVersionIn e s slot v) (new : BTreeMap (Ts × Cell) Revision)
+        (updates : (q : Ts × Cell) → tree.get start_cmp new q ≡ cond (tree.is_at (start_cmp (v.start, slot.cell)) q) (Some v) (tree.get start_cmp old q)) where
+      at_key : (q : Ts × Cell) (b : Bool) → tree.is_at (start_cmp (v.start, slot.cell)) q ≡ b → tree.get start_cmp new q ≡ cond b (Some v) (tree.get start_cmp old q)
+      at_key q b h = updates q ∙ ap (λ t. cond t (Some v) (tree.get start_cmp old q)) h
+
+      new_sound : (k : Ts × Cell) (w : Revision) → tree.get start_cmp new k ≡ Some w → IsVersion e k.1 s w × (w.start ≡ k.0)
+      new_sound k w g = elim (cases_Bool (tree.is_at (start_cmp (v.start, slot.cell)) k)) [
+        | inl here ↦
+            let same : Some v ≡ Some w = sym (at_key k true here) ∙ g in
+            let one : v ≡ w = cc in
+            let key : (v.start, slot.cell) ≡ k = key_is (v.start, slot.cell) k here in
+            subst (λ (z : Revision). IsVersion e k.1 s z × (z.start ≡ k.0)) one (subst (λ (y : Cell). IsVersion e y s v) (ap (λ (q : Ts × Cell). q.1) key) is.0, ap (λ (q : Ts × Cell). q.0) key)
+        | inr there ↦ so.sound k w (sym (at_key k false there) ∙ g)
+      ]
+
+      -- the versions of one cell are one
+      at_cell : (x : Cell) (w : Revision) → IsVersion e x s w → slot.cell ≡ x → tree.get start_cmp new (w.start, x) ≡ Some w
+      at_cell x w at same =
+          let one : v ≡ w = one_version e x s v w (subst (λ (y : Cell). IsVersion e y s v) same is.0) at in
+          let key : (v.start, slot.cell) ≡ (w.start, x) = λ i. ((one i).start, same i) in
+          at_key (w.start, x) true (subst (λ (q : Ts × Cell). tree.is_at (start_cmp (v.start, slot.cell)) q ≡ true) key (key_tied (v.start, slot.cell))) ∙ ap Some one
+
+      keeps : (x : Cell) (w : Revision) → IsVersion e x s w → tree.get start_cmp old (w.start, x) ≡ Some w → tree.get start_cmp new (w.start, x) ≡ Some w
+      keeps x w at g = elim (cases_Bool (tree.is_at (start_cmp (v.start, slot.cell)) (w.start, x))) [
+        | inl here ↦ at_cell x w at (ap (λ (q : Ts × Cell). q.1) (key_is (v.start, slot.cell) (w.start, x) here))
+        | inr there ↦ at_key (w.start, x) false there ∙ g
+      ]
+
+      -- the version of an entry is noted, beside those that were
+      pub one_noted : tree.IsOrdered start_cmp new → HasVersions e s rest new
+      one_noted rising = record {
+        sound = new_sound;
+        whole = λ x w at. elim (so.whole x w at) [
+          | inl g ↦ inl (keeps x w at g)
+          | inr l ↦ elim (here_or_left slot item (version_slot x w) rest l) [
+            | inl here ↦ inl (at_cell x w at (ap (λ (q : Slot). q.cell) here))
+            | inr left ↦ inr left
+          ]
+        ];
+        rising = rising;
+      }
+
+-- ---- a list
+
+has_mapped : {A B : Type 0} (f : A → B) (xs : List A) (x : A) → Has xs x → Has (map f xs) (f x)
+has_mapped f [] x h = absurd h
+has_mapped f (y ∷ xs) x (inl e) = inl (ap f e)
+has_mapped f (y ∷ xs) x (inr h) = inr (has_mapped f xs x h)
+
+mapped_has : {A B : Type 0} (f : A → B) (xs : List A) (y : B) → Has (map f xs) y → (x : A) × Has xs x × (f x ≡ y)
+mapped_has f [] y h = absurd h
+mapped_has f (x ∷ xs) y (inl e) = (x, inl refl, e)
+mapped_has f (x ∷ xs) y (inr h) = let p = mapped_has f xs y h in (p.0, inr p.1, p.2)
+
+-- listed, the versions are known by the keys that they had
+keys_listed : (es : List ((Ts × Cell) × Revision)) → ((k : Ts × Cell) (v : Revision) → Has es (k, v) → v.start ≡ k.0) → map (λ w. w.0) es ≡ map start_of_version (map version_listed es)
+keys_listed [] starts = refl
+keys_listed (w ∷ es) starts =
+    let here : w.0 ≡ start_of_version (version_listed w) = λ i. (sym (starts w.0 w.1 (inl refl)) i, w.0.1) in
+    λ i. here i ∷ keys_listed es (λ k v h. starts k v (inr h)) i
+
+module _ (e : Entries) (s : ℕ) (m : BTreeMap (Ts × Cell) Revision) (h : HasVersions e s [] m) where
+  there : (k : Ts × Cell) (v : Revision) → Has m.entries (k, v) → tree.get start_cmp m k ≡ Some v
+  there k v has = (btree_map_get_iff key_total key_exact m h.rising k v).1 (has_contains m.entries (k, v) has)
+
+  listed_has : (x : Cell) (v : Revision) → Has (map version_listed m.entries) (x, v) → IsVersion e x s v
+  listed_has x v has =
+      let w = mapped_has version_listed m.entries (x, v) has in
+      let is : IsVersion e w.0.0.1 s w.0.1 = (h.sound w.0.0 w.0.1 (there w.0.0 w.0.1 w.1)).0 in
+      subst (λ (p : Cell × Revision). IsVersion e p.0 s p.1) w.2 is
+
+  has_listed : (x : Cell) (v : Revision) → IsVersion e x s v → Has (map version_listed m.entries) (x, v)
+  has_listed x v is =
+      let got : tree.get start_cmp m (v.start, x) ≡ Some v = found_or_left (h.whole x v is) in
+      let c = (btree_map_get_iff key_total key_exact m h.rising (v.start, x) v).0 got in
+      has_mapped version_listed m.entries ((v.start, x), v) (has_at m.entries c.0 ((v.start, x), v) c.1 c.2)
+    where
+      found_or_left : {A : Type 0} → A ⊎ (false ≡ true) → A
+      found_or_left (inl a) = a
+      found_or_left (inr h) = absurd cc
+
+  -- a map that has them all lists them
+  pub all_listed : AreVersions e s (map version_listed m.entries)
+  all_listed = record {
+    each = listed_has;
+    all = has_listed;
+    rising = subst (IsStrictlySortedBy start_cmp) (keys_listed m.entries (λ k v has. (h.sound k v (there k v has)).1)) h.rising;
+  }

@@ -1,0 +1,26 @@
+use Rattle.std.proofs.Common.{◌≡◌, [], ◌∙◌, List, sym, subst, Some}
+use Rattle.std.specs.FinMap as map
+use Rattle.pb_store.specs.Contents.{entries_after}
+use Rattle.pb_store.specs.declared.slot.Item.{Item}
+use Rattle.pb_store.specs.declared.slot.Slot.{Slot}
+use Rattle.pb_snapshots.specs.VersionWalks.{HasVersions}
+use Rattle.pb_snapshots.proofs.VersionWalks.{all_listed, begins_with, none_noted, nothing_left}
+use Rattle.pb_snapshots.proofs.taking.versions_up_to.Goals as goal
+
+pub loop-slot-init : goal.loop-slot-init
+loop-slot-init g c = none_noted c.args.table.now.contents.entries c.args.last.0 c.new-versions.result c.new-versions.ensures.empty c.new-versions.ensures.ordered
+
+pub loop-slot-preserved : goal.loop-slot-preserved
+loop-slot-preserved g c =
+    let e = c.args.table.now.contents.entries in
+    let x : Slot × Item = (c.in-Some.slot, c.in-Some.field-0-1) in
+    let first : Some x ≡ _ = sym c.in-Some.is ∙ c.next_entry.ensures.entry in
+    let left = entries_after (Some c.in-Some.slot) (map.entries e) in
+    c.in_ok-note_version.ensures c.in-Some.field-0-1 left
+    (subst (λ (xs : List (Slot × Item)). HasVersions e c.args.last.0 xs c.loop-slot.versions) (begins_with (entries_after c.loop-slot.after (map.entries e)) left x first c.in-Some.ensures.rest) c.loop-slot.invariant)
+
+pub returns : goal.returns
+returns g c =
+    let e = c.args.table.now.contents.entries in
+    let none : entries_after c.loop-slot.after (map.entries e) ≡ [] = nothing_left _ (sym c.in_default.is ∙ c.next_entry.ensures.entry) in
+    all_listed e c.args.last.0 c.loop-slot.versions (subst (λ (xs : List (Slot × Item)). HasVersions e c.args.last.0 xs c.loop-slot.versions) none c.loop-slot.invariant)

@@ -1,0 +1,14 @@
+//! What a generation begins with.
+ghost use Rattle.pb_snapshots.specs.Beginnings.{SnapshotsBegin};
+
+use pb_generations::snapshots_serve;
+use pb_history::steps_keep_sound;
+
+/// A state that took over the versions of a snapshot, which was taken of a quiet table, begins the next generation of that
+/// table.
+pub fn snapshots_begin()
+    ensures { SnapshotsBegin }
+{
+    snapshots_serve();
+    steps_keep_sound();
+}
