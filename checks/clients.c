@@ -1,5 +1,5 @@
 /* Makes changes and asks questions by the client in C, and prints a line for each answer: with three words, the program, a manifest and
- * a log, it starts the program; with one, it reaches a relay at that socket. */
+ * a log, it starts the program; with one, it reaches a relay at that socket. The lines after three words are sent in place of its own. */
 #include "../clients/percobpf.h"
 
 #include <inttypes.h>
@@ -15,10 +15,16 @@ static void show(struct percobpf_result result) {
 int main(int count, char **words) {
     struct percobpf_client client;
     signal(SIGPIPE, SIG_IGN);
-    int failed = count == 4 ? percobpf_start(&client, words[1], words[2], words[3]) : percobpf_connect(&client, words[1]);
+    int failed = count >= 4 ? percobpf_start(&client, words[1], words[2], words[3]) : percobpf_connect(&client, words[1]);
     if (failed) {
         puts("not started");
         return 1;
+    }
+    for (int at = 4; at < count; at++) {
+        show(percobpf_ask(&client, words[at]));
+    }
+    if (count > 4) {
+        return percobpf_close(&client);
     }
     const char *lines[] = {"put 7 0 2a", "get 7 1", "del 7 0", "get 7 0", "get 7 1", "get 8 1", "put 7 16 2a", "if 7 0 9; put 7 0 2a"};
     for (size_t at = 0; at < sizeof lines / sizeof *lines; at++) {

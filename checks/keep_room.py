@@ -15,6 +15,8 @@ TOP = Path(__file__).resolve().parent.parent
 # what is asked of a table; of its answers the size of the log isn't compared, since it depends on which changes share a record
 QUESTIONS = ("list", "quiet?", "stats")
 
+NOT_QUIET = "the table is not quiet"
+
 
 class Room:
     """A program, its manifest, and a folder for logs."""
@@ -34,8 +36,8 @@ class Room:
 
     def log(self, name):
         path = self.folder / f"{name}.log"
-        for each in (path, Path(f"{path}-wal")):
-            each.unlink(missing_ok=True)
+        for ending in ("", "-wal", "-new", "-new-wal"):
+            Path(f"{path}{ending}").unlink(missing_ok=True)
         return path
 
     def run_by(self, words):
@@ -44,16 +46,23 @@ class Room:
         other.before = words
         return other
 
-    def start(self, log, **more):
+    def start(self, log, options=(), **more):
         how = {"stdin": subprocess.PIPE, "stdout": subprocess.PIPE, "stderr": subprocess.PIPE}
-        return subprocess.Popen([*self.before, self.program, self.manifest, log], **how, **more)
+        return subprocess.Popen([*self.before, self.program, *options, self.manifest, log], **how, **more)
 
-    def run(self, log, lines, manifest=None, **more):
+    def run(self, log, lines, manifest=None, options=(), **more):
         """The status, the lines of output, and the text of errors."""
         text = "".join(f"{line}\n" for line in lines).encode()
-        words = [*self.before, self.program, manifest or self.manifest, log]
+        words = [*self.before, self.program, *options, manifest or self.manifest, log]
         ended = subprocess.run(words, input=text, capture_output=True, env={**os.environ, **more}, timeout=120)
         return ended.returncode, ended.stdout.decode().split("\n")[:-1], ended.stderr.decode()
+
+    def compact(self, log, manifest=None, **more):
+        """The status, the output, and the text of errors of a compaction."""
+        words = [*self.before, self.program, "--compact", manifest or self.manifest, log]
+        how = {"stdin": subprocess.DEVNULL, "capture_output": True, "env": {**os.environ, **more}, "timeout": 120}
+        ended = subprocess.run(words, **how)
+        return ended.returncode, ended.stdout.decode(), ended.stderr.decode()
 
     def run_in_turn(self, log, messages, **more):
         """The same of lines of which each message is sent after the one before it is answered, each line by one line."""

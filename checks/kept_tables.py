@@ -4,11 +4,15 @@ It is written from docs/KEEPING.md and docs/FORMATS.md alone. It takes lines as 
 """
 from __future__ import annotations
 
+from dataclasses import astuple
+
 import model
 from faults import LAST, Fault, number, read_change, taken
 
+from logs import Snapshot, Version
+
 MOST_BYTES, MOST_CHANGES = 4096, 10_000
-OUT_OF_PLACE, TOO_MANY = 76, 75
+OUT_OF_PLACE, TOO_MANY, GONE = 76, 75, 77
 
 # the words of one line alone, without operands
 ALONE = ("list", "quiet?", "stats", "begin", "end")
@@ -67,13 +71,14 @@ class OneSeat(model.Table):
 
 
 class KeptTable:
-    """A table with observers. `lines` are those of its changes, and `groups` says which of them are of one group: from one place up to
-    another."""
+    """A table with observers. `lines` are those of its changes since it began, and `groups` says which of them are of one group: from
+    one place up to another. Of the writes up to `begun` only the newest are there, and `before` are the runs that were committed by then."""
 
     def __init__(self, manifest):
         self.observers = model.observers_of(manifest)
         self.table = OneSeat(self.observers)
-        self.lines, self.groups = [], []
+        self.begun, self.lines, self.groups = 0, [], []
+        self.before = [0] * len(self.observers)
         # the answers of a group that hasn't ended, and the changes of it
         self.waiting, self.changes = None, []
 
@@ -103,6 +108,13 @@ class KeptTable:
         ]
         return [*lines, f"{LOG_OF}{len(self.lines)}", f"entries {self.entries()}", "end"]
 
+    def runs(self):
+        """How many runs of each observer are committed, also before the table began anew."""
+        return [sum(its) for its in zip(self.before, model.runs_in(self.table, self.observers))]
+
+    def report(self):
+        return [*model.report(self.table, self.observers, self.runs()).splitlines(), "end"]
+
     def make(self, line):
         """Makes a change, and answers it."""
         before = len(self.table.transactions)
@@ -117,8 +129,31 @@ class KeptTable:
         newest = self.newest(row, column)
         return [f"{model.shown(newest[2])} commit {newest[1]}" if newest else "absent"]
 
+    def snapshot(self):
+        """The newest version of each cell, of which those of one transaction follow one another, and what the observers have done."""
+        table = self.table
+        newest = {cell: max(its.items()) for cell, its in table.records.items() if its}
+        versions = [Version(start, cell, commit, table.data[cell][start]) for cell, (commit, start) in newest.items()]
+        in_order = sorted(versions, key=lambda it: (it.start, it.cell))
+        return Snapshot(table.clock, [astuple(its) for its in table.counts], in_order)
+
+    def begin_anew(self):
+        """Begins anew with the newest versions, where nothing is left to do. What is left of a transaction has declared those of them
+        that it wrote."""
+        self.before, table = self.runs(), OneSeat(self.observers, self.table.clock)
+        for it in self.snapshot().versions:
+            table.data[it.cell][it.start] = it.content
+            table.records[it.cell][it.commit] = it.start
+            own = table.transactions.setdefault(it.start, model.Transaction(None, "script", "committed", it.commit))
+            own.declared.append((it.cell, it.content))
+        table.counts = self.table.counts
+        self.table, self.begun, self.lines, self.groups = table, table.clock, [], []
+
     def since(self, above):
-        """The writes above a commit, in the order of commits, and of cells within one."""
+        """The writes above a commit, in the order of commits, and of cells within one. Of those up to where the table began, some are
+        gone."""
+        if above < self.begun:
+            return [f"refused {GONE} {self.begun}"]
         cells = [cell for cell in self.table.records if model.is_data(cell)]
         writes = [(commit, cell, start) for cell in cells for commit, start in self.table.records[cell].items() if commit > above]
         return [*(self.line(*write) for write in sorted(writes)), "end"]
@@ -167,7 +202,7 @@ class KeptTable:
         if verb == "end":
             raise Fault(OUT_OF_PLACE)
         if verb == "list":
-            return [*model.report(self.table, self.observers).splitlines(), "end"]
+            return self.report()
         if verb == "quiet?":
             return [self.left()]
         if verb == "stats":

@@ -1,7 +1,8 @@
 """Random sessions with `percobpf_keep`: each answer has to be that of kept_tables.py, and the log has to have the lines of the changes.
 
 A session has a manifest, and a log that is opened several times. Its lines come one by one or many at once, and parted anywhere. The
-input ends after a line, within a group, or within a last line; or the program is killed once all is answered.
+input ends after a line, within a group, or within a last line; or the program is killed once all is answered. Between two starts the
+log may be compacted, and then it has to have the newest versions of the model.
 """
 from __future__ import annotations
 
@@ -15,6 +16,7 @@ from collections import Counter
 from pathlib import Path
 
 import logs
+from keep_room import NOT_QUIET, line_of
 from kept_tables import LOG_OF, KeptTable
 from model import observers_of
 from random_lines import NO_OBSERVERS, TOP, line_from, manifest_of
@@ -26,7 +28,9 @@ SECONDS = 60
 
 # A session is over once the table's clock is there, so that endless observers don't take the model minutes.
 LAST_TIMESTAMP = 3_000
-STARTS, BATCHES, LINES = (1, 2, 2, 3), (1, 3, 6, 12), (1, 1, 1, 2, 5, 20, 60)
+STARTS, BATCHES, LINES = (1, 2, 2, 3, 5), (1, 3, 6, 12), (1, 1, 1, 2, 5, 20, 60)
+# How often the log is compacted after a start.
+COMPACTIONS = (0, 1, 1, 2)
 
 
 # A program that writes the cell of the row before its own, and none from row 0, so that each pass has one run, and marks one cell.
@@ -147,6 +151,22 @@ class Session:
             wanted += self.kept.take(line)
         self.exchange(parts_of(pick, text), wanted)
 
+    def compact(self):
+        """Compacts the log, where nothing is left to do; else that is reported, and the log stays as it is."""
+        before, is_quiet = self.log.read_bytes(), self.kept.left() == "quiet"
+        words = [self.program, "--compact", self.manifest, self.log]
+        ended = subprocess.run(words, stdin=subprocess.DEVNULL, capture_output=True, timeout=SECONDS)
+        snapshot, opened = self.kept.snapshot(), f"open {len(self.kept.lines)}\n"
+        wanted = (0, f"{opened}compacted {len(snapshot.versions)}\n", "") if is_quiet else (1, opened, line_of(NOT_QUIET))
+        self.compare("a compaction", (ended.returncode, ended.stdout.decode(), ended.stderr.decode()), wanted)
+        self.met["compacted" if is_quiet else "not compacted"] += 1
+        if not is_quiet:
+            self.compare("the log of a table that isn't quiet", self.log.read_bytes(), before)
+            return
+        self.compare("the snapshot", logs.parts_of(self.log.read_bytes(), self.manifest.read_bytes()), (snapshot, []))
+        self.kept.begin_anew()
+        self.reported.clear()
+
     def close(self, pick, field):
         """Ends a program that has answered all but a group that hasn't ended."""
         if self.kept.waiting is not None:
@@ -178,6 +198,8 @@ class Session:
             for _ in range(pick.choice(BATCHES)):
                 self.batch(pick, field)
             self.close(pick, field)
+            for _ in range(pick.choice(COMPACTIONS)):
+                self.compact()
 
 
 def parts_of(pick, text):
@@ -271,11 +293,37 @@ def try_stats(session):
     session.exchange([b"stats\n"], wanted)
 
 
+def try_generations(session):
+    """A log that is compacted after each change of a cell under both of these observers. Of each generation, which has six timestamps,
+    the newest writes and acknowledgments are kept; the count goes on, and so do the numbers of `stats`. A log that is compacted again
+    without a change between has the same bytes."""
+    # the header; and the record of 12, 16 and 80 bytes and two acknowledgments and two values
+    size = 13 + len(logs.header(session.manifest.read_bytes())) + 13 + 12 + 16 + 80 + 2 * 27 + 2 * 58
+    for number in range(4):
+        clock = 6 * number
+        if number:
+            session.exchange([b"stats\n"], stats_of(number, number, size, 2 * 4))
+            text, kept = f"since {clock - 1}\nsince {clock}\nget 7 15\n", f"value 0{number} commit {clock - 2}"
+            session.exchange([text.encode()], [f"refused 77 {clock}", "end", kept])
+        line, seen = f"if 7 0 {max(clock - 4, 0)}; put 7 0 2{number}", f"cell 7 15 commit {clock + 4} value 0{number + 1}"
+        session.exchange([f"{line}\n".encode()], [f"made {clock + 2} runs 2"])
+        session.exchange([f"since {clock}\n".encode()], [f"cell 7 0 commit {clock + 2} value 2{number}", seen, "end"])
+        session.kept.take(line.encode())
+        session.end(0)
+        session.compact()
+        before = session.log.read_bytes()
+        session.compact()
+        session.compare("a log that is compacted again", session.log.read_bytes(), before)
+        session.start()
+
+
 def try_limits(program):
-    """Sessions at the limits of a group and of passes, and one of what observers do, whose answers are worked out by hand."""
+    """Sessions at the limits of a group and of passes, and two of what observers do, one of them over a log that is compacted, whose
+    answers are worked out by hand."""
     down = manifest_with(observer("down", 0, "2", DOWN.hex()))
     counted = manifest_with(observer("counter", 0, "1, 2", COUNTER.hex()), observer("is-value", 0, "", IS_VALUE.hex()))
-    for limit, manifest in ((try_group, NO_OBSERVERS.read_text()), (try_passes, down), (try_stats, counted)):
+    limits = ((try_group, NO_OBSERVERS.read_text()), (try_passes, down), (try_stats, counted), (try_generations, counted))
+    for limit, manifest in limits:
         with tempfile.TemporaryDirectory(prefix="session-") as folder:
             session = Session(program, folder, manifest)
             session.start()

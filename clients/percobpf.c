@@ -119,7 +119,7 @@ struct percobpf_result percobpf_read(struct percobpf_client *client) {
         result.answer = PERCOBPF_UNQUIET;
     } else if (sscanf(line, "unmade commit %" SCNu64, &result.commit) == 1) {
         result.answer = PERCOBPF_UNMADE;
-    } else if (sscanf(line, "refused %u", &result.code) == 1) {
+    } else if (sscanf(line, "refused %u %" SCNu64, &result.code, &result.commit) >= 1) {
         result.answer = PERCOBPF_REFUSED;
     } else if (sscanf(line, "value %64[0-9a-f] commit %" SCNu64, digits, &result.commit) == 2) {
         result.answer = PERCOBPF_VALUE;

@@ -18,7 +18,7 @@ enum percobpf_answer {
     PERCOBPF_MADE,    /* a change was made: its commit, and how many runs of observers followed */
     PERCOBPF_UNQUIET, /* a change was made: its commit; its observers haven't come to rest */
     PERCOBPF_UNMADE,  /* its condition didn't hold: the commit of the cell's newest write, 0 where it has none */
-    PERCOBPF_REFUSED, /* a line was refused: its code in docs/CODES.md */
+    PERCOBPF_REFUSED, /* a line was refused: its code in docs/CODES.md; with 77 the commit above which all writes are there */
     PERCOBPF_VALUE,   /* the newest write of a cell: its commit and its value */
     PERCOBPF_DELETED, /* the newest write of a cell deleted it: its commit */
     PERCOBPF_ABSENT,  /* a cell was never written */

@@ -35,6 +35,15 @@ class Refused(Exception):
         self.code = code
 
 
+class Compacted(Refused):
+    """Not all writes above a commit are there any longer, since the log was compacted. Those above `begun` are: a client that has read
+    up to an earlier commit begins anew with `list`, which has the newest write of each cell, and goes on from `begun`."""
+
+    def __init__(self, code: int, line: str, begun: int) -> None:
+        super().__init__(code, f"{line}: all writes are there from {begun} on alone")
+        self.begun = begun
+
+
 class Unmade(Exception):
     """The condition of a change didn't hold: the newest write of its cell has this commit, 0 where it has none."""
 
@@ -153,7 +162,7 @@ class Table:
         return Cell(row, column, int(found[2]), bytes.fromhex(found[1]) if found[1] else None)
 
     def since(self, commit: int) -> list[Cell]:
-        """Each write of a commit above this one, in the order of commits."""
+        """Each write of a commit above this one, in the order of commits. `Compacted` is raised where some of them are gone."""
         self._send([f"since {commit}"])
         cells = []
         while (answer := self._read()) != "end":
@@ -214,7 +223,8 @@ class Table:
     def _refusal(line: str, answer: str) -> Exception:
         verb, _, rest = answer.partition(" ")
         if verb == "refused":
-            return Refused(int(rest), line)
+            code, _, begun = rest.partition(" ")
+            return Compacted(int(code), line, int(begun)) if begun else Refused(int(code), line)
         if verb == "unmade":
             return Unmade(int(rest.removeprefix("commit ")))
         return Gone(f"an answer that isn't known: {answer}")
