@@ -1,13 +1,12 @@
 -- The versions of a table, gathered entry by entry, and listed.
 use Rattle.std.specs.BTreeMap as tree
 use Rattle.std.specs.BTreeMap.{BTreeMap}
-use Rattle.std.proofs.Common.{◌≡◌, ℕ, ◌<◌, ◌⊎◌, inl, inr, Bool, true, false, cond, List, [], ◌∷◌, Option, Some, None, is_some, refl, sym, ap, ◌∙◌, subst, arith, length, zero, suc, drop, get_or, slice_get, map, Contains, Equal}
+use Rattle.std.proofs.Common.{◌≡◌, ℕ, ◌⊎◌, inl, inr, Bool, true, false, cond, List, [], ◌∷◌, Some, None, is_some, refl, sym, ap, ◌∙◌, subst, arith, map, Equal}
 use Rattle.std.specs.Cmp.{IsTotalOrder, nat_cmp_total, tied_itself, Equal-is}
-use Rattle.std.specs.Ordering.{eq_by_cmp, is_eq}
+use Rattle.std.specs.Ordering.{is_eq}
 use Rattle.std.specs.Map.{lookup}
 use Rattle.std.specs.FinMap as fin
 use Rattle.std.specs.FinMap.{nat_cmp-IsAntisymmetric}
-use Rattle.std.specs.FinMap.Entries.{find}
 use Rattle.std.specs.List.Sorted.{IsStrictlySortedBy}
 use Rattle.std.proofs.lemmas.Bool.{cases_Bool}
 use Rattle.std.proofs.lemmas.Cmp.{on_total, then_total}
@@ -17,12 +16,12 @@ use Rattle.pb_base.specs.declared.cell.Cell.{Cell}
 use Rattle.pb_base.specs.declared.content.Revision.{Revision}
 use Rattle.pb_base.specs.declared.names.Ts.{Ts}
 use Rattle.pb_store.specs.Contents.{Entries}
-use Rattle.pb_store.specs.Slot.{slot_cmp, slot_cmp-IsAntisymmetric}
 use Rattle.pb_store.specs.declared.slot.Item.{Item}
 use Rattle.pb_store.specs.declared.slot.Slot.{Slot}
-use Rattle.pb_steps.specs.Readings.{IsVersion, start_of}
+use Rattle.pb_steps.specs.Readings.{IsVersion}
 use Rattle.pb_history.specs.History.{Has}
 use Rattle.pb_history.proofs.Updates.{has_at, has_contains}
+use Rattle.pb_state.proofs.EntryWalks.{here_or_left, record_there}
 use Rattle.pb_snapshots.specs.VersionWalks.{AreVersions, HasVersions, IsVersionIn, NoVersionIn, start_cmp, start_of_version, version_listed, version_slot}
 
 -- ---- one version
@@ -51,27 +50,6 @@ key_tied : (x : Ts × Cell) → tree.is_at (start_cmp x) x ≡ true
 key_tied x = ap is_eq (tied_itself key_total x)
 
 -- ---- a walk
-
--- a list whose first item and rest are known
-pub begins_with : {E : Type 0} (xs ys : List E) (e : E) → Some e ≡ slice_get xs 0 → ys ≡ drop 1 xs → xs ≡ e ∷ ys
-begins_with [] ys e p r = cc
-begins_with (x ∷ xs) ys e p r = let same : e ≡ x = cc in ap (λ y. y ∷ xs) (sym same) ∙ ap (λ zs. e ∷ zs) (sym r)
-
--- one with no first item is empty
-pub nothing_left : {E : Type 0} (xs : List E) → None ≡ slice_get xs 0 → xs ≡ []
-nothing_left [] p = refl
-nothing_left (x ∷ xs) p = cc
-
-record_there : (o : Option Item) (s : ℕ) → start_of o ≡ Some s → is_some o ≡ true
-record_there None s h = cc
-record_there (Some i) s h = refl
-
-here_or_left : (slot : Slot) (item : Item) (q : Slot) (rest : List (Slot × Item)) → is_some (find slot_cmp q ((slot, item) ∷ rest)) ≡ true → (slot ≡ q) ⊎ (is_some (find slot_cmp q rest) ≡ true)
-here_or_left slot item q rest h =
-    elim (eq_by_cmp slot_cmp q slot) as (λ b. eq_by_cmp slot_cmp q slot ≡ b → is_some (cond b (Some item) (find slot_cmp q rest)) ≡ true → (slot ≡ q) ⊎ (is_some (find slot_cmp q rest) ≡ true)) [
-      | true ↦ λ t _. inl (sym (slot_cmp-IsAntisymmetric q slot ((Equal-is (slot_cmp q slot)).0 t)))
-      | false ↦ λ _ k. inr k
-    ] refl h
 
 module _ (e : Entries) (s : ℕ) where
   -- before it nothing is noted, and each version's record is left

@@ -6,6 +6,8 @@ pub mod FirstAfter
 pub mod NewState
 pub mod ItsDeclaration
 pub mod ReadsTaken
+pub mod EntryWalks
+mod MoreMarks
 pub mod Walks
 mod Walking
 mod SameCells

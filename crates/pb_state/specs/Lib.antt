@@ -7,3 +7,4 @@ pub mod Admitted
 pub mod Lending
 pub mod CarriedOver
 pub mod SnapshotViews
+pub mod MoreObservers

@@ -25,7 +25,7 @@ pub use Rattle.pb_steps.specs.Clear.{NoWriteOf}
 pub use Rattle.pb_steps.specs.CommitSecondary.{if_locked}
 pub use Rattle.pb_steps.specs.Commits.{commit_lock}
 pub use Rattle.pb_steps.specs.Declarations.{AreReplies, IsItsRun, IsReadOf, MayDeclare, WasOld, WasSeen, are_replies, asked_in, is_at, is_its, is_made_of, is_read_of, is_replied, is_run, is_run_by, old_at, seen_by, seen_in, with_old}
-pub use Rattle.pb_steps.specs.Marks.{AllUpToDate, SomeBehind, is_marked, stamp_in, with_mark}
+pub use Rattle.pb_steps.specs.Marks.{AllUpToDate, SomeBehind, is_marked, is_observed, stamp_in, with_mark}
 pub use Rattle.pb_steps.specs.Phases.{is_reading}
 pub use Rattle.pb_steps.specs.Read.{ReadsAbsent, read_step, with_read}
 pub use Rattle.pb_steps.specs.Readings.{IsLockOn, IsNewestVersion, IsVersion, NoLock, NoLockUpTo, NoVersion, NoWriteFrom, SomeLock, SomeWriteFrom, data_at, data_of, is_lock, last_timestamp, lock_at, primary_of, start_of, write_at}

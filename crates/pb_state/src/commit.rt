@@ -24,8 +24,8 @@ fn has_observer(observers: &[Observer], column: Column) -> bool
     false
 }
 
-// Whether a change of the cell is for an observer. Of an acknowledgment it is for none.
-fn is_observed(observers: &[Observer], cell: &Cell) -> bool
+/// Whether a change of the cell is for an observer. Of an acknowledgment it is for none.
+pub(crate) fn is_observed(observers: &[Observer], cell: &Cell) -> bool
     ensures { result ≡ is_observed observers.now cell.now }
 {
     match cell {

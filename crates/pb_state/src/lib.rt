@@ -11,6 +11,7 @@
 //! and answers `Done`.
 #![tactic(auto)]
 
+mod add_observers;
 mod admitted;
 mod begin;
 mod carry_fault;

@@ -36,7 +36,7 @@ impl<T: Tablet> Model for State<T> {
 }
 
 impl<T: Tablet> State<T> {
-    ghost use Rattle.std.specs.Prelude.{◌≤◌, ◌<◌, ◌^◌, OnOk, OnErr, IfOk, IfErr, None, true, Some, option_map, length, take, ℕ, if◌then◌else◌};
+    ghost use Rattle.std.specs.Prelude.{◌≤◌, ◌<◌, ◌+◌, ◌^◌, OnOk, OnErr, IfOk, IfErr, None, true, Some, option_map, length, take, ℕ, if◌then◌else◌};
     ghost use Rattle.std.specs.FinMap as map;
     ghost use Rattle.pb_base.specs.Reasons.{refusal_by, memory_refusal};
     ghost use Rattle.pb_base.specs.declared.refusal.Reason.TheVariants as reasons;
@@ -47,6 +47,7 @@ impl<T: Tablet> State<T> {
     ghost use Rattle.pb_steps.specs.Steps.{step_reason, TableStep};
     ghost use Rattle.pb_state.specs.Admitted.{Admits, TellsAdmission, step_admitted};
     ghost use Rattle.pb_state.specs.CarriedOver.{AreInOrder, IsCarriedOver, WhyNotCarried};
+    ghost use Rattle.pb_state.specs.MoreObservers.{HasMoreMarks, HasMoreObservers};
 
     /// A state over an empty table, with seats numbered from 0 and the last timestamp given out. It has no entry, no mark
     /// and no transaction.
@@ -90,6 +91,18 @@ impl<T: Tablet> State<T> {
             × WhyNotCarried self.old.observers last.0 cells.now n e) }
     {
         self.parts.carry_over(last, cells)
+    }
+
+    /// Adds observers after those that there are, and marks for them every cell of their columns that was ever written. It is
+    /// no step.
+    ///
+    /// Refused for memory, some of these cells may be marked, and there is no observer more.
+    pub fn add_observers(&mut self, more: Vec<Observer>) -> Result<(), NoMemory>
+        requires few { length self.old.observers + length more.items ≤ MAX_OBSERVERS }
+        ensures ok { OnOk result (HasMoreObservers more.items self.old self.new) }
+        ensures err { OnErr result (HasMoreMarks more.items self.old self.new) }
+    {
+        self.parts.add_observers(more)
     }
 
     /// The last timestamp given out.

@@ -1,6 +1,6 @@
 use Rattle.std.proofs.Common.{◌∙◌, length, sym, ap, arith}
 use Rattle.pb_answers.specs.Words.{is_lock}
-use Rattle.pb_answers.proofs.Walks.{first_and_rest, rest_shorter, none_left}
+use Rattle.pb_state.proofs.EntryWalks.{first_and_rest, rest_shorter, none_left}
 use Rattle.pb_answers.proofs.Counting.{counted_on, all_counted, units_counted}
 use Rattle.pb_answers.proofs.quiet.count_locks.Goals as goal
 

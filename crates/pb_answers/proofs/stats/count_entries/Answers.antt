@@ -2,7 +2,7 @@ use Rattle.std.proofs.Common.{◌≡◌, ◌+◌, List, ◌∷◌, ◌∙◌, le
 use Rattle.std.proofs.lemmas.List.{length_push}
 use Rattle.std.specs.FinMap as map
 use Rattle.pb_answers.specs.Words.{Slot, Item}
-use Rattle.pb_answers.proofs.Walks.{first_and_rest, rest_shorter, none_left}
+use Rattle.pb_state.proofs.EntryWalks.{first_and_rest, rest_shorter, none_left}
 use Rattle.pb_answers.proofs.Counting.{units_counted}
 use Rattle.pb_answers.proofs.stats.count_entries.Goals as goal
 

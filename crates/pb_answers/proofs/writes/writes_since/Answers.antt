@@ -2,7 +2,7 @@ use Rattle.std.proofs.Common.{◌≡◌, [], ◌∙◌, List, sym, subst, Some}
 use Rattle.std.specs.FinMap as map
 use Rattle.pb_answers.specs.Words.{Slot, Item, entries_after}
 use Rattle.pb_answers.specs.Records.{HasWritesSince}
-use Rattle.pb_answers.proofs.Walks.{first_and_rest, rest_shorter, none_left, stands_there}
+use Rattle.pb_state.proofs.EntryWalks.{first_and_rest, rest_shorter, none_left, stands_there}
 use Rattle.pb_answers.proofs.Since.{none_noted, all_noted}
 use Rattle.pb_answers.proofs.writes.writes_since.Goals as goal
 

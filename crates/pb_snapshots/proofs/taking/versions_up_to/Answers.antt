@@ -4,7 +4,8 @@ use Rattle.pb_store.specs.Contents.{entries_after}
 use Rattle.pb_store.specs.declared.slot.Item.{Item}
 use Rattle.pb_store.specs.declared.slot.Slot.{Slot}
 use Rattle.pb_snapshots.specs.VersionWalks.{HasVersions}
-use Rattle.pb_snapshots.proofs.VersionWalks.{all_listed, begins_with, none_noted, nothing_left}
+use Rattle.pb_state.proofs.EntryWalks.{first_and_rest, none_left}
+use Rattle.pb_snapshots.proofs.VersionWalks.{all_listed, none_noted}
 use Rattle.pb_snapshots.proofs.taking.versions_up_to.Goals as goal
 
 pub loop-slot-init : goal.loop-slot-init
@@ -17,10 +18,10 @@ loop-slot-preserved g c =
     let first : Some x ≡ _ = sym c.in-Some.is ∙ c.next_entry.ensures.entry in
     let left = entries_after (Some c.in-Some.slot) (map.entries e) in
     c.in_ok-note_version.ensures c.in-Some.field-0-1 left
-    (subst (λ (xs : List (Slot × Item)). HasVersions e c.args.last.0 xs c.loop-slot.versions) (begins_with (entries_after c.loop-slot.after (map.entries e)) left x first c.in-Some.ensures.rest) c.loop-slot.invariant)
+    (subst (λ (xs : List (Slot × Item)). HasVersions e c.args.last.0 xs c.loop-slot.versions) (first_and_rest (entries_after c.loop-slot.after (map.entries e)) left x first c.in-Some.ensures.rest) c.loop-slot.invariant)
 
 pub returns : goal.returns
 returns g c =
     let e = c.args.table.now.contents.entries in
-    let none : entries_after c.loop-slot.after (map.entries e) ≡ [] = nothing_left _ (sym c.in_default.is ∙ c.next_entry.ensures.entry) in
+    let none : entries_after c.loop-slot.after (map.entries e) ≡ [] = none_left _ (sym c.in_default.is ∙ c.next_entry.ensures.entry) in
     all_listed e c.args.last.0 c.loop-slot.versions (subst (λ (xs : List (Slot × Item)). HasVersions e c.args.last.0 xs c.loop-slot.versions) none c.loop-slot.invariant)

@@ -1,11 +1,11 @@
--- What a walk over entries meets: one entry after another, each as it stands in its slot.
-use Rattle.std.proofs.Common.{◌≡◌, ◌<◌, Bool, true, false, cond, T, List, [], ◌∷◌, Option, Some, None, length, drop, slice_get, filter, refl, sym, ap, ◌∙◌, subst, arith, Ordering, Less, Equal, Greater}
-use Rattle.std.specs.Cmp.{IsTotalOrder, tied_itself}
-use Rattle.std.specs.Ordering.{is_eq, is_lt, ordering_reverse}
+-- What a walk over entries meets: one entry after another, each as it stands in its slot. The crates above cite these too.
+use Rattle.std.proofs.Common.{◌≡◌, ℕ, ◌<◌, ◌⊎◌, inl, inr, Bool, true, false, cond, T, List, [], ◌∷◌, Option, Some, None, is_some, length, drop, slice_get, filter, refl, sym, ap, ◌∙◌, subst, arith, Ordering, Less, Equal, Greater}
+use Rattle.std.specs.Cmp.{IsTotalOrder, tied_itself, Equal-is}
+use Rattle.std.specs.Ordering.{eq_by_cmp, is_eq, is_lt, ordering_reverse}
 use Rattle.std.specs.FinMap as map
 use Rattle.std.specs.FinMap.{IsAntisymmetric}
 use Rattle.std.specs.FinMap.Entries.{find, is_sorted, below_all}
-use Rattle.pb_answers.specs.Words.{Slot, Item, Entries, entries_after, slot_cmp, slot_cmp_total, slot_cmp-IsAntisymmetric}
+use Rattle.pb_state.specs.Words.{Slot, Item, Entries, entries_after, start_of, slot_cmp, slot_cmp_total, slot_cmp-IsAntisymmetric}
 use Rattle.pb_base.proofs.Logic.{less_if as less, first_holds as first, second_holds as second}
 
 -- a list whose first item and rest are known
@@ -57,3 +57,16 @@ module _ {K X : Type 0} {R : K → K → Ordering} (o : IsTotalOrder R) (exact :
 pub stands_there : (m : Entries) (after : Option Slot) (e : Slot × Item) → Some e ≡ slice_get (entries_after after (map.entries m)) 0 → map.get m e.0 ≡ Some e.1
 stands_there m None e p = map.get-entries m e.0 ∙ first_found slot_cmp_total slot_cmp-IsAntisymmetric (map.entries m) e p
 stands_there m (Some k) e p = map.get-entries m e.0 ∙ first_passed slot_cmp_total slot_cmp-IsAntisymmetric (λ s. is_lt (slot_cmp k s)) (map.entries m) e (map.entries_sorted m) p
+
+-- where a write record is, something stands
+pub record_there : (o : Option Item) (s : ℕ) → start_of o ≡ Some s → is_some o ≡ true
+record_there None s h = cc
+record_there (Some i) s h = refl
+
+-- an entry of a list is its first or one of the others
+pub here_or_left : (slot : Slot) (item : Item) (q : Slot) (rest : List (Slot × Item)) → is_some (find slot_cmp q ((slot, item) ∷ rest)) ≡ true → (slot ≡ q) ⊎ (is_some (find slot_cmp q rest) ≡ true)
+here_or_left slot item q rest h =
+    elim (eq_by_cmp slot_cmp q slot) as (λ b. eq_by_cmp slot_cmp q slot ≡ b → is_some (cond b (Some item) (find slot_cmp q rest)) ≡ true → (slot ≡ q) ⊎ (is_some (find slot_cmp q rest) ≡ true)) [
+      | true ↦ λ t _. inl (sym (slot_cmp-IsAntisymmetric q slot ((Equal-is (slot_cmp q slot)).0 t)))
+      | false ↦ λ _ k. inr k
+    ] refl h
