@@ -10,11 +10,13 @@ use Rattle.pb_generations.specs.Mirrored.{SameEntries, SameTransactions, IsLateP
 
 -- ---- transactions
 
-pick : {A : Type 0} (b : Bool) (x y z : Option A) → cond b x y ≡ z → (x ≡ z) ⊎ (y ≡ z)
-pick true x y z is = inl is
-pick false x y z is = inr is
+-- the one of two options that a test gives is the first or the second
+pub first_or_second : {A : Type 0} (b : Bool) (x y z : Option A) → cond b x y ≡ z → (x ≡ z) ⊎ (y ≡ z)
+first_or_second true x y z is = inl is
+first_or_second false x y z is = inr is
 
-abbrev unwrap : {A : Type 0} → A → Option A → A
+-- the value of an option, and another where it has none
+abbrev pub unwrap : {A : Type 0} → A → Option A → A
 unwrap d None = d
 unwrap d (Some x) = x
 
@@ -24,7 +26,7 @@ with_both c whole kept s t m later phase = record {
       map.get-insert nat_cmp_total kept s t u
       ∙ ap (λ (o : Option TransactionOf). cond (eq_by_cmp nat_cmp u s) (Some t) o) (m.same u above)
       ∙ sym (map.get-insert nat_cmp_total whole s t u);
-  phases = λ u w above is. elim (pick (eq_by_cmp nat_cmp u s) (Some t) (map.get whole u) (Some w) (sym (map.get-insert nat_cmp_total whole s t u) ∙ is)) [
+  phases = λ u w above is. elim (first_or_second (eq_by_cmp nat_cmp u s) (Some t) (map.get whole u) (Some w) (sym (map.get-insert nat_cmp_total whole s t u) ∙ is)) [
     | inl here ↦ subst (λ (z : TransactionOf). IsLatePhase c z.phase) (ap (unwrap t) here) phase
     | inr there ↦ m.phases u w above there
   ];

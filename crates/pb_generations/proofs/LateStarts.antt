@@ -4,6 +4,8 @@ use Rattle.std.proofs.lemmas.Bool.{cases_lt, eqb-true}
 use Rattle.std.proofs.lemmas.Option.{none-some}
 use Rattle.std.specs.FinMap as map
 use Rattle.pb_generations.specs.Words.{Revision, Reason, Reasons, first_reason, if_of_seat, own_reasons, reasons_of, no_seat, IsVersion, Step, Answer, StateOf, TransactionOf, step_reason}
+use Rattle.pb_steps.specs.Begin.{is_unknown}
+use Rattle.pb_steps.specs.Reasons.{is_out}
 use Rattle.pb_steps.specs.Read.{read_reasons, read_at_reasons}
 use Rattle.pb_steps.specs.Declare.{declare_reasons}
 use Rattle.pb_steps.specs.Prewrite.{prewrite_reasons}
@@ -54,6 +56,30 @@ module _ (c : ℕ) (old : StateOf) (unseated : AreUnseated c old) (seat s : ℕ)
 abbrev pub ReadsLate : ℕ → StateOf → Step → Type 0
 ReadsLate c old (Step.ReadAt s x t) = c < s.0 → (v : Revision) → IsVersion old.entries x c v → v.commit.0 ≤ t.0
 ReadsLate c old _ = Unit {0}
+
+-- a step that is allowed is of a seat of the table
+seated_by : (b : Bool) (rs : Reasons) → first_reason ((Reason.NotOfSeat, b) ∷ rs) ≡ None → b ≡ false
+seated_by true rs is = absurd (refused is)
+seated_by false rs is = refl
+
+owner_seated : (o : Option TransactionOf) (why : TransactionOf → Reasons) (b : Bool) → first_reason (reasons_of (if b then None else o) why) ≡ None → b ≡ false
+owner_seated o why true is = absurd (refused is)
+owner_seated o why false is = refl
+
+pub step_seated : (old : StateOf) (seat : ℕ) (step : Step) → step_reason old seat step ≡ None → no_seat old seat ≡ false
+step_seated old seat (Step.Begin work) is = seated_by _ ((Reason.NoSuchObserver, is_unknown old.observers work) ∷ []) (rest_allowed (is_out old) Reason.OutOfTimestamps ((Reason.NotOfSeat, no_seat old seat) ∷ (Reason.NoSuchObserver, is_unknown old.observers work) ∷ []) is)
+step_seated old seat (Step.Read s x) is = owner_seated (if_of_seat seat (map.get old.transactions s.0)) read_reasons (no_seat old seat) is
+step_seated old seat (Step.ReadAt s x t) is = owner_seated (if_of_seat seat (map.get old.transactions s.0)) (read_at_reasons s.0 t.0) (no_seat old seat) is
+step_seated old seat (Step.Declare s what) is = owner_seated (if_of_seat seat (map.get old.transactions s.0)) (declare_reasons old.observers s.0 what) (no_seat old seat) is
+step_seated old seat (Step.Prewrite s x) is = owner_seated (if_of_seat seat (map.get old.transactions s.0)) (prewrite_reasons x) (no_seat old seat) is
+step_seated old seat (Step.Stamp s) is =
+    owner_seated (if_of_seat seat (map.get old.transactions s.0)) unstamped_reasons (no_seat old seat) (rest_allowed (is_out old) Reason.OutOfTimestamps (own_reasons old seat s.0 unstamped_reasons) is)
+step_seated old seat (Step.CommitPrimary s) is = owner_seated (if_of_seat seat (map.get old.transactions s.0)) commit_reasons (no_seat old seat) is
+step_seated old seat (Step.CommitSecondary s x) is = owner_seated (if_of_seat seat (map.get old.transactions s.0)) (secondary_reasons x) (no_seat old seat) is
+step_seated old seat (Step.Settle x) is = seated_by (no_seat old seat) [] is
+step_seated old seat (Step.Clear x) is = seated_by (no_seat old seat) [] is
+step_seated old seat (Step.NextMark after) is = seated_by (no_seat old seat) [] is
+step_seated old seat (Step.Sweep x) is = seated_by (no_seat old seat) [] is
 
 module _ (c : ℕ) (old : StateOf) (unseated : AreUnseated c old) (seat : ℕ) where
   -- so what a step names is late, and it is where its read is

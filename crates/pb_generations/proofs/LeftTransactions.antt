@@ -1,15 +1,12 @@
 -- What is left of the transactions of a snapshot makes it a sound table, and is of no seat.
-use Rattle.std.proofs.Common.{◌≡◌, ℕ, ◌<◌, ◌≤◌, inl, inr, refl, sym, ◌∙◌, ap, subst, arith, cond, true, false, [], ◌∷◌, Option, Some, None, is_some, option_map}
+use Rattle.std.proofs.Common.{◌≡◌, ℕ, ◌<◌, ◌≤◌, inl, inr, refl, sym, ◌∙◌, ap, subst, arith, Some, is_some, option_map}
 use Rattle.std.proofs.lemmas.Bool.{cases_lt}
 use Rattle.std.proofs.lemmas.Option.{none-some}
 use Rattle.std.specs.FinMap as map
-use Rattle.std.specs.Ordering.{is_eq, eq_by_cmp}
-use Rattle.std.specs.Cmp.{tied_itself}
-use Rattle.pb_base.specs.Batch.{Writes, content_in, primary_in}
-use Rattle.pb_base.specs.Cell.{cell_cmp, cell_cmp_total}
+use Rattle.pb_base.specs.Batch.{content_in}
 use Rattle.pb_base.proofs.Logic.{one_value, same_some}
 use Rattle.pb_generations.specs.Words.{Cell, Content, Revision, Entries, Phase, RecordedRead, StateOf, TransactionOf, Transactions, is_in, data_at, write_at, IsVersion, Has, TableView, IsSoundTable, IsCommittedAt}
-use Rattle.pb_history.specs.TableView.{view_of, declared_by, prewritten_by, reads_recorded}
+use Rattle.pb_history.specs.TableView.{view_of, declared_by, prewritten_by}
 use Rattle.pb_history.proofs.Agreement.{ts}
 use Rattle.pb_history.proofs.HistoryTold.{same_stamp}
 use Rattle.pb_generations.specs.Mirrored.{carried}

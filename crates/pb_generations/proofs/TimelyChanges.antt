@@ -1,5 +1,5 @@
--- The next step of a change is refused only where no timestamp is left, where a legal journal of the only seat ends with what
--- it has asked.
+-- The next step of a change is refused only where no timestamp is left, where a journal of the only seat, which is
+-- legal but for steps of marks, ends with what it has asked.
 use Rattle.std.proofs.Common.{arith, inl, ◌≡◌, ℕ, ◌<◌, true, cond, List, [], ◌∷◌, ◌++◌, Some, None, refl, sym, ap, subst, ◌∙◌}
 use Rattle.std.proofs.lemmas.Bool.{eq-eqb, or_left, or_right}
 use Rattle.std.proofs.lemmas.List.Elements.{filter-append}
@@ -7,7 +7,7 @@ use Rattle.std.specs.FinMap as finite
 use Rattle.std.specs.List.{list_any}
 use Rattle.pb_base.specs.Batch.{Writes}
 use Rattle.pb_base.proofs.Logic.{same_some}
-use Rattle.pb_generations.specs.Words.{Reason, Ts, ObserverOf, Step, Answer, StateOf, TransactionOf, step_reason, Entry, Received, Has, IsLegal}
+use Rattle.pb_generations.specs.Words.{Reason, Ts, ObserverOf, Step, Answer, StateOf, TransactionOf, step_reason, Entry, Received, Has}
 use Rattle.pb_steps.specs.Reasons.{IsOwn}
 use Rattle.pb_steps.specs.State.{new_transaction}
 use Rattle.pb_steps.specs.declared.step.Work.{Work}
@@ -31,6 +31,8 @@ use Rattle.pb_notify.proofs.PlanEntries.{has_said}
 use Rattle.pb_notify.proofs.PlanSteps.{declaring_said_nothing, plan_step, plan_keeps}
 use Rattle.pb_notify.proofs.RecordedReads.{after, after_is}
 use Rattle.pb_generations.specs.LateSteps.{NamesLate}
+use Rattle.pb_generations.specs.SameButMarks.{IsLegalButMarks}
+use Rattle.pb_generations.proofs.HistoryButMarks.{same_naming, same_transactions}
 use Rattle.pb_generations.proofs.LateNames.{late_in_plan}
 use Rattle.pb_generations.proofs.SeatEntries.{by_append}
 
@@ -74,7 +76,7 @@ module _ (allowed : PlansAreAllowed) (told_by : TransactionsAreTold) (clock : �
     begin_alone e = let no = no_transaction state 0 why seated in grind (arith, e, no)
 
   module _ (observers : List ObserverOf) (batch : Writes) (before rest : List Received) (s : ℕ) (p : PlanOf) (said_is : conversations.Converses (fresh s (Declared.Script batch)) rest p)
-      (legal : IsLegal observers 1 clock (entries_by 0 (before ++ told (Step.Begin Work.Script) (Answer.At (record { 0 = s })) ∷ rest)) state) (seated : 0 < state.seats) (next : plans.next_of p ≡ Some step) where
+      (legal : IsLegalButMarks observers 1 clock (entries_by 0 (before ++ told (Step.Begin Work.Script) (Answer.At (record { 0 = s })) ∷ rest)) state) (seated : 0 < state.seats) (next : plans.next_of p ≡ Some step) where
     abbrev start : Ts
     start = record { 0 = s }
 
@@ -88,7 +90,7 @@ module _ (allowed : PlansAreAllowed) (told_by : TransactionsAreTold) (clock : �
     u = new_transaction 0 Work.Script
 
     tells : TellsTransactions journal state
-    tells = told_by observers 1 clock journal state legal
+    tells = same_transactions legal.past journal state legal.same (told_by observers 1 clock legal.past state legal.legal)
 
     naming : entries_naming s journal ≡ entries_naming s (entries_by 0 (told (Step.Begin Work.Script) (Answer.At start) ∷ rest))
     naming = naming_is state start before rest tells
@@ -109,7 +111,7 @@ module _ (allowed : PlansAreAllowed) (told_by : TransactionsAreTold) (clock : �
     in_range t h = let same = sym h ∙ own.there in let work = kept.3 in grind (arith, same, work)
 
     timely : IsTimely why
-    timely = allowed observers 1 clock journal state legal 0 s what rest p step why in_range said_is (has_said journal 0 start (told (Step.Begin Work.Script) (Answer.At start) ∷ []) rest refl naming) next refused
+    timely = allowed observers 1 clock legal.past state legal.legal 0 s what rest p step why in_range said_is (has_said legal.past 0 start (told (Step.Begin Work.Script) (Answer.At start) ∷ []) rest refl (same_naming legal.past journal legal.same s ∙ naming)) next refused
 
     -- a script that has said nothing declares its batch
     at_declaration : p.place ≡ PlanPlace.Declaring → Some (Step.Declare start what) ≡ Some step → ⊥
@@ -128,12 +130,12 @@ module _ (allowed : PlansAreAllowed) (told_by : TransactionsAreTold) (clock : �
         by_place p.place refl ((λ i. places.step_at (sym same.0 i) (sym same.1 i) p.place) ∙ next)
 
   -- a change's next step, after this part of its conversation
-  pub change_in_time : (observers : List ObserverOf) (batch : Writes) (before said : List Received) (job : ChangeOf) → IsLegal observers 1 clock (entries_by 0 (before ++ said)) state → 0 < state.seats
+  pub change_in_time : (observers : List ObserverOf) (batch : Writes) (before said : List Received) (job : ChangeOf) → IsLegalButMarks observers 1 clock (entries_by 0 (before ++ said)) state → 0 < state.seats
       → Converses (new_change batch) said job → changes.next_of job ≡ Some step → why ≡ Reason.OutOfTimestamps
   change_in_time observers batch before [] job legal seated talk next = begin_in_time seated (first_step batch job step talk next)
   change_in_time observers batch before (r ∷ rest) job legal seated talk next =
       let b = answered_has_begun batch r rest job talk in
-      plan_in_time observers batch before rest b.s b.plan b.said (subst (λ (z : Received). IsLegal observers 1 clock (entries_by 0 (before ++ z ∷ rest)) state) b.first legal) seated (ap changes.next_of (sym b.q_is) ∙ next)
+      plan_in_time observers batch before rest b.s b.plan b.said (subst (λ (z : Received). IsLegalButMarks observers 1 clock (entries_by 0 (before ++ z ∷ rest)) state) b.first legal) seated (ap changes.next_of (sym b.q_is) ∙ next)
 
 -- where its begin was answered with a later start, its next step names that, or none
 pub late_in_change : (batch : Writes) (said : List Received) (job : ChangeOf) (c : ℕ) (step : Step) → ((s : Ts) → Has said (told (Step.Begin Work.Script) (Answer.At s)) → c < s.0)

@@ -1,5 +1,5 @@
--- A table that is kept over any number of generations: it is opened, takes steps, and where it is quiet it may begin anew with
--- a snapshot of itself. What holds of one table's legal journal holds of the journal of all its generations.
+-- A table that is kept over any number of generations: it is opened, takes steps, and where it is quiet it may get more observers,
+-- or begin anew with a snapshot of itself. What holds of one table's legal journal holds of the journal of all its generations.
 use Rattle.std.specs.Prelude.{◌≡◌, ℕ, ◌<◌, List, [], ◌∷◌, ◌++◌, Option, Some, None, slice_get}
 use Rattle.pb_generations.specs.Words.{Cell, Content, Row, Ts, Revision, Entries, data_at, write_at, Step, Answer, StateOf, Transactions, opening, acknowledged_in, IsNewestVersion, NoLock, last_timestamp, TableStep, ObserverOf, Entry, Received, Has, IsEntry, JournalLeads, IsQuiet, TellsOneHandler, TellsHandlers}
 use Rattle.pb_history.specs.History.{InHistory, IsSnapshot, Member, NoSnapshot, WritesTo}
@@ -15,13 +15,15 @@ use Rattle.pb_notify.specs.Allowed.{entries_by}
 use Rattle.pb_notify.specs.Conversations.{Reaches}
 use Rattle.pb_notify.specs.Forms.{IsHeld}
 use Rattle.pb_notify.specs.Runs.{RunOf, watch_of, fresh, next_of}
+use Rattle.pb_state.specs.MoreObservers.{HasMoreObservers}
 use Rattle.pb_generations.specs.LateSteps.{StandsForWhole}
 use Rattle.pb_generations.specs.Mirrored.{carried}
 use Rattle.pb_generations.specs.Snapshots.{AreEnded, IsSnapshotOf}
 
 -- ---- the steps of jobs
 
--- the transaction of start s read an observer's acknowledgment of x, and was answered that t is acknowledged there
+-- the transaction of start s read an observer's acknowledgment of x, and was answered that t is acknowledged there; 0 stands for
+-- no acknowledgment
 pub record ReadsAcknowledged (observers : List ObserverOf) (journal : List Entry) (s : ℕ) (x : Cell) (t : ℕ) : Type 0 where
   pub o : ℕ
   pub row : Row
@@ -33,6 +35,7 @@ pub record ReadsAcknowledged (observers : List ObserverOf) (journal : List Entry
   pub read : IsEntry journal seat (Step.Read (record { 0 = s }) (Cell.Ack o row observer.column)) answer
   pub held : IsHeld answer
   pub acknowledged : (acknowledged_in answer).0 ≡ t
+  pub some : 0 < t
 
 -- a step that reads a cell at a timestamp reads it at one that its transaction has read as acknowledged; any other step is one
 abbrev pub IsStepOfJob : List ObserverOf → List Entry → Step → Type 0
@@ -51,14 +54,17 @@ ChangesAskSteps = (observers : List ObserverOf) (journal : List Entry) (j : Chan
 
 -- ---- the tables
 
--- opened with these observers, seats and clock, a table is kept over generations: the last began at c; this is the journal of them
--- all, and this the table as it is now
-pub data IsKeptTable (observers : List ObserverOf) (seats clock : ℕ) : ℕ → List Entry → StateOf → Type 0 where
-  opened : clock < last_timestamp → IsKeptTable observers seats clock clock [] (opening observers seats clock)
-  stepped : (c : ℕ) (journal : List Entry) (old : StateOf) (e : Entry) (new : StateOf) → IsKeptTable observers seats clock c journal old
+-- a table is kept over generations: opened with these seats and this clock, it has these observers; the last generation began at c;
+-- this is the journal of them all, and this the table as it is now
+pub data IsKeptTable : List ObserverOf → ℕ → ℕ → ℕ → List Entry → StateOf → Type 0 where
+  opened : (observers : List ObserverOf) (seats clock : ℕ) → clock < last_timestamp → IsKeptTable observers seats clock clock [] (opening observers seats clock)
+  stepped : (observers : List ObserverOf) (seats clock c : ℕ) (journal : List Entry) (old : StateOf) (e : Entry) (new : StateOf) → IsKeptTable observers seats clock c journal old
       → IsStepOfJob observers journal e.step → TableStep old e.seat e.step e.answer new → IsKeptTable observers seats clock c (journal ++ e ∷ []) new
-  anew : (c : ℕ) (journal : List Entry) (old : StateOf) (f : Entries) (ts : Transactions) → IsKeptTable observers seats clock c journal old
+  anew : (observers : List ObserverOf) (seats clock c : ℕ) (journal : List Entry) (old : StateOf) (f : Entries) (ts : Transactions) → IsKeptTable observers seats clock c journal old
       → IsQuiet old → old.clock < last_timestamp → IsSnapshotOf old f → AreEnded old ts → IsKeptTable observers seats clock old.clock journal (carried old f ts)
+  -- more observers after those that it has, with a mark on each cell of theirs that has a write record
+  more : (observers : List ObserverOf) (seats clock c : ℕ) (journal : List Entry) (old : StateOf) (added : List ObserverOf) (new : StateOf) → IsKeptTable observers seats clock c journal old
+      → IsQuiet old → HasMoreObservers added old new → IsKeptTable (observers ++ added) seats clock c journal new
 
 -- so it is after a run of an observer, as far as that went
 abbrev pub RunsKeepTables : Type 0
@@ -92,7 +98,7 @@ MarksKeepTables =
 abbrev pub OfKept : (List ObserverOf → ℕ → ℕ → ℕ → List Entry → StateOf → Type 0) → Type 0
 OfKept Holds = (observers : List ObserverOf) (seats clock c : ℕ) (journal : List Entry) (now : StateOf) → IsKeptTable observers seats clock c journal now → Holds observers seats clock c journal now
 
--- the journal of all generations is one of a whole table
+-- the journal of all generations is one of a whole table, but for steps of marks
 abbrev pub KeptTablesAreWhole : Type 0
 KeptTablesAreWhole = OfKept StandsForWhole
 
@@ -100,7 +106,8 @@ KeptTablesAreWhole = OfKept StandsForWhole
 abbrev pub HandledOnceInAll : Type 0
 HandledOnceInAll = OfKept (λ _ _ _ _ journal now. TellsOneHandler journal now)
 
--- where the table is quiet now, each committed change of any generation is handled by a committed run of each of its observers
+-- where the table is quiet now, each committed change of any generation is handled by a committed run of each of its observers,
+-- those that it got later too
 abbrev pub HandledWhenQuietInAll : Type 0
 HandledWhenQuietInAll = OfKept (λ _ _ _ _ journal now. TellsHandlers journal now)
 

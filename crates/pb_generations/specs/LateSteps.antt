@@ -3,6 +3,7 @@
 use Rattle.std.specs.Prelude.{◌≡◌, ℕ, ◌<◌, ◌≤◌, ◌↔◌, List, [], ◌∷◌, ◌++◌}
 use Rattle.pb_generations.specs.Words.{Cell, Revision, ObserverOf, Entries, Step, Answer, StateOf, Transactions, IsVersion, TableStep, Entry, JournalLeads, IsLegal}
 use Rattle.pb_generations.specs.Mirrored.{IsMirroredBy, carried}
+use Rattle.pb_generations.specs.SameButMarks.{IsLegalButMarks}
 
 -- the step names no transaction that had begun by c
 abbrev pub NamesLate : ℕ → Step → Type 0
@@ -42,10 +43,10 @@ abbrev pub AreLateSteps : ℕ → StateOf → List Entry → Type 0
 AreLateSteps c old [] = Unit {0}
 AreLateSteps c old (e ∷ es) = IsLateStep c old e.step × ((new : StateOf) → TableStep old e.seat e.step e.answer new → AreLateSteps c new es)
 
--- the journal is a legal one of a whole table, and what is there now serves for that
+-- the journal is a legal one of a whole table but for steps of marks, and what is there now serves for that
 pub record StandsForWhole (observers : List ObserverOf) (seats clock c : ℕ) (journal : List Entry) (now : StateOf) : Type 0 where
   pub whole : StateOf
-  pub legal : IsLegal observers seats clock journal whole
+  pub legal : IsLegalButMarks observers seats clock journal whole
   pub mirrors : IsMirroredBy c whole now.entries now.transactions
   pub now_is : now ≡ carried whole now.entries now.transactions
 

@@ -1,6 +1,10 @@
 pub mod Words
 pub mod Mirrored
+pub mod SameButMarks
+pub mod Renumbered
 pub mod LateSteps
 pub mod Snapshots
+pub mod LeftOut
+pub mod KnownSteps
 pub mod KeptTables
 pub mod InTime

@@ -1,7 +1,8 @@
 //! Generations of a table are one: what a table does that was carried over is what the whole table would have done.
 //!
 //! A table that outlives its process need not keep all that ever was written. Where it is quiet it
-//! can begin anew with a snapshot: the newest version of each cell, acknowledgments too. These laws
+//! can begin anew with a snapshot: the newest version of each cell, acknowledgments too. It can also
+//! get more observers then, for which all that was ever written is still to be handled. These laws
 //! state that no later step of a job shows a difference, so that the past and what comes later are
 //! one legal journal, and the promises of `pb_history` hold of all generations together. They
 //! follow from the definition of a step (`pb_steps`), from the laws of journals (`pb_history`), and
@@ -16,8 +17,14 @@ ghost use Rattle.pb_generations.specs.KeptTables.{ChangesAskSteps, ChangesKeepTa
 ghost use Rattle.pb_generations.specs.KeptTables.{HandledOnceInAll, HandledWhenQuietInAll, WholeChangesKeepTables};
 ghost use Rattle.pb_generations.specs.KeptTables.{KeptTablesAreWhole, LaterWritesInAll, NewestInAll, RunsAskSteps};
 ghost use Rattle.pb_generations.specs.KeptTables.{SnapshotsInAll, TimestampsRiseInAll};
+ghost use Rattle.pb_generations.specs.KnownSteps.{ChangesNameKnown, RunsNameKnown};
 ghost use Rattle.pb_generations.specs.LateSteps.{GenerationsAreOne, StepsCarryOver};
+ghost use Rattle.pb_generations.specs.LeftOut.{MarksMissNothing, MirrorsWithoutOthers};
+ghost use Rattle.pb_generations.specs.LeftOut.{OthersAreNeverMissed, OthersAreNeverNamed, OthersMayBeLeftOut};
+ghost use Rattle.pb_generations.specs.LeftOut.{SameRefusals, SnapshotsLeaveOut, SnapshotsServeWithoutOthers};
 ghost use Rattle.pb_generations.specs.Mirrored.{OldMayBeDropped, QuietCarriesOver, QuietMirrorsItself};
+ghost use Rattle.pb_generations.specs.Renumbered.{JournalsMayBeRenumbered, RenumberedAreQuiet};
+ghost use Rattle.pb_generations.specs.SameButMarks.{ObserversMayBeAdded};
 ghost use Rattle.pb_generations.specs.Snapshots.{LeftAreSound};
 ghost use Rattle.pb_generations.specs.Snapshots.{SnapshotsCarryOver, SnapshotsServe};
 ghost use Rattle.pb_state.specs.SnapshotViews.{SnapshotsAreSound};
@@ -89,12 +96,67 @@ pub fn jobs_keep_tables()
     jobs_ask_steps();
 }
 
-/// A table that is opened, takes the steps of jobs, and begins anew with a snapshot where it is quiet, any number of times, stands
-/// for a whole table to which the journal of all its generations leads, and that journal is legal.
+/// A quiet table may get more observers after those that it has, with a mark on each cell of theirs that was written: but for
+/// steps of marks, the journal that led to it is also a legal one of a table that was opened with all of them.
+pub fn observers_may_be_added()
+    ensures { ObserversMayBeAdded }
+{
+    behind_is_marked();
+    sound_has_data();
+}
+
+/// The observers of a table may get other numbers, no two the same one: but for steps of marks, the renumbered journal is a legal
+/// one of a table that was opened with a list in which they have these. That table is quiet, but for its marks, where the old one
+/// is. It is for a table that gets another list, in which some stand elsewhere, and those that are gone stand after all others.
+pub fn journals_may_be_renumbered()
+    ensures journals { JournalsMayBeRenumbered }
+    ensures quiet { RenumberedAreQuiet }
+{}
+
+/// The last observers of a table may be left out where no lock stands, with all of their acknowledgments. No later step that names
+/// none of these, and no transaction of before, shows a difference: it is one of the whole table too, with the same answer, or it is
+/// refused for the same reason. It is for a table whose new list lacks some observers: where these stand last, after the others
+/// got their new numbers, the table doesn't keep their acknowledgments.
+pub fn others_may_be_left_out()
+    ensures begin { OthersMayBeLeftOut }
+    ensures steps { OthersAreNeverMissed }
+    ensures answers { OthersAreNeverNamed }
+    ensures marks { MarksMissNothing }
+    ensures refusals { SameRefusals }
+{
+    sound_has_data();
+}
+
+/// What a run of an observer that stays asks next names none of the others' acknowledgments, where no lock that it was answered has
+/// one of them as its primary; and what a change asks next names none.
+pub fn jobs_name_known_cells()
+    ensures runs { RunsNameKnown }
+    ensures changes { ChangesNameKnown }
+{
+    plans_converse();
+}
+
+/// A table without some of its observers mirrors itself where the whole one does, and a snapshot of it serves for it. So it may
+/// begin a generation, although no legal journal has led to it. Its snapshot is that of the whole table, but for what the others
+/// have acknowledged.
+pub fn snapshots_serve_without_others()
+    ensures itself { MirrorsWithoutOthers }
+    ensures snapshots { SnapshotsLeaveOut }
+    ensures serve { SnapshotsServeWithoutOthers }
+{
+    old_may_be_dropped();
+    sound_has_data();
+    steps_keep_sound();
+}
+
+/// A table that is opened, takes the steps of jobs, and where it is quiet gets more observers or begins anew with a snapshot, any
+/// number of times, stands for a whole table: but for steps of marks, the journal of all its generations is a legal one that leads
+/// to it.
 pub fn kept_tables_are_whole()
     ensures { KeptTablesAreWhole }
 {
     behind_is_marked();
+    observers_may_be_added();
     old_may_be_dropped();
     snapshots_carry_over();
     snapshots_serve();

@@ -2,12 +2,8 @@ use Rattle.std.proofs.Common.{◌≡◌, ℕ, List, [], ◌∷◌, ◌++◌, ref
 use Rattle.pb_generations.specs.Words.{Entries, StateOf, Transactions, Entry, JournalLeads}
 use Rattle.pb_generations.specs.Mirrored.{IsMirroredBy, carried}
 use Rattle.pb_generations.specs.LateSteps.{AreLateSteps, StepsCarryOver}
+use Rattle.pb_generations.proofs.JoinedJournals.{joined_leads}
 use Rattle.pb_generations.proofs.generations_are_one.Goals as goal
-
--- one run after another
-joined : (a b c : StateOf) (xs ys : List Entry) → JournalLeads a xs b → JournalLeads b ys c → JournalLeads a (xs ++ ys) c
-joined a b c [] ys first second = subst (λ (s : StateOf). JournalLeads s ys c) first second
-joined a b c (x ∷ xs) ys first second = (first.0, first.1, joined first.0 b c xs ys first.2 second)
 
 record LedOn (c : ℕ) (whole : StateOf) (js : List Entry) (now : StateOf) : Type 0 where
   after : StateOf
@@ -29,7 +25,7 @@ returns c observers seats clock t past later whole now e ts legal mirrors late l
     let all = led t whole now e ts later c.steps_carry_over.ensures mirrors late leads in
     record {
       whole = all.after;
-      legal = record { fits = legal.fits; run = joined _ whole all.after past later legal.run all.run };
+      legal = record { past = past ++ later; same = refl; legal = record { fits = legal.fits; run = joined_leads _ whole all.after past later legal.run all.run } };
       mirrors = subst (λ (s : StateOf). IsMirroredBy t all.after s.entries s.transactions) (sym all.now_is) all.mirrors;
       now_is = subst (λ (s : StateOf). s ≡ carried all.after s.entries s.transactions) (sym all.now_is) refl;
     }

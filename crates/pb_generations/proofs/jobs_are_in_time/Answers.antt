@@ -1,38 +1,64 @@
-use Rattle.std.proofs.Common.{◌≡◌, ℕ, ◌<◌, ◌≤◌, ◌^◌, arith, List, [], ◌∷◌, ◌++◌, Option, Some, slice_get, refl, sym, ap, subst, ◌∙◌}
+use Rattle.std.proofs.Common.{◌≡◌, ℕ, ◌<◌, ◌≤◌, ◌^◌, Bool, true, false, not, cond, filter, arith, List, [], ◌∷◌, ◌++◌, Option, Some, slice_get, refl, sym, ap, subst, ◌∙◌}
+use Rattle.std.proofs.lemmas.List.Elements.{filter-append}
 use Rattle.pb_base.specs.Batch.{Writes}
 use Rattle.pb_generations.specs.Words.{Cell, Row, Ts, Reason, ObserverOf, Step, Answer, StateOf, opening, step_reason, Entry, Received, Has, JournalLeads}
 use Rattle.pb_steps.specs.declared.step.Work.{Work}
 use Rattle.pb_history.specs.Laws.{TransactionsAreTold}
 use Rattle.pb_history.specs.Places.{entries_of}
+use Rattle.pb_history.specs.TransactionsTold.{entries_naming}
 use Rattle.pb_txn.specs.Allowed.{PlansAreAllowed}
 use Rattle.pb_txn.specs.Changes.{ChangeOf, Converses, new_change}
 use Rattle.pb_txn.specs.Changes as changes
 use Rattle.pb_txn.specs.Conversations.{told}
 use Rattle.pb_txn.specs.Forms.{PlansConverse, PlansEnd}
-use Rattle.pb_notify.specs.Allowed.{entries_by, RunsAreKept, JobsAreAllowed}
+use Rattle.pb_notify.specs.Allowed.{entries_by, HasRun, RunsAreKept, JobsAreAllowed}
 use Rattle.pb_notify.specs.Conversations.{Reaches}
 use Rattle.pb_notify.specs.Runs.{RunOf, watch_of, fresh, next_of}
 use Rattle.pb_notify.proofs.OwnSteps.{no_transaction}
 use Rattle.pb_generations.specs.LateSteps.{NamesLate, StandsForWhole}
 use Rattle.pb_generations.specs.KeptTables.{IsKeptTable, KeptTablesAreWhole, RunsKeepTables, ChangesKeepTables}
 use Rattle.pb_generations.specs.InTime.{RefusalsCarryOver}
+use Rattle.pb_generations.specs.SameButMarks.{is_of_marks, without_marks, IsLegalButMarks}
+use Rattle.pb_generations.proofs.HistoryButMarks.{has_passed, naming_others}
+use Rattle.pb_generations.proofs.JournalsWithMore.{legal_with_more}
 use Rattle.pb_generations.proofs.LateNames.{begun_later, late_in_run}
-use Rattle.pb_generations.proofs.LateStarts.{seats_stay}
+use Rattle.pb_generations.proofs.JoinedJournals.{journal_seats}
 use Rattle.pb_generations.proofs.SeatEntries.{by_append, said_there}
+use Rattle.pb_generations.proofs.StepsWithMore.{with_more}
 use Rattle.pb_generations.proofs.TimelyChanges.{change_in_time, late_in_change}
 use Rattle.pb_generations.proofs.jobs_are_in_time.Goals as goal
-
--- ---- what no step changes
-
-journal_seats : (old : StateOf) (es : List Entry) (new : StateOf) → JournalLeads old es new → new.seats ≡ old.seats
-journal_seats old [] new leads = ap (λ (z : StateOf). z.seats) leads
-journal_seats old (e ∷ es) new leads = journal_seats leads.0 es new leads.2 ∙ seats_stay old e.seat leads.0 e.step e.answer leads.1.taken
 
 -- ---- the journal of a seat's conversation
 
 entries_back : (said : List Received) → entries_of 0 (entries_by 0 said) ≡ said
 entries_back [] = refl
 entries_back (r ∷ rs) = ap (λ l. r ∷ l) (entries_back rs)
+
+-- without its steps of marks
+others : List Received → List Received
+others said = filter (λ (r : Received). not (is_of_marks r.step)) said
+
+entries_of_others : (said : List Received) → without_marks (entries_by 0 said) ≡ entries_by 0 (others said)
+unfolding others
+entries_of_others [] = refl
+entries_of_others (r ∷ rs) = by (not (is_of_marks r.step)) (entries_of_others rs)
+  where
+    by : (b : Bool) → without_marks (entries_by 0 rs) ≡ entries_by 0 (others rs)
+        → cond b (record { seat = 0; step = r.step; answer = r.answer } ∷ without_marks (entries_by 0 rs)) (without_marks (entries_by 0 rs)) ≡ entries_by 0 (cond b (r ∷ others rs) (others rs))
+    by true rest = ap (λ l. record { seat = 0; step = r.step; answer = r.answer } ∷ l) rest
+    by false rest = rest
+
+-- a journal of the only seat, which is legal but for steps of marks, has the run with which its conversation ends: its other steps are
+-- legal alone
+has_run : RunsAreKept → (observers : List ObserverOf) (clock o : ℕ) (row : Row) (before said : List Received) (state : StateOf) (legal : IsLegalButMarks observers 1 clock (entries_by 0 (before ++ said)) state) → HasRun legal.past 0 o row said
+unfolding others
+has_run runs observers clock o row before said state legal s begun =
+    let alone = legal_with_more observers observers (λ p observer there. there) 1 clock legal.past state legal.legal in
+    let test : Received → Bool = λ r. not (is_of_marks r.step) in
+    let parts : entries_of 0 (without_marks legal.past) ≡ others before ++ others said =
+    ap (entries_of 0) (legal.same ∙ entries_of_others (before ++ said)) ∙ entries_back (others (before ++ said)) ∙ filter-append test before said in
+    let has = runs observers 1 clock (without_marks legal.past) (with_more state observers alone.left) alone.legal 0 o row (others before) (others said) parts s (has_passed test _ said refl begun) in
+    sym (naming_others s.0 legal.past) ∙ has ∙ ap (entries_naming s.0) (sym (entries_of_others said)) ∙ naming_others s.0 (entries_by 0 said)
 
 module _ (wholes : KeptTablesAreWhole) (over : RefusalsCarryOver) (observers : List ObserverOf) (clock c : ℕ) where
   -- ---- the whole table that one stands for
@@ -42,7 +68,7 @@ module _ (wholes : KeptTablesAreWhole) (over : RefusalsCarryOver) (observers : L
     stands = wholes observers 1 clock c journal now kept
 
     seated : 0 < stands.whole.seats
-    seated = let same = journal_seats (opening observers 1 clock) journal stands.whole stands.legal.run in omega (arith, same)
+    seated = let same = journal_seats (opening observers 1 clock) stands.legal.past stands.whole stands.legal.legal.run in omega (arith, same)
 
     -- it refuses the step, too
     refused_by_whole : (step : Step) (why : Reason) → NamesLate c step → step_reason now 0 step ≡ Some why → step_reason stands.whole 0 step ≡ Some why
@@ -71,8 +97,8 @@ module _ (wholes : KeptTablesAreWhole) (over : RefusalsCarryOver) (observers : L
         let led = on (keep observers 1 clock c (entries_by 0 before) old new kept 0 o observer row said job there reaches leads) in
         let w = stands journal new led in
         let named = late_in_run pt pe observers o observer row said job c step (late (Work.Run o row)) reaches next in
-        let has = runs observers 1 clock journal w.whole w.legal 0 o row before said (entries_back (before ++ said)) in
-        allowed observers 1 clock journal w.whole w.legal 0 o observer row said job step why (seated journal new led) there row_fits column_fits reaches has next (refused_by_whole journal new led step why named refused)
+        let has = has_run runs observers clock o row before said w.whole w.legal in
+        allowed observers 1 clock w.legal.past w.whole w.legal.legal 0 o observer row said job step why (seated journal new led) there row_fits column_fits reaches has next (refused_by_whole journal new led step why named refused)
 
     of_change : ChangesKeepTables → PlansAreAllowed → TransactionsAreTold → (batch : Writes) (job : ChangeOf) (step : Step) (why : Reason) → Converses (new_change batch) said job → changes.next_of job ≡ Some step
         → step_reason new 0 step ≡ Some why → why ≡ Reason.OutOfTimestamps

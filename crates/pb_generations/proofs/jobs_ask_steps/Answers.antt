@@ -1,4 +1,4 @@
-use Rattle.std.proofs.Common.{◌≡◌, ℕ, arith, List, ◌++◌, Some, None, slice_get, refl, sym, ap, subst, ◌∙◌, Option}
+use Rattle.std.proofs.Common.{◌≡◌, ℕ, ◌<◌, Bool, arith, List, ◌++◌, Some, None, slice_get, refl, sym, ap, subst, ◌∙◌, Option}
 use Rattle.pb_base.proofs.Logic.{none_some, same_some}
 use Rattle.pb_generations.specs.Words.{Cell, Row, Ts, ObserverOf, Step, Entry, Received, Has, IsEntry}
 use Rattle.pb_txn.specs.Forms.{PlansConverse, PlansEnd}
@@ -7,6 +7,7 @@ use Rattle.pb_txn.specs.Plans as plans
 use Rattle.pb_txn.specs.Places as orders
 use Rattle.pb_txn.specs.Changes as changes
 use Rattle.pb_txn.specs.declared.place.PlanPlace.{PlanPlace}
+use Rattle.pb_steps.specs.Declarations.{old_at}
 use Rattle.pb_steps.specs.declared.step.Work.{Work}
 use Rattle.pb_steps.specs.declared.seen.Seen.{Seen}
 use Rattle.pb_notify.specs.declared.look.Look.{Look}
@@ -26,6 +27,10 @@ no_plan_reads p s x t next = by p.place next where
   by : (place : PlanPlace) → orders.step_at p.start p.what place ≡ Some (Step.ReadAt s x t) → ⊥
   by place next = grind arith
 
+-- what is read once more at a timestamp is acknowledged there
+old_some : (second : Bool) (a t : Ts) → old_at second a ≡ Some t → 0 < a.0
+old_some second a t is = grind (arith, is)
+
 module _ (observers : List ObserverOf) (journal : List Entry) where
   of_plan : (p : plans.PlanOf) (step : Step) → plans.next_of p ≡ Some step → IsStepOfJob observers journal step
   of_plan p (Step.ReadAt s x t) next = absurd (no_plan_reads p s x t next)
@@ -43,8 +48,8 @@ module _ (observers : List ObserverOf) (journal : List Entry) (seat o : ℕ) (ob
   plain_look s x Look.ClearingAgain = tt
 
   -- a look at what was acknowledged
-  acknowledged : (s : Ts) (seen : Seen) (n : ℕ) (base rest : List Received) → said ≡ base ++ rest → IsAcknowledged watch s seen n base → ReadsAcknowledged observers journal s.0 (Cell.Data row observer.column) seen.acknowledged.0
-  acknowledged s seen n base rest is i =
+  acknowledged : (s : Ts) (seen : Seen) (n : ℕ) (base rest : List Received) → said ≡ base ++ rest → IsAcknowledged watch s seen n base → 0 < seen.acknowledged.0 → ReadsAcknowledged observers journal s.0 (Cell.Data row observer.column) seen.acknowledged.0
+  acknowledged s seen n base rest is i some =
       let r = told (Step.Read s (Cell.Ack o row observer.column)) i.look.answer in
       record {
         o = o;
@@ -57,6 +62,7 @@ module _ (observers : List ObserverOf) (journal : List Entry) (seat o : ℕ) (ob
         read = had r (subst (λ l. Has l r) (sym is) (has_before base rest r (subst (λ l. Has l r) (sym i.look.said_is) (has_last i.look.before r))));
         held = i.look.held;
         acknowledged = ap (λ (t : Ts). t.0) (sym i.acknowledged);
+        some = some;
       }
 
   old_look : (s : Ts) (seen : Seen) (look : Look) → ReadsAcknowledged observers journal s.0 (Cell.Data row observer.column) seen.acknowledged.0 → IsStepOfJob observers journal (look_step s (Cell.Data row observer.column) (Some seen.acknowledged) look)
@@ -75,7 +81,7 @@ module _ (observers : List ObserverOf) (journal : List Entry) (seat o : ℕ) (ob
     at_place n (RunPlace.Acknowledging s found look) so next = one _ (plain_look s (Cell.Ack o row observer.column) look) next
     at_place n (RunPlace.Recalling s seen look) so next =
         let from = conversation.look_goes_on s (Cell.Data row observer.column) (Some seen.acknowledged) so.0 so.1 look n said so.5 in
-        one _ (old_look s seen look (acknowledged s seen so.0 so.1 from.0 from.1 so.2)) next
+        one _ (old_look s seen look (acknowledged s seen so.0 so.1 from.0 from.1 so.2 (old_some _ seen.acknowledged seen.acknowledged so.4))) next
     at_place n (RunPlace.Starting s seen) so next = absurd (none_some step next)
     at_place n (RunPlace.Computing s v) so next = absurd (none_some step next)
     at_place n (RunPlace.Asking s v q look) so next = one _ (plain_look s (Cell.Data q.row q.column) look) next

@@ -24,7 +24,7 @@ module _ (observers : List ObserverOf) (seats clock c : ℕ) (seat : ℕ) where
         let part = leads_in_parts old (entries_by seat before) (entry seat r ∷ []) new (subst (λ (l : List Entry). JournalLeads old l new) (by_append seat before (r ∷ [])) leads) in
         let mid = of_run before from part.0 reaches part.1 in
         let asked = asks observers (journal ++ entries_by seat before) seat o observer row before from r.step there reaches (λ x has. has_right journal (entries_by seat before) _ (said_there seat before x has)) next in
-        let last = subst (λ (s : StateOf). IsKeptTable observers seats clock c ((journal ++ entries_by seat before) ++ entry seat r ∷ []) s) (sym part.2.2) (stepped c (journal ++ entries_by seat before) part.0 (entry seat r) part.2.0 mid asked part.2.1) in
+        let last = subst (λ (s : StateOf). IsKeptTable observers seats clock c ((journal ++ entries_by seat before) ++ entry seat r ∷ []) s) (sym part.2.2) (stepped observers seats clock c (journal ++ entries_by seat before) part.0 (entry seat r) part.2.0 mid asked part.2.1) in
         subst (λ (l : List Entry). IsKeptTable observers seats clock c l new) (append_assoc journal (entries_by seat before) (entry seat r ∷ []) ∙ ap (λ (l : List Entry). journal ++ l) (sym (by_append seat before (r ∷ [])))) last
     of_run said k new (computed before from to reaches local step) leads = of_run said from new reaches leads
 
@@ -33,7 +33,7 @@ module _ (observers : List ObserverOf) (seats clock c : ℕ) (seat : ℕ) where
   of_change asks journal old new kept j k [] converses leads =
       subst (λ (l : List Entry). IsKeptTable observers seats clock c l new) (sym (append-nil journal)) (subst (λ (s : StateOf). IsKeptTable observers seats clock c journal s) (sym leads) kept)
   of_change asks journal old new kept j k (r ∷ said) converses leads =
-      let first = stepped c journal old (entry seat r) leads.0 kept (asks observers journal j r.step converses.0) leads.1 in
+      let first = stepped observers seats clock c journal old (entry seat r) leads.0 kept (asks observers journal j r.step converses.0) leads.1 in
       let rest = of_change asks (journal ++ entry seat r ∷ []) leads.0 new first (changes.answered j r.answer) k said converses.2 leads.2 in
       subst (λ (l : List Entry). IsKeptTable observers seats clock c l new) (append_assoc journal (entry seat r ∷ []) (entries_by seat said)) rest
 
@@ -82,7 +82,7 @@ module _ (observers : List ObserverOf) (seats clock c : ℕ) (seat : ℕ) where
   of_untimed journal old new [] kept are leads =
       subst (λ (l : List Entry). IsKeptTable observers seats clock c l new) (sym (append-nil journal)) (subst (λ (s : StateOf). IsKeptTable observers seats clock c journal s) (sym leads) kept)
   of_untimed journal old new (r ∷ said) kept are leads =
-      let first = stepped c journal old (entry seat r) leads.0 kept (of_job observers journal r.step are.0) leads.1 in
+      let first = stepped observers seats clock c journal old (entry seat r) leads.0 kept (of_job observers journal r.step are.0) leads.1 in
       let rest = of_untimed (journal ++ entry seat r ∷ []) leads.0 new said first are.1 leads.2 in
       subst (λ (l : List Entry). IsKeptTable observers seats clock c l new) (append_assoc journal (entry seat r ∷ []) (entries_by seat said)) rest
 

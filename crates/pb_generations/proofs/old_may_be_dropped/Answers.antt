@@ -1,61 +1,19 @@
-use Rattle.std.proofs.Common.{◌≡◌, ◌≢◌, ◌⊎◌, ℕ, zero, suc, ◌<◌, ◌≤◌, inl, inr, refl, sym, ◌∙◌, ap, subst, arith, Bool, true, false, cond, Option, Some, None, is_some, nat_eq}
-use Rattle.std.proofs.lemmas.Bool.{cases_lt}
+use Rattle.std.proofs.Common.{◌≡◌, ◌≢◌, ℕ, ◌<◌, ◌≤◌, inl, inr, refl, sym, ◌∙◌, ap, subst, arith, Bool, false, cond, Option, Some, None, nat_eq}
 use Rattle.std.proofs.lemmas.Option.{none-some}
 use Rattle.std.specs.FinMap as map
 use Rattle.std.specs.Ordering.{nat_cmp, eq_by_cmp}
 use Rattle.std.specs.Cmp.{nat_cmp_total, unsigned_tied}
-use Rattle.pb_generations.specs.Words.{Cell, Content, Revision, Sort, Entries, slot_at, StateOf, TransactionOf, Transactions, IsVersion, NoVersion, lock_at, write_at, data_at, data_of, SoundHasData}
+use Rattle.pb_generations.specs.Words.{Cell, Revision, Sort, Entries, slot_at, StateOf, TransactionOf, Transactions, IsVersion, NoVersion, lock_at, write_at, data_at, data_of, SoundHasData}
 use Rattle.pb_steps.specs.Readings.{primary_of, start_of}
-use Rattle.pb_history.specs.Sound.{HasData}
 use Rattle.pb_history.proofs.Updates.{set2, set2_there, set2_none, left_after_clearing as cleared, at_or_apart as decide}
 use Rattle.pb_history.proofs.ViewsAfter.{remove_same, remove_other}
 use Rattle.pb_generations.specs.Mirrored.{IsMirroredBy, OldMayBeDropped, QuietMirrorsItself, QuietCarriesOver}
 use Rattle.pb_generations.proofs.Kept.{same_there}
+use Rattle.pb_generations.proofs.NewestVersions.{newest_or_none}
 use Rattle.pb_generations.proofs.QuietTables.{no_lock_at}
 use Rattle.pb_generations.proofs.old_may_be_dropped.Goals as goal
 
 -- ---- a quiet table
-
-value_in : (o : Option Content) → is_some o ≡ true → (k : Content) × (o ≡ Some k)
-value_in None is = absurd (grind (arith, is))
-value_in (Some k) is = (k, refl)
-
--- up to a timestamp a cell has a newest version or none
-module _ (e : Entries) (has : HasData e) (x : Cell) where
-  at_top : (n : ℕ) (o : Option ℕ) → write_at e x n ≡ o → (((v : Revision) × IsVersion e x n v) ⊎ ((k : ℕ) → k < n → write_at e x k ≡ None) ⊎ ((v : Revision) × (v.commit.0 < n) × IsVersion e x v.commit.0 v × ((k : ℕ) → v.commit.0 < k → k < n → write_at e x k ≡ None)))
-      → ((v : Revision) × IsVersion e x n v) ⊎ NoVersion e x n
-  at_top n (Some s) there below =
-      let k = value_in (data_at e x s) (has.written x n s there) in
-      inl (record { start = record { 0 = s }; commit = record { 0 = n }; content = k.0 }, record { low = omega arith; written = there; content = k.1; newest = λ d above low. absurd (omega (arith, above, low)) })
-  at_top n None there (inl v) = inl v
-  at_top n None there (inr (inl none)) = inr (λ d low. none_at n d there none low)
-    where
-      none_at : (n d : ℕ) → write_at e x n ≡ None → ((k : ℕ) → k < n → write_at e x k ≡ None) → d ≤ n → write_at e x d ≡ None
-      none_at n d there none low = elim (cases_lt d n) [
-        | inl under ↦ none d under
-        | inr not_under ↦ ap (λ (k : ℕ). write_at e x k) (omega (arith, low, not_under)) ∙ there
-      ]
-  at_top n None there (inr (inr v)) =
-      let is = v.2 in
-      inl (
-        v.0,
-        record {
-          low = omega (arith, v.1);
-          written = is.written;
-          content = is.content;
-          newest = λ d above low. elim (cases_lt d n) [
-            | inl under ↦ v.3 d above under
-            | inr not_under ↦ ap (λ (k : ℕ). write_at e x k) (omega (arith, low, not_under)) ∙ there
-          ];
-        },
-      )
-
-  told_at : (n : ℕ) → ((v : Revision) × IsVersion e x n v) ⊎ NoVersion e x n
-  told_at zero = at_top zero (write_at e x zero) refl (inr (inl (λ k under. absurd (omega (arith, under)))))
-  told_at (suc n) = elim (told_at n) [
-    | inl v ↦ at_top (suc n) (write_at e x (suc n)) refl (inr (inr (v.0, omega (arith, v.1.low), record { low = omega arith; written = v.1.written; content = v.1.content; newest = λ d above low. absurd (omega (arith, above, low)) }, λ k above under. v.1.newest k above (omega (arith, under)))))
-    | inr none ↦ at_top (suc n) (write_at e x (suc n)) refl (inr (inl (λ k under. none k (omega (arith, under)))))
-  ]
 
 itself : SoundHasData → QuietMirrorsItself
 itself law state sound quiet room =
@@ -66,7 +24,7 @@ itself law state sound quiet room =
       room = room;
       entries_are = record {
         versions = λ x. record { there = λ v. (λ is. is, λ is. is); none = (λ is. is, λ is. is) };
-        either = λ x. told_at state.entries keeps.whole x state.clock;
+        either = λ x. newest_or_none state.entries keeps.whole x state.clock;
         early = λ x d s low is. omega (arith, (timely x d s is).0, low);
         kept_early = λ x d s low is. omega (arith, (timely x d s is).0, low);
         records = λ x d above. refl;
