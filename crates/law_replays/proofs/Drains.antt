@@ -1,13 +1,16 @@
--- Changes with their drains have one outcome on one table.
-use Rattle.std.proofs.Common.{arith, ◌≡◌, ℕ, ◌+◌, ◌<◌, ◌≤◌, inl, inr, List, [], ◌∷◌, ◌++◌, length, Option, Some, None, refl, sym, ap, subst, ◌∙◌, slice_get}
+-- Changes with their drains have one outcome on one table, and so has a drain by which added observers catch up.
+use Rattle.std.specs.FinMap as map
+use Rattle.std.proofs.Common.{arith, ◌≡◌, ℕ, ◌+◌, ◌<◌, ◌≤◌, inl, inr, Bool, true, false, is_some, List, [], ◌∷◌, ◌++◌, length, Option, Some, None, refl, sym, ap, subst, ◌∙◌, slice_get}
 use Rattle.pb_base.specs.Batch.{Writes}
-use Rattle.pb_base.specs.Cell.{row_of}
+use Rattle.pb_base.specs.Cell.{cell_cmp_total, cell_cmp-IsAntisymmetric, row_of}
 use Rattle.pb_base.specs.declared.cell.Cell.{Cell}
 use Rattle.pb_base.specs.declared.names.Ts.{Ts}
 use Rattle.pb_base.proofs.Logic.{one_value}
 use Rattle.pb_verify.specs.Observers.{ObserverOf}
 use Rattle.pb_sound.specs.OneMeaning.{EachHasOneMeaning}
+use Rattle.pb_steps.specs.Marks.{is_marked}
 use Rattle.pb_steps.specs.State.{StateOf}
+use Rattle.pb_state.specs.MoreObservers.{HasMoreObservers}
 use Rattle.pb_steps.specs.declared.step.Step.{Step}
 use Rattle.pb_steps.specs.declared.step.Work.{Work}
 use Rattle.pb_steps.specs.declared.step.Answer.{Answer}
@@ -30,8 +33,8 @@ use Rattle.pb_generations.specs.Snapshots.{LeftAreSound}
 use Rattle.pb_keeper.specs.Keeps.{AreMade, none, one_more as one_more_change}
 use Rattle.pb_keeper.specs.Leads.{IsEndedChange}
 use Rattle.pb_keeper.specs.Made.{IsMade}
-use Rattle.law_replays.specs.Replays.{AreJudged, ReplayHasOneOutcome}
-use Rattle.pb_keeper.proofs.Resting.{first_sound}
+use Rattle.law_replays.specs.Replays.{AreJudged, CatchingUpHasOneOutcome, ReplayHasOneOutcome}
+use Rattle.pb_keeper.proofs.Resting.{first_sound, marked_sound}
 use Rattle.pb_keeper.proofs.Wholes.{leads_parts, stays_sound}
 use Rattle.law_replays.proofs.Runs.{AreOne, words_once, run_once}
 
@@ -264,3 +267,36 @@ module _ (once : StepsHaveOneOutcome) (keeps : StepsKeepSound) where
 pub replay_once : StepsHaveOneOutcome → StepsKeepSound → OpeningIsSound → LeftAreSound → EachHasOneMeaning → MachinesAreLed → ReplayHasOneOutcome
 replay_once once keeps opens left meaning led first changes a b judged f g =
     (all_once once keeps meaning led first.state.observers judged changes changes f.leads.said g.leads.said first.state a.state b.state refl f.leads.form.form g.leads.form.form (first_sound keeps opens left f.past first f.began) f.leads.leads g.leads.leads).state_is
+
+-- ---- observers that are added
+
+both_or_none : (b c : Bool) → (b ≡ true → c ≡ true) → (c ≡ true → b ≡ true) → b ≡ c
+both_or_none true c f g = sym (f refl)
+both_or_none false true f g = g refl
+both_or_none false false f g = refl
+
+same_units : (o p : Option (Unit {0})) → is_some o ≡ is_some p → o ≡ p
+same_units None None e = refl
+same_units (Some x) (Some y) e = refl
+same_units None (Some y) e = cc
+same_units (Some x) None e = cc
+
+marked_too : (more : List ObserverOf) (old m n : StateOf) → HasMoreObservers more old m → HasMoreObservers more old n → (x : Cell) → is_marked m.marks x ≡ true → is_marked n.marks x ≡ true
+marked_too more old m n f g x e = elim (f.only x e) [ inl was ↦ g.kept x was | inr is ↦ g.marked x is.1.0 is.1.1 is.0 is.1.2 ]
+
+-- the marks follow from the table that they come to
+marked_once : (more : List ObserverOf) (old m n : StateOf) → HasMoreObservers more old m → HasMoreObservers more old n → m ≡ n
+marked_once more old m n f g =
+    let marks : m.marks ≡ n.marks = map.same_map cell_cmp_total cell_cmp-IsAntisymmetric m.marks n.marks
+    (λ x. same_units (map.get m.marks x) (map.get n.marks x) (both_or_none (is_marked m.marks x) (is_marked n.marks x) (marked_too more old m n f g x) (marked_too more old n m g f x))) in
+    f.is ∙ (λ i. record old { observers = old.observers ++ more; marks = marks i }) ∙ sym g.is
+
+pub caught_up_once : StepsHaveOneOutcome → StepsKeepSound → OpeningIsSound → LeftAreSound → EachHasOneMeaning → MachinesAreLed → CatchingUpHasOneOutcome
+caught_up_once once keeps opens left meaning led first changes old a b more judged k f g =
+    let observers = old.state.observers ++ more in
+    let same = marked_once more old.state f.marked.state g.marked.state f.observed g.observed in
+    let sound = marked_sound keeps opens left k.past changes first old a more k.began k.leads f in
+    let one = of_drain once keeps meaning led observers judged f.drained.said (subst (λ (l : List ObserverOf). IsDrain l f.drained.said) (ap (λ (z : StateOf). z.observers) f.observed.is) f.drained.form.form) in
+    let other = of_drain once keeps meaning led observers judged g.drained.said (subst (λ (l : List ObserverOf). IsDrain l g.drained.said) (ap (λ (z : StateOf). z.observers) g.observed.is) g.drained.form.form) in
+    (drain_on_once once keeps meaning led observers judged 0 f.drained.said g.drained.said f.marked.state a.state b.state one other sound f.drained.leads
+    (subst (λ (z : StateOf). JournalLeads z (entries_by 0 g.drained.said) b.state) (sym same) g.drained.leads)).state_is

@@ -1,9 +1,9 @@
--- Tables that keep the same changes are the same. The law `replay_has_one_outcome` cites it.
-use Rattle.std.specs.Prelude.{◌≡◌, ℕ, ◌≤◌, List, Some, slice_get}
+-- Tables that keep the same changes are the same, and so are those whose new observers have caught up. The laws of this crate cite it.
+use Rattle.std.specs.Prelude.{◌≡◌, ℕ, ◌≤◌, List, ◌++◌, Some, slice_get}
 use Rattle.pb_base.specs.Batch.{Writes}
 use Rattle.pb_isa.specs.declared.limits.TheConstants.{MAX_RECORD_BYTES}
 use Rattle.pb_verify.specs.Observers.{ObserverOf}
-use Rattle.pb_keeper.specs.Keeps.{Keeps}
+use Rattle.pb_keeper.specs.Keeps.{CatchesUp, Keeps}
 use Rattle.pb_keeper.specs.Stats.{KeptTable}
 
 -- the program of each is judged for a record of a size that there is, as every accepted one is
@@ -13,3 +13,9 @@ AreJudged observers = (n : ℕ) (o : ObserverOf) → slice_get observers n ≡ S
 -- entries, marks, clock and transactions follow from the changes since a generation began, and from the table that it began with
 abbrev pub ReplayHasOneOutcome : Type 0
 ReplayHasOneOutcome = (first : KeptTable) (changes : List Writes) (a b : KeptTable) → AreJudged first.state.observers → Keeps first changes a → Keeps first changes b → a.state ≡ b.state
+
+-- Where a table that keeps changes gets more observers, and these catch up, entries, marks, clock and transactions follow from the table
+-- and from the observers.
+abbrev pub CatchingUpHasOneOutcome : Type 0
+CatchingUpHasOneOutcome =
+    (first : KeptTable) (changes : List Writes) (old a b : KeptTable) (more : List ObserverOf) → AreJudged (old.state.observers ++ more) → Keeps first changes old → CatchesUp more old a → CatchesUp more old b → a.state ≡ b.state

@@ -3,9 +3,10 @@
 //! By `pb_keeper` some conversation of the only seat leads to a table that keeps changes. This law says that there is one such
 //! table: made anew of the same changes, in the same order, from the same beginning, it has the same entries, marks, clock
 //! and transactions, acknowledgments and timestamps included. So a log of a snapshot and of changes stands for its table.
+//! Observers that are added to it catch up in one way, too.
 #![tactic(auto)]
 
-ghost use Rattle.law_replays.specs.Replays.{ReplayHasOneOutcome};
+ghost use Rattle.law_replays.specs.Replays.{CatchingUpHasOneOutcome, ReplayHasOneOutcome};
 
 use pb_generations::snapshots_serve;
 use pb_history::{steps_have_one_outcome, steps_keep_sound};
@@ -16,6 +17,18 @@ use pb_sound::each_has_one_meaning;
 /// programs are judged for records of a size that there is, as each is by `Accepted::known`.
 pub fn replay_has_one_outcome()
     ensures { ReplayHasOneOutcome }
+{
+    steps_have_one_outcome();
+    steps_keep_sound();
+    snapshots_serve();
+    each_has_one_meaning();
+    machines_are_led();
+}
+
+/// Two tables that came from one that keeps changes, as it got the same observers, and these caught up, are the same, if all
+/// programs are judged so.
+pub fn catching_up_has_one_outcome()
+    ensures { CatchingUpHasOneOutcome }
 {
     steps_have_one_outcome();
     steps_keep_sound();

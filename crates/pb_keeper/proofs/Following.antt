@@ -36,10 +36,10 @@ use Rattle.pb_notify.specs.Runs.{Watch}
 use Rattle.pb_notify.specs.declared.need.JobEnd.{JobEnd}
 use Rattle.pb_generations.specs.Snapshots.{LeftAreSound}
 use Rattle.pb_keeper.specs.Leads.{IsEndedChange}
-use Rattle.pb_keeper.specs.Keeps.{IsFirstTable, IsAnew, opened, anew, KeepsFrom, KeptFollowOneAnother}
+use Rattle.pb_keeper.specs.Keeps.{IsFirstTable, IsAnew, opened, anew, observed, KeepsFrom, KeptFollowOneAnother}
 use Rattle.pb_keeper.specs.Stats.{KeptTable}
-use Rattle.pb_keeper.proofs.EachPart.{HoldsOfParts, of_all}
-use Rattle.pb_keeper.proofs.Resting.{first_sound, from_sound}
+use Rattle.pb_keeper.proofs.EachPart.{HoldsOfParts, of_all, of_drain}
+use Rattle.pb_keeper.proofs.Resting.{first_sound, from_sound, marked_sound}
 use Rattle.pb_keeper.proofs.Wholes.{is_plain, ArePlain, IsPlainFrom, looked_from, rounds_from, base_from, begin_from, acknowledged_from, asked_from, read_plain, leads_parts, stays_sound}
 
 -- ---- steps
@@ -318,6 +318,10 @@ module _ (keeps : StepsKeepSound) (opens : OpeningIsSound) (left : LeftAreSound)
       stays_there old new sound is s e =
           let t = some_transaction (got new s) e in
           ap has_phase (committed_at old new sound is s t.0 t.1).2
+  first_follow past first (observed before changes start old new more began k quiet up) =
+      let was = from_follow before changes start old began (first_follow before start began) k in
+      of_drain up.marked.state.observers (parts_follow keeps up.marked.state.observers) up.drained.said up.drained.form.form up.marked.state first.state (marked_sound keeps opens left before changes start old new more began k up)
+      (subst Follow (sym up.observed.is) was) up.drained.leads
 
   pub kept_follow : KeptFollowOneAnother
   kept_follow first changes table k s c u d earlier later low =

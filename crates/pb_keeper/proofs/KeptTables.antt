@@ -1,5 +1,5 @@
 -- What the only seat says while it makes changes leaves a table that is kept over generations one that is.
-use Rattle.std.proofs.Common.{◌≡◌, ℕ, List, [], ◌∷◌, ◌++◌, Option, refl, sym, subst, ◌∙◌}
+use Rattle.std.proofs.Common.{◌≡◌, ℕ, List, [], ◌∷◌, ◌++◌, Option, refl, sym, ap, subst, ◌∙◌}
 use Rattle.std.proofs.lemmas.List.{append_assoc, append-nil}
 use Rattle.pb_base.specs.Batch.{Writes}
 use Rattle.pb_base.specs.Cell.{row_of}
@@ -15,7 +15,7 @@ use Rattle.pb_txn.specs.Conversations.{told}
 use Rattle.pb_txn.specs.declared.place.Outcome.{Outcome}
 use Rattle.pb_notify.specs.Allowed.{entries_by}
 use Rattle.pb_passes.specs.Passes.{IsRun}
-use Rattle.pb_generations.specs.KeptTables.{IsKeptTable, opened, stepped, anew, RunsKeepTables, WholeChangesKeepTables, MarksKeepTables}
+use Rattle.pb_generations.specs.KeptTables.{IsKeptTable, opened, stepped, anew, more as more_kept, RunsKeepTables, WholeChangesKeepTables, MarksKeepTables}
 use Rattle.pb_keeper.specs.Leads.{SaidLeads, IsEndedChange}
 use Rattle.pb_keeper.specs.Counts.{CountsCommits}
 use Rattle.pb_keeper.specs.Stats.{Counted}
@@ -26,11 +26,12 @@ use Rattle.pb_keeper.proofs.Leading.{case_observers, entries_on}
 use Rattle.pb_keeper.proofs.PassAlong.{Led}
 use Rattle.pb_keeper.proofs.Wholes.{leads_parts}
 
--- over all generations its observers are those that it was opened with
+-- over all generations its observers are those that it was opened with, and then those that it got later
 pub kept_observers : (observers : List ObserverOf) (seats clock c : ℕ) (journal : List Entry) (now : StateOf) → IsKeptTable observers seats clock c journal now → now.observers ≡ observers
-kept_observers observers seats clock c journal now (opened room) = refl
-kept_observers observers seats clock c journal now (stepped g before old e new k job step) = case_observers old e.seat now e.step e.answer step.taken ∙ kept_observers observers seats clock g before old k
-kept_observers observers seats clock c journal now (anew g before old f ts k quiet room snapshot ended) = kept_observers observers seats clock g journal old k
+kept_observers observers seats clock c journal now (opened l n t room) = refl
+kept_observers observers seats clock c journal now (stepped l n t d g before e new k job step) = case_observers before e.seat now e.step e.answer step.taken ∙ kept_observers l n t d g before k
+kept_observers observers seats clock c journal now (anew l n t d g old f ts k quiet room snapshot ended) = kept_observers l n t d g old k
+kept_observers observers seats clock c journal now (more_kept l n t d g old added new k quiet has) = ap (λ (z : StateOf). z.observers) has.is ∙ ap (λ os. os ++ added) (kept_observers l n t d g old k)
 
 -- a conversation after which a table is kept that was kept before it
 abbrev pub LeavesKept : List ObserverOf → List Received → Type 0

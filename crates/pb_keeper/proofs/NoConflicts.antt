@@ -175,3 +175,8 @@ module _ (keeps : StepsKeepSound) (observers : List ObserverOf) where
   pub changes_count_none : (changes : List Writes) (said : List Received) (total : ℕ → ObserverStats) (m n : StateOf) → AreMade observers changes said → AreStatsOf observers said total → IsSoundTable m → IsUnlocked m
       → JournalLeads m (entries_by 0 said) n → (o : ℕ) → (total o).conflicts ≡ 0
   changes_count_none changes said total m n done are sound free r = counts_none observers said total are ((of_all observers parts_meet_none changes said done).1 m n sound free r)
+
+  -- nor in a drain
+  pub drain_counts_none : (said : List Received) (total : ℕ → ObserverStats) (m n : StateOf) → IsDrain observers said → AreStatsOf observers said total → IsSoundTable m → IsUnlocked m → JournalLeads m (entries_by 0 said) n
+      → (o : ℕ) → (total o).conflicts ≡ 0
+  drain_counts_none said total m n done are sound free r = counts_none observers said total are ((of_drain observers parts_meet_none said done).1 m n sound free r)

@@ -1,12 +1,12 @@
 -- Changes with their drains leave no lock.
-use Rattle.std.proofs.Common.{arith, ℕ, ◌<◌, ◌^◌, List, [], ◌∷◌, ◌++◌, Option, refl, sym, ap, subst}
+use Rattle.std.proofs.Common.{arith, ℕ, ◌<◌, ◌^◌, List, [], ◌∷◌, ◌++◌, Option, refl, sym, ap, subst, ◌∙◌}
 use Rattle.std.specs.FinMap as finite
 use Rattle.pb_base.specs.Batch.{Writes}
 use Rattle.pb_base.specs.declared.cell.Cell.{Cell}
 use Rattle.pb_store.specs.Slot.{slot_cmp}
 use Rattle.pb_store.specs.Contents.{slot_at}
 use Rattle.pb_store.specs.declared.slot.Sort.{Sort}
-use Rattle.pb_steps.specs.Readings.{primary_of}
+use Rattle.pb_steps.specs.Readings.{lock_at, primary_of}
 use Rattle.pb_steps.specs.State.{StateOf, opening}
 use Rattle.pb_steps.specs.declared.step.Step.{Step}
 use Rattle.pb_steps.specs.declared.step.Answer.{Answer}
@@ -18,11 +18,12 @@ use Rattle.pb_history.specs.declared.entry.Received.{Received}
 use Rattle.pb_txn.specs.Conversations.{told}
 use Rattle.pb_notify.specs.Allowed.{entries_by}
 use Rattle.pb_passes.specs.Passes.{IsRun}
+use Rattle.pb_state.specs.MoreObservers.{HasMoreObservers}
 use Rattle.pb_generations.specs.Snapshots.{LeftAreSound}
 use Rattle.pb_keeper.specs.Stats.{KeptTable}
 use Rattle.pb_keeper.specs.Stops.{IsUnlocked}
-use Rattle.pb_keeper.specs.Keeps.{IsFirstTable, opened, anew, Keeps, KeepsFrom, KeptIsUnlocked}
-use Rattle.pb_keeper.proofs.EachPart.{HoldsOfParts, of_all}
+use Rattle.pb_keeper.specs.Keeps.{CatchesUp, IsFirstTable, opened, anew, observed, Keeps, KeepsFrom, KeptIsUnlocked}
+use Rattle.pb_keeper.proofs.EachPart.{HoldsOfParts, of_all, of_drain}
 use Rattle.pb_keeper.proofs.Wholes.{leads_parts, stays_sound, plain_walk, run_rests, change_commits, free_after}
 
 -- a conversation that leaves no lock where there was none
@@ -62,25 +63,48 @@ small = grind arith
 opening_free : (observers : List ObserverOf) → IsUnlocked (opening observers 1 0)
 opening_free observers x u = ap primary_of (finite.get-empty slot_cmp (slot_at x Sort.Lock u))
 
+-- more observers change nothing of what is sound, and leave no lock
+more_sound : (more : List ObserverOf) (old new : StateOf) → HasMoreObservers more old new → IsSoundTable old → IsSoundTable new
+more_sound more old new has sound = subst IsSoundTable (sym has.is) sound
+
+more_free : (more : List ObserverOf) (old new : StateOf) → HasMoreObservers more old new → IsUnlocked old → IsUnlocked new
+more_free more old new has free x u = ap (λ (z : StateOf). lock_at z.entries x u) has.is ∙ free x u
+
 module _ (keeps : StepsKeepSound) (opens : OpeningIsSound) (left : LeftAreSound) where
   -- as a generation begins, a table is sound
   pub first_sound : (past : List Writes) (first : KeptTable) → IsFirstTable past first → IsSoundTable first.state
   first_sound past first (opened observers) = opens observers 1 0 small
   first_sound past first (anew before changes start old new began leads quiet room is stats) =
       subst IsSoundTable (sym is.is) (left old.state first.state.entries first.state.transactions (stays_sound keeps start.state old.state leads.said (first_sound before start began) leads.leads) is.snapshot is.left).0
+  first_sound past first (observed before changes start old new more began leads quiet up) =
+      stays_sound keeps up.marked.state first.state up.drained.said
+      (more_sound more old.state up.marked.state up.observed (stays_sound keeps start.state old.state leads.said (first_sound before start began) leads.leads)) up.drained.leads
 
   pub from_sound : (past changes : List Writes) (first table : KeptTable) → IsFirstTable past first → KeepsFrom first changes table → IsSoundTable table.state
   from_sound past changes first table began k = stays_sound keeps first.state table.state k.said (first_sound past first began) k.leads
+
+  -- and so it is where it got more observers
+  pub marked_sound : (past changes : List Writes) (first old new : KeptTable) (more : List ObserverOf) → IsFirstTable past first → KeepsFrom first changes old → (up : CatchesUp more old new) → IsSoundTable up.marked.state
+  marked_sound past changes first old new more began k up = more_sound more old.state up.marked.state up.observed (from_sound past changes first old began k)
+
+  from_free : (past changes : List Writes) (first table : KeptTable) → IsFirstTable past first → IsUnlocked first.state → KeepsFrom first changes table → IsUnlocked table.state
+  from_free past changes first table began free k =
+      of_all first.state.observers (parts_rest keeps first.state.observers) changes k.said k.form.form first.state table.state (first_sound past first began) free k.leads
 
   -- and no lock stands in it
   pub first_free : (past : List Writes) (first : KeptTable) → IsFirstTable past first → IsUnlocked first.state
   first_free past first (opened observers) = opening_free observers
   first_free past first (anew before changes start old new began leads quiet room is stats) = is.snapshot.unlocked
+  first_free past first (observed before changes start old new more began leads quiet up) =
+      of_drain up.marked.state.observers (parts_rest keeps up.marked.state.observers) up.drained.said up.drained.form.form up.marked.state first.state (marked_sound before changes start old new more began leads up)
+      (more_free more old.state up.marked.state up.observed (from_free before changes start old began (first_free before start began) leads)) up.drained.leads
+
+  pub marked_free : (past changes : List Writes) (first old new : KeptTable) (more : List ObserverOf) → IsFirstTable past first → KeepsFrom first changes old → (up : CatchesUp more old new) → IsUnlocked up.marked.state
+  marked_free past changes first old new more began k up = more_free more old.state up.marked.state up.observed (from_free past changes first old began (first_free past first began) k)
 
   -- a table that keeps changes is sound
   pub kept_sound : (first : KeptTable) (changes : List Writes) (table : KeptTable) → Keeps first changes table → IsSoundTable table.state
   kept_sound first changes table k = from_sound k.past changes first table k.began k.leads
 
   pub kept_is_unlocked : KeptIsUnlocked
-  kept_is_unlocked first changes table k =
-      of_all first.state.observers (parts_rest keeps first.state.observers) changes k.leads.said k.leads.form.form first.state table.state (first_sound k.past first k.began) (first_free k.past first k.began) k.leads.leads
+  kept_is_unlocked first changes table k = from_free k.past changes first table k.began (first_free k.past first k.began) k.leads

@@ -1,5 +1,5 @@
--- A table that is kept over generations: it is opened with nothing in it, or begins anew from a quiet one, and then these changes led
--- to it, and nothing else.
+-- A table that is kept over generations: it is opened with nothing in it, or begins anew from a quiet one, or gets more observers where
+-- it is quiet, and then these changes led to it, and nothing else.
 use Rattle.std.specs.Prelude.{◌≡◌, ℕ, ◌<◌, List, [], ◌∷◌, ◌++◌, length}
 use Rattle.pb_base.specs.Batch.{Writes}
 use Rattle.pb_base.specs.declared.names.Ts.{Ts}
@@ -11,6 +11,8 @@ use Rattle.pb_history.specs.Sound.{IsCommittedAt}
 use Rattle.pb_history.specs.TableView.{view_of}
 use Rattle.pb_history.specs.declared.entry.Received.{Received}
 use Rattle.pb_notify.specs.Allowed.{entries_by}
+use Rattle.pb_passes.specs.Passes.{IsDrain}
+use Rattle.pb_state.specs.MoreObservers.{HasMoreObservers}
 use Rattle.pb_generations.specs.KeptTables.{IsKeptTable}
 use Rattle.pb_generations.specs.Mirrored.{carried}
 use Rattle.pb_generations.specs.Snapshots.{AreLeft, IsSnapshotOf}
@@ -41,11 +43,21 @@ pub record IsAnew (old new : StateOf) : Type 0 where
   pub snapshot : IsSnapshotOf old new.entries
   pub left : AreLeft old new.entries new.transactions
 
+-- it got these observers after those that it had, with a mark on each cell of theirs that was ever written, and then a drain led on, by
+-- which they catch up; what its runs did is counted, of the new ones from nothing on
+pub record CatchesUp (more : List ObserverOf) (old new : KeptTable) : Type 0 where
+  pub marked : KeptTable
+  pub observed : HasMoreObservers more old.state marked.state
+  pub stats_are : marked.stats ≡ old.stats ++ first_stats more
+  pub drained : SaidLeads (Counted marked.state.observers marked.stats new.stats (IsDrain marked.state.observers)) marked.state new.state
+
 -- a table as a generation begins with it, and the changes of all generations before
 pub data IsFirstTable : List Writes → KeptTable → Type 0 where
   opened : (observers : List ObserverOf) → IsFirstTable [] (opened_table observers)
   anew : (past changes : List Writes) (first old new : KeptTable) → IsFirstTable past first → KeepsFrom first changes old → IsQuiet old.state → old.state.clock < last_timestamp
       → IsAnew old.state new.state → new.stats ≡ old.stats → IsFirstTable (past ++ changes) new
+  observed : (past changes : List Writes) (first old new : KeptTable) (more : List ObserverOf) → IsFirstTable past first → KeepsFrom first changes old → IsQuiet old.state
+      → CatchesUp more old new → IsFirstTable (past ++ changes) new
 
 -- a table of the generation that begins with the first: these changes were made since
 pub record Keeps (first : KeptTable) (changes : List Writes) (table : KeptTable) : Type 0 where
@@ -69,11 +81,20 @@ abbrev pub KeptFollowOneAnother : Type 0
 KeptFollowOneAnother =
     (first : KeptTable) (changes : List Writes) (table : KeptTable) → Keeps first changes table → (s c u d : ℕ) → IsCommittedAt (view_of table.state) s c → IsCommittedAt (view_of table.state) u d → s < u → c < u
 
+-- these changes of all generations, each once and in order, each with the drain that follows it, by the observers of its time; and where
+-- observers were added, the drain by which they caught up
+pub data AreMadeInAll : List ObserverOf → List Writes → List Received → Type 0 where
+  nothing_made : (observers : List ObserverOf) → AreMadeInAll observers [] []
+  change_made : (observers : List ObserverOf) (changes : List Writes) (said more : List Received) (batch : Writes) (commit : Ts) → AreMadeInAll observers changes said → IsMade observers batch commit more
+      → AreMadeInAll observers (changes ++ batch ∷ []) (said ++ more)
+  caught_up : (observers added : List ObserverOf) (changes : List Writes) (said more : List Received) → AreMadeInAll observers changes said → IsDrain (observers ++ added) more
+      → AreMadeInAll (observers ++ added) changes (said ++ more)
+
 -- One conversation, of all generations, makes these changes and leads to the table; what is kept of an observer is what its runs did
 -- in it. No run met a conflict, since the table has one seat, which makes one thing after another.
 pub record IsWholeTable (observers : List ObserverOf) (changes : List Writes) (table : KeptTable) : Type 0 where
   pub said : List Received
-  pub made : AreMade observers changes said
+  pub made : AreMadeInAll observers changes said
   pub c : ℕ
   pub kept : IsKeptTable observers 1 0 c (entries_by 0 said) table.state
   pub total : ℕ → ObserverStats

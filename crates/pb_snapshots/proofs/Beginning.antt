@@ -12,7 +12,7 @@ use Rattle.pb_history.specs.declared.entry.Received.{Received}
 use Rattle.pb_notify.specs.Allowed.{entries_by}
 use Rattle.pb_generations.specs.Snapshots.{LeftAreSound}
 use Rattle.pb_state.specs.CarriedOver.{IsCarriedOver}
-use Rattle.pb_keeper.specs.Keeps.{IsFirstTable, anew, opened}
+use Rattle.pb_keeper.specs.Keeps.{IsFirstTable, anew, observed, opened}
 use Rattle.pb_keeper.specs.Leads.{SaidLeads}
 use Rattle.pb_keeper.specs.Stats.{KeptTable}
 use Rattle.pb_keeper.proofs.Resting.{from_sound}
@@ -34,6 +34,8 @@ leads_seats a b g = journal_seats a (entries_by 0 g.said) b g.leads
 first_seats : (past : List Writes) (first : KeptTable) → IsFirstTable past first → first.state.seats ≡ 1
 first_seats past first (opened observers) = refl
 first_seats past first (anew before changes start old new began k quiet room is stats) = ap (λ (z : StateOf). z.seats) is.is ∙ leads_seats start.state old.state k ∙ first_seats before start began
+first_seats past first (observed before changes start old new more began k quiet up) =
+    leads_seats up.marked.state first.state up.drained ∙ ap (λ (z : StateOf). z.seats) up.observed.is ∙ leads_seats start.state old.state k ∙ first_seats before start began
 
 module _ (keeps : StepsKeepSound) (opens : OpeningIsSound) (left : LeftAreSound) where
   pub snapshots_begin : SnapshotsBegin

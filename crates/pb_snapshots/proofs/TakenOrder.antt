@@ -30,6 +30,7 @@ use Rattle.pb_history.proofs.Updates.{none_if}
 use Rattle.pb_notify.specs.Allowed.{entries_by}
 use Rattle.pb_generations.specs.KeptTables.{KeptTablesAreWhole, NewestInAll}
 use Rattle.pb_generations.specs.Snapshots.{LeftAreSound}
+use Rattle.pb_generations.proofs.HistoryButMarks.{same_member}
 use Rattle.pb_state.specs.CarriedOver.{IsAmiss, MayFollow, comes_before, has_its_observer, is_content_of, is_of_column, is_stamp_of}
 use Rattle.pb_state.specs.declared.carry_fault.CarryFault.{CarryFault}
 use Rattle.pb_keeper.specs.Keeps.{Keeps, KeptFollowOneAnother, KeptIsUnlocked, KeptIsWhole}
@@ -194,8 +195,9 @@ module _ (keeps : StepsKeepSound) (opens : OpeningIsSound) (left : LeftAreSound)
         let stands = wholes first.state.observers 1 0 w.c journal table.state w.kept in
         let same : table.state.observers ≡ stands.whole.observers = ap (λ (z : StateOf). z.observers) stands.now_is in
         let m = write.m in
-        let h : InHistory stands.whole.observers journal m = subst (λ l. InHistory l journal m) same write.in_history in
-        let one = own stands.whole.observers journal m x v write.start_is write.writes m.work refl ((scripts first.state.observers 1 0 journal stands.whole stands.legal).batch m h) (λ o row. (runs first.state.observers 1 0 journal stands.whole stands.legal).run m o row h) in
+        let past = stands.legal.past in
+        let h : InHistory stands.whole.observers past m = same_member stands.whole.observers journal past (sym stands.legal.same) m (subst (λ l. InHistory l journal m) same write.in_history) in
+        let one = own stands.whole.observers past m x v write.start_is write.writes m.work refl ((scripts first.state.observers 1 0 past stands.whole stands.legal.legal).batch m h) (λ o row. (runs first.state.observers 1 0 past stands.whole stands.legal.legal).run m o row h) in
         subst (λ l. IsOwnVersion l x v) (sym same ∙ leads_observers first.state table.state k.leads) one
 
   pub taken_are_in_order : TakenAreInOrder

@@ -1,0 +1,85 @@
+//! Observers that a table gets after those that it has, and the passes by which they catch up with what was written before.
+ghost use Rattle.std.specs.Prelude.{◌≡◌, ◌≤◌, ◌+◌, ◌++◌, List, None, true, length, IfOk, IfErr, OnOk};
+ghost use Rattle.pb_base.specs.Batch.{Writes};
+ghost use Rattle.pb_base.specs.declared.limits.TheConstants.{MAX_OBSERVERS};
+ghost use Rattle.pb_history.specs.Handled.{IsQuiet};
+ghost use Rattle.pb_state.specs.MoreObservers.{HasMoreObservers};
+ghost use Rattle.pb_store.specs.Contents.{IsNextMark};
+ghost use Rattle.pb_keeper.specs.Counts.{commit_count};
+ghost use Rattle.pb_keeper.specs.Keeps.{CatchesUp, IsFirstTable, KeepsFrom};
+ghost use Rattle.pb_keeper.specs.Stats.{KeptTable, first_stats, kept_table};
+ghost use Rattle.pb_keeper.specs.Stops.{IsStop, WantsMemory};
+
+use crate::change::Stopped;
+use crate::passes::{Drained, drain};
+use crate::stats::{ObserverStats, no_stats};
+use pb_base::NoMemory;
+use pb_generations::{jobs_keep_tables, snapshots_serve};
+use pb_history::steps_keep_sound;
+use pb_state::State;
+use pb_store::Tablet;
+use pb_verify::Observer;
+use std::alloc::Global;
+use std::sync::Wait;
+
+// Adds observers to a table, with stats of no run. Memory is asked for before the table has them.
+fn add_all<T: Tablet>(
+    alloc: Global,
+    state: &mut State<T>,
+    stats: &mut Vec<ObserverStats>,
+    more: Vec<Observer>,
+) -> Result<(), NoMemory>
+    requires few { length state.old.observers + length more.items ≤ MAX_OBSERVERS }
+    ensures observed { OnOk result (HasMoreObservers more.items state.old state.new) }
+    ensures stats { OnOk result (stats.new.items ≡ stats.old.items ++ first_stats more.items) }
+{
+    let mut none = no_stats(alloc, more.len())?;
+    stats.reserve(none.len())?;
+    state.add_observers(more)?;
+    stats.append(&mut none)?;
+    Ok(())
+}
+
+/// Adds observers after those of a quiet table, which keep what they have acknowledged, and makes passes until the new ones
+/// have handled all that was ever written to their columns, or so many passes as may be made. It returns what these did.
+///
+/// Where it fails, some cells may be marked, and the table serves for nothing more.
+pub fn observe_also<R: Wait, T: Tablet>(
+    rt: &R,
+    alloc: Global,
+    state: &mut State<T>,
+    stats: &mut Vec<ObserverStats>,
+    more: Vec<Observer>,
+) -> Result<Drained, Stopped>
+    requires few { length state.old.observers + length more.items ≤ MAX_OBSERVERS }
+    ensures observers { OnOk result
+        (state.new.observers ≡ state.old.observers ++ more.items) }
+    // The runs are those of the drain by which they caught up.
+    ensures caught_up { IfOk result (λ d. (u : CatchesUp more.items
+        (kept_table state.old stats.old.items) (kept_table state.new stats.new.items))
+        × (d.runs ≡ commit_count u.drained.said)) }
+    // Where it rests no cell is marked.
+    ensures quiet { IfOk result (λ d. d.rests ≡ true → IsNextMark state.new.marks None None) }
+    // From a table that keeps changes it is a generation's beginning, after all of them.
+    ensures begins { (past changes : List Writes) (first : KeptTable)
+        → IsFirstTable past first
+        → KeepsFrom first changes (kept_table state.old stats.old.items)
+        → IsQuiet state.old
+        → OnOk result (IsFirstTable (past ++ changes)
+        (kept_table state.new stats.new.items)) }
+    // Then it conflicts with nothing.
+    ensures stops { (past changes : List Writes) (first : KeptTable)
+        → IsFirstTable past first
+        → KeepsFrom first changes (kept_table state.old stats.old.items)
+        → IsQuiet state.old
+        → IfErr result (λ e. IsStop e state.new) }
+{
+    // For the proof: a table that is kept over generations is so with more observers, and conflicts with nothing.
+    steps_keep_sound();
+    snapshots_serve();
+    jobs_keep_tables();
+    match add_all(alloc, state, stats, more) {
+        Ok(()) => drain(rt, alloc, state, stats),
+        Err(refused) => Err(Stopped::NoMemory(refused)),
+    }
+}
