@@ -1,18 +1,24 @@
 -- What a log that is opened has, by its first record.
-use Rattle.std.proofs.Common.{◌≡◌, ◌⊎◌, ◌==◌, ℕ, zero, suc, Bool, true, false, ◌<◌, Result, Ok, Err, IsErrAnd, IfErr, List, [], ◌∷◌, ◌++◌, inl, inr, length, map, take, drop, get_or, refl, sym, ◌∙◌, ap, subst, arith, Vec, Global}
+use Rattle.std.proofs.Common.{◌≡◌, ◌⊎◌, ◌==◌, ℕ, zero, suc, Bool, true, false, ◌<◌, Result, Ok, Err, IsErrAnd, IfErr, List, [], ◌∷◌, ◌++◌, inl, inr, length, map, Some, take, drop, get_or, slice_get, refl, sym, ◌∙◌, ap, subst, arith, Vec, Global}
 use Rattle.pb_log.specs.Records.{IsLog, IsReadable}
 use Rattle.std.proofs.lemmas.Bool.Decides.{Decides-eqb}
 use Rattle.sqlite_disk.specs.Disk.{MoreFaults}
 use Rattle.pb_log.specs.declared.fault.LogFault.{LogFault}
 use Rattle.pb_log.specs.declared.fault.LogFault.TheVariants.{NoMemory, Disk, Full, Damaged, OtherManifest, NewerVersion, NoHeader}
-use Rattle.pb_log.specs.Header.{header, HasRecords, WhyNotOurs}
-use Rattle.pb_log.specs.Causes.{IsOfTheFile, WhyNotPut, WhyNotRecovered, WhyNotOpened}
+use Rattle.pb_log.specs.Header.{header, HasRecords, WhyNoHeader, WhyNotOurs}
+use Rattle.pb_log.specs.Causes.{IsOfTheFile, WhyNotPut, WhyNotRecovered, WhyNotOpened, WhyNoManifest}
 use Rattle.pb_log.proofs.OneReading.{one_reading}
 
 -- the first record and the others
 pub first_split : (vs ws : List (Vec ℕ Global)) (v : Vec ℕ Global) → 0 < length vs → v ≡ get_or vs 0 v → ws ≡ take 0 vs ++ drop 1 vs → map (λ (x : Vec ℕ Global). x.items) vs ≡ v.items ∷ map (λ (x : Vec ℕ Global). x.items) ws
 first_split [] ws v some is rest = absurd (omega (arith, some))
 first_split (u ∷ us) ws v some is rest = ap (λ (x : Vec ℕ Global). x.items ∷ map (λ (y : Vec ℕ Global). y.items) us) (sym is) ∙ ap (λ (l : List (Vec ℕ Global)). v.items ∷ map (λ (y : Vec ℕ Global). y.items) l) (sym rest)
+
+pub first_of : (vs : List (Vec ℕ Global)) (v : Vec ℕ Global) → Some v ≡ slice_get vs 0 → map (λ (x : Vec ℕ Global). x.items) vs ≡ v.items ∷ map (λ (x : Vec ℕ Global). x.items) (drop 1 vs)
+first_of [] v is = absurd cc
+first_of (u ∷ us) v is =
+    let same : v ≡ u = cc in
+    ap (λ (x : Vec ℕ Global). x.items ∷ map (λ (y : Vec ℕ Global). y.items) us) (sym same)
 
 pub no_records : (vs : List (Vec ℕ Global)) → length vs ≡ 0 → map (λ (x : Vec ℕ Global). x.items) vs ≡ []
 no_records [] none = refl
@@ -75,6 +81,26 @@ why_not_ours manifest file first others old new (Damaged at) its why = absurd wh
 why_not_ours manifest file first others old new OtherManifest its why = record { first = first; others = others; is = its; why = why }
 why_not_ours manifest file first others old new NewerVersion its why = record { first = first; others = others; is = its; why = why }
 why_not_ours manifest file first others old new NoHeader its why = inl (record { first = first; others = others; is = its; why = why })
+
+-- ---- why its manifest isn't read
+
+pub not_ours : (manifest first : List ℕ) (e : LogFault) → WhyNoHeader first e → WhyNotOurs manifest first e
+not_ours manifest first (NoMemory n) why = absurd why
+not_ours manifest first (Disk x) why = absurd why
+not_ours manifest first Full why = absurd why
+not_ours manifest first (Damaged at) why = absurd why
+not_ours manifest first OtherManifest why = absurd why
+not_ours manifest first NewerVersion why = why
+not_ours manifest first NoHeader why = why
+
+pub why_no_manifest : (file first : List ℕ) (others : List (List ℕ)) (old new : ℕ) (e : LogFault) → IsLog file (first ∷ others) → WhyNoHeader first e → WhyNoManifest old new file e
+why_no_manifest file first others old new (NoMemory n) its why = tt
+why_no_manifest file first others old new (Disk x) its why = absurd why
+why_no_manifest file first others old new Full its why = absurd why
+why_no_manifest file first others old new (Damaged at) its why = absurd why
+why_no_manifest file first others old new OtherManifest its why = absurd why
+why_no_manifest file first others old new NewerVersion its why = record { first = first; others = others; is = its; why = why }
+why_no_manifest file first others old new NoHeader its why = record { first = first; others = others; is = its; why = why }
 
 pub has_a_record : (first : List ℕ) (others : List (List ℕ)) → first ∷ others ≡ [] → ⊥
 has_a_record first others e = absurd cc

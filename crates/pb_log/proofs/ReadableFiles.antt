@@ -63,7 +63,7 @@ sound_is_log f rs s = record {
   short = s.short;
 }
 
-pub sound_at_rest : (f : List ℕ) (rs : List (List ℕ)) (end : ℕ) (may_leave : List ℕ → Type 0) → IsSound f rs → end ≡ length (blocks 0 rs) → Only f may_leave → IsAtRest f may_leave end rs
+sound_at_rest : (f : List ℕ) (rs : List (List ℕ)) (end : ℕ) (may_leave : List ℕ → Type 0) → IsSound f rs → end ≡ length (blocks 0 rs) → Only f may_leave → IsAtRest f may_leave end rs
 sound_at_rest f rs end may_leave s ends_at only = record {
   torn = s.shut.torn;
   is = s.is ∙ ap (λ (x : List ℕ). blocks 0 rs ++ x) s.shut.is;
@@ -71,6 +71,13 @@ sound_at_rest f rs end may_leave s ends_at only = record {
   short = s.short;
   durable = only;
 }
+
+-- a file of more than one byte that may be opened is sound
+pub readable_at_rest : (f : List ℕ) (rs : List (List ℕ)) (end : ℕ) (may_leave : List ℕ → Type 0) → 1 < length f → IsReadable f rs → end ≡ length (blocks 0 rs) → Only f may_leave → IsAtRest f may_leave end rs
+readable_at_rest f rs end may_leave old readable ends_at only = elim readable [
+  | inl sound ↦ sound_at_rest f rs end may_leave sound ends_at only
+  | inr new ↦ absurd (omega (arith, old, new.0))
+]
 
 module _ (f bytes : List ℕ) (own : List (List ℕ)) (end : ℕ) (read : bytes ≡ f) (found : IsLog bytes own) (ends_at : end ≡ length (blocks 0 own)) (rest : List ℕ) (rest_is : rest ≡ drop end bytes) where
   -- what is looked at after the records

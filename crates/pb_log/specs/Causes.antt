@@ -4,7 +4,7 @@ use Rattle.sqlite_disk.specs.Disk.{MoreFaults}
 use Rattle.pb_log.specs.declared.fault.LogFault.{LogFault}
 use Rattle.pb_log.specs.declared.fault.LogFault.TheVariants.{NoMemory, Disk, Full, Damaged, OtherManifest, NewerVersion, NoHeader}
 use Rattle.pb_log.specs.Records.{blocks, IsLog, IsReadable}
-use Rattle.pb_log.specs.Header.{header, WhyNotOurs}
+use Rattle.pb_log.specs.Header.{header, WhyNoHeader, WhyNotOurs}
 
 -- the call did nothing
 abbrev pub IsNotBegun : LogFault → Type 0
@@ -44,12 +44,16 @@ WhyNotRecovered old new file (Disk e) = MoreFaults old new
 WhyNotRecovered old new file (Damaged at) = IsDamaged file at
 WhyNotRecovered old new file _ = ⊥
 
--- the first record isn't the header
-pub record HasOther (manifest file : List ℕ) (e : LogFault) : Type 0 where
+-- the file has a first record, of which this holds
+pub record HasFirst (P : List ℕ → Type 0) (file : List ℕ) : Type 0 where
   pub first : List ℕ
   pub others : List (List ℕ)
   pub is : IsLog file (first ∷ others)
-  pub why : WhyNotOurs manifest first e
+  pub why : P first
+
+-- the first record isn't the header
+abbrev pub HasOther : List ℕ → List ℕ → LogFault → Type 0
+HasOther manifest file e = HasFirst (λ first. WhyNotOurs manifest first e) file
 
 -- no record stands in the file, and it is longer than what a crash leaves in which the header was put
 pub record IsNoLog (manifest file : List ℕ) : Type 0 where
@@ -63,3 +67,9 @@ WhyNotOpened manifest old new file Full = ⊥
 WhyNotOpened manifest old new file (Damaged at) = IsDamaged file at
 WhyNotOpened manifest old new file NoHeader = HasOther manifest file NoHeader ⊎ IsNoLog manifest file
 WhyNotOpened manifest old new file e = HasOther manifest file e
+
+-- why the manifest of a log isn't read
+abbrev pub WhyNoManifest : ℕ → ℕ → List ℕ → LogFault → Type 0
+WhyNoManifest old new file NewerVersion = HasFirst (λ first. WhyNoHeader first NewerVersion) file
+WhyNoManifest old new file NoHeader = HasFirst (λ first. WhyNoHeader first NoHeader) file
+WhyNoManifest old new file e = WhyNotRecovered old new file e

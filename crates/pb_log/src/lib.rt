@@ -14,6 +14,7 @@ mod fault;
 mod header;
 mod laws;
 mod log;
+mod manifest;
 mod opening;
 mod reading;
 mod recovery;
