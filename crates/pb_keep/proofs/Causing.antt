@@ -1,10 +1,13 @@
 -- Why a table is kept no longer.
-use Rattle.std.proofs.Common.{◌≡◌, ℕ, ◌≤◌, ◌^◌, Bool, true, List, sym, subst}
+use Rattle.std.proofs.Common.{◌≡◌, ℕ, ◌<◌, ◌≤◌, ◌^◌, Bool, true, List, [], ◌∷◌, length, sym, subst, arith, length-append}
 use Rattle.pb_log.specs.declared.fault.LogFault.{LogFault}
 use Rattle.pb_log.specs.Causes.{IsNotBegun}
+use Rattle.pb_log.specs.Records.{blocks}
 use Rattle.pb_keeper.specs.Stops.{IsStop}
-use Rattle.pb_keep.specs.Words.{HasRecords, ObserverOf, StateOf, Stopped, WhyNotPut}
+use Rattle.pb_keep.specs.Words.{HasRecords, ObserverOf, StateOf, Stopped, WhyNotOpened, WhyNotPut, header}
 use Rattle.pb_keep.specs.declared.fault.KeepFault.{KeepFault}
+use Rattle.pb_keep.specs.declared.waiting.Waits.{Waits}
+use Rattle.pb_keep.specs.Anew.{why_stopped, IsNotQuiet, WhyNotObserved}
 use Rattle.pb_keep.specs.Causes.{IsOfAnew, IsOfFirst, IsOfPut, WhyNotKept, WhyNotMadeAgain, WhyNotServed}
 use Rattle.pb_keep.specs.Conversations.{KeeperView}
 use Rattle.pb_keep.specs.Left.{fault_by, IsOfLog, IsOfMaking, IsRightOf}
@@ -13,6 +16,20 @@ pub stopped_rightly : (e : Stopped) (state : StateOf) → IsStop e state → IsR
 stopped_rightly (Stopped.NoMemory refused) state h = tt
 stopped_rightly (Stopped.Refused why) state h = h.1
 stopped_rightly Stopped.Conflict state h = absurd h
+
+-- ---- where a table gets more observers
+
+pub not_for_unrest : (e : Stopped) → IsNotQuiet (why_stopped e) → ⊥
+not_for_unrest (Stopped.NoMemory refused) h = h
+not_for_unrest (Stopped.Refused why) h = h
+not_for_unrest Stopped.Conflict h = h
+
+pub stopped_observed : (waiting : List Waits) (old new : StateOf) (e : Stopped) → IsStop e new → WhyNotObserved waiting old new (why_stopped e)
+stopped_observed waiting old new (Stopped.NoMemory refused) h = tt
+stopped_observed waiting old new (Stopped.Refused why) h = h.1
+stopped_observed waiting old new Stopped.Conflict h = absurd h
+
+-- ---- where the log fails
 
 -- a put failed; one that did nothing left the log's end
 pub put_why : (before now was end : ℕ) (e : LogFault) → WhyNotPut before now was e → (IsNotBegun e → end ≡ was) → IsOfPut before now end (KeepFault.Log e)
@@ -42,6 +59,22 @@ not_both KeepFault.Snapshot making of = of
 not_both KeepFault.NoTimestamp making of = of
 not_both KeepFault.Output making of = of
 not_both KeepFault.Input making of = of
+
+-- ---- a log of a header alone
+
+-- its end is far from the place from which on no record begins
+pub begins_low : (manifest : List ℕ) (end : ℕ) → length manifest < 2 ^ 31 → end ≡ length (blocks 0 (header manifest ∷ [])) → end < 2 ^ 62
+begins_low manifest end short ends = grind (arith, short, ends, length-append)
+
+-- so a put into it fails only as its opening may
+pub put_as_opened : (manifest : List ℕ) (before now end : ℕ) (file : List ℕ) (e : LogFault) → end < 2 ^ 62 → WhyNotPut before now end e → WhyNotOpened manifest before now file e
+put_as_opened manifest before now end file (LogFault.NoMemory n) low h = tt
+put_as_opened manifest before now end file (LogFault.Disk e) low h = h
+put_as_opened manifest before now end file LogFault.Full low h = omega (arith, low, h)
+put_as_opened manifest before now end file (LogFault.Damaged at) low h = absurd h
+put_as_opened manifest before now end file LogFault.OtherManifest low h = absurd h
+put_as_opened manifest before now end file LogFault.NewerVersion low h = absurd h
+put_as_opened manifest before now end file LogFault.NoHeader low h = absurd h
 
 -- ---- why what waits isn't kept
 

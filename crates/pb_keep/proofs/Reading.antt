@@ -1,17 +1,18 @@
 -- Lines that are read of an input.
-use Rattle.std.proofs.Common.{arith, ◌≡◌, ℕ, ◌<◌, Bool, true, not, List, [], ◌∷◌, ◌++◌, length, Option, Result, Ok, Err, OnOk, false, refl, ap, sym, subst, ◌∙◌}
+use Rattle.std.proofs.Common.{arith, ◌≡◌, ◌≢◌, ℕ, ◌<◌, ◌≤◌, Bool, true, not, List, [], ◌∷◌, ◌++◌, length, Option, Result, Ok, Err, false, refl, ap, sym, subst, ◌∙◌}
 use Rattle.std.specs.Prelude.{IsUtf8}
 use Rattle.pb_reading.specs.Reading.{Gives}
 use Rattle.pb_requests.specs.declared.parse.TheConstants.{MAX_LINE}
 use Rattle.pb_keep.specs.Words.{Request, ScriptCode, asked_by}
+use Rattle.pb_keep.specs.declared.service.Went.{Went}
+use Rattle.pb_keep.specs.declared.take.Took.{Took}
 use Rattle.pb_keep.specs.declared.waiting.Waiting.{Waiting}
 use Rattle.pb_keep.specs.Conversations.{Beginning, KeeperView, LeavesFirst, Serves}
 use Rattle.pb_keep.specs.Held.{IsReadAs}
 use Rattle.pb_keep.specs.Waits.{IsNoLine, IsWaiting}
 use Rattle.pb_keep.specs.Input.{none, one_more, AreLinesRead, IsNextLine}
-use Rattle.pb_keep.specs.Served.{LeavesRead, ServesAll, ServesNext, ServesRead}
+use Rattle.pb_keep.specs.Served.{LeavesRead, ServesAll, ServesNext, ServesRead, ServesToAsked, ServesToLarge}
 use Rattle.std.proofs.lemmas.List.{append_assoc, append-nil}
-use Rattle.pb_keep.proofs.Mapping.{all_ok}
 
 -- ---- as what lines are read
 
@@ -50,6 +51,10 @@ read_both from between to front back f (one_more lines line m n a next) =
 pub serves_read_none : {b : Beginning} {lines : List (List ℕ)} {k : KeeperView} (from : Option (List ℕ)) → Serves b lines k → ServesRead b lines from from k
 serves_read_none {b} {lines} {k} from s = record { more = []; read = none; serves = subst (λ z. Serves b z k) (sym (append-nil lines)) s }
 
+is_some_line : (xs : List (List ℕ)) (x : List ℕ) → xs ++ x ∷ [] ≢ []
+is_some_line [] x = λ e. absurd cc
+is_some_line (y ∷ ys) x = λ e. absurd cc
+
 -- ---- after lines that were read before
 
 module _ {b : Beginning} {lines : List (List ℕ)} {from between : Option (List ℕ)} {k : KeeperView} (before : ServesRead b lines from between k) where
@@ -62,44 +67,53 @@ module _ {b : Beginning} {lines : List (List ℕ)} {from between : Option (List 
   }
 
   -- a line more
-  pub serves_on : (to : Option (List ℕ)) (now : KeeperView) (went : Bool) → went ≡ true → ServesNext b (lines ++ before.more) between to now went → ServesRead b lines from to now
-  serves_on to now true is t = record {
+  pub serves_on : (to : Option (List ℕ)) (now : KeeperView) → ServesNext b (lines ++ before.more) between to now (Went.Line Took.Served) → ServesRead b lines from to now
+  serves_on to now t = record {
     more = before.more ++ t.0 ∷ [];
     read = one_more before.more t.0 between to before.read t.1;
     serves = subst (λ z. Serves b z now) (append_assoc lines before.more (t.0 ∷ [])) t.2;
   }
-  serves_on to now false is t = absurd cc
+
+  -- or one that asks for a compaction
+  pub serves_to_asked : (to : Option (List ℕ)) (now : KeeperView) → ServesNext b (lines ++ before.more) between to now (Went.Line Took.Asked) → ServesToAsked b lines from to now
+  serves_to_asked to now t = record { more = before.more; between = between; read = before.read; line = t.0; next = t.1; asked = t.2 }
+
+  -- one more, after which the log is large
+  pub serves_to_large : (to : Option (List ℕ)) (now : KeeperView) (limit : ℕ) → IsNoLine now.waiting → limit ≤ now.end → ServesNext b (lines ++ before.more) between to now (Went.Line Took.Served) → ServesToLarge b lines limit from to now
+  unfolding serves_on
+  serves_to_large to now limit idle large t = record { read = serves_on to now t; some = is_some_line before.more t.0; idle = idle; large = large }
 
   -- or none, and then what waits was kept
-  pub serves_to_the_end : {T E : Type 0} (r : Result T E) (to : Option (List ℕ)) (now last : KeeperView) (went : Bool) → went ≡ false → ServesNext b (lines ++ before.more) between to now went
-      → ((all : List (List ℕ)) → Serves b all now → OnOk r (Serves b all last)) → OnOk r (last.waiting.is_group ≡ false → IsNoLine last.waiting) → OnOk r (IsWaiting last.waiting) → OnOk r (ServesAll b lines from last)
-  serves_to_the_end r to now last true is t on kept w = absurd cc
-  serves_to_the_end r to now last false is t on kept w =
-      all_ok r (on (lines ++ before.more) t.1) kept w
-      (λ served none waits. record {
-        to = between;
-        read = record { more = before.more; read = before.read; serves = served };
-        ended = t.0;
-        kept = none;
-        open_group = waits.open_group;
-      })
+  pub serves_to_the_end : (to : Option (List ℕ)) (now last : KeeperView) → ServesNext b (lines ++ before.more) between to now Went.End
+      → ((all : List (List ℕ)) → Serves b all now → Serves b all last) → (last.waiting.is_group ≡ false → IsNoLine last.waiting) → IsWaiting last.waiting → ServesAll b lines from last
+  serves_to_the_end to now last t on kept waits = record {
+    to = between;
+    read = record { more = before.more; read = before.read; serves = on (lines ++ before.more) t.1 };
+    ended = t.0;
+    kept = kept;
+    open_group = waits.open_group;
+  }
 
 -- ---- a line more
 
 module _ {b : Beginning} {k : KeeperView} (lines : List (List ℕ)) (from to : Option (List ℕ)) where
-  pub turn_leaves : (went : Bool) (now : Option (List ℕ)) (file : List ℕ) → ServesNext b lines from to k went
+  pub turn_leaves : (turn : Went) (now : Option (List ℕ)) (file : List ℕ) → ServesNext b lines from to k turn
       → ((all : List (List ℕ)) → Serves b all k → LeavesFirst b all now file) → LeavesRead b lines from now file
-  turn_leaves true now file t leaves = leaves_line t.0 from to t.1 (leaves (lines ++ t.0 ∷ []) t.2)
-  turn_leaves false now file t leaves = leaves_none from (leaves lines t.1)
+  turn_leaves (Went.Line Took.Served) now file t leaves = leaves_line t.0 from to t.1 (leaves (lines ++ t.0 ∷ []) t.2)
+  turn_leaves (Went.Line Took.Asked) now file t leaves = leaves_none from (leaves lines t.2.serves)
+  turn_leaves Went.End now file t leaves = leaves_none from (leaves lines t.1)
 
   -- what holds after any lines holds after these
-  pub after_turn : {P : Type 0} (went : Bool) → ServesNext b lines from to k went → ((all : List (List ℕ)) → Serves b all k → P) → P
-  after_turn true t on = on (lines ++ t.0 ∷ []) t.2
-  after_turn false t on = on lines t.1
+  pub after_turn : {P : Type 0} (turn : Went) → ServesNext b lines from to k turn → ((all : List (List ℕ)) → Serves b all k → P) → P
+  after_turn (Went.Line Took.Served) t on = on (lines ++ t.0 ∷ []) t.2
+  after_turn (Went.Line Took.Asked) t on = on lines t.2.serves
+  after_turn Went.End t on = on lines t.1
 
-  pub turn_kept : (went : Bool) (now : KeeperView) → ServesNext b lines from to k went → ((all : List (List ℕ)) → Serves b all k → Serves b all now) → ServesNext b lines from to now went
-  turn_kept true now t on = (t.0, t.1, on (lines ++ t.0 ∷ []) t.2)
-  turn_kept false now t on = (t.0, on lines t.1)
+  -- what waits may be kept after it
+  pub turn_kept : (turn : Went) (now : KeeperView) → ServesNext b lines from to k turn → ((all : List (List ℕ)) → Serves b all k → Serves b all now) → (IsNoLine k.waiting → IsNoLine now.waiting) → ServesNext b lines from to now turn
+  turn_kept (Went.Line Took.Served) now t on idle = (t.0, t.1, on (lines ++ t.0 ∷ []) t.2)
+  turn_kept (Went.Line Took.Asked) now t on idle = (t.0, t.1, record { serves = on lines t.2.serves; idle = idle t.2.idle; asks = t.2.asks })
+  turn_kept Went.End now t on idle = (t.0, on lines t.1)
 
 -- what waits was kept, unless it is a group
 pub kept_all : (asked : Bool) (old now : Waiting) → asked ≡ not old.is_group → (asked ≡ true → IsNoLine now) → (asked ≡ false → now ≡ old) → now.is_group ≡ false → IsNoLine now

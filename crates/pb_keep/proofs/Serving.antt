@@ -47,6 +47,7 @@ held_in_any Group.alone state s line (Ok (Request.Since above)) item h same = ab
 held_in_any Group.alone state s line (Ok Request.List) item h same = absurd h
 held_in_any Group.alone state s line (Ok Request.IsQuiet) item h same = absurd h
 held_in_any Group.alone state s line (Ok Request.Stats) item h same = absurd h
+held_in_any Group.alone state s line (Ok Request.Compact) item h same = absurd h
 
 in_no_group : (b : Bool) (changes bytes : ℕ) → grouped b changes bytes ≡ Group.alone → b ≡ false
 in_no_group true changes bytes e = absurd cc
@@ -69,6 +70,7 @@ none_before_question waiting n Request.Change q r = absurd cc
 none_before_question waiting n (Request.ChangeIf condition) q r = absurd cc
 none_before_question waiting n Request.Begin q r = absurd cc
 none_before_question waiting n Request.End q r = absurd cc
+none_before_question waiting n Request.Compact q r = absurd cc
 
 -- ---- what a log and a table have
 

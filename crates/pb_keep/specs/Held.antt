@@ -46,7 +46,7 @@ pub record IsLineHeldIf (state : StateOf) (condition : Condition) (line : List �
   pub parts : cut line ≡ first ∷ cut operations
   pub held : IsHeldIf state condition operations item
 
--- as what a line waits; no question waits
+-- as what a line waits; no question waits, and no line that asks for a compaction
 abbrev pub IsHeldAlone : StateOf → List ℕ → Request → Waits → Type 0
 IsHeldAlone state line Request.Change item = item ≡ waits_for (change_as_line line)
 IsHeldAlone state line (Request.ChangeIf condition) item = IsLineHeldIf state condition line item
@@ -57,6 +57,7 @@ IsHeldAlone state line (Request.Since above) item = ⊥
 IsHeldAlone state line Request.List item = ⊥
 IsHeldAlone state line Request.IsQuiet item = ⊥
 IsHeldAlone state line Request.Stats item = ⊥
+IsHeldAlone state line Request.Compact item = ⊥
 
 -- ---- in a group
 
@@ -76,6 +77,7 @@ waits_within changes bytes line (Request.Since above) = Waits.Refused OUT_OF_PLA
 waits_within changes bytes line Request.List = Waits.Refused OUT_OF_PLACE
 waits_within changes bytes line Request.IsQuiet = Waits.Refused OUT_OF_PLACE
 waits_within changes bytes line Request.Stats = Waits.Refused OUT_OF_PLACE
+waits_within changes bytes line Request.Compact = Waits.Refused OUT_OF_PLACE
 
 -- ---- lines
 
@@ -115,6 +117,7 @@ IsAnswerTo since Request.Change table text = ⊥
 IsAnswerTo since (Request.ChangeIf condition) table text = ⊥
 IsAnswerTo since Request.Begin table text = ⊥
 IsAnswerTo since Request.End table text = ⊥
+IsAnswerTo since Request.Compact table text = ⊥
 
 -- a line is a question, and this its answer
 pub record IsAsked (since : ℕ) (table : KeptTable) (line text : List ℕ) : Type 0 where

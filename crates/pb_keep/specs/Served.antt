@@ -1,8 +1,13 @@
 -- The lines of an input, as they are served.
-use Rattle.std.specs.Prelude.{◌≡◌, ℕ, Bool, true, false, List, [], ◌∷◌, ◌++◌, Option}
+use Rattle.std.specs.Prelude.{◌≡◌, ◌≢◌, ◌≤◌, ℕ, false, true, List, [], ◌∷◌, ◌++◌, Option, Ok}
 use Rattle.std.specs.Io.KnownBytes.{IsAtEnd}
 use Rattle.pb_keep.specs.Conversations.{Beginning, KeeperView, LeavesFirst, Serves}
+use Rattle.pb_keep.specs.Words.{Request}
+use Rattle.pb_keep.specs.declared.service.Paused.{Paused}
+use Rattle.pb_keep.specs.declared.service.Went.{Went}
+use Rattle.pb_keep.specs.declared.take.Took.{Took}
 use Rattle.pb_keep.specs.Waits.{IsNoLine, IsOpenGroup}
+use Rattle.pb_keep.specs.Held.{IsReadAs}
 use Rattle.pb_keep.specs.Input.{AreLinesRead, IsNextLine}
 
 -- these lines and those that were read of the input are served
@@ -27,7 +32,42 @@ pub record LeavesRead (b : Beginning) (lines : List (List ℕ)) (from : Option (
   pub read : AreLinesRead from more to
   pub leaves : LeavesFirst b (lines ++ more) written file
 
--- a line was read, and is served, or the input has ended
-abbrev pub ServesNext : Beginning → List (List ℕ) → Option (List ℕ) → Option (List ℕ) → KeeperView → Bool → Type 0
-ServesNext b lines from to k true = (line : List ℕ) × IsNextLine line from to × Serves b (lines ++ line ∷ []) k
-ServesNext b lines from to k false = IsAtEnd from × Serves b lines k
+-- A line asks for a compaction after these, which are all answered. It stands in no group, since one without its end isn't answered.
+pub record IsCompactionAsked (b : Beginning) (lines : List (List ℕ)) (line : List ℕ) (k : KeeperView) : Type 0 where
+  pub serves : Serves b lines k
+  pub idle : IsNoLine k.waiting
+  pub asks : IsReadAs line (Ok Request.Compact)
+
+-- a line more is served, or it asks for a compaction
+abbrev pub ServesLine : Beginning → List (List ℕ) → List ℕ → KeeperView → Took → Type 0
+ServesLine b lines line k Took.Served = Serves b (lines ++ line ∷ []) k
+ServesLine b lines line k Took.Asked = IsCompactionAsked b lines line k
+
+-- a line was read, and is served or asks for a compaction; or the input has ended
+abbrev pub ServesNext : Beginning → List (List ℕ) → Option (List ℕ) → Option (List ℕ) → KeeperView → Went → Type 0
+ServesNext b lines from to k (Went.Line took) = (line : List ℕ) × IsNextLine line from to × ServesLine b lines line k took
+ServesNext b lines from to k Went.End = IsAtEnd from × Serves b lines k
+
+-- ---- where a service pauses
+
+-- some lines of the input are served, and then a line was read that asks for a compaction
+pub record ServesToAsked (b : Beginning) (lines : List (List ℕ)) (from to : Option (List ℕ)) (k : KeeperView) : Type 0 where
+  pub more : List (List ℕ)
+  pub between : Option (List ℕ)
+  pub read : AreLinesRead from more between
+  pub line : List ℕ
+  pub next : IsNextLine line between to
+  pub asked : IsCompactionAsked b (lines ++ more) line k
+
+-- one line of the input at least is served, none waits, and the log has so many bytes
+pub record ServesToLarge (b : Beginning) (lines : List (List ℕ)) (limit : ℕ) (from to : Option (List ℕ)) (k : KeeperView) : Type 0 where
+  pub read : ServesRead b lines from to k
+  pub some : read.more ≢ []
+  pub idle : IsNoLine k.waiting
+  pub large : limit ≤ k.end
+
+-- what is served where a service with this limit of bytes pauses, and what is left of the input then
+abbrev pub ServesUntil : Beginning → List (List ℕ) → ℕ → Option (List ℕ) → Option (List ℕ) → KeeperView → Paused → Type 0
+ServesUntil b lines limit from to k Paused.Ended = ServesAll b lines from k
+ServesUntil b lines limit from to k Paused.Asked = ServesToAsked b lines from to k
+ServesUntil b lines limit from to k Paused.Large = ServesToLarge b lines limit from to k

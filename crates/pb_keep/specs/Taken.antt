@@ -17,6 +17,12 @@ is_question Request.Change = false
 is_question (Request.ChangeIf condition) = false
 is_question Request.Begin = false
 is_question Request.End = false
+is_question Request.Compact = false
+
+-- a line that asks for a compaction
+abbrev pub is_compaction : Request → Bool
+is_compaction Request.Compact = true
+is_compaction _ = false
 
 -- The record has room for a change of so many bytes. All that speaks of the table, or begins a record, finds nothing that waits.
 abbrev pub IsReadyFor : Waiting → ℕ → Request → Type 0
@@ -29,16 +35,22 @@ IsReadyFor waiting line (Request.Since above) = IsNoLine waiting
 IsReadyFor waiting line Request.List = IsNoLine waiting
 IsReadyFor waiting line Request.IsQuiet = IsNoLine waiting
 IsReadyFor waiting line Request.Stats = IsNoLine waiting
+IsReadyFor waiting line Request.Compact = IsNoLine waiting
 
 -- what waits was kept, where that has to be so before a line of so many bytes is taken, which is read so
 abbrev pub IsLineReady : Waiting → ℕ → Result Request ScriptCode → Type 0
 IsLineReady waiting line (Err code) = Unit {0}
 IsLineReady waiting line (Ok request) = waiting.is_group ≡ false → IsReadyFor waiting line request
 
--- a line waits: it is refused, stands in a group, or is no question
-abbrev pub IsToWait : Waiting → Result Request ScriptCode → Type 0
-IsToWait waiting (Err code) = Unit {0}
-IsToWait waiting (Ok request) = waiting.is_group ≡ false → is_question request ≡ false
+-- a line is no question that is answered at once: it is refused, stands in a group, or asks for something else
+abbrev pub IsNoQuestion : Waiting → Result Request ScriptCode → Type 0
+IsNoQuestion waiting (Err code) = Unit {0}
+IsNoQuestion waiting (Ok request) = waiting.is_group ≡ false → is_question request ≡ false
+
+-- a line asks for no compaction: it is refused, stands in a group, or asks for something else
+abbrev pub IsNoCompaction : Waiting → Result Request ScriptCode → Type 0
+IsNoCompaction waiting (Err code) = Unit {0}
+IsNoCompaction waiting (Ok request) = waiting.is_group ≡ false → is_compaction request ≡ false
 
 -- a line waits now, after those that waited
 pub record WaitsNow (state : StateOf) (line : List ℕ) (read : Result Request ScriptCode) (old new : Waiting) : Type 0 where

@@ -3,13 +3,14 @@ ghost use Rattle.std.specs.Prelude.{◌≡◌, ◌<◌, ◌^◌, true, false, le
 ghost use Rattle.sqlite_disk.specs.Disk.{Only};
 ghost use Rattle.pb_keeper.specs.Stats.{kept_table};
 ghost use Rattle.pb_history.specs.Handled.{IsQuiet};
-ghost use Rattle.pb_keep.specs.Anew.{BeginsAnew, IsLeftToDo, WhyNotAnew};
+ghost use Rattle.pb_keep.specs.Anew.{why_stopped, BeginsAnew, IsLeftToDo, WhyNotAnew};
 ghost use Rattle.pb_base.specs.Growths.{refused_growth};
 ghost use Rattle.pb_keep.specs.declared.compact.SnapshotFault.TheVariants as ends;
 
 use crate::keeper::Keeper;
 use pb_answers::is_quiet;
 use pb_base::NoMemory;
+use pb_keeper::Stopped;
 use pb_log::{Log, LogFault};
 use pb_snapshots::{snapshot_record, take_snapshot};
 use pb_store::Tablet;
@@ -61,9 +62,21 @@ impl From<LogFault> for SnapshotFault {
     }
 }
 
+impl From<Stopped> for SnapshotFault {
+    ghost from_gives = { λ e f. f ≡ why_stopped e };
+
+    fn from(e: Stopped) -> SnapshotFault {
+        match e {
+            Stopped::NoMemory(refused) => SnapshotFault::NoMemory(refused),
+            // On a table that keeps changes nothing else stops a run.
+            Stopped::Refused(_) | Stopped::Conflict => SnapshotFault::NoTimestamp,
+        }
+    }
+}
+
 impl<T: Tablet, D: Disk + Drop> Keeper<T, D> {
     // Whether nothing is left to do: no line waits, no cell is marked, and no lock stands.
-    fn is_idle(&self, alloc: Global) -> Result<bool, NoMemory>
+    pub(crate) fn is_idle(&self, alloc: Global) -> Result<bool, NoMemory>
         ensures idle { IfOk result (λ b. b ≡ true → IsQuiet self.now.state) }
         ensures busy { IfOk result (λ b. b ≡ false → IsLeftToDo self.now.waiting.items.items
             self.now.state) }
@@ -89,7 +102,8 @@ impl<T: Tablet, D: Disk + Drop> Keeper<T, D> {
         ensures cause { IfErr result (λ e. IsTrue (E.is_clean log.new.disk)
             → WhyNotAnew self.now.waiting.items.items
             (kept_table self.now.state self.now.stats.items)
-            manifest.now (E.seen log.old.disk) e) }
+            manifest.now (E.faults log.old.disk) (E.faults log.new.disk)
+            (E.seen log.old.disk) e) }
     {
         if !self.is_idle(alloc)? {
             return Err(SnapshotFault::NotQuiet);

@@ -1,18 +1,19 @@
-//! Lines taken as they come, until the input ends.
-ghost use Rattle.std.specs.Prelude.{◌≡◌, ◌∷◌, ◌++◌, [], ℕ, List, Option, Err, IfOk, IfErr, OnOk, IsTrue};
+//! Lines taken as they come, until the input ends or the log is to be compacted.
+ghost use Rattle.std.specs.Prelude.{◌≡◌, ◌≤◌, ◌∷◌, ◌++◌, [], ℕ, List, Option, Err, true, IfOk, IfErr, OnOk, IsTrue};
 ghost use Rattle.std.specs.Io.Buffered.{reader_remaining};
 ghost use Rattle.pb_parse.specs.declared.script.code.ScriptCode.TheVariants.{Form};
 ghost use Rattle.pb_steps.specs.State.{StateOf};
 ghost use Rattle.pb_keep.specs.Conversations.{keeper_view, Beginning, LeavesFirst, Serves};
 ghost use Rattle.pb_keep.specs.Input.{IsLineRead};
 ghost use Rattle.pb_keep.specs.Causes.{WhyNotKept, WhyNotServed};
-ghost use Rattle.pb_keep.specs.Served.{ServesNext, LeavesRead, ServesAll};
+ghost use Rattle.pb_keep.specs.Served.{LeavesRead, ServesLine, ServesNext, ServesUntil};
 ghost use Rattle.pb_keep.specs.Taken.{WaitsNow};
-ghost use Rattle.pb_keep.specs.Waits.{IsWaiting};
+ghost use Rattle.pb_keep.specs.Waits.{IsNoLine, IsWaiting};
 
 use crate::fault::KeepFault;
 use crate::keeper::Keeper;
 use crate::lines::{Line, read_line};
+use crate::take::Took;
 use crate::waiting::{Waiting, Waits};
 use pb_base::{NoMemory, Sink};
 use pb_parse::ScriptCode;
@@ -21,6 +22,26 @@ use sqlite_disk::Disk;
 use std::alloc::Global;
 use std::io::{BufReader, Read};
 use std::sync::Wait;
+
+/// Why lines are taken no further.
+#[derive(Clone, Copy, PartialEq, Eq, Debug, Drop)]
+pub enum Paused {
+    /// The input has ended.
+    Ended,
+    /// A line asked for a compaction. Everything before it is answered.
+    Asked,
+    /// The log has as many bytes as the limit. Everything before is answered.
+    Large,
+}
+
+// How a turn of the service went.
+#[derive(Clone, Copy, PartialEq, Eq, Debug, Drop)]
+enum Went {
+    // A line was read, and this was done with it.
+    Line(Took),
+    // The input has ended.
+    End,
+}
 
 // A line of no form waits for its refusal.
 fn refuse(waiting: &mut Waiting) -> Result<(), NoMemory>
@@ -39,14 +60,14 @@ fn take_bytes<R: Wait, T: Tablet, D: Disk + Drop, S: Sink>(
     keeper: &mut Keeper<T, D>,
     out: &mut S,
     bytes: &[u8],
-) -> Result<(), KeepFault>
+) -> Result<Took, KeepFault>
     requires usable { IsTrue (D.is_usable keeper.old.log.disk) }
     requires waiting { IsWaiting keeper.old.waiting }
     ensures usable { OnOk result (IsTrue (D.is_usable keeper.new.log.disk)) }
     ensures waiting { OnOk result (IsWaiting keeper.new.waiting) }
     ensures serves { (b : Beginning) (lines : List (List ℕ))
         → Serves b lines (keeper_view D.seen D.may_leave keeper.old (S.taken out.old))
-        → OnOk result (Serves b (lines ++ bytes.now ∷ [])
+        → IfOk result (ServesLine b lines bytes.now
         (keeper_view D.seen D.may_leave keeper.new (S.taken out.new))) }
     ensures crash { (b : Beginning) (lines : List (List ℕ))
         → Serves b lines (keeper_view D.seen D.may_leave keeper.old (S.taken out.old))
@@ -63,12 +84,12 @@ fn take_bytes<R: Wait, T: Tablet, D: Disk + Drop, S: Sink>(
         Ok(line) => keeper.take(rt, alloc, out, line),
         Err(_) => {
             refuse(&mut keeper.waiting)?;
-            Ok(())
+            Ok(Took::Served)
         }
     }
 }
 
-// Takes what was read, and answers whether it was a line.
+// Takes what was read.
 fn take_read<R: Wait, T: Tablet, D: Disk + Drop, S: Sink>(
     rt: &R,
     alloc: Global,
@@ -76,7 +97,7 @@ fn take_read<R: Wait, T: Tablet, D: Disk + Drop, S: Sink>(
     out: &mut S,
     read: Line,
     bytes: &[u8],
-) -> Result<bool, KeepFault>
+) -> Result<Went, KeepFault>
     requires usable { IsTrue (D.is_usable keeper.old.log.disk) }
     requires waiting { IsWaiting keeper.old.waiting }
     ensures usable { OnOk result (IsTrue (D.is_usable keeper.new.log.disk)) }
@@ -99,11 +120,13 @@ fn take_read<R: Wait, T: Tablet, D: Disk + Drop, S: Sink>(
         (D.faults keeper.new.log.disk ≡ D.faults keeper.old.log.disk) }
 {
     match read {
-        Line::Read => take_bytes(rt, alloc, keeper, out, bytes)?,
-        Line::TooLong => refuse(&mut keeper.waiting)?,
-        Line::End => return Ok(false),
+        Line::Read => Ok(Went::Line(take_bytes(rt, alloc, keeper, out, bytes)?)),
+        Line::TooLong => {
+            refuse(&mut keeper.waiting)?;
+            Ok(Went::Line(Took::Served))
+        }
+        Line::End => Ok(Went::End),
     }
-    Ok(true)
 }
 
 // Whether a whole line was read that isn't taken yet.
@@ -111,7 +134,7 @@ fn has_line<I: Read + Drop>(input: &BufReader<I>) -> bool {
     input.buffer().contains(&b'\n')
 }
 
-// Reads a line, takes it, and keeps what waits unless a line more has come. Answers whether there was one.
+// Reads a line, takes it, and keeps what waits unless a line more has come.
 fn turn<R: Wait, I: Read + Drop, T: Tablet, D: Disk + Drop, S: Sink>(
     rt: &R,
     alloc: Global,
@@ -119,7 +142,7 @@ fn turn<R: Wait, I: Read + Drop, T: Tablet, D: Disk + Drop, S: Sink>(
     input: &mut BufReader<I>,
     out: &mut S,
     line: &mut Vec<u8>,
-) -> Result<bool, KeepFault>
+) -> Result<Went, KeepFault>
     requires usable { IsTrue (D.is_usable keeper.old.log.disk) }
     requires waiting { IsWaiting keeper.old.waiting }
     ensures usable { OnOk result (IsTrue (D.is_usable keeper.new.log.disk)) }
@@ -151,22 +174,37 @@ fn turn<R: Wait, I: Read + Drop, T: Tablet, D: Disk + Drop, S: Sink>(
     }
 }
 
-/// Takes lines until the input ends, and answers each. While a whole line more was read that isn't taken yet, what came
+// Whether the log has so many bytes, and no line waits.
+fn is_large<T: Tablet, D: Disk + Drop>(keeper: &Keeper<T, D>, limit: u64) -> bool
+    requires waiting { IsWaiting keeper.now.waiting }
+    ensures idle { result ≡ true → IsNoLine keeper.now.waiting }
+    ensures large { result ≡ true → limit ≤ keeper.now.log.end }
+{
+    keeper.waiting.items.is_empty() && keeper.log.end as u64 >= limit
+}
+
+/// Takes lines and answers each, until the input ends, a line asks for a compaction, or the log has `limit` bytes, which is
+/// looked at after each line after which none waits. While a whole line more was read that isn't taken yet, what came
 /// before it waits; so no line waits for one that hasn't come. What waits when the input ends is kept, but for a group
-/// without its `end`.
+/// without its `end`. After a pause the caller answers, and calls this again for the rest of the input.
 pub fn serve<R: Wait, I: Read + Drop, T: Tablet, D: Disk + Drop, S: Sink>(
     rt: &R,
     alloc: Global,
     keeper: &mut Keeper<T, D>,
     input: &mut BufReader<I>,
     out: &mut S,
-) -> Result<(), KeepFault>
+    limit: u64,
+) -> Result<Paused, KeepFault>
     requires usable { IsTrue (D.is_usable keeper.old.log.disk) }
     requires waiting { IsWaiting keeper.old.waiting }
-    // All lines of the input are taken. Only a group without its end isn't answered.
+    ensures usable { OnOk result (IsTrue (D.is_usable keeper.new.log.disk)) }
+    ensures waiting { OnOk result (IsWaiting keeper.new.waiting) }
+    // At the end of the input all of its lines are taken, and only a group without its end isn't
+    // answered. At any other pause all lines that were taken are answered.
     ensures serves { (b : Beginning) (lines : List (List ℕ))
         → Serves b lines (keeper_view D.seen D.may_leave keeper.old (S.taken out.old))
-        → OnOk result (ServesAll b lines (reader_remaining I.remaining input.old)
+        → IfOk result (ServesUntil b lines limit (reader_remaining I.remaining input.old)
+        (reader_remaining I.remaining input.new)
         (keeper_view D.seen D.may_leave keeper.new (S.taken out.new))) }
     // Whenever it stops, the log has the changes of the first lines, with all that are answered.
     ensures crash { (b : Beginning) (lines : List (List ℕ))
@@ -182,9 +220,15 @@ pub fn serve<R: Wait, I: Read + Drop, T: Tablet, D: Disk + Drop, S: Sink>(
     let mut line = Vec::new(alloc);
     for _turn in rt.forever() {
         let went = turn(rt, alloc, keeper, input, out, &mut line)?;
-        if !went {
-            let is_kept = !keeper.waiting.is_group;
-            return keeper.keep_if(rt, alloc, out, is_kept);
+        match went {
+            Went::Line(Took::Served) if is_large(keeper, limit) => return Ok(Paused::Large),
+            Went::Line(Took::Served) => {}
+            Went::Line(Took::Asked) => return Ok(Paused::Asked),
+            Went::End => {
+                let is_kept = !keeper.waiting.is_group;
+                keeper.keep_if(rt, alloc, out, is_kept)?;
+                return Ok(Paused::Ended);
+            }
         }
     }
     unreachable!()

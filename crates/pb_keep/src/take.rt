@@ -6,14 +6,15 @@ ghost use Rattle.pb_base.specs.Sink.{AppendsPart};
 ghost use Rattle.pb_base.specs.declared.cell.Cell.TheVariants.{Data};
 ghost use Rattle.pb_answers.specs.Seen.{IsSeenIn};
 ghost use Rattle.pb_requests.specs.Requests.{asked_by};
-ghost use Rattle.pb_requests.specs.declared.request.Request.TheVariants.{Change, ChangeIf};
+ghost use Rattle.pb_requests.specs.declared.request.Request.TheVariants.{Change, ChangeIf, Compact};
 ghost use Rattle.pb_script.specs.declared.reports.lines.Newest.{Newest};
 ghost use Rattle.pb_keep.specs.declared.fault.KeepFault.TheVariants as ends;
 ghost use Rattle.pb_keeper.specs.Stats.{kept_table};
 ghost use Rattle.pb_keep.specs.Conversations.{keeper_view, Beginning, LeavesFirst, Serves};
+ghost use Rattle.pb_keep.specs.Served.{ServesLine};
 ghost use Rattle.pb_keep.specs.Held.{change_as_line, commit_seen, waits_for, waits_within, IsAnswerTo, IsHeldIf, IsSinceAnswer};
 ghost use Rattle.pb_keep.specs.Causes.{IsOfAnswer, WhyNotKept};
-ghost use Rattle.pb_keep.specs.Taken.{is_question, IsLineReady, IsReadyFor, IsToWait, MayHaveAnswered, NamesLog, WaitsNow};
+ghost use Rattle.pb_keep.specs.Taken.{is_compaction, is_question, IsLineReady, IsNoCompaction, IsNoQuestion, IsReadyFor, MayHaveAnswered, NamesLog, WaitsNow};
 ghost use Rattle.pb_keep.specs.Waits.{IsNoLine, IsWaiting};
 
 use crate::fault::KeepFault;
@@ -35,6 +36,15 @@ pub const OUT_OF_PLACE: u8 = 76;
 
 /// The code of a question about writes that are gone: those up to the snapshot that the log begins with.
 pub const GONE: u8 = 77;
+
+/// What was done with a line.
+#[derive(Clone, Copy, PartialEq, Eq, Debug, Drop)]
+pub enum Took {
+    /// It waits, or it is answered.
+    Served,
+    /// It asks for a compaction, and is left to the caller. All before it is answered.
+    Asked,
+}
 
 // Whether a text has a newline.
 fn has_newline(text: &str) -> bool
@@ -144,7 +154,7 @@ fn hold_if<T: Tablet>(
     }
 }
 
-// A line that is no question waits.
+// A line that is neither a question nor asks for a compaction waits.
 fn hold_request<T: Tablet>(
     alloc: Global,
     state: &State<T>,
@@ -157,6 +167,7 @@ fn hold_request<T: Tablet>(
     requires ready { IsReadyFor waiting.old (length line.now) request }
     requires alone { waiting.old.is_group ≡ false }
     requires no_question { is_question request ≡ false }
+    requires no_compaction { is_compaction request ≡ false }
     ensures waiting { OnOk result (IsWaiting waiting.new) }
     ensures held { OnOk result
         (WaitsNow state.now line.now (Ok request) waiting.old waiting.new) }
@@ -184,7 +195,8 @@ fn hold<T: Tablet>(
     requires waiting { IsWaiting waiting.old }
     requires read { asked_by line.now ≡ read }
     requires ready { IsLineReady waiting.old (length line.now) read }
-    requires no_question { IsToWait waiting.old read }
+    requires no_question { IsNoQuestion waiting.old read }
+    requires no_compaction { IsNoCompaction waiting.old read }
     ensures waiting { OnOk result (IsWaiting waiting.new) }
     ensures held { OnOk result (WaitsNow state.now line.now read waiting.old waiting.new) }
 {
@@ -226,12 +238,20 @@ fn is_question(request: &Request) -> bool
 fn question_in(waiting: &Waiting, read: &Result<Request, ScriptCode>) -> Option<Request>
     ensures some { IfSome result (λ q. (read.now ≡ Ok q) × (is_question q ≡ true)
         × (waiting.now.is_group ≡ false)) }
-    ensures none { result ≡ None → IsToWait waiting.now read.now }
+    ensures none { result ≡ None → IsNoQuestion waiting.now read.now }
 {
     match read {
         Ok(request) if !waiting.is_group && is_question(request) => Some(*request),
         _ => None,
     }
+}
+
+// Whether a line asks for a compaction, as none in a group does.
+fn asks_to_compact(waiting: &Waiting, read: &Result<Request, ScriptCode>) -> bool
+    ensures asks { result ≡ true → (read.now ≡ Ok Compact) × (waiting.now.is_group ≡ false) }
+    ensures other { result ≡ false → IsNoCompaction waiting.now read.now }
+{
+    !waiting.is_group && matches!(read, Ok(Request::Compact))
 }
 
 // Whether what waits is kept before this line is taken: it speaks of the table in which all of that is made, or the record has
@@ -323,6 +343,7 @@ impl<T: Tablet, D: Disk + Drop> Keeper<T, D> {
         ensures usable { OnOk result (IsTrue (D.is_usable self.new.log.disk)) }
         ensures waiting { OnOk result (IsWaiting self.new.waiting) }
         ensures kept { OnOk result (is_asked ≡ true → IsNoLine self.new.waiting) }
+        ensures idle { IsNoLine self.old.waiting → OnOk result (IsNoLine self.new.waiting) }
         ensures same { is_asked ≡ false → self.new ≡ self.old }
         ensures serves { (b : Beginning) (lines : List (List ℕ))
             → Serves b lines (keeper_view D.seen D.may_leave self.old (S.taken out.old))
@@ -347,21 +368,21 @@ impl<T: Tablet, D: Disk + Drop> Keeper<T, D> {
     }
 
     /// Takes one line. A change waits, and so does the answer to a line that is refused; a question is answered after all that
-    /// waits is kept.
+    /// waits is kept. A line that asks for a compaction is answered by the caller.
     pub fn take<R: Wait, S: Sink>(
         &mut self,
         rt: &R,
         alloc: Global,
         out: &mut S,
         line: &str,
-    ) -> Result<(), KeepFault>
+    ) -> Result<Took, KeepFault>
         requires usable { IsTrue (D.is_usable self.old.log.disk) }
         requires waiting { IsWaiting self.old.waiting }
         ensures usable { OnOk result (IsTrue (D.is_usable self.new.log.disk)) }
         ensures waiting { OnOk result (IsWaiting self.new.waiting) }
         ensures serves { (b : Beginning) (lines : List (List ℕ))
             → Serves b lines (keeper_view D.seen D.may_leave self.old (S.taken out.old))
-            → OnOk result (Serves b (lines ++ line.now ∷ [])
+            → IfOk result (ServesLine b lines line.now
             (keeper_view D.seen D.may_leave self.new (S.taken out.new))) }
         // Whenever it stops, the log has the changes of the first lines.
         ensures crash { (b : Beginning) (lines : List (List ℕ))
@@ -380,12 +401,13 @@ impl<T: Tablet, D: Disk + Drop> Keeper<T, D> {
         let read = parse_request(line);
         let before = is_kept_before(&self.waiting, line, &read);
         self.keep_if(rt, alloc, out, before)?;
-        match question_in(&self.waiting, &read) {
-            Some(question) => self.answer(alloc, out, question),
-            None => {
-                hold(alloc, &self.state, &mut self.waiting, line, read)?;
-                Ok(())
-            }
+        if asks_to_compact(&self.waiting, &read) {
+            return Ok(Took::Asked);
         }
+        match question_in(&self.waiting, &read) {
+            Some(question) => self.answer(alloc, out, question)?,
+            None => hold(alloc, &self.state, &mut self.waiting, line, read)?,
+        }
+        Ok(Took::Served)
     }
 }

@@ -62,6 +62,7 @@ question_of verb words =
     else if bytes_eq verb (codes "end") then alone_in Request.End words
     else if bytes_eq verb (codes "quiet?") then alone_in Request.IsQuiet words
     else if bytes_eq verb (codes "stats") then alone_in Request.Stats words
+    else if bytes_eq verb (codes "compact") then alone_in Request.Compact words
     else Err ScriptCode.Form
 
 -- a line by its verb and the words after it

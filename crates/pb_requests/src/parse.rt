@@ -83,7 +83,7 @@ fn conditional(line: &str) -> Result<Request, ScriptCode>
     }
 }
 
-// A question, or a line around changes, by its verb.
+// A question, a line around changes, or one about the log, by its verb.
 #[tactic(auto, unfolding(crate::specs::Requests::question_of))]
 fn question_of(verb: &str, words: &mut LineWords) -> Result<Request, ScriptCode>
     ensures { Gives (λ _. false) (λ r. r) result
@@ -97,6 +97,7 @@ fn question_of(verb: &str, words: &mut LineWords) -> Result<Request, ScriptCode>
         "end" => alone_in(Request::End, words),
         "quiet?" => alone_in(Request::IsQuiet, words),
         "stats" => alone_in(Request::Stats, words),
+        "compact" => alone_in(Request::Compact, words),
         _ => Err(ScriptCode::Form),
     }
 }

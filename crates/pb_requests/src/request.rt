@@ -31,4 +31,6 @@ pub enum Request {
     IsQuiet,
     /// What the observers have done.
     Stats,
+    /// The log is to begin anew, with a snapshot of the table.
+    Compact,
 }

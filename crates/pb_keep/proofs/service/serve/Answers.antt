@@ -1,10 +1,13 @@
-use Rattle.std.proofs.Common.{◌++◌, ◌∙◌, not, refl, ap, subst, sym}
+use Rattle.std.proofs.Common.{◌≡◌, ◌++◌, ◌∙◌, arith, not, refl, ap, subst, sym}
 use Rattle.std.specs.Io.Buffered.{reader_remaining}
 use Rattle.pb_keep.specs.Conversations.{keeper_view}
 use Rattle.pb_keep.specs.Causes.{WhyNotServed}
+use Rattle.pb_keep.specs.Served.{ServesNext}
+use Rattle.pb_keep.specs.declared.service.Went.{Went}
+use Rattle.pb_keep.specs.declared.take.Took.{Took}
 use Rattle.pb_keep.proofs.Causing.{not_served}
-use Rattle.pb_keep.proofs.Mapping.{if_err, on_ok, passed_on}
-use Rattle.pb_keep.proofs.Reading.{after_turn, kept_all, leaves_on, serves_on, serves_read_none, serves_to_the_end, turn_leaves}
+use Rattle.pb_keep.proofs.Mapping.{passed_on}
+use Rattle.pb_keep.proofs.Reading.{after_turn, kept_all, leaves_on, serves_on, serves_read_none, serves_to_asked, serves_to_large, serves_to_the_end, turn_leaves}
 use Rattle.pb_keep.proofs.service.serve.Goals as goal
 
 pub loop-turn-init : goal.loop-turn-init
@@ -22,9 +25,11 @@ loop-turn-preserved g c = record {
   faultless = c.in_ok-went.ensures.faultless ∙ c.loop-turn.invariant.faultless;
   served = λ b lines s.
       let before = c.loop-turn.invariant.served b lines s in
+      let from = reader_remaining g.I.Read.remaining c.loop-turn.input in
       let to = reader_remaining g.I.Read.remaining c.turn.new.input in
       let now = keeper_view g.D.Disk.seen g.D.Disk.may_leave c.turn.new.keeper (g.S.Sink.taken c.turn.new.out) in
-      serves_on before to now c.in_ok-went.went c.if-not-went.false (c.in_ok-went.ensures.serves b (lines ++ before.more) before.serves);
+      let same : c.in-Line-Served.field-0 ≡ Took.Served = rw c.in-Line-Served.is at c.in-Line-Served.field-0-is in
+      serves_on before to now (subst (λ t. ServesNext b (lines ++ before.more) from to now (Went.Line t)) same (subst (λ w. ServesNext b (lines ++ before.more) from to now w) c.in-Line-Served.is (c.in_ok-went.ensures.serves b (lines ++ before.more) before.serves)));
 }
 
 pub returns-in_err-went-clause-crash : goal.returns-in_err-went-clause-crash
@@ -42,20 +47,52 @@ returns-in_err-went-clause-cause g c = λ b lines s.
     (λ e is. subst (λ n. WhyNotServed n faults failed now e) c.loop-turn.invariant.faultless
     (subst (λ f. WhyNotServed (g.D.Disk.faults c.loop-turn.keeper.log.disk) faults failed now f) (sym is) (c.in_err-went.ensures.cause b (lines ++ before.more) before.serves)))
 
-pub returns-then-not-went-clause-serves : goal.returns-then-not-went-clause-serves
-returns-then-not-went-clause-serves g c = λ b lines s.
+pub returns-in-Line-Served-clause-serves : goal.returns-in-Line-Served-clause-serves
+returns-in-Line-Served-clause-serves g c = λ b lines s.
     let before = c.loop-turn.invariant.served b lines s in
+    let from = reader_remaining g.I.Read.remaining c.loop-turn.input in
+    let to = reader_remaining g.I.Read.remaining c.turn.new.input in
+    let now = keeper_view g.D.Disk.seen g.D.Disk.may_leave c.turn.new.keeper (g.S.Sink.taken c.turn.new.out) in
+    let same : c.in-Line-Served.field-0 ≡ Took.Served = grind (arith, c.in-Line-Served.is, c.in-Line-Served.field-0-is) in
+    serves_to_large before to now c.args.limit (c.is_large.ensures.idle c.if-is_large.true) (c.is_large.ensures.large c.if-is_large.true)
+    (subst (λ t. ServesNext b (lines ++ before.more) from to now (Went.Line t)) same (subst (λ w. ServesNext b (lines ++ before.more) from to now w) c.in-Line-Served.is (c.in_ok-went.ensures.serves b (lines ++ before.more) before.serves)))
+
+pub returns-in-Line-Served-clause-crash : goal.returns-in-Line-Served-clause-crash
+returns-in-Line-Served-clause-crash g c = λ b lines s file m.
+    let before = c.loop-turn.invariant.served b lines s in
+    leaves_on before (g.S.Sink.taken c.turn.new.out) file (c.in_ok-went.ensures.crash b (lines ++ before.more) before.serves file m)
+
+pub returns-in-Line-Asked-clause-serves : goal.returns-in-Line-Asked-clause-serves
+returns-in-Line-Asked-clause-serves g c = λ b lines s.
+    let before = c.loop-turn.invariant.served b lines s in
+    let from = reader_remaining g.I.Read.remaining c.loop-turn.input in
+    let to = reader_remaining g.I.Read.remaining c.turn.new.input in
+    let now = keeper_view g.D.Disk.seen g.D.Disk.may_leave c.turn.new.keeper (g.S.Sink.taken c.turn.new.out) in
+    let same : c.in-Line-Asked.field-0 ≡ Took.Asked = rw c.in-Line-Asked.is at c.in-Line-Asked.field-0-is in
+    serves_to_asked before to now
+    (subst (λ t. ServesNext b (lines ++ before.more) from to now (Went.Line t)) same (subst (λ w. ServesNext b (lines ++ before.more) from to now w) c.in-Line-Asked.is (c.in_ok-went.ensures.serves b (lines ++ before.more) before.serves)))
+
+pub returns-in-Line-Asked-clause-crash : goal.returns-in-Line-Asked-clause-crash
+returns-in-Line-Asked-clause-crash g c = λ b lines s file m.
+    let before = c.loop-turn.invariant.served b lines s in
+    leaves_on before (g.S.Sink.taken c.turn.new.out) file (c.in_ok-went.ensures.crash b (lines ++ before.more) before.serves file m)
+
+pub returns-in-End-clause-serves : goal.returns-in-End-clause-serves
+returns-in-End-clause-serves g c = λ b lines s.
+    let before = c.loop-turn.invariant.served b lines s in
+    let from = reader_remaining g.I.Read.remaining c.loop-turn.input in
     let to = reader_remaining g.I.Read.remaining c.turn.new.input in
     let now = keeper_view g.D.Disk.seen g.D.Disk.may_leave c.turn.new.keeper (g.S.Sink.taken c.turn.new.out) in
     let last = keeper_view g.D.Disk.seen g.D.Disk.may_leave c.keep_if.new.self (g.S.Sink.taken c.keep_if.new.out) in
     let waited = c.turn.new.keeper.waiting in
-    serves_to_the_end before c.keep_if.result to now last c.in_ok-went.went c.if-not-went.true (c.in_ok-went.ensures.serves b (lines ++ before.more) before.serves)
-    (λ all served. c.keep_if.ensures.serves b all served)
-    (on_ok c.keep_if.result (λ kept. kept_all (not waited.is_group) waited last.waiting refl kept (λ e. ap (λ k. k.waiting) (c.keep_if.ensures.same e))) c.keep_if.ensures.kept)
-    c.keep_if.ensures.waiting
+    serves_to_the_end before to now last
+    (subst (λ w. ServesNext b (lines ++ before.more) from to now w) c.in-End.is (c.in_ok-went.ensures.serves b (lines ++ before.more) before.serves))
+    (λ all served. c.in_ok-keep_if-in-End.ensures.serves b all served)
+    (kept_all (not waited.is_group) waited last.waiting refl c.in_ok-keep_if-in-End.ensures.kept (λ e. ap (λ k. k.waiting) (c.keep_if.ensures.same e)))
+    c.in_ok-keep_if-in-End.ensures.waiting
 
-pub returns-then-not-went-clause-crash : goal.returns-then-not-went-clause-crash
-returns-then-not-went-clause-crash g c = λ b lines s file m.
+pub returns-in_err-keep_if-in-End-clause-crash : goal.returns-in_err-keep_if-in-End-clause-crash
+returns-in_err-keep_if-in-End-clause-crash g c = λ b lines s file m.
     let before = c.loop-turn.invariant.served b lines s in
     let between = reader_remaining g.I.Read.remaining c.loop-turn.input in
     let to = reader_remaining g.I.Read.remaining c.turn.new.input in
@@ -63,14 +100,25 @@ returns-then-not-went-clause-crash g c = λ b lines s file m.
     leaves_on before written file
     (turn_leaves (lines ++ before.more) between to c.in_ok-went.went written file (c.in_ok-went.ensures.serves b (lines ++ before.more) before.serves) (λ all serves. c.keep_if.ensures.crash b all serves file m))
 
-pub returns-then-not-went-clause-cause : goal.returns-then-not-went-clause-cause
-returns-then-not-went-clause-cause g c = λ b lines s.
+pub returns-in-End-clause-crash : goal.returns-in-End-clause-crash
+returns-in-End-clause-crash g c = λ b lines s file m.
+    let before = c.loop-turn.invariant.served b lines s in
+    let between = reader_remaining g.I.Read.remaining c.loop-turn.input in
+    let to = reader_remaining g.I.Read.remaining c.turn.new.input in
+    let written = g.S.Sink.taken c.keep_if.new.out in
+    leaves_on before written file
+    (turn_leaves (lines ++ before.more) between to c.in_ok-went.went written file (c.in_ok-went.ensures.serves b (lines ++ before.more) before.serves) (λ all serves. c.keep_if.ensures.crash b all serves file m))
+
+pub returns-in_err-keep_if-in-End-clause-cause : goal.returns-in_err-keep_if-in-End-clause-cause
+returns-in_err-keep_if-in-End-clause-cause g c = λ b lines s.
     let before = c.loop-turn.invariant.served b lines s in
     let last = keeper_view g.D.Disk.seen g.D.Disk.may_leave c.keep_if.new.self (g.S.Sink.taken c.keep_if.new.out) in
+    let was = g.D.Disk.faults c.turn.new.keeper.log.disk in
     let faults = g.D.Disk.faults c.keep_if.new.self.log.disk in
     let failed = g.S.Sink.failed c.keep_if.new.out in
     let between = reader_remaining g.I.Read.remaining c.loop-turn.input in
     let to = reader_remaining g.I.Read.remaining c.turn.new.input in
-    if_err c.keep_if.result
-    (λ e why. subst (λ n. WhyNotServed n faults failed last e) (c.in_ok-went.ensures.faultless ∙ c.loop-turn.invariant.faultless) (not_served (g.D.Disk.faults c.turn.new.keeper.log.disk) faults failed last e why))
-    (after_turn (lines ++ before.more) between to c.in_ok-went.went (c.in_ok-went.ensures.serves b (lines ++ before.more) before.serves) (λ all served. c.keep_if.ensures.cause b all served))
+    passed_on c.from_residual-in_err-keep_if-in-End.result c.from_residual-in_err-keep_if-in-End.ensures.1
+    (λ e is. subst (λ n. WhyNotServed n faults failed last e) (c.in_ok-went.ensures.faultless ∙ c.loop-turn.invariant.faultless)
+    (subst (λ f. WhyNotServed was faults failed last f) (sym is) (not_served was faults failed last c.in_err-keep_if-in-End.field-0.0
+    (after_turn (lines ++ before.more) between to c.in_ok-went.went (c.in_ok-went.ensures.serves b (lines ++ before.more) before.serves) (λ all served. c.in_err-keep_if-in-End.ensures.cause b all served)))))

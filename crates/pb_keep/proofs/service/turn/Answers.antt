@@ -31,6 +31,7 @@ returns-in_ok-keep_if-in-Ok-clause-serves g c = λ b lines s.
     let read = subst (λ l. IsLineRead c.in-Ok.read l from to) (sym c.as_slice.ensures.value) c.in-Ok.ensures.read in
     turn_kept lines from to c.in_ok-went-in-Ok.went (keeper_view g.D.Disk.seen g.D.Disk.may_leave c.keep_if.new.self (g.S.Sink.taken c.keep_if.new.out)) (c.in_ok-went-in-Ok.ensures.serves b lines from to read s)
     (λ all serves. c.in_ok-keep_if-in-Ok.ensures.serves b all serves)
+    c.in_ok-keep_if-in-Ok.ensures.idle
 
 pub returns-in_ok-keep_if-in-Ok-clause-crash : goal.returns-in_ok-keep_if-in-Ok-clause-crash
 returns-in_ok-keep_if-in-Ok-clause-crash g c = λ b lines s file m.

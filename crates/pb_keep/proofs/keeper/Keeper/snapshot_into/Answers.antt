@@ -1,6 +1,10 @@
-use Rattle.std.proofs.Common.{◌≡◌, ◌∷◌, [], arith, IfSome, IsTrue, map, subst, ◌∙◌}
+use Rattle.std.proofs.Common.{◌≡◌, ◌∷◌, [], length, arith, IfSome, IsTrue, map, subst, sym, ◌∙◌}
 use Rattle.pb_snapshots.specs.Snapshot.{snapshot_value}
-use Rattle.pb_keep.specs.Words.{FitsSnapshot, IsAtRest, IsSnapshotTaken, SnapshotOf, header, kept_table, snapshot_bytes}
+use Rattle.pb_log.specs.Records.{blocks}
+use Rattle.pb_keep.specs.Words.{FitsSnapshot, IsAtRest, IsSnapshotTaken, SnapshotOf, WhyNotPut, header, kept_table, snapshot_bytes}
+use Rattle.pb_keep.specs.Anew.{WhyNotAnew}
+use Rattle.pb_keep.proofs.Causing.{begins_low, put_as_opened}
+use Rattle.pb_keep.proofs.Mapping.{passed_on}
 use Rattle.pb_keep.proofs.Quiet.{no_items}
 use Rattle.pb_keep.proofs.Records.{no_changes}
 use Rattle.pb_keep.proofs.Scripts.{empty_list}
@@ -12,6 +16,32 @@ returns-then-not-is_empty-clause-cause g c = λ clean. (
   λ e. (let none = no_items (λ v. v.items) c.in_ok-open.field-0.items e in grind (arith, none, c.is_empty.ensures, c.if-not-is_empty.true)),
   c.in_ok-open.ensures.records clean,
 )
+
+pub returns-in_err-open-clause-cause : goal.returns-in_err-open-clause-cause
+returns-in_err-open-clause-cause g c =
+    let k = c.args.self.now in
+    let was = g.E.Disk.faults c.args.log.now.disk in
+    let faults = g.E.Disk.faults c.open.new.self.disk in
+    passed_on c.from_residual-in_err-open.result c.from_residual-in_err-open.ensures.1
+    (λ e is clean. subst (λ f. WhyNotAnew k.waiting.items.items (kept_table k.state k.stats.items) c.args.manifest.now was faults (g.E.Disk.seen c.args.log.now.disk) f) (sym is) (c.in_err-open.ensures.cause clean))
+
+pub returns-in_err-put-clause-cause : goal.returns-in_err-put-clause-cause
+returns-in_err-put-clause-cause g c =
+    let k = c.args.self.now in
+    let manifest = c.args.manifest.now in
+    let opened = c.open.new.self in
+    let was = g.E.Disk.faults c.args.log.now.disk in
+    let faults = g.E.Disk.faults c.put.new.self.disk in
+    let file = g.E.Disk.seen c.args.log.now.disk in
+    let none : c.in_ok-open.field-0.items ≡ [] = empty_list c.in_ok-open.field-0.items (grind (arith, c.is_empty.ensures, c.if-not-is_empty.false)) in
+    let same : WhyNotPut (g.E.Disk.faults opened.disk) faults opened.end c.in_err-put.field-0.0 → WhyNotPut was faults opened.end c.in_err-put.field-0.0 =
+    λ why. subst (λ n. WhyNotPut n faults opened.end c.in_err-put.field-0.0) c.in_ok-open.ensures.faultless why in
+    passed_on c.from_residual-in_err-put.result c.from_residual-in_err-put.ensures.1
+    (λ e is clean.
+    let still : IsTrue (g.E.Disk.is_clean opened.disk) = subst IsTrue c.put.ensures.clean clean in
+    let ends : opened.end ≡ length (blocks 0 (header manifest ∷ [])) = subst (λ l. opened.end ≡ length (blocks 0 (header manifest ∷ map (λ v. v.items) l))) none (c.in_ok-open.ensures.at_rest still).ends_at in
+    subst (λ f. WhyNotAnew k.waiting.items.items (kept_table k.state k.stats.items) manifest was faults file f) (sym is)
+    (put_as_opened manifest was faults opened.end file c.in_err-put.field-0.0 (begins_low manifest opened.end c.requires.short ends) (same c.in_err-put.ensures.cause)))
 
 pub returns-clause-begun : goal.returns-clause-begun
 returns-clause-begun g c = λ clean.

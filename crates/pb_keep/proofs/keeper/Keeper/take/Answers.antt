@@ -1,10 +1,10 @@
 use Rattle.std.proofs.Common.{◌∷◌, [], Ok, length, ap, subst, sym, ◌∙◌}
-use Rattle.pb_keep.specs.Words.{asked_by}
+use Rattle.pb_keep.specs.Words.{Request, asked_by}
 use Rattle.pb_keep.specs.Causes.{WhyNotKept}
 use Rattle.pb_keep.specs.Conversations.{keeper_view}
 use Rattle.pb_keep.specs.Taken.{IsLineReady}
 use Rattle.pb_keep.proofs.Holding.{ready_now}
-use Rattle.pb_keep.proofs.Mapping.{of_both, on_ok, passed_on}
+use Rattle.pb_keep.proofs.Mapping.{passed_on}
 use Rattle.pb_keep.proofs.Reading.{is_read, read_as}
 use Rattle.pb_keep.proofs.Serving.{leaves_asked, leaves_served, more_lines, none_before_question, serves_asked, serves_held}
 use Rattle.pb_keep.proofs.keeper.Keeper.take.Goals as goal
@@ -43,32 +43,50 @@ returns-in_ok-hold-in-None-clause-serves g c = λ b lines s.
 pub returns-in_ok-hold-in-None-clause-crash : goal.returns-in_ok-hold-in-None-clause-crash
 returns-in_ok-hold-in-None-clause-crash g c = λ b lines s file m. leaves_served (returns-in_ok-hold-in-None-clause-serves g c b lines s) file m
 
-pub returns-in-Some-clause-serves : goal.returns-in-Some-clause-serves
-returns-in-Some-clause-serves g c = λ b lines s.
+pub returns-then-asks_to_compact-clause-serves : goal.returns-then-asks_to_compact-clause-serves
+returns-then-asks_to_compact-clause-serves g c = λ b lines s.
     let line = c.args.line.now in
     let read = c.parse_request-read.result in
-    let question = c.in-Some.question in
     let asked = is_read read (asked_by line) c.parse_request-read.ensures in
     let waiting = c.keep_if.new.self.waiting in
     let ready = ready_now c.is_kept_before-before.result c.args.self.now.waiting waiting line read c.is_kept_before-before.ensures.ready
     (λ e. ap (λ k. k.waiting) (c.in_ok-keep_if.ensures.same e)) c.in_ok-keep_if.ensures.kept asked in
-    let is = c.in-Some.ensures.some in
-    let none = none_before_question waiting (length line) question is.1 (subst (λ r. IsLineReady waiting (length line) r) is.0 ready is.2) in
-    on_ok c.answer.result
-    (λ a. serves_asked (c.in_ok-keep_if.ensures.serves b lines s) line a.0 question (g.S.Sink.taken c.answer.new.out) none (read_as line (Ok question) c.utf8.line (asked ∙ is.0)) a.1 a.3)
-    c.answer.ensures.ok
+    let is = c.asks_to_compact.ensures.asks c.if-asks_to_compact.true in
+    record {
+      serves = c.in_ok-keep_if.ensures.serves b lines s;
+      idle = subst (λ r. IsLineReady waiting (length line) r) is.0 ready is.1;
+      asks = read_as line (Ok Request.Compact) c.utf8.line (asked ∙ is.0);
+    }
 
-pub returns-in-Some-clause-crash : goal.returns-in-Some-clause-crash
-returns-in-Some-clause-crash g c = λ b lines s file m.
+pub returns-then-asks_to_compact-clause-crash : goal.returns-then-asks_to_compact-clause-crash
+returns-then-asks_to_compact-clause-crash g c = λ b lines s file m. more_lines (c.args.line.now ∷ []) (leaves_served (c.in_ok-keep_if.ensures.serves b lines s) file m)
+
+pub returns-in_err-answer-in-Some-clause-crash : goal.returns-in_err-answer-in-Some-clause-crash
+returns-in_err-answer-in-Some-clause-crash g c = λ b lines s file m.
     let line = c.args.line.now in
     let read = c.parse_request-read.result in
-    let question = c.in-Some.question in
     let asked = is_read read (asked_by line) c.parse_request-read.ensures in
     let waiting = c.keep_if.new.self.waiting in
     let ready = ready_now c.is_kept_before-before.result c.args.self.now.waiting waiting line read c.is_kept_before-before.ensures.ready
     (λ e. ap (λ k. k.waiting) (c.in_ok-keep_if.ensures.same e)) c.in_ok-keep_if.ensures.kept asked in
+    let question = c.in-Some.question in
     let is = c.in-Some.ensures.some in
     let none = none_before_question waiting (length line) question is.1 (subst (λ r. IsLineReady waiting (length line) r) is.0 ready is.2) in
-    of_both c.answer.result (returns-in-Some-clause-serves g c b lines s) c.answer.ensures.err
-    (λ now. leaves_served now file m)
-    (λ a. leaves_asked (c.in_ok-keep_if.ensures.serves b lines s) line question (g.S.Sink.taken c.answer.new.out) none (read_as line (Ok question) c.utf8.line (asked ∙ is.0)) a file m)
+    leaves_asked (c.in_ok-keep_if.ensures.serves b lines s) line question (g.S.Sink.taken c.answer.new.out) none (read_as line (Ok question) c.utf8.line (asked ∙ is.0)) c.in_err-answer-in-Some.ensures.err file m
+
+pub returns-in_ok-answer-in-Some-clause-serves : goal.returns-in_ok-answer-in-Some-clause-serves
+returns-in_ok-answer-in-Some-clause-serves g c = λ b lines s.
+    let line = c.args.line.now in
+    let read = c.parse_request-read.result in
+    let asked = is_read read (asked_by line) c.parse_request-read.ensures in
+    let waiting = c.keep_if.new.self.waiting in
+    let ready = ready_now c.is_kept_before-before.result c.args.self.now.waiting waiting line read c.is_kept_before-before.ensures.ready
+    (λ e. ap (λ k. k.waiting) (c.in_ok-keep_if.ensures.same e)) c.in_ok-keep_if.ensures.kept asked in
+    let question = c.in-Some.question in
+    let is = c.in-Some.ensures.some in
+    let none = none_before_question waiting (length line) question is.1 (subst (λ r. IsLineReady waiting (length line) r) is.0 ready is.2) in
+    let a = c.in_ok-answer-in-Some.ensures.ok in
+    serves_asked (c.in_ok-keep_if.ensures.serves b lines s) line a.0 question (g.S.Sink.taken c.answer.new.out) none (read_as line (Ok question) c.utf8.line (asked ∙ is.0)) a.1 a.3
+
+pub returns-in_ok-answer-in-Some-clause-crash : goal.returns-in_ok-answer-in-Some-clause-crash
+returns-in_ok-answer-in-Some-clause-crash g c = λ b lines s file m. leaves_served (returns-in_ok-answer-in-Some-clause-serves g c b lines s) file m

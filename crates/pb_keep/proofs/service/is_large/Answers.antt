@@ -1,0 +1,9 @@
+use Rattle.pb_keep.proofs.Added.{none_is_waiting}
+use Rattle.pb_keep.proofs.Scripts.{empty_list}
+use Rattle.std.proofs.Common.{arith}
+use Rattle.pb_keep.proofs.service.is_large.Goals as goal
+
+pub returns-then-is_empty-clause-idle : goal.returns-then-is_empty-clause-idle
+returns-then-is_empty-clause-idle g c = λ large.
+    let waiting = c.args.keeper.now.waiting in
+    none_is_waiting waiting c.requires.waiting (empty_list waiting.items.items (grind (arith, c.is_empty.ensures, c.if-is_empty.true)))
