@@ -1,9 +1,9 @@
 //! The file of a log, which is locked while it is open.
 ghost use Rattle.std.specs.Prelude.{false, IfOk, IsTrue};
-ghost use Rattle.sqlite_std_file.specs.File.{file_is_usable, IsFresh};
+ghost use Rattle.sqlite_std_file.specs.File.{IsFresh};
 
 use anyhow::{Result, bail};
-use sqlite_disk::{Files, Start};
+use sqlite_disk::{Disk, Files, Unknown};
 use sqlite_std_file::{FileFrom, open};
 use std::fs::{self, File, OpenOptions};
 use std::io;
@@ -40,15 +40,15 @@ pub(crate) fn make_log(rt: &HostRuntime, path: &str) -> Result<()> {
 }
 
 /// The file of a log, with its lock.
-pub(crate) fn open_file<S: Start>(rt: &HostRuntime, path: &str, start: S) -> Result<FileFrom<S>>
-    ensures usable { IfOk result (λ db. IsTrue (file_is_usable S.Start db)) }
+pub(crate) fn open_file(rt: &HostRuntime, path: &str) -> Result<FileFrom<Unknown>>
+    ensures usable { IfOk result (λ db. IsTrue (⟦<FileFrom<Unknown> as Disk>⟧.is_usable db)) }
     ensures fresh { IfOk result (λ db. IsFresh false db) }
 {
     let held = match hold(rt, path) {
         Ok(held) => held,
         Err(fault) => bail!("{path}: {fault}"),
     };
-    let Files { log: _, db } = match open(rt, path, start) {
+    let Files { log: _, db } = match open(rt, path, Unknown) {
         Ok(files) => files,
         Err(fault) => bail!("{path}: {fault}"),
     };

@@ -1,0 +1,171 @@
+//! Lines that are served, and compactions in between.
+ghost use Rattle.std.specs.Prelude.{◌≡◌, ◌<◌, ◌^◌, length, OnOk, IsTrue};
+ghost use Rattle.sqlite_disk.specs.Disk.{Only};
+ghost use Rattle.pb_keeper.specs.Keeps.{opened_table};
+ghost use Rattle.pb_keeper.specs.Stats.{kept_table};
+ghost use Rattle.pb_keep.specs.Waits.{IsWaiting};
+
+use crate::compact::compact;
+use crate::file::{make_log, open_file};
+use crate::names::{Names, names_of};
+use crate::table::{Kept, new_keeper, open_log};
+use anyhow::Result;
+use pb_base::{Out, Sink};
+use pb_keep::{Paused, serve};
+use sqlite_disk::{Disk, Unknown};
+use sqlite_std_file::FileFrom;
+use std::io::BufReader;
+use std::sync::Wait;
+
+// How many bytes are read at once at most, and so about how many may wait.
+const ROOM: usize = 1_048_576;
+
+// The answer to a line that asks for a compaction of a table that can't be compacted.
+const REFUSED: &str = "refused 78\n";
+
+// How many bytes a log has from which on it is compacted: these at least, and twice as many as after the last compaction.
+fn next_limit(least: u64, end: usize) -> u64 {
+    least.max((end as u64).saturating_mul(2))
+}
+
+// Compacts the log, and writes the answer. Returns whether it is compacted.
+fn answer_compact<R: Wait, S: Sink>(
+    waits: &R,
+    rt: &HostRuntime,
+    keeper: &mut Kept,
+    manifest: &str,
+    names: &Names,
+    out: &mut S,
+) -> Result<bool>
+    requires short { length manifest.now < 2 ^ 31 }
+    requires usable { IsTrue (⟦<FileFrom<Unknown> as Disk>⟧.is_usable keeper.old.log.disk) }
+    requires waiting { IsWaiting keeper.old.waiting }
+    ensures usable { OnOk result
+        (IsTrue (⟦<FileFrom<Unknown> as Disk>⟧.is_usable keeper.new.log.disk)) }
+    ensures waiting { OnOk result (IsWaiting keeper.new.waiting) }
+{
+    match compact(waits, rt, keeper, manifest, names)? {
+        Ok(versions) => {
+            let text = format!(in rt.alloc(); "compacted {versions}\n")?;
+            out.write_all(text.as_bytes())?;
+            Ok(true)
+        }
+        Err(_) => {
+            out.write_all(REFUSED.as_bytes())?;
+            Ok(false)
+        }
+    }
+}
+
+// Compacts a large log, or prints why its table can't be compacted. Returns whether it is compacted.
+fn compact_large<R: Wait>(
+    waits: &R,
+    rt: &HostRuntime,
+    keeper: &mut Kept,
+    manifest: &str,
+    names: &Names,
+) -> Result<bool>
+    requires short { length manifest.now < 2 ^ 31 }
+    requires usable { IsTrue (⟦<FileFrom<Unknown> as Disk>⟧.is_usable keeper.old.log.disk) }
+    requires waiting { IsWaiting keeper.old.waiting }
+    ensures usable { OnOk result
+        (IsTrue (⟦<FileFrom<Unknown> as Disk>⟧.is_usable keeper.new.log.disk)) }
+    ensures waiting { OnOk result (IsWaiting keeper.new.waiting) }
+{
+    match compact(waits, rt, keeper, manifest, names)? {
+        Ok(_) => Ok(true),
+        Err(why) => {
+            let _ = eprintln!(rt; "{}: not compacted: {why}", names.log);
+            Ok(false)
+        }
+    }
+}
+
+// Prints how many changes the log that was opened has, and serves lines until the input ends. Where a line asks for it, and where
+// the log has `first` bytes, it is compacted.
+fn serve_lines<R: Wait>(
+    waits: &R,
+    rt: &HostRuntime,
+    keeper: &mut Kept,
+    manifest: &str,
+    names: &Names,
+    found: u64,
+    least: u64,
+    first: u64,
+) -> Result<()>
+    requires short { length manifest.now < 2 ^ 31 }
+    requires usable { IsTrue (⟦<FileFrom<Unknown> as Disk>⟧.is_usable keeper.old.log.disk) }
+    requires waiting { IsWaiting keeper.old.waiting }
+{
+    let alloc = rt.alloc();
+    let mut out = Out::new(rt.stdout());
+    let text = format!(in alloc; "open {found}\n")?;
+    out.write_all(text.as_bytes())?;
+    let mut input = BufReader::with_capacity(alloc, ROOM, rt.reader())?;
+    let mut limit = first;
+    for _pause in waits.forever() {
+        let is_done = match serve(waits, alloc, keeper, &mut input, &mut out, limit)? {
+            Paused::Ended => return Ok(()),
+            Paused::Asked => answer_compact(waits, rt, keeper, manifest, names, &mut out)?,
+            Paused::Large => {
+                compact_large(waits, rt, keeper, manifest, names)?;
+                true
+            }
+        };
+        if is_done {
+            limit = next_limit(least, keeper.log.end);
+        }
+    }
+    unreachable!()
+}
+
+// Opens the log, compacts it if it is large, and serves lines.
+fn open_and_serve<R: Wait>(
+    waits: &R,
+    rt: &HostRuntime,
+    keeper: &mut Kept,
+    manifest: &str,
+    names: &Names,
+    least: u64,
+) -> Result<()>
+    requires short { length manifest.now < 2 ^ 31 }
+    requires usable { IsTrue (⟦<FileFrom<Unknown> as Disk>⟧.is_usable keeper.old.log.disk) }
+    requires restarted { Only (⟦<FileFrom<Unknown> as Disk>⟧.seen keeper.old.log.disk)
+        (⟦<FileFrom<Unknown> as Disk>⟧.may_leave keeper.old.log.disk) }
+    requires opened { kept_table keeper.old.state keeper.old.stats.items
+        ≡ opened_table keeper.old.state.observers }
+    requires waiting { IsWaiting keeper.old.waiting }
+{
+    let found = open_log(waits, rt.alloc(), keeper, manifest)?;
+    if (keeper.log.end as u64) < least {
+        return serve_lines(waits, rt, keeper, manifest, names, found, least, least);
+    }
+    // A log that begins anew has no change.
+    let found = if compact_large(waits, rt, keeper, manifest, names)? {
+        0
+    } else {
+        found
+    };
+    let limit = next_limit(least, keeper.log.end);
+    serve_lines(waits, rt, keeper, manifest, names, found, least, limit)
+}
+
+/// Serves lines over the log, which is made where there is none. It is compacted where a line asks for it. Where it has at least
+/// so many bytes, and twice as many as after the last time, it is compacted too, if its table can be.
+pub(crate) fn keep<R: Wait>(
+    waits: &R,
+    rt: &HostRuntime,
+    manifest: &str,
+    path: &str,
+    least: u64,
+) -> Result<()>
+    requires short { length manifest.now < 2 ^ 31 }
+{
+    make_log(rt, path)?;
+    let names = names_of(rt, path)?;
+    let db = open_file(rt, names.log.as_str())?;
+    let mut keeper = new_keeper(rt.alloc(), manifest, db)?;
+    let done = open_and_serve(waits, rt, &mut keeper, manifest, &names, least);
+    keeper.close();
+    done
+}

@@ -1,0 +1,95 @@
+//! The table that is kept, from the manifest's text to the changes of its log.
+ghost use Rattle.std.specs.Prelude.{◌≡◌, ◌≤◌, ◌<◌, ◌^◌, length, string_bytes, IfOk, OnOk, IsTrue};
+ghost use Rattle.pb_base.specs.declared.limits.TheConstants.{MAX_OBSERVERS};
+ghost use Rattle.pb_store.specs.Contents.{nothing};
+ghost use Rattle.pb_keeper.specs.Keeps.{opened_table};
+ghost use Rattle.pb_keeper.specs.Stats.{kept_table};
+ghost use Rattle.pb_keep.specs.Waits.{IsWaiting};
+ghost use Rattle.sqlite_disk.specs.Disk.{Only};
+
+use anyhow::{Result, bail};
+use pb_base::{MAX_OBSERVERS, Row, Ts};
+use pb_keep::Keeper;
+use pb_keeper::no_stats;
+use pb_memtablet::ListTablet;
+use pb_registry::Registry;
+use pb_state::State;
+use pb_store::Table;
+use pb_verify::Observer;
+use sqlite_disk::{Disk, Unknown};
+use sqlite_std_file::FileFrom;
+use std::alloc::Global;
+use std::sync::Wait;
+
+/// A table that is kept in a file of which nothing is supposed.
+pub(crate) type Kept = Keeper<ListTablet, FileFrom<Unknown>>;
+
+// The most bytes of a manifest, which the first record of a log has.
+const MAX_MANIFEST: usize = 16_777_216;
+
+/// The text of a manifest, unless it is too large.
+pub(crate) fn short_text(text: String) -> Result<String>
+    ensures short { IfOk result (λ t. length (string_bytes t) < 2 ^ 31) }
+{
+    if text.len() > MAX_MANIFEST {
+        bail!("the manifest is too large");
+    }
+    Ok(text)
+}
+
+/// The observers of a manifest. That they are few enough for a table is promised by `Registry::from_json`.
+pub(crate) fn observers_of(alloc: Global, manifest: &str) -> Result<Vec<Observer>>
+    ensures { IfOk result (λ v. length v.items ≤ MAX_OBSERVERS) }
+{
+    match Registry::from_json(alloc, manifest)?.into_observers(alloc) {
+        Ok(observers) => Ok(observers),
+        Err((_registry, refused)) => Err(refused.into()),
+    }
+}
+
+// An empty table of one tablet, since none is swapped.
+fn table(alloc: Global) -> Result<Table<ListTablet>>
+    ensures { IfOk result (λ t. t.contents ≡ nothing) }
+{
+    let mut tablets = Vec::new(alloc);
+    tablets.push((Row(0), ListTablet::new(alloc)))?;
+    match Table::new(tablets) {
+        Ok(table) => Ok(table),
+        Err((_tablets, refusal)) => Err(refusal.into()),
+    }
+}
+
+/// A keeper of a table with no entry, over this disk.
+pub(crate) fn new_keeper<D: Disk + Drop>(
+    alloc: Global,
+    manifest: &str,
+    disk: D,
+) -> Result<Keeper<ListTablet, D>>
+    ensures disk { IfOk result (λ k. k.log.disk ≡ disk) }
+    ensures opened { IfOk result (λ k. kept_table k.state k.stats.items
+        ≡ opened_table k.state.observers) }
+    ensures waiting { IfOk result (λ k. IsWaiting k.waiting) }
+{
+    let observers = observers_of(alloc, manifest)?;
+    let stats = no_stats(alloc, observers.len())?;
+    let state = State::new(alloc, table(alloc)?, observers, 1, Ts(0));
+    Ok(Keeper::new(alloc, disk, state, stats))
+}
+
+/// Opens the log, and returns how many changes it has.
+pub(crate) fn open_log<R: Wait, D: Disk + Drop>(
+    waits: &R,
+    alloc: Global,
+    keeper: &mut Keeper<ListTablet, D>,
+    manifest: &str,
+) -> Result<u64>
+    requires usable { IsTrue (D.is_usable keeper.old.log.disk) }
+    requires restarted { Only (D.seen keeper.old.log.disk) (D.may_leave keeper.old.log.disk) }
+    requires short { length manifest.now < 2 ^ 31 }
+    requires opened { kept_table keeper.old.state keeper.old.stats.items
+        ≡ opened_table keeper.old.state.observers }
+    ensures usable { OnOk result (IsTrue (D.is_usable keeper.new.log.disk)) }
+    ensures waiting { keeper.new.waiting ≡ keeper.old.waiting }
+{
+    Ok(keeper.open(waits, alloc, manifest.as_bytes())?)
+}
