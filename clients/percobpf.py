@@ -44,6 +44,10 @@ class Compacted(Refused):
         self.begun = begun
 
 
+class NotCompacted(Refused):
+    """The log can't be compacted, and is as it was: the table isn't quiet, has no timestamp left, or is too large."""
+
+
 class Unmade(Exception):
     """The condition of a change didn't hold: the newest write of its cell has this commit, 0 where it has none."""
 
@@ -75,9 +79,11 @@ class Table:
         self._lines, self._answers, self._child = lines, answers, child
 
     @classmethod
-    def start(cls, manifest, log, program="./percobpf_keep") -> Table:
-        """Starts the program over this log; it has made the log's changes again when this returns."""
-        words = [os.fspath(program), os.fspath(manifest), os.fspath(log)]
+    def start(cls, manifest, log, program="./percobpf_keep", compact_at: int | None = None) -> Table:
+        """Starts the program over this log; it has made the log's changes again when this returns. With `compact_at` it compacts the log
+        by itself, from so many bytes on."""
+        options = [] if compact_at is None else ["--compact-at", str(compact_at)]
+        words = [os.fspath(program), *options, os.fspath(manifest), os.fspath(log)]
         child = subprocess.Popen(words, stdin=subprocess.PIPE, stdout=subprocess.PIPE)
         table = cls(child.stdin, child.stdout, child)
         table.found = int(table._read().removeprefix("open "))
@@ -186,6 +192,15 @@ class Table:
         self._send(["quiet?"])
         return self._read() == "quiet"
 
+    def compact(self) -> int:
+        """Compacts the log, and returns how many versions its snapshot has. `NotCompacted` is raised where it can't be. Writes of
+        before are gone for all clients of the table: their next `since` of an earlier commit raises `Compacted`."""
+        self._send(["compact"])
+        verb, _, versions = (answer := self._read()).partition(" ")
+        if verb != "compacted":
+            raise self._refusal("compact", answer)
+        return int(versions)
+
     def _lines_of(self, question: str) -> list[str]:
         """The lines of an answer, up to its `end`."""
         self._send([question])
@@ -224,7 +239,9 @@ class Table:
         verb, _, rest = answer.partition(" ")
         if verb == "refused":
             code, _, begun = rest.partition(" ")
-            return Compacted(int(code), line, int(begun)) if begun else Refused(int(code), line)
+            if begun:
+                return Compacted(int(code), line, int(begun))
+            return (NotCompacted if code == "78" else Refused)(int(code), line)
         if verb == "unmade":
             return Unmade(int(rest.removeprefix("commit ")))
         return Gone(f"an answer that isn't known: {answer}")
