@@ -12,16 +12,16 @@ What is found after each is one of two logs, that of before and the compacted on
 """
 from __future__ import annotations
 
-import random
 import shlex
 import stat
 import sys
 from collections import Counter
 from dataclasses import dataclass, replace
+from pathlib import Path
 
 import logs
 from keep_ends import IN_USE, NO_SPACE, SmallDisk, expect
-from keep_room import NOT_QUIET, QUESTIONS, TOP, line_of, made_in, without_size
+from keep_room import NOT_QUIET, OTHERS_STAY, QUESTIONS, TOP, left_of, line_of, made_in, without_history
 
 NO_FILE = "No such file or directory (os error 2)"
 KINDS = ("kill", "after", "torn", "short", "enospc", "eio")
@@ -33,19 +33,9 @@ PART, GENERATIONS = 15, 5
 CHANGED, LATER = 150, 3
 
 
-def without_history(lines):
-    """Answers without how many entries the table has, which a compaction lowers, and without the size of the log."""
-    return [line for line in without_size(lines) if not line.startswith("entries ")]
-
-
-def left_of(log):
-    """What stands in the folder of a log with the name of its new one."""
-    return sorted(each.name for each in log.parent.glob(f"{log.name}-new*"))
-
-
-def compacted(changes, versions):
-    """What a compaction of a log with so many changes prints, and its status."""
-    return 0, f"open {changes}\ncompacted {versions}\n", ""
+def compacted(changes, versions, added=""):
+    """What a compaction of a log with so many changes prints, with what it prints of observers that are added, and its status."""
+    return 0, f"open {changes}\n{added}compacted {versions}\n", ""
 
 
 # Generations
@@ -78,7 +68,8 @@ def try_generations(room, changes):
 @dataclass(frozen=True)
 class Log:
     """A log of before and what it is once it is compacted, what is found in either, how many changes and versions it has, and what
-    comes next: the answers to a change after it is compacted."""
+    comes next: the answers to a change after it is compacted. That is done for a manifest with more observers, where one is given;
+    what is printed of these is `added`."""
 
     before: bytes
     after: bytes
@@ -86,6 +77,12 @@ class Log:
     changes: int
     versions: int
     next: tuple
+    manifest: Path | None = None
+    added: str = ""
+
+    def manifest_of(self, file):
+        """The manifest of the log of before, or of after."""
+        return self.manifest if file == self.after else None
 
 
 NEXT = ("put 3 0 2a", "get 3 0", "get 3 1", "get 3 15", "del 4 0; put 5 0 01", "quiet?")
@@ -112,14 +109,14 @@ def goes_on(room, log, its, left):
     """What is wrong with a log on which a compaction was begun, where this is left of it."""
     if left not in its.found:
         return f"another log of {len(left)} bytes"
-    if (found := room.opened(log)) != its.found[left]:
+    if (found := room.opened(log, its.manifest_of(left))) != its.found[left]:
         return f"found was {found}"
-    changes = its.changes if left == its.before else 0
-    if (again := room.compact(log)) != compacted(changes, its.versions):
+    changes, added = (its.changes, its.added) if left == its.before else (0, "")
+    if (again := room.compact(log, its.manifest)) != compacted(changes, its.versions, added):
         return f"the next compaction: {again}"
     if log.read_bytes() != its.after or left_of(log):
         return f"the next compaction left {left_of(log)}, and {len(log.read_bytes())} bytes"
-    answers = room.run(log, NEXT)
+    answers = room.run(log, NEXT, its.manifest)
     return None if answers == its.next else f"what came after it: {answers}"
 
 
@@ -127,9 +124,9 @@ def interrupted(room, its, kind, at):
     """What is wrong where this call of a compaction is failed so, and how it ended."""
     log = room.log(f"compact-{kind}-{at}")
     log.write_bytes(its.before)
-    status, out, errors = room.compact(log, LD_PRELOAD=str(room.shim), FAULT_AT=str(at), FAULT_KIND=kind)
-    left, whole = log.read_bytes(), compacted(its.changes, its.versions)
-    is_said = {0: (out, errors) == whole[1:], 1: len(errors.splitlines()) == 1 and out in ("", f"open {its.changes}\n"), -9: not errors}
+    status, out, errors = room.compact(log, its.manifest, LD_PRELOAD=str(room.shim), FAULT_AT=str(at), FAULT_KIND=kind)
+    left, whole = log.read_bytes(), compacted(its.changes, its.versions, its.added)
+    is_said = {0: (out, errors) == whole[1:], 1: len(errors.splitlines()) == 1 and whole[1].startswith(out) and out != whole[1], -9: not errors}
     wrong = None if is_said.get(status) else f"output {out!r}, {errors!r}"
     if status == 0 and left != its.after:
         wrong = "it has ended, and the log is as before"
@@ -181,7 +178,9 @@ def traced(room, its):
     """The calls of a compaction."""
     log, trace = room.log("traced"), room.folder / "trace-of-compaction"
     log.write_bytes(its.before)
-    expect("a compaction", room.compact(log, LD_PRELOAD=str(room.shim), FAULT_TRACE=str(trace)), compacted(its.changes, its.versions))
+    trace.unlink(missing_ok=True)
+    came = room.compact(log, its.manifest, LD_PRELOAD=str(room.shim), FAULT_TRACE=str(trace))
+    expect("a compaction", came, compacted(its.changes, its.versions, its.added))
     read_trace(trace.read_text().splitlines(), log)
     return trace, f"{log}-new"
 
@@ -381,7 +380,7 @@ def try_refused(room, its):
     is_refused(room, "a log that isn't there", log, f"{log}: {NO_FILE}")
     log = room.log("of-another")
     log.write_bytes(its.before)
-    is_refused(room, "a log of another manifest", log, logs.OTHER_MANIFEST, manifest=endless)
+    is_refused(room, "a log of another manifest", log, f"{log}: {OTHERS_STAY}", f"open {its.changes}\n", endless)
     log.write_bytes(its.before[:-1])
     is_refused(room, "a log that is damaged", log, f"the log is damaged at byte {len(its.before) - 1}")
     return 5 + try_names(room, its)
@@ -398,6 +397,7 @@ def try_full(room, changes):
             disk.fill(0)
             before, opened = disk.shell("cat table.log"), f"open {len(changes)}\n"
             expect("a compaction on a full disk", inner.compact(log), (1, opened, line_of(NO_SPACE)))
+            expect("one that a line asks for there", inner.run(log, ["compact"]), (1, [opened.rstrip("\n")], line_of(NO_SPACE)))
             expect("the log on a full disk", disk.shell("cat table.log; ls"), before + b"ballast\ntable.log\ntable.log-wal\n")
             disk.shell("rm ballast")
             status, out, errors = inner.compact(log)
@@ -495,11 +495,9 @@ def try_sizes(room, its):
     return 7 + len(wrong) + 3
 
 
-def try_all(room, changes, images_of, seed, pool):
+def try_all(room, its, changes, images_of, chance, pool):
     """Tries all of it, and answers what was met, in words and as numbers."""
-    chance = random.Random(f"{seed} compactions")
     met = Counter(generations=try_generations(room, changes))
-    its = log_of(room, changes[:12])
     met.update(try_interrupted(room, its, pool))
     trace, new = traced(room, its)
     images = [image for image, _ in images_of(trace, chance, new)]

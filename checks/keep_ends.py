@@ -110,7 +110,8 @@ def try_rivals(room):
         ask(first, b"put 7 0 2a")
         before = log.read_bytes()
         for name in (log, link):
-            expect("a second program", room.run(name, ["put 7 0 2b", "list"]), (1, [], line_of(f"{name}: {IN_USE}")))
+            # the log is named as it stands, without a link
+            expect("a second program", room.run(name, ["put 7 0 2b", "list"]), (1, [], line_of(f"{log}: {IN_USE}")))
         expect("the file of two programs", log.read_bytes(), before)
         answer = ask(first, b"put 8 0 2c")
         expect("the first program after the second", answer.startswith(b"made "), True)

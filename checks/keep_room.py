@@ -16,6 +16,7 @@ TOP = Path(__file__).resolve().parent.parent
 QUESTIONS = ("list", "quiet?", "stats")
 
 NOT_QUIET = "the table is not quiet"
+OTHERS_STAY = "its observers have to stay, in their order, and new ones stand after them"
 
 
 class Room:
@@ -23,7 +24,7 @@ class Room:
 
     def __init__(self, program, folder):
         # nsenter runs it in another folder
-        self.program, self.folder = Path(program).resolve(), Path(folder)
+        self.program, self.folder = Path(program).resolve(), Path(folder).resolve()
         self.manifest = self.folder / "manifest.json"
         parts = [json.loads((TOP / f"examples/{name}.json").read_text()) for name in ("copy", "counter", "watch")]
         observers = [observer for part in parts for observer in part["observers"]]
@@ -46,9 +47,9 @@ class Room:
         other.before = words
         return other
 
-    def start(self, log, options=(), **more):
+    def start(self, log, options=(), manifest=None, **more):
         how = {"stdin": subprocess.PIPE, "stdout": subprocess.PIPE, "stderr": subprocess.PIPE}
-        return subprocess.Popen([*self.before, self.program, *options, self.manifest, log], **how, **more)
+        return subprocess.Popen([*self.before, self.program, *options, manifest or self.manifest, log], **how, **more)
 
     def run(self, log, lines, manifest=None, options=(), **more):
         """The status, the lines of output, and the text of errors."""
@@ -80,9 +81,9 @@ class Room:
                 self.tables[key] = without_size(out[1 + len(changes) :])
             return self.tables[key]
 
-    def opened(self, log):
+    def opened(self, log, manifest=None):
         """How many changes a log has, and its table; or None and what is reported, with a status that isn't 1."""
-        status, out, errors = self.run(log, QUESTIONS)
+        status, out, errors = self.run(log, QUESTIONS, manifest)
         if status == 0 and out and out[0].startswith("open "):
             return int(out[0].split()[1]), without_size(out[1:])
         return None, errors if status == 1 and not out else f"status {status}, output {out}, {errors}"
@@ -109,6 +110,16 @@ def answers_in_turn(running, messages):
 def without_size(lines):
     """The lines without that of the log's size."""
     return [line for line in lines if not line.startswith("log ")]
+
+
+def without_history(lines):
+    """Answers without how many entries the table has, which a compaction lowers, and without the size of the log."""
+    return [line for line in without_size(lines) if not line.startswith("entries ")]
+
+
+def left_of(log):
+    """What stands in the folder of a log with the name of its new one."""
+    return sorted(each.name for each in log.parent.glob(f"{log.name}-new*"))
 
 
 def made_in(lines):

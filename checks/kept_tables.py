@@ -6,19 +6,19 @@ from __future__ import annotations
 
 from dataclasses import astuple
 
+import logs
 import model
 from faults import LAST, Fault, number, read_change, taken
-
 from logs import Snapshot, Version
 
 MOST_BYTES, MOST_CHANGES = 4096, 10_000
-OUT_OF_PLACE, TOO_MANY, GONE = 76, 75, 77
+OUT_OF_PLACE, TOO_MANY, GONE, NOT_COMPACTED = 76, 75, 77, 78
 
 # the words of one line alone, without operands
-ALONE = ("list", "quiet?", "stats", "begin", "end")
+ALONE = ("list", "quiet?", "stats", "begin", "end", "compact")
 
-# how the line of `stats` on the log is shown, before the number of its changes: how many bytes these have is known to those who have the
-# file, since it depends on which of them share a record
+# how the line of `stats` on the log is shown, before how often it began anew, and the number of its changes since then: how many bytes
+# these have is known to those who have the file, since it depends on which of them share a record
 LOG_OF = "log of "
 
 
@@ -72,12 +72,17 @@ class OneSeat(model.Table):
 
 class KeptTable:
     """A table with observers. `lines` are those of its changes since it began, and `groups` says which of them are of one group: from
-    one place up to another. Of the writes up to `begun` only the newest are there, and `before` are the runs that were committed by then."""
+    one place up to another. Of the writes up to `begun` only the newest are there, and `before` are the runs that were committed by then.
+    It has begun anew so often: `generation`. `size` has the bytes of its log, if each line is sent once the one before it is answered. From
+    `least` bytes on it is compacted, and next from `limit` bytes on; so often it was too large, and not quiet: `left_large`."""
 
     def __init__(self, manifest):
+        self.manifest = manifest
         self.observers = model.observers_of(manifest)
         self.table = OneSeat(self.observers)
-        self.begun, self.lines, self.groups = 0, [], []
+        self.begun, self.generation, self.lines, self.groups = 0, 0, [], []
+        self.size, self.least, self.limit, self.left_large = 0, LAST, LAST, 0
+        self.log_has([])
         self.before = [0] * len(self.observers)
         # the answers of a group that hasn't ended, and the changes of it
         self.waiting, self.changes = None, []
@@ -106,7 +111,7 @@ class KeptTable:
             f"stats {it.name} runs {its.runs} nonzero {its.nonzero} conflicts {its.conflicts} asks {its.asks} instructions {its.instructions}"
             for it, its in zip(self.observers, self.table.counts)
         ]
-        return [*lines, f"{LOG_OF}{len(self.lines)}", f"entries {self.entries()}", "end"]
+        return [*lines, f"{LOG_OF}{self.generation} {len(self.lines)}", f"entries {self.entries()}", "end"]
 
     def runs(self):
         """How many runs of each observer are committed, also before the table began anew."""
@@ -114,6 +119,15 @@ class KeptTable:
 
     def report(self):
         return [*model.report(self.table, self.observers, self.runs()).splitlines(), "end"]
+
+    def log_has(self, records):
+        """The log is one of these records, after its header."""
+        self.size = sum(13 + len(item) for item in (logs.header(self.manifest.encode()), *records))
+
+    def make_all(self, lines):
+        """Makes changes that share a record of the log, and answers each."""
+        self.size += 13 + sum(len(line) + 1 for line in lines) if lines else 0
+        return [self.make(line) for line in lines]
 
     def make(self, line):
         """Makes a change, and answers it."""
@@ -140,14 +154,48 @@ class KeptTable:
     def begin_anew(self):
         """Begins anew with the newest versions, where nothing is left to do. What is left of a transaction has declared those of them
         that it wrote."""
-        self.before, table = self.runs(), OneSeat(self.observers, self.table.clock)
-        for it in self.snapshot().versions:
+        self.before, table, snapshot = self.runs(), OneSeat(self.observers, self.table.clock), self.snapshot()
+        for it in snapshot.versions:
             table.data[it.cell][it.start] = it.content
             table.records[it.cell][it.commit] = it.start
             own = table.transactions.setdefault(it.start, model.Transaction(None, "script", "committed", it.commit))
             own.declared.append((it.cell, it.content))
         table.counts = self.table.counts
         self.table, self.begun, self.lines, self.groups = table, table.clock, [], []
+        self.generation += 1
+        self.log_has([logs.snapshot_record(snapshot)])
+        return len(snapshot.versions)
+
+    def compact(self):
+        """Begins anew, where nothing is left to do. Answers how many versions it has then, or None."""
+        if self.left() != "quiet" or self.table.clock == LAST:
+            return None
+        versions = self.begin_anew()
+        self.limit = max(self.least, 2 * self.size)
+        return versions
+
+    def start(self, least=LAST):
+        """A program is started, by which its log is compacted from so many bytes on."""
+        self.least, self.limit, self.left_large = least, least, 0
+        self.compact_large()
+
+    def compact_large(self):
+        """Begins anew where its log is large. Where that isn't quiet, it is left until the log has twice the bytes."""
+        if self.size >= self.limit and self.compact() is None:
+            self.limit, self.left_large = 2 * self.size, self.left_large + 1
+
+    def observe_also(self, manifest):
+        """Gets the observers that this manifest has after its own, and makes passes, until they have caught up with all cells of their
+        columns, or so many as may be made. Answers how many they are, and how many runs were committed."""
+        added, table = model.observers_of(manifest)[len(self.observers) :], self.table
+        self.manifest, self.observers = manifest, [*self.observers, *added]
+        self.before += [0 for _ in added]
+        table.observers, table.columns = self.observers, [it.column for it in self.observers]
+        table.counts += [model.Counts() for _ in added]
+        columns, before = {it.column for it in added}, len(table.transactions)
+        table.marks |= {cell for cell, its in table.records.items() if its and model.is_data(cell) and cell[1] in columns}
+        model.passes(table, 0, self.observers)
+        return len(added), sum(it.phase == "committed" for it in list(table.transactions.values())[before:])
 
     def since(self, above):
         """The writes above a commit, in the order of commits, and of cells within one. Of those up to where the table began, some are
@@ -164,7 +212,7 @@ class KeptTable:
     def change_if(self, row, column, commit, operations):
         read_change(operations)
         newest = self.commit_of(row, column)
-        return [self.make(operations) if newest == commit else f"unmade commit {newest}"]
+        return self.make_all([operations]) if newest == commit else [f"unmade commit {newest}"]
 
     def grouped(self, verb, operands):
         """Takes a line of a group, of which nothing is answered before its end."""
@@ -183,8 +231,9 @@ class KeptTable:
     def end(self):
         """Makes the changes of a group, and answers its lines."""
         self.groups.append((len(self.lines), len(self.lines) + len(self.changes)))
-        for place, line in self.changes:
-            self.waiting[place] = self.make(line)
+        places = [place for place, _ in self.changes]
+        for place, answer in zip(places, self.make_all([line for _, line in self.changes])):
+            self.waiting[place] = answer
         answers = [*self.waiting, "ended"]
         self.waiting, self.changes = None, []
         return answers
@@ -193,7 +242,7 @@ class KeptTable:
         """Takes a line that stands in no group."""
         if verb == "change":
             read_change(*operands)
-            return [self.make(*operands)]
+            return self.make_all(operands)
         if verb == "if":
             return self.change_if(*operands)
         if verb == "begin":
@@ -207,6 +256,9 @@ class KeptTable:
             return [self.left()]
         if verb == "stats":
             return self.stats()
+        if verb == "compact":
+            versions = self.compact()
+            return [f"refused {NOT_COMPACTED}" if versions is None else f"compacted {versions}"]
         return self.get(*operands) if verb == "get" else self.since(*operands)
 
     def take(self, line):

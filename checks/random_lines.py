@@ -17,7 +17,7 @@ ENDLESS = "endless"
 NO_OBSERVERS = TOP / "examples/no-observers.json"
 
 # How often a line of each kind comes, and how often within a group.
-QUESTIONS = {"get": 12, "since": 7, "list": 4, "quiet?": 4, "stats": 4}
+QUESTIONS = {"get": 12, "since": 7, "list": 4, "quiet?": 4, "stats": 4, "compact": 2}
 ALONE = {"change": 34, "condition": 16, "begin": 8, **QUESTIONS, "faulty": 12, "turned": 4, "long": 1}
 GROUPED = {"change": 70, "condition": 4, "begin": 2, **QUESTIONS, "faulty": 14, "turned": 6, "long": 1, "end": 30}
 
@@ -31,6 +31,7 @@ FAULTY = (
     *("get 18446744073709551616 0", "get  7 0", "get 7 0; get 8 0", "get 99999999999999999999 16", "get 16 99999999999999999999"),
     *("list; list", "since -1", "since 01", "since 18446744073709551616", "since 1 2", "since x", "since 99999999999999999999 9"),
     *("since  1", "since 1; list", "stat", "stats ", "stats 7", "stats; stats", " stats", "Stats"),
+    *("compact ", " compact", "compact 7", "compacts", "Compact", "compact; compact", "--compact"),
     *("if", "if 7 0 0; end", "if 7 0 0; begin", "if 7 0; put 7 0 2a", "if 7 0 0", "if 7 16 0", "if 7 0 0; ", "if 7 0 0;"),
     *("if 7 0 x; put 7 0 2a", "if 7 0 18446744073709551616; put 7 0 2a", "if 7 0 0; get 7 0", "if 7 0 0; # put 7 0 2a"),
     *("if 7 0 0; put 7 0 2", "if 7 0 0; if 7 1 0; put 7 0 2a", "if 7 0 0 0; put 7 0 2a", "if 7 0 9; put 7 16 2a"),
@@ -123,7 +124,7 @@ def line_from(pick, field, kept):
     if kind == "faulty":
         return kind, faulty_from(pick, field)
     if kind == "turned":
-        line = pick.choice((line_of(pick, field), condition_from(pick, field, kept), "quiet?", "list", "stats", "end", "begin"))
+        line = pick.choice((line_of(pick, field), condition_from(pick, field, kept), "quiet?", "list", "stats", "compact", "end", "begin"))
         return kind, turned(pick, line.encode())
     if kind == "long":
         return kind, long_from(pick)

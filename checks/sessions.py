@@ -1,11 +1,15 @@
 """Random sessions with `percobpf_keep`: each answer has to be that of kept_tables.py, and the log has to have the lines of the changes.
 
 A session has a manifest, and a log that is opened several times. Its lines come one by one or many at once, and parted anywhere. The
-input ends after a line, within a group, or within a last line; or the program is killed once all is answered. Between two starts the
-log may be compacted, and then it has to have the newest versions of the model.
+input ends after a line, within a group, or within a last line; or the program is killed once all is answered. Lines ask for compactions.
+Some programs are started to compact logs of so many bytes: these get a line once the one before it is answered, so that the model knows
+when that is. Between two starts the log may be compacted, for some with observers more, and then it has to have the newest versions of
+the model.
 """
 from __future__ import annotations
 
+import copy
+import json
 import random
 import re
 import subprocess
@@ -19,7 +23,7 @@ import logs
 from keep_room import NOT_QUIET, line_of
 from kept_tables import LOG_OF, KeptTable
 from model import observers_of
-from random_lines import NO_OBSERVERS, TOP, line_from, manifest_of
+from random_lines import LAST, NO_OBSERVERS, TOP, line_from, manifest_of
 from random_texts import field_from
 from tables import encoded, observer
 from tables import manifest_of as manifest_with
@@ -29,8 +33,10 @@ SECONDS = 60
 # A session is over once the table's clock is there, so that endless observers don't take the model minutes.
 LAST_TIMESTAMP = 3_000
 STARTS, BATCHES, LINES = (1, 2, 2, 3, 5), (1, 3, 6, 12), (1, 1, 1, 2, 5, 20, 60)
-# How often the log is compacted after a start.
-COMPACTIONS = (0, 1, 1, 2)
+# How often the log is compacted after a start; how likely that is for more observers; and how likely a program is started to do so from
+# a size on, which is that many bytes above that of its log.
+COMPACTIONS, LONGER, LARGE = (0, 1, 1, 2), 0.4, 0.35
+ABOVE = (-1, 0, 1, 40, 150, 400)
 
 
 # A program that writes the cell of the row before its own, and none from row 0, so that each pass has one run, and marks one cell.
@@ -53,20 +59,32 @@ class Session:
         self.manifest.write_text(manifest)
         self.kept = KeptTable(manifest)
         self.sent, self.met, self.timer = b"", Counter(), threading.Timer(SECONDS, bool)
-        # after how many changes the log was reported to have how many bytes
+        # in which generation, after how many changes, the log was reported to have how many bytes
         self.reported = set()
+        # whether a line is sent once the one before it is answered
+        self.is_in_turn = False
 
     def compare(self, what, came, wanted):
         if came != wanted:
             raise Differs(f"{what}: {came!r}, wanted {wanted!r}")
 
-    def start(self):
+    def start(self, least=LAST):
+        """Starts the program; from so many bytes on, it compacts the log."""
+        self.is_in_turn, options = least != LAST, [] if least == LAST else ["--compact-at", str(least)]
+        self.kept.size, generation = self.size(), self.kept.generation
+        self.kept.start(least)
+        self.met["compacted by a start"] += self.kept.generation - generation
         how = {"stdin": subprocess.PIPE, "stdout": subprocess.PIPE, "stderr": subprocess.PIPE}
-        self.running = subprocess.Popen([self.program, self.manifest, self.log], **how)
+        self.running = subprocess.Popen([self.program, *options, self.manifest, self.log], **how)
         self.sent = b""
         self.watch()
         self.compare("the first line", self.running.stdout.readline(), f"open {len(self.kept.lines)}\n".encode())
         self.timer.cancel()
+
+    def size(self):
+        """How many bytes the log has up to the end of its last record, or will have as a new one."""
+        places = logs.places_in(self.log.read_bytes()) if self.log.exists() else []
+        return places[-1][1] if places else self.kept.size
 
     def watch(self):
         """From now on the program has so many seconds for what it is asked next."""
@@ -87,12 +105,18 @@ class Session:
         except BrokenPipeError:
             pass
         rest, errors = self.running.stdout.read(), self.running.stderr.read()
-        self.compare("the end", (self.running.wait(), rest, errors), (status, b"", b""))
+        left_large = f"{self.log.resolve()}: not compacted: {NOT_QUIET}\n" * self.kept.left_large
+        self.compare("the end", (self.running.wait(), rest, errors.decode()), (status, b"", left_large))
         self.timer.cancel()
+        self.met["left large"] += self.kept.left_large
         file = self.log.read_bytes()
         self.compare("the log", logs.changes_in(file, self.manifest.read_bytes()), self.kept.lines)
         self.compare("groups that stand in two records", self.parted_groups(file), [])
-        self.compare("sizes of the log where no record of it ends", self.reported - set(logs.places_in(file)), set())
+        places = {(self.kept.generation, *place) for place in logs.places_in(file)}
+        of_others = {it for it in self.reported if it[0] == self.kept.generation} - places
+        self.compare("sizes of the log where no record of it ends", of_others, set())
+        if self.is_in_turn:
+            self.compare("the size of the log", self.kept.size, self.size())
 
     def parted_groups(self, file):
         """The groups within which a record of the log ends."""
@@ -136,36 +160,60 @@ class Session:
             return came == f"{answer}\n".encode()
         found = re.fullmatch(rb"log (\d+)\n", came)
         if found:
-            self.reported.add((int(answer.removeprefix(LOG_OF)), int(found[1])))
+            self.reported.add((*map(int, answer.removeprefix(LOG_OF).split(" ")), int(found[1])))
         return found is not None
+
+    def take(self, line):
+        """What a line has to be answered. Where lines come in turn, the size of the log is known then, and whether it is too large."""
+        wanted = self.kept.take(line)
+        if not self.is_in_turn:
+            return wanted
+        wanted = [f"log {self.kept.size}" if answer.startswith(LOG_OF) else answer for answer in wanted]
+        if self.kept.waiting is None:
+            generation = self.kept.generation
+            self.kept.compact_large()
+            self.met["compacted at a size"] += self.kept.generation - generation
+        return wanted
 
     def batch(self, pick, field):
         """Some lines, and their answers."""
-        text, wanted = b"", []
+        lines, wanted = [], []
         for _ in range(pick.choice(LINES)):
             if self.kept.table.clock >= LAST_TIMESTAMP:
                 break
             kind, line = line_from(pick, field, self.kept)
             self.met[f"{kind} lines"] += 1
-            text += line + b"\n"
-            wanted += self.kept.take(line)
-        self.exchange(parts_of(pick, text), wanted)
+            lines.append(line + b"\n")
+            wanted.append(self.take(line))
+        if self.is_in_turn:
+            for piece, its in zip(with_fronts(pick, lines), wanted):
+                self.exchange([piece], its)
+        else:
+            self.exchange(parts_of(pick, b"".join(lines)), [answer for its in wanted for answer in its])
 
-    def compact(self):
-        """Compacts the log, where nothing is left to do; else that is reported, and the log stays as it is."""
-        before, is_quiet = self.log.read_bytes(), self.kept.left() == "quiet"
-        words = [self.program, "--compact", self.manifest, self.log]
+    def compact(self, manifest=None):
+        """Compacts the log, for a manifest with more observers where one is given, and where nothing is left to do, also not by these;
+        else that is reported, and the log stays as it is."""
+        before, kept, file = self.log.read_bytes(), copy.deepcopy(self.kept), self.folder / "longer.json"
+        file.write_text(manifest or kept.manifest)
+        printed, is_quiet = f"open {len(kept.lines)}\n", kept.left() == "quiet"
+        if is_quiet and manifest:
+            count, runs = kept.observe_also(manifest)
+            printed += f"added {count} runs {runs}\n"
+            self.met["observers added"] += count
+            self.met["runs that caught up"] += runs
+        words = [self.program, "--compact", file, self.log]
         ended = subprocess.run(words, stdin=subprocess.DEVNULL, capture_output=True, timeout=SECONDS)
-        snapshot, opened = self.kept.snapshot(), f"open {len(self.kept.lines)}\n"
-        wanted = (0, f"{opened}compacted {len(snapshot.versions)}\n", "") if is_quiet else (1, opened, line_of(NOT_QUIET))
+        snapshot, versions = kept.snapshot(), kept.compact()
+        wanted = (1, printed, line_of(NOT_QUIET)) if versions is None else (0, f"{printed}compacted {versions}\n", "")
         self.compare("a compaction", (ended.returncode, ended.stdout.decode(), ended.stderr.decode()), wanted)
-        self.met["compacted" if is_quiet else "not compacted"] += 1
-        if not is_quiet:
+        self.met["not compacted" if versions is None else "compacted between"] += 1
+        if versions is None:
             self.compare("the log of a table that isn't quiet", self.log.read_bytes(), before)
             return
-        self.compare("the snapshot", logs.parts_of(self.log.read_bytes(), self.manifest.read_bytes()), (snapshot, []))
-        self.kept.begin_anew()
-        self.reported.clear()
+        self.compare("the snapshot", logs.parts_of(self.log.read_bytes(), file.read_bytes()), (snapshot, []))
+        self.kept = kept
+        file.rename(self.manifest)
 
     def close(self, pick, field):
         """Ends a program that has answered all but a group that hasn't ended."""
@@ -174,6 +222,9 @@ class Session:
             self.met["group left"] += 1
             self.end(0)
         elif pick.random() < 0.3:
+            if self.is_in_turn:
+                # a log that is large is compacted before the next answer
+                self.exchange([b"quiet?\n"], self.take(b"quiet?"))
             self.running.kill()
             self.met["killed"] += 1
             self.end(-9)
@@ -189,17 +240,19 @@ class Session:
             self.met["last line"] += 1
             self.send([line])
             self.running.stdin.close()
-            self.exchange([], self.kept.take(line))
+            self.exchange([], self.take(line))
 
     def go(self, pick, field):
         for _ in range(pick.choice(STARTS)):
-            self.start()
+            self.start(max(self.size() + pick.choice(ABOVE), 0) if pick.random() < LARGE else LAST)
             self.met["starts"] += 1
             for _ in range(pick.choice(BATCHES)):
                 self.batch(pick, field)
+            if self.kept.waiting is None and self.kept.left() != "quiet":
+                self.exchange([b"compact\n"], self.take(b"compact"))
             self.close(pick, field)
             for _ in range(pick.choice(COMPACTIONS)):
-                self.compact()
+                self.compact(longer(pick, field, self.kept.manifest) if pick.random() < LONGER else None)
 
 
 def parts_of(pick, text):
@@ -207,6 +260,22 @@ def parts_of(pick, text):
     count = pick.choice((1, 1, 1, 2, 6))
     places = sorted(pick.randrange(len(text) + 1) for _ in range(count - 1))
     return [text[begin:end] for begin, end in zip([0, *places], [*places, len(text)])]
+
+
+def with_fronts(pick, lines):
+    """Lines as they are sent in turn: with each the front of the next one, which may be empty."""
+    fronts = [b"", *(line[: pick.randrange(len(line))] for line in lines[1:]), b""]
+    return [line[len(front) :] + of_next for line, front, of_next in zip(lines, fronts, fronts[1:])]
+
+
+def longer(pick, field, manifest):
+    """A manifest with these observers and those of another one of this profile after them, or with these alone, as another text."""
+    its = json.loads(manifest)
+    others = (json.loads(manifest_of(pick, field)) for _ in range(3))
+    more = next((other["observers"] for other in others if other["profile"] == its["profile"]), [])
+    count = len(its["observers"])
+    its["observers"] += [{**it, "name": f"more-{count + number}"} for number, it in enumerate(more)]
+    return json.dumps(its, indent=count)
 
 
 def kept_files(session, fault):
