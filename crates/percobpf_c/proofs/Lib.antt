@@ -1,0 +1,4 @@
+pub mod EmptyTables
+pub mod Made
+pub mod Reported
+pub mod Stops

@@ -1,0 +1,10 @@
+pub mod Kinds
+pub mod Buffers
+pub mod Answers
+pub mod Numbers
+pub mod Verdicts
+pub mod Programs
+pub mod Manifests
+pub mod Versions
+pub mod Runs
+pub mod Replays
