@@ -30,3 +30,12 @@ time_both() {
 show() { awk -v what="$1" -v time="$2" 'BEGIN { printf "%-30s %9.1f ms\n", what, time / 1000 }'; }
 
 show_growth() { awk -v a="$large" -v b="$small" 'BEGIN { printf "growth from 64 to 512 slots: %.1f times\n", a / b }'; }
+
+# Prints a program of so many slots of straight code, one instruction per line.
+text() {
+    awk -v slots="$1" 'BEGIN {
+        for (i = 0; i < slots - 1; i++)
+            print i % 4 == 0 ? "mov64 r0, 0" : i % 4 == 1 ? "add64 r0, 1" : i % 4 == 2 ? "stxdw [r10-8], r0" : "ldxdw r1, [r10-8]"
+        print "exit"
+    }'
+}

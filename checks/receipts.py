@@ -6,8 +6,8 @@ and what else leads to one. So, in the code of every crate:
 - `AllocError` and `AllocFailed` stand as types of what is returned or converted alone, and under no other name;
 - a library's own case of want of memory stands before `=>` or in a comparison, and makes a receipt at a door, of which each crate
   has just as many as DOORS states;
-- no formatting is refused by hand, no growth is asked for that none can meet, nothing is `unsafe`, and no number is written into a
-  fault that is there;
+- no formatting is refused by hand, no growth is asked for that none can meet, nothing is `unsafe` but the name of an export, and
+  no number is written into a fault that is there;
 - a receipt is kept beyond no call: no `static` has one, and of types only those of HOLDERS have a member with one;
 - `no memory` stands as a text where TEXTS has it, in functions that are given a receipt, or in the arm of a variant that holds
   one.
@@ -61,6 +61,7 @@ HOLDERS = {
     "pb_files": {"FileFault", "PathFault"},
     "pb_command": {"Fault"},
     "pb_story": {"StoryFault"},
+    "percobpf_c": {"AnswerKind", "Page"},
 }
 RECEIPTS = {"NoMemory", "Refusal"}
 
@@ -79,7 +80,7 @@ WORDS = {
     "a refused growth is made up": re.compile(r"\bAlloc(?:Error|Failed)\b"),
     "a library's want of memory is made up": re.compile(r"\bOutOfMemory\b(?!\s*\)?\s*(?:=>|\{))|\bCategory::Memory\b(?!\s*=>)"),
     "a refused formatting is made up": re.compile(r"\bfmt::Error\b(?!\s*>)|\bErr\(Error\)"),
-    "code is unsafe": re.compile(r"\bunsafe\b"),
+    "code is unsafe": re.compile(r"(?<!#\[)\bunsafe\b"),
     "a number is written into a fault": re.compile(r"\.code\s*(?:[-+*/%|&^]|<<|>>)?=(?![=>])|&mut\s+[\w.]+\.code\b"),
     "a receipt outlives its call": re.compile(r"(?<!')\bstatic\b[^;]*\b(?:NoMemory|Refusal|\w*Fault)\b"),
 }
@@ -288,6 +289,7 @@ let f = |e: AllocError| NoMemory::from(e);
 let Err(AllocError) = words.push(1) else { return };
 """
 RIGHT = """
+#[unsafe(no_mangle)]
 impl From<AllocError> for NoMemory {
 fn from(e: AllocError) -> LineFault<C> {
 fn push(&mut self, it: u8) -> Result<(), AllocFailed<u8>>
