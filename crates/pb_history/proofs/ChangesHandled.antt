@@ -2,7 +2,7 @@
 -- table is quiet.
 use Rattle.std.proofs.Common.{◌≡◌, ℕ, zero, suc, ◌<◌, ◌≤◌, ◌^◌, cond, ◌⊎◌, inl, inr, List, ◌∷◌, Some, sym, ap, subst, ◌∙◌, arith}
 use Rattle.std.specs.FinMap as map
-use Rattle.pb_history.specs.Words.{Cell, Row, Ts, Content, Writes, content_in, Work, Phase, StateOf, TransactionOf, ObserverOf, column_or_zero, observed_column, acknowledgment, write_at}
+use Rattle.pb_history.specs.Words.{Cell, Row, Ts, Content, Writes, content_in, Work, Phase, StateOf, TransactionOf, ObserverOf, column_or_zero, observed_column, acknowledgment, write_at, NoLock}
 use Rattle.pb_history.specs.declared.entry.Entry.{Entry}
 use Rattle.pb_history.specs.Journals.{IsLegal}
 use Rattle.pb_history.specs.History.{Member, InHistory, WritesTo}
@@ -30,7 +30,7 @@ own_content x k ws = ap (λ b. cond b (Some k) (content_in ws x)) (same_cell_its
 same_stamps : (a b : ℕ) → Content.Stamp (ts a) ≡ Content.Stamp (ts b) → a ≡ b
 same_stamps a b e = let same : ts a ≡ ts b = cc in ap (λ (t : Ts). t.0) same
 
-module _ (journal : List Entry) (state : StateOf) (a : Agrees journal state) (i : IsSoundTable state) (cov : IsCovered state) where
+module _ (journal : List Entry) (state : StateOf) (a : Agrees journal state) (i : IsSoundTable state) where
   -- a run writes its acknowledgment, with its start
   writes_ack : (m : Member) → InHistory state.observers journal m → (o : ℕ) (row : Row) → m.work ≡ Work.Run o row → WritesTo m (acknowledgment state.observers o row) (Content.Stamp (ts m.start))
   writes_ack m h o row work =
@@ -110,29 +110,37 @@ module _ (journal : List Entry) (state : StateOf) (a : Agrees journal state) (i 
         ]
       ]
 
-  handlers : TellsHandlers journal state
-  handlers quiet u h o observer there row content w =
+  -- a change is handled by a run where its observer has an acknowledgment of a start at or after its commit
+  pub handled_by_then : (u : Member) → InHistory state.observers journal u → (o : ℕ) (row : Row) (column d s : ℕ) → write_at state.entries (Cell.Ack o row column) d ≡ Some s → u.commit ≤ s
+      → (n : Member) × InHistory state.observers journal n × Handles state.observers journal n o row u.commit
+  handled_by_then u h o row column d s acknowledged low =
+      let m = written_by journal state a i (Cell.Ack o row column) d s acknowledged in
+      let by = acknowledged_by journal state a i m.m m.in_history o row column m.content m.writes in
+      let first = above u h in
+      let start = m.start_is in
+      first_run (suc m.m.start) m.m m.in_history o row u.commit by.run (omega (arith, first)) (omega (arith, start, low)) (omega arith)
+
+  -- what a committed transaction wrote to an unlocked cell stands there
+  pub stands_unlocked : (u : Member) → InHistory state.observers journal u → (x : Cell) (content : Content) → WritesTo u x content → NoLock state.entries x → write_at state.entries x u.commit ≡ Some u.start
+  stands_unlocked u h x content w unlocked = elim (stands_at journal state a i u h x content w) [
+    | inl p ↦ p
+    | inr p ↦ (let none = unlocked u.start small_start in let there = p.1 in absurd cc)
+  ]
+    where
+      small_start : u.start < 2 ^ 64
+      small_start = let b = i.stamped u.start u.commit (inr (phase_in_view journal state a i u h)) in let first = b.0 in let up = b.1 in let k = i.small in omega (arith, first, up, k)
+
+  handlers : IsCovered state → TellsHandlers journal state
+  handlers cov quiet u h o observer there row content w =
       let column : observed_column state.observers o ≡ observer.column = ap column_or_zero there in
       let x : Cell = Cell.Data row observer.column in
       let wx : WritesTo u x content = ap (λ c. content_in u.writes (Cell.Data row c)) (sym column) ∙ w in
-      let written : write_at state.entries x u.commit ≡ Some u.start = elim (stands_at journal state a i u h x content wx) [
-        | inl p ↦ p
-        | inr p ↦ (let none = quiet.unlocked x u.start (small_start u h) in let there = p.1 in absurd cc)
-      ] in
-      let k = cov.covers o observer there row (quiet.unmarked x) u.commit u.start written in
-      let m = written_by journal state a i (Cell.Ack o row observer.column) k.0 k.1 k.2 in
-      let by = acknowledged_by journal state a i m.m m.in_history o row observer.column m.content m.writes in
-      let first = above u h in
-      let start = m.start_is in
-      let low = k.3 in
-      first_run (suc m.m.start) m.m m.in_history o row u.commit by.run (omega (arith, first)) (omega (arith, start, low)) (omega arith)
-    where
-      small_start : (u : Member) → InHistory state.observers journal u → u.start < 2 ^ 64
-      small_start u h = let b = i.stamped u.start u.commit (inr (phase_in_view journal state a i u h)) in let first = b.0 in let up = b.1 in let k = i.small in omega (arith, first, up, k)
+      let k = cov.covers o observer there row (quiet.unmarked x) u.commit u.start (stands_unlocked u h x content wx (quiet.unlocked x)) in
+      handled_by_then u h o row observer.column k.0 k.1 k.2 k.3
 
 module _ (observers : List ObserverOf) (seats clock : ℕ) (journal : List Entry) (state : StateOf) (l : IsLegal observers seats clock journal state) where
   pub tells_one_handler : TellsOneHandler journal state
-  tells_one_handler = once journal state (legal_agrees observers seats clock journal state l) (legal_sound observers seats clock journal state l) (legal_covers observers seats clock journal state l)
+  tells_one_handler = once journal state (legal_agrees observers seats clock journal state l) (legal_sound observers seats clock journal state l)
 
   pub tells_handlers : TellsHandlers journal state
   tells_handlers = handlers journal state (legal_agrees observers seats clock journal state l) (legal_sound observers seats clock journal state l) (legal_covers observers seats clock journal state l)

@@ -22,7 +22,7 @@ use Rattle.pb_history.proofs.StepsKeepSound.{phase_by, some_is}
 use Rattle.pb_history.proofs.Acknowledgments.{stamp_stands}
 
 -- by observers, whether a cell is marked, and write records
-abbrev Covers : List ObserverOf → (Cell → Bool) → (Cell → ℕ → Option ℕ) → Type 0
+abbrev pub Covers : List ObserverOf → (Cell → Bool) → (Cell → ℕ → Option ℕ) → Type 0
 Covers observers marked write =
     (o : ℕ) (observer : ObserverOf) → slice_get observers o ≡ Some observer → (row : Row) → marked (Cell.Data row observer.column) ≡ false
     → (c u : ℕ) → write (Cell.Data row observer.column) c ≡ Some u → (d : ℕ) × (s : ℕ) × (write (Cell.Ack o row observer.column) d ≡ Some s) × (c ≤ s)
@@ -34,7 +34,7 @@ pub record IsCovered (state : StateOf) : Type 0 where
 -- ---- marks
 
 -- a column that one of the observers has is observed
-observed_one : (observers : List ObserverOf) (o : ℕ) (observer : ObserverOf) → slice_get observers o ≡ Some observer → list_any (λ z. z.column == observer.column) observers ≡ true
+pub observed_one : (observers : List ObserverOf) (o : ℕ) (observer : ObserverOf) → slice_get observers o ≡ Some observer → list_any (λ z. z.column == observer.column) observers ≡ true
 observed_one [] o observer e = cc
 observed_one (z ∷ zs) zero observer e = grind arith
 observed_one (z ∷ zs) (suc o) observer e = or_true (z.column == observer.column) _ (observed_one zs o observer e)
@@ -50,7 +50,7 @@ module _ (marks : Marks) (x : Cell) where
   unfolding same_cell
   marked_here = ap is_some (map.get-insert cell_cmp_total marks x tt x) ∙ ap (λ b. is_some (cond b (Some tt) (map.get marks x))) (same_cell_itself x)
 
-  marked_less : (y : Cell) → is_marked (map.remove marks x) y ≡ false → (y ≡ x) ⊎ (is_marked marks y ≡ false)
+  pub marked_less : (y : Cell) → is_marked (map.remove marks x) y ≡ false → (y ≡ x) ⊎ (is_marked marks y ≡ false)
   unfolding same_cell
   marked_less y e =
       elim (eq_by_cmp cell_cmp y x) as (λ b. eq_by_cmp cell_cmp y x ≡ b → is_some (cond b None (map.get marks y)) ≡ false → (y ≡ x) ⊎ (is_marked marks y ≡ false)) [
@@ -58,22 +58,34 @@ module _ (marks : Marks) (x : Cell) where
         | false ↦ λ t f. inr f
       ] refl (ap is_some (sym (map.get-remove cell_cmp_total marks x y)) ∙ e)
 
-  marks_were : (observers : List ObserverOf) (y : Cell) → is_marked (with_mark observers marks x) y ≡ false → is_marked marks y ≡ false
+  pub marks_were : (observers : List ObserverOf) (y : Cell) → is_marked (with_mark observers marks x) y ≡ false → is_marked marks y ≡ false
   marks_were observers y = grind (arith, marked_more)
 
-  marked_now : (observers : List ObserverOf) → is_observed observers x ≡ true → is_marked (with_mark observers marks x) x ≡ true
+  pub marked_now : (observers : List ObserverOf) → is_observed observers x ≡ true → is_marked (with_mark observers marks x) x ≡ true
   marked_now observers e = ap (λ b. is_marked (cond b (map.insert marks x tt) marks) x) e ∙ marked_here
 
 -- ---- the steps
 
-module _ (journal : List Entry) (old : StateOf) (a : Agrees journal old) (i : IsSoundTable old) (cov : IsCovered old) where
-  small : (x : Cell) (c s : ℕ) → write_at old.entries x c ≡ Some s → c ≤ last_timestamp
+module _ (journal : List Entry) (old : StateOf) (a : Agrees journal old) (i : IsSoundTable old) where
+  pub small : (x : Cell) (c s : ℕ) → write_at old.entries x c ≡ Some s → c ≤ last_timestamp
   small x c s e = let b = (i.stamped s c (inr (i.record_committed x c s e))).1 in let k = i.small in omega (arith, b, k)
 
   -- the stamp of an acknowledgment's version is its start
-  stamp_is : (p : ℕ) (row : Row) (column s : ℕ) (v : Revision) → IsVersion old.entries (Cell.Ack p row column) s v → stamp_in (Some v) ≡ v.start.0
+  pub stamp_is : (p : ℕ) (row : Row) (column s : ℕ) (v : Revision) → IsVersion old.entries (Cell.Ack p row column) s v → stamp_in (Some v) ≡ v.start.0
   stamp_is p row column s v n = grind (arith, stamp_stands, ts, n.content, n.written, v.content)
 
+  pub up_to_date : (observers : List ObserverOf) (p : ℕ) (row : Row) (observer : ObserverOf) → slice_get observers p ≡ Some observer → AllUpToDate observers old.entries (Cell.Data row observer.column)
+      → (c u : ℕ) → write_at old.entries (Cell.Data row observer.column) c ≡ Some u → (d : ℕ) × (s : ℕ) × (write_at old.entries (Cell.Ack p row observer.column) d ≡ Some s) × (c ≤ s)
+  up_to_date observers p row observer there all c u e =
+      let above = (i.stamped u c (inr (i.record_committed (Cell.Data row observer.column) c u e))).0 in
+      let k = all p observer there refl c (small (Cell.Data row observer.column) c u e) (ap is_some e) in
+      by k.0 k.1 k.2 above
+    where
+      by : (v : Option Revision) → IsNewestVersion old.entries (Cell.Ack p row observer.column) v → c ≤ stamp_in v → u < c → (d : ℕ) × (s : ℕ) × (write_at old.entries (Cell.Ack p row observer.column) d ≡ Some s) × (c ≤ s)
+      by None n low above = absurd (omega (arith, low, above))
+      by (Some v) n low above = let same = stamp_is p row observer.column last_timestamp v n in (v.commit.0, v.start.0, n.written, omega (arith, low, same))
+
+module _ (journal : List Entry) (old : StateOf) (a : Agrees journal old) (i : IsSoundTable old) (cov : IsCovered old) where
   kept : (new : StateOf) → new.observers ≡ old.observers → new.marks ≡ old.marks → write_at new.entries ≡ write_at old.entries → IsCovered new
   kept new obs marks write = record {
     covers = subst (λ (p : List ObserverOf × Marks × (Cell → ℕ → Option ℕ)). Covers p.0 (is_marked p.1) p.2) (λ j. (sym obs j, sym marks j, sym write j)) cov.covers;
@@ -100,20 +112,9 @@ module _ (journal : List Entry) (old : StateOf) (a : Agrees journal old) (i : Is
             ];
       }
 
-  up_to_date : (p : ℕ) (row : Row) (observer : ObserverOf) → slice_get old.observers p ≡ Some observer → AllUpToDate old.observers old.entries (Cell.Data row observer.column)
-      → (c u : ℕ) → write_at old.entries (Cell.Data row observer.column) c ≡ Some u → (d : ℕ) × (s : ℕ) × (write_at old.entries (Cell.Ack p row observer.column) d ≡ Some s) × (c ≤ s)
-  up_to_date p row observer there all c u e =
-      let above = (i.stamped u c (inr (i.record_committed (Cell.Data row observer.column) c u e))).0 in
-      let k = all p observer there refl c (small (Cell.Data row observer.column) c u e) (ap is_some e) in
-      by k.0 k.1 k.2 above
-    where
-      by : (v : Option Revision) → IsNewestVersion old.entries (Cell.Ack p row observer.column) v → c ≤ stamp_in v → u < c → (d : ℕ) × (s : ℕ) × (write_at old.entries (Cell.Ack p row observer.column) d ≡ Some s) × (c ≤ s)
-      by None n low above = absurd (omega (arith, low, above))
-      by (Some v) n low above = let same = stamp_is p row observer.column last_timestamp v n in (v.commit.0, v.start.0, n.written, omega (arith, low, same))
-
   swept : (new : StateOf) (x : Cell) → AllUpToDate old.observers old.entries x → new ≡ record old { marks = map.remove old.marks x } → IsCovered new
   swept new x all is = subst IsCovered (sym is) (record {
-    covers = λ o observer there row unmarked c u e. grind (arith, marked_less, up_to_date, old.marks, old.observers, old.entries, cov.covers);
+    covers = λ o observer there row unmarked c u e. grind (arith, marked_less, up_to_date journal old a i old.observers, old.marks, old.observers, old.entries, cov.covers);
   })
 
   same : (new : StateOf) → new ≡ old → IsCovered new
@@ -183,7 +184,7 @@ module _ (observers : List ObserverOf) (seats clock : ℕ) where
 
 -- ---- a cell on which an observer isn't up to date is marked
 
-module _ (journal : List Entry) (state : StateOf) (a : Agrees journal state) (i : IsSoundTable state) (cov : IsCovered state) where
+module _ (journal : List Entry) (state : StateOf) (a : Agrees journal state) (i : IsSoundTable state) where
   -- of two write records on one cell, the later commit is of the later start
   in_order : (x : Cell) (d s c u : ℕ) → write_at state.entries x d ≡ Some s → write_at state.entries x c ≡ Some u → c ≤ d → u ≤ s
   in_order x d s c u e f low = elim (same_number u s) [
@@ -194,18 +195,19 @@ module _ (journal : List Entry) (state : StateOf) (a : Agrees journal state) (i 
   ]
 
   -- an acknowledgment of a start at least c has a stamp at least c
-  acknowledged_by_then : (p : ℕ) (row : Row) (column c d s : ℕ) (v : Option Revision) → IsNewestVersion state.entries (Cell.Ack p row column) v → write_at state.entries (Cell.Ack p row column) d ≡ Some s → c ≤ s → c ≤ stamp_in v
-  acknowledged_by_then p row column c d s None n e low = let none = n d (small journal state a i cov (Cell.Ack p row column) d s e) in absurd cc
+  pub acknowledged_by_then : (p : ℕ) (row : Row) (column c d s : ℕ) (v : Option Revision) → IsNewestVersion state.entries (Cell.Ack p row column) v → write_at state.entries (Cell.Ack p row column) d ≡ Some s → c ≤ s → c ≤ stamp_in v
+  acknowledged_by_then p row column c d s None n e low = let none = n d (small journal state a i (Cell.Ack p row column) d s e) in absurd cc
   acknowledged_by_then p row column c d s (Some v) n e low =
-      let same = stamp_is journal state a i cov p row column last_timestamp v n in
+      let same = stamp_is journal state a i p row column last_timestamp v n in
       elim (above d v.commit.0) [
-        | inl g ↦ (let none = n.newest d g (small journal state a i cov (Cell.Ack p row column) d s e) in absurd cc)
+        | inl g ↦ (let none = n.newest d g (small journal state a i (Cell.Ack p row column) d s e) in absurd cc)
         | inr g ↦ (let order = in_order (Cell.Ack p row column) v.commit.0 v.start.0 d s n.written e g in omega (arith, order, low, same))
       ]
     where
       above : (b c : ℕ) → (c < b) ⊎ (b ≤ c)
       above b c = grind arith
 
+module _ (journal : List Entry) (state : StateOf) (a : Agrees journal state) (i : IsSoundTable state) (cov : IsCovered state) where
   unmarked_is_current : (row : Row) (column p : ℕ) → IsBehind state.observers state.entries row column p → is_marked state.marks (Cell.Data row column) ≡ false → ⊥
   unmarked_is_current row column p h off =
       let k = h.acknowledges in
@@ -213,7 +215,7 @@ module _ (journal : List Entry) (state : StateOf) (a : Agrees journal state) (i 
       let written : write_at state.entries (Cell.Data row k.observer.column) h.version.commit.0 ≡ Some h.version.start.0 = ap (λ c. write_at state.entries (Cell.Data row c) h.version.commit.0) k.observes ∙ h.newest.written in
       let w = cov.covers p k.observer k.there row at h.version.commit.0 h.version.start.0 written in
       let ack : write_at state.entries (Cell.Ack p row column) w.0 ≡ Some w.1 = ap (λ c. write_at state.entries (Cell.Ack p row c) w.0) (sym k.observes) ∙ w.2 in
-      let low = acknowledged_by_then p row column h.version.commit.0 w.0 w.1 h.acknowledged k.newest ack w.3 in
+      let low = acknowledged_by_then journal state a i p row column h.version.commit.0 w.0 w.1 h.acknowledged k.newest ack w.3 in
       omega (arith, low)
 
   behind_marked : (x : Cell) → SomeBehind state.observers state.entries x → is_marked state.marks x ≡ true
