@@ -10,7 +10,9 @@ and what else leads to one. So, in the code of every crate:
   no number is written into a fault that is there;
 - a receipt is kept beyond no call: no `static` has one, and of types only those of HOLDERS have a member with one;
 - `no memory` stands as a text where TEXTS has it, in functions that are given a receipt, or in the arm of a variant that holds
-  one.
+  one;
+- what C gets as a kind is the number of an `AnswerKind`, whose case of want of memory holds a receipt, or of an ask, and nothing is
+  written into one that is there. `percobpf_c`, which exports calls, makes none.
 Tests are held to all of it but the last two; they take theirs from the one growth of `refused` in `test_fixtures`.
 """
 from __future__ import annotations
@@ -61,7 +63,7 @@ HOLDERS = {
     "pb_files": {"FileFault", "PathFault"},
     "pb_command": {"Fault"},
     "pb_story": {"StoryFault"},
-    "percobpf_c": {"AnswerKind", "Page"},
+    "pb_api": {"AnswerKind", "Page"},
 }
 RECEIPTS = {"NoMemory", "Refusal"}
 
@@ -73,6 +75,12 @@ TYPES = re.compile(
     rf"|(?:->|\blet\s+\w+:)\s*(?:core::result::)?Result<[^;{{}}]*?,\s*{ERROR_TYPE}\s*>"
     r"|\blet\s+AllocFailed\s*\{\s*value\s*\}\s*="
 )
+# The crate whose calls C gets, that which exports them, and how the kind of an answer is made.
+OF_KINDS, EXPORTS = "pb_api", "percobpf_c"
+DECLARED_KIND = re.compile(r"\bpub kind: u32,|\bkind: AnswerKind(?=[,)])")
+MADE_KIND = re.compile(r"\bkind: (?:(?:kind|AnswerKind::(?:Done|Refused|BadArgument|NotText|NoMemory\(refused\)))\.number\(\)|ASKS),\n")
+# Any other way: a member of another value, or by a shorter form, or what is written into one.
+OTHER_KIND = re.compile(r"\bkind\s*:(?!:)|[{,]\s*kind\s*[,}]|\.kind\b")
 # A library's own case, and after it the receipt.
 CASE = r"(?:\bCategory::Memory|\bFromHexError::OutOfMemory\)?|\bErrorKind::OutOfMemory)"
 DOOR = re.compile(rf"{CASE}\s*=>\s*\{{?\s*(?:return\s+)?[\w:(]*NoMemory::from\(AllocError\)\)*(?=[,;\s}}])")
@@ -211,6 +219,21 @@ def tell_of_words(texts, tell):
     return types
 
 
+def tell_of_kinds(texts, tell):
+    """The kinds of the answers that C gets. Answers how many are made."""
+    made = 0
+    for (crate, path), text in texts.items():
+        code = without_comments(text)
+        if crate == OF_KINDS:
+            made += len(MADE_KIND.findall(code))
+            code = MADE_KIND.sub(blank, DECLARED_KIND.sub(blank, code))
+        elif crate != EXPORTS:
+            continue
+        for line in lines_with(code, OTHER_KIND):
+            tell(f"crates/{path}:{line}: the kind of an answer is made up")
+    return made
+
+
 def is_within(path, text, line):
     """Whether a line stands in the function that gives tests their receipt."""
     for it in functions_in(path, without_comments(text))[0]:
@@ -248,6 +271,8 @@ def read(texts, tell):
         if maker.count(said) != count:
             tell(f"crates/{MAKER}: `{said}` stands {maker.count(said)} times, and not {count}")
     met = tell_of_words(texts, tell) + tell_of_holders(texts, tell)
+    if not tell_of_kinds(texts, tell):
+        tell(f"crates/{OF_KINDS}: no kind of an answer is made")
     tell_of_texts(texts, tell)
     return met
 
@@ -302,6 +327,21 @@ if fault.code == 1 {
 let name: &'static str = fault.name();
 """
 
+# The same of kinds, in the crate whose calls C gets.
+KINDS_MADE_UP = """
+        kind: 2,
+        kind: AnswerKind::Refused.number() + 1,
+Reached { slot, kind, code }
+verdict.kind = 2;
+replace(&mut verdict.kind, 2);
+"""
+KINDS_RIGHT = """
+        kind: AnswerKind::NoMemory(refused).number(),
+        kind: ASKS,
+    pub kind: u32,
+fn plain_verdict(kind: AnswerKind, observers: u32, code: u32) -> ManifestVerdict
+"""
+
 
 def lines_of(said):
     """The lines of a table, where those that are indented, and what closes them, belong to the line before."""
@@ -313,4 +353,10 @@ def try_rule(tell):
     for is_made_up, said in [(True, MADE_UP), (False, RIGHT)]:
         for line in lines_of(said):
             if bool(told_of(line, constants_unmet([line]))[0]) != is_made_up:
+                tell(f"checks/receipts.py: {'nothing' if is_made_up else 'something'} is found in '{line}'")
+    for is_made_up, said in [(True, KINDS_MADE_UP), (False, KINDS_RIGHT)]:
+        for line in said.strip("\n").split("\n"):
+            found = []
+            tell_of_kinds({(OF_KINDS, ""): line + "\n"}, found.append)
+            if bool(found) != is_made_up:
                 tell(f"checks/receipts.py: {'nothing' if is_made_up else 'something'} is found in '{line}'")

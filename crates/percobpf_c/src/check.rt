@@ -1,12 +1,11 @@
 //! What C calls for a verdict. An export's clauses may lead to no function's code, so that exports stand alone in their files.
 ghost use Rattle.std.specs.Prelude.{◌≡◌, ◌+◌, ◌^◌};
 ghost use Rattle.pb_registry.specs.Manifests.{profile_of};
-ghost use Rattle.percobpf_c.specs.Numbers.{version_by, helpers_in_bits};
-ghost use Rattle.percobpf_c.specs.Verdicts.{IsVerdictBy};
-ghost use Rattle.percobpf_c.specs.Versions.{StandFrom};
+ghost use Rattle.pb_api.specs.Numbers.{version_by, helpers_in_bits};
+ghost use Rattle.pb_api.specs.Verdicts.{IsVerdictBy};
+ghost use Rattle.pb_api.specs.Versions.{StandFrom};
 
-use crate::judging::{ProgramVerdict, judge_by_numbers};
-use crate::versions::{Versions, known_versions};
+use pb_api::{ProgramVerdict, Versions, judge_by_numbers, known_versions};
 use std::alloc::Global;
 
 /// Judges the bytes of a program of this profile, for change records of this version, with the helpers whose bits are set.

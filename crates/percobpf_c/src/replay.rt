@@ -1,9 +1,8 @@
 //! What C calls for a replay.
-ghost use Rattle.percobpf_c.specs.Answers.{buffer_call};
-ghost use Rattle.percobpf_c.specs.Replays.{IsReplayed};
+ghost use Rattle.pb_api.specs.Answers.{buffer_call};
+ghost use Rattle.pb_api.specs.Replays.{IsReplayed};
 
-use crate::answer::TextAnswer;
-use crate::replaying::replay;
+use pb_api::{TextAnswer, replay};
 use std::alloc::Global;
 
 /// Lets the events of a schedule happen in a new table of a manifest's observers and a script's changes, with a clock as the

@@ -1,10 +1,10 @@
 //! What C calls to run a program up to its next ask or its end.
 ghost use Rattle.std.specs.Prelude.{map};
 ghost use Rattle.pb_registry.specs.Manifests.{profile_of};
-ghost use Rattle.percobpf_c.specs.Numbers.{version_by, helpers_in_bits};
-ghost use Rattle.percobpf_c.specs.Runs.{IsRunBy, column_numbered, reply_given};
+ghost use Rattle.pb_api.specs.Numbers.{version_by, helpers_in_bits};
+ghost use Rattle.pb_api.specs.Runs.{IsRunBy, column_numbered, reply_given};
 
-use crate::running::{ChangeGiven, Reached, ReplyGiven, run_by_numbers};
+use pb_api::{ChangeGiven, Reached, ReplyGiven, run_by_numbers};
 use std::alloc::Global;
 
 /// Runs a program of this profile, for change records of this version, with the helpers whose bits are set, on the record of

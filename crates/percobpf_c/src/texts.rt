@@ -1,13 +1,11 @@
 //! What C calls to assemble and list programs, and to judge a manifest.
 ghost use Rattle.std.specs.Prelude.{◌≡◌};
 ghost use Rattle.pb_registry.specs.Manifests.{profile_of};
-ghost use Rattle.percobpf_c.specs.Answers.{buffer_call};
-ghost use Rattle.percobpf_c.specs.Programs.{IsAssembled, IsListed, InProfile};
-ghost use Rattle.percobpf_c.specs.Manifests.{IsManifestVerdict};
+ghost use Rattle.pb_api.specs.Answers.{buffer_call};
+ghost use Rattle.pb_api.specs.Programs.{IsAssembled, IsListed, InProfile};
+ghost use Rattle.pb_api.specs.Manifests.{IsManifestVerdict};
 
-use crate::answer::TextAnswer;
-use crate::manifests::{ManifestVerdict, judge_manifest};
-use crate::programs::{assemble_numbered, list_numbered};
+use pb_api::{ManifestVerdict, TextAnswer, assemble_numbered, judge_manifest, list_numbered};
 use std::alloc::Global;
 
 /// Assembles the text of a program of this profile: `out` gets the program's bytes.
