@@ -1,18 +1,14 @@
--- A quiet table's acknowledgments are at or above the versions of their cells, and so is what is read there later.
-use Rattle.std.proofs.Common.{◌≡◌, ℕ, ◌<◌, ◌≤◌, inl, inr, arith, Bool, true, false, List, Some, None, slice_get, refl, sym, ap, subst}
+-- Where acknowledgments are at or above the versions of their cells, so is what is read there later.
+use Rattle.std.proofs.Common.{◌≡◌, ℕ, ◌<◌, ◌≤◌, inl, inr, arith, List, Some, None, slice_get, sym, ap, subst}
 use Rattle.std.proofs.lemmas.Bool.{cases_lt}
-use Rattle.pb_generations.specs.Words.{Cell, Content, Row, Ts, Revision, ObserverOf, Entries, IsVersion, last_timestamp, data_at, write_at, acknowledged_in, stamp_of, Answer, Step, StateOf, Entry, Has, IsEntry, IsQuiet, IsSoundTable}
-use Rattle.pb_steps.specs.Marks.{is_marked}
+use Rattle.pb_generations.specs.Words.{Cell, Content, Row, Ts, Revision, ObserverOf, Entries, IsVersion, data_at, write_at, acknowledged_in, stamp_of, Answer, Step, StateOf, Entry, Has, IsEntry, IsSoundTable}
 use Rattle.pb_base.proofs.Logic.{one_value}
 use Rattle.pb_history.proofs.Updates.{none_if}
-use Rattle.pb_history.specs.MarksTold.{TellsMarks}
 use Rattle.pb_history.specs.TableView.{reads_recorded}
 use Rattle.pb_history.proofs.Acknowledgments.{stamp_stands}
 use Rattle.pb_history.proofs.Agreement.{Agrees, read_of, ts}
 use Rattle.pb_notify.specs.Forms.{IsHeld}
-use Rattle.pb_generations.specs.Mirrored.{SameEntries}
 use Rattle.pb_generations.specs.KeptTables.{ReadsAcknowledged}
-use Rattle.pb_generations.proofs.QuietTables.{no_record_above}
 
 -- what each observer has acknowledged of a cell of its column at c is at or above the version there
 abbrev pub AreAcknowledgedAt : List ObserverOf → ℕ → Entries → Type 0
@@ -20,42 +16,14 @@ AreAcknowledgedAt observers c e =
     (o : ℕ) (row : Row) (observer : ObserverOf) → slice_get observers o ≡ Some observer → (v w : Revision) → IsVersion e (Cell.Data row observer.column) c v → IsVersion e (Cell.Ack o row observer.column) c w
     → v.commit.0 ≤ (stamp_of w.content).0
 
--- ---- of a quiet table
+-- ---- what is read later
 
-module _ (whole : StateOf) (sound : IsSoundTable whole) (marked : TellsMarks whole) (quiet : IsQuiet whole) (room : whole.clock < last_timestamp) where
-  newest : (x : Cell) (v : Revision) → IsVersion whole.entries x whole.clock v → IsVersion whole.entries x last_timestamp v
-  newest x v is = record {
-    low = omega (arith, is.low, room);
-    written = is.written;
-    content = is.content;
-    newest = λ d above low. elim (cases_lt whole.clock d) [ inl past ↦ no_record_above whole sound x d past | inr by_then ↦ is.newest d above by_then ];
-  }
+-- what was acknowledged later was so by a later start
+abbrev pub AcknowledgeLate : List ObserverOf → ℕ → Entries → Type 0
+AcknowledgeLate observers c e =
+    (o : ℕ) (row : Row) (observer : ObserverOf) → slice_get observers o ≡ Some observer → (d s : ℕ) → c < d → write_at e (Cell.Ack o row observer.column) d ≡ Some s → c < s
 
-  marks_differ : (b : Bool) → b ≡ false → b ≡ true → ⊥
-  marks_differ b f t = grind (arith, f, t)
-
-  pub quiet_acknowledges : AreAcknowledgedAt whole.observers whole.clock whole.entries
-  quiet_acknowledges o row observer there v w is acknowledged =
-      let x = Cell.Data row observer.column in
-      elim (cases_lt (stamp_of w.content).0 v.commit.0) [
-        | inl newer ↦
-            absurd (marks_differ (is_marked whole.marks x) (quiet.unmarked x)
-            (marked x (
-              o,
-              record {
-                version = v;
-                newest = newest x v is;
-                acknowledged = Some w;
-                acknowledges = record { observer = observer; there = there; observes = refl; newest = newest (Cell.Ack o row observer.column) w acknowledged };
-                newer = newer;
-              },
-            )))
-        | inr fine ↦ fine
-      ]
-
--- ---- and later
-
-module _ (observers : List ObserverOf) (journal : List Entry) (whole : StateOf) (g : Agrees journal whole) (i : IsSoundTable whole) (c : ℕ) (e : Entries) (m : SameEntries c whole.entries e) (known : AreAcknowledgedAt observers c whole.entries)
+module _ (observers : List ObserverOf) (journal : List Entry) (whole : StateOf) (g : Agrees journal whole) (i : IsSoundTable whole) (c : ℕ) (starts : AcknowledgeLate observers c whole.entries) (known : AreAcknowledgedAt observers c whole.entries)
     (s : ℕ) (late : c < s) (o : ℕ) (row : Row) (observer : ObserverOf) (there : slice_get observers o ≡ Some observer) (v : Revision) (is : IsVersion whole.entries (Cell.Data row observer.column) c v) where
   abbrev ack : Cell
   ack = Cell.Ack o row observer.column
@@ -65,7 +33,7 @@ module _ (observers : List ObserverOf) (journal : List Entry) (whole : StateOf) 
       (last : (d u : ℕ) → d ≤ s → write_at whole.entries ack d ≡ Some u → d ≤ commit.0) where
     is_later : c < commit.0 → v.commit.0 ≤ (stamp_of content).0
     is_later above =
-        let begun = m.starts ack commit.0 start.0 above written in
+        let begun = starts o row observer there commit.0 start.0 above written in
         let stamp : content ≡ Content.Stamp (ts start.0) = one_value _ content (Content.Stamp (ts start.0)) stored (stamp_stands journal whole g i o row observer.column commit.0 start.0 written) in
         omega (arith, ap (λ k. (stamp_of k).0) stamp, begun, is.low)
 
@@ -85,9 +53,9 @@ module _ (observers : List ObserverOf) (journal : List Entry) (whole : StateOf) 
   by_answer seat Answer.Absent held some entry = absurd (omega (arith, some))
   by_answer seat _ held some entry = absurd held
 
-module _ (observers : List ObserverOf) (journal : List Entry) (whole : StateOf) (g : Agrees journal whole) (i : IsSoundTable whole) (c : ℕ) (e : Entries) (m : SameEntries c whole.entries e) (known : AreAcknowledgedAt observers c whole.entries) where
+module _ (observers : List ObserverOf) (journal : List Entry) (whole : StateOf) (g : Agrees journal whole) (i : IsSoundTable whole) (c : ℕ) (starts : AcknowledgeLate observers c whole.entries) (known : AreAcknowledgedAt observers c whole.entries) where
   -- a read at what was acknowledged is at or above the version at c
   pub acknowledged_late : (s : ℕ) (x : Cell) (t : ℕ) → c < s → ReadsAcknowledged observers journal s x t → (v : Revision) → IsVersion whole.entries x c v → v.commit.0 ≤ t
   acknowledged_late s x t late r v is =
-      let low = by_answer observers journal whole g i c e m known s late r.o r.row r.observer r.observer_is v (subst (λ (y : Cell). IsVersion whole.entries y c v) r.cell is) r.seat r.answer r.held (omega (arith, r.some, r.acknowledged)) r.read in
+      let low = by_answer observers journal whole g i c starts known s late r.o r.row r.observer r.observer_is v (subst (λ (y : Cell). IsVersion whole.entries y c v) r.cell is) r.seat r.answer r.held (omega (arith, r.some, r.acknowledged)) r.read in
       omega (arith, low, r.acknowledged)

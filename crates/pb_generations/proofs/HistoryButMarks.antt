@@ -1,7 +1,7 @@
 -- Journals that are the same but for steps of marks have one history, and the same reads, timestamps and transactions.
 use Rattle.std.proofs.Common.{◌≡◌, ℕ, Bool, true, false, not, cond, List, [], ◌∷◌, ◌++◌, refl, sym, ap, subst, ◌∙◌, inl, inr, filter}
 use Rattle.std.proofs.lemmas.List.Elements.{filter-append}
-use Rattle.pb_generations.specs.Words.{Cell, Content, Row, ObserverOf, Answer, Step, StateOf, Entry, Has, TellsHandlers, TellsOneHandler}
+use Rattle.pb_generations.specs.Words.{Cell, Content, Row, ObserverOf, Answer, Step, StateOf, Entry, Has, TellsOneHandler}
 use Rattle.pb_history.specs.Handled.{Handles}
 use Rattle.pb_history.specs.History.{Member, InHistory, IsSnapshot, NoSnapshot}
 use Rattle.pb_history.specs.RecordsTold.{WroteAt}
@@ -51,6 +51,15 @@ pub same_on : (a b more : List Entry) → SameButMarks a b → SameButMarks (a +
 same_on a b more same =
     let test : Entry → Bool = λ e. not (is_of_marks e.step) in
     filter-append test a more ∙ ap (λ l. l ++ without_marks more) same ∙ sym (filter-append test b more)
+
+-- without them a second time it is as it was
+pub without_twice : (journal : List Entry) → without_marks (without_marks journal) ≡ without_marks journal
+without_twice [] = refl
+without_twice (e ∷ es) = by (is_of_marks e.step) refl (without_twice es)
+  where
+    by : (b : Bool) → is_of_marks e.step ≡ b → without_marks (without_marks es) ≡ without_marks es → without_marks (cond (not b) (e ∷ without_marks es) (without_marks es)) ≡ cond (not b) (e ∷ without_marks es) (without_marks es)
+    by true of rest = rest
+    by false of rest = ap (λ b. cond (not b) (e ∷ without_marks (without_marks es)) (without_marks (without_marks es))) of ∙ ap (λ l. e ∷ l) rest
 
 -- ---- what no step of marks is listed by
 
@@ -149,7 +158,7 @@ module _ (observers : List ObserverOf) (a b : List Entry) (same : SameButMarks a
   same_acknowledged s x t (inl none) = inl (same_absence s x none.0, none.1)
   same_acknowledged s x t (inr some) = inr (some.0, some.1, same_snapshot s x some.0 some.1 _ some.2)
 
-  same_handled : (m : Member) (o : ℕ) (row : Row) (commit : ℕ) → Handles observers a m o row commit → Handles observers b m o row commit
+  pub same_handled : (m : Member) (o : ℕ) (row : Row) (commit : ℕ) → Handles observers a m o row commit → Handles observers b m o row commit
   same_handled m o row commit is = record { run = is.run; acknowledged = is.acknowledged; acknowledges = same_acknowledged m.start _ is.acknowledged is.acknowledges; newer = is.newer; seen = is.seen }
 
 module _ (a b : List Entry) (state : StateOf) (same : SameButMarks a b) where
@@ -163,11 +172,6 @@ module _ (a b : List Entry) (state : StateOf) (same : SameButMarks a b) where
   pub same_one_handler : TellsOneHandler a state → TellsOneHandler b state
   same_one_handler is m n first second o row commit p q =
       is m n (same_member state.observers b a (sym same) m first) (same_member state.observers b a (sym same) n second) o row commit (same_handled state.observers b a (sym same) m o row commit p) (same_handled state.observers b a (sym same) n o row commit q)
-
-  pub same_handlers : TellsHandlers a state → TellsHandlers b state
-  same_handlers is quiet u there o observer known row content writes =
-      let k = is quiet u (same_member state.observers b a (sym same) u there) o observer known row content writes in
-      (k.0, same_member state.observers a b same k.0 k.1, same_handled state.observers a b same k.0 o row u.commit k.2)
 
   pub same_timestamps : (clock : ℕ) → TellsTimestamps clock a state → TellsTimestamps clock b state
   same_timestamps clock is = record {

@@ -22,6 +22,14 @@ module _ (n : ℕ) where
   pub unknown_none : (e : Entries) (x : Cell) (so : Sort) (s : ℕ) → is_known_cell n x ≡ false → map.get (known_entries n e) (slot_at x so s) ≡ None
   unknown_none e x so s not = known_at e (slot_at x so s) ∙ ap (λ b. cond b (map.get e (slot_at x so s)) None) not
 
+  -- nothing stands there where nothing stands at all
+  pub known_nothing : known_entries n map.empty ≡ map.empty
+  known_nothing = map.same_map slot_cmp_total slot_cmp-IsAntisymmetric _ _ (λ z. known_at map.empty z ∙ by (is_known_slot z) (map.get map.empty z) (map.get-empty slot_cmp z))
+    where
+      by : (b : Bool) (o : Option Item) → o ≡ None → cond b o None ≡ o
+      by true o is = refl
+      by false o is = sym is
+
   -- ---- one change
 
   known_insert : (e : Entries) (k : Slot) (v : Item) → is_known_slot k ≡ true → known_entries n (map.insert e k v) ≡ map.insert (known_entries n e) k v

@@ -1,10 +1,11 @@
 -- Each step of a job names known cells, where its observer is known, and what it was answered.
-use Rattle.std.proofs.Common.{◌≡◌, ℕ, ◌<◌, true, List, [], ◌∷◌, Option, Some, None, map, slice_get, option_map, refl, sym, ap, subst, ◌∙◌, inl, zero, suc}
+use Rattle.std.proofs.Common.{arith, ◌≡◌, ℕ, ◌<◌, true, List, [], ◌∷◌, Option, Some, None, map, slice_get, option_map, refl, sym, ap, subst, ◌∙◌, inl, zero, suc}
 use Rattle.std.proofs.lemmas.Bool.{and_parts}
-use Rattle.pb_base.specs.Batch.{Writes}
+use Rattle.pb_base.specs.Batch.{Writes, is_batch}
 use Rattle.pb_base.proofs.Logic.{none_some, same_some}
 use Rattle.pb_sound.proofs.RunWrites.{runs_write_batches}
 use Rattle.pb_finished.specs.Finished.{IsMeant, Meant}
+use Rattle.pb_steps.specs.Steps.{StepCase}
 use Rattle.pb_steps.specs.declared.step.Declared.{Declared}
 use Rattle.pb_steps.specs.declared.step.Work.{Work}
 use Rattle.pb_history.proofs.DeclaredCells.{batch_plain, run_plain}
@@ -20,6 +21,7 @@ use Rattle.pb_txn.specs.Words.{recorded_row, recorded_column}
 use Rattle.pb_txn.specs.declared.place.PlanPlace.{PlanPlace}
 use Rattle.pb_txn.proofs.ChangeConversation.{answered_has_begun}
 use Rattle.pb_txn.proofs.PlanTransactions.{keeps_start_and_what}
+use Rattle.pb_notify.specs.Allowed.{entries_by}
 use Rattle.pb_notify.specs.Looks.{look_step}
 use Rattle.pb_notify.specs.Places.{step_at}
 use Rattle.pb_notify.specs.Runs.{Watch, watch_of}
@@ -28,7 +30,7 @@ use Rattle.pb_notify.specs.declared.place.RunPlace.{RunPlace}
 use Rattle.pb_steps.specs.Read.{read_step}
 use Rattle.pb_notify.proofs.LookConversation.{InLook, IsIn}
 use Rattle.pb_notify.proofs.RunConversation as conversation
-use Rattle.pb_generations.specs.Words.{Cell, Row, Ts, ObserverOf, Step, Answer, Received, Has}
+use Rattle.pb_generations.specs.Words.{Cell, Row, Ts, ObserverOf, Step, Answer, StateOf, Received, Has, JournalLeads}
 use Rattle.pb_generations.specs.LeftOut.{NamesKnown, is_known_cell, are_known_writes}
 use Rattle.pb_generations.specs.KnownSteps.{AreKnownAnswers, RunsNameKnown, ChangesNameKnown}
 use Rattle.pb_generations.proofs.LeftOutDeclarations.{number_is_known, plain_are_known}
@@ -101,6 +103,15 @@ module _ (n : ℕ) where
       let b = answered_has_begun batch r rest j talk in
       known_in_plan b.s (Declared.Script batch) b.plan rest step b.said (ap changes.next_of (sym b.q_is) ∙ next) all tt
 
+  -- each step of a conversation
+  abbrev pub AllNameKnown : List Received → Type 0
+  AllNameKnown [] = Unit {0}
+  AllNameKnown (r ∷ rs) = NamesKnown n r.step × AllNameKnown rs
+
+  plan_all_known : (p q : plans.PlanOf) (said : List Received) → AreKnownCells (declared_cells p.what) → NamesKnown n (Step.Declare (record { 0 = p.start }) p.what) → Converses p said q → AllNameKnown said
+  plan_all_known p q [] all first talk = tt
+  plan_all_known p q (r ∷ rs) all first talk = (known_in_order p.start p.what p.place r.step all first talk.0, plan_all_known (plans.answered p r.answer) q rs all first talk.2)
+
   -- ---- a run
 
   module _ (o : ℕ) (observer : ObserverOf) (row : Row) (said : List Received) (low : o < n) (answers : AreKnownAnswers n said) (step : Step) where
@@ -136,3 +147,39 @@ runs_name_known pt pe n o observer row said k step low reaches answers next =
 
 pub changes_name_known : ChangesNameKnown
 changes_name_known n batch said j step is talk next = batch_known n batch said j step (cells_of_writes n batch (plain_are_known n batch (batch_plain batch is))) talk next
+
+-- ---- a change that a table took
+
+-- a script declares a batch
+declares_batch : (old : StateOf) (seat : ℕ) (s : Ts) (batch : Writes) (answer : Answer) (new : StateOf) → StepCase old seat (Step.Declare s (Declared.Script batch)) answer new → is_batch batch ≡ true
+declares_batch old seat s batch answer new is = grind arith
+
+pub declared_batch : (seat : ℕ) (batch : Writes) (old new : StateOf) (a b : Received) (rest : List Received) (s : Ts) → JournalLeads old (entries_by seat (a ∷ b ∷ rest)) new → Step.Declare s (Declared.Script batch) ≡ b.step → is_batch batch ≡ true
+declared_batch seat batch old new a b rest s leads is =
+    declares_batch leads.0 seat s batch b.answer leads.2.0 (subst (λ (z : Step). StepCase leads.0 seat z b.answer leads.2.0) (sym is) leads.2.1.taken)
+
+batch_by_now : (seat : ℕ) (batch : Writes) (old new : StateOf) (a b : Received) (rest : List Received) (j : ChangeOf) → changes.Converses (new_change batch) (a ∷ b ∷ rest) j → JournalLeads old (entries_by seat (a ∷ b ∷ rest)) new → is_batch batch ≡ true
+batch_by_now seat batch old new a b rest j talk leads =
+    let begun = answered_has_begun batch a (b ∷ rest) j talk in
+    declared_batch seat batch old new a b rest (record { 0 = begun.s }) leads (same_some (Step.Declare (record { 0 = begun.s }) (Declared.Script batch)) b.step begun.said.0)
+
+-- its next step
+pub change_names_known : (n : ℕ) (seat : ℕ) (batch : Writes) (old new : StateOf) (said : List Received) (j : ChangeOf) (step : Step) → changes.Converses (new_change batch) said j → JournalLeads old (entries_by seat said) new
+    → changes.next_of j ≡ Some step → NamesKnown n step
+change_names_known n seat batch old new [] j step talk leads next = subst (NamesKnown n) (same_some (Step.Begin Work.Script) step (ap changes.next_of (sym talk) ∙ next)) tt
+change_names_known n seat batch old new (r ∷ []) j step talk leads next =
+    let begun = answered_has_begun batch r [] j talk in
+    subst (NamesKnown n) (same_some (Step.Declare (record { 0 = begun.s }) (Declared.Script batch)) step (ap plans.next_of (sym begun.said) ∙ ap changes.next_of (sym begun.q_is) ∙ next)) tt
+change_names_known n seat batch old new (a ∷ b ∷ rest) j step talk leads next = changes_name_known n batch (a ∷ b ∷ rest) j step (batch_by_now seat batch old new a b rest j talk leads) talk next
+
+-- and each that it took
+begin_known : (n : ℕ) (batch : Writes) (r : Received) (rest : List Received) (j : ChangeOf) → changes.Converses (new_change batch) (r ∷ rest) j → NamesKnown n r.step
+begin_known n batch r rest j talk = subst (NamesKnown n) (same_some (Step.Begin Work.Script) r.step talk.0) tt
+
+pub change_all_known : (n : ℕ) (seat : ℕ) (batch : Writes) (old new : StateOf) (said : List Received) (j : ChangeOf) → changes.Converses (new_change batch) said j → JournalLeads old (entries_by seat said) new → AllNameKnown n said
+change_all_known n seat batch old new [] j talk leads = tt
+change_all_known n seat batch old new (r ∷ []) j talk leads = (begin_known n batch r [] j talk, tt)
+change_all_known n seat batch old new (a ∷ b ∷ rest) j talk leads =
+    let begun = answered_has_begun batch a (b ∷ rest) j talk in
+    let cells = cells_of_writes n batch (plain_are_known n batch (batch_plain batch (batch_by_now seat batch old new a b rest j talk leads))) in
+    (begin_known n batch a (b ∷ rest) j talk, plan_all_known n (plans.fresh begun.s (Declared.Script batch)) begun.plan (b ∷ rest) cells tt begun.said)

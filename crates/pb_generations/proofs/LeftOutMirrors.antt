@@ -23,6 +23,7 @@ others_may_be_left_out law front gone whole marks sound unlocked os = record {
   lean_is = refl;
   primaries = λ x s p known there. absurd (none-some p (sym (no_lock_ever whole sound x (unlocked x) s) ∙ there));
   declared = λ s t above there. absurd (omega (arith, above, (law whole sound).begun s t there));
+  late = λ x s p there. absurd (none-some p (sym (no_lock_ever whole sound x (unlocked x) s) ∙ there));
 }
 
 -- ---- it mirrors itself
@@ -32,14 +33,14 @@ module _ (n : ℕ) (e : Entries) where
   f = known_entries n e
 
   -- what stands there stands in the whole table
-  lock_of : (x : Cell) (s : ℕ) (p : Cell) → lock_at f x s ≡ Some p → lock_at e x s ≡ Some p
+  pub lock_of : (x : Cell) (s : ℕ) (p : Cell) → lock_at f x s ≡ Some p → lock_at e x s ≡ Some p
   lock_of x s p there = by (is_known_cell n x) refl
     where
       by : (b : Bool) → is_known_cell n x ≡ b → lock_at e x s ≡ Some p
       by true known = sym (ap primary_of (known_same n e x Sort.Lock s known)) ∙ there
       by false not = absurd (none-some p (sym (ap primary_of (unknown_none n e x Sort.Lock s not)) ∙ there))
 
-  record_of : (x : Cell) (c s : ℕ) → write_at f x c ≡ Some s → write_at e x c ≡ Some s
+  pub record_of : (x : Cell) (c s : ℕ) → write_at f x c ≡ Some s → write_at e x c ≡ Some s
   record_of x c s there = by (is_known_cell n x) refl
     where
       by : (b : Bool) → is_known_cell n x ≡ b → write_at e x c ≡ Some s
@@ -69,16 +70,16 @@ module _ (n : ℕ) (e : Entries) where
       by false not = absurd (none-some k (sym (ap data_of (unknown_none n e x Sort.Data s not)) ∙ there))
 
   module _ (x : Cell) (known : is_known_cell n x ≡ true) where
-    record_at : (d : ℕ) → write_at f x d ≡ write_at e x d
+    pub record_at : (d : ℕ) → write_at f x d ≡ write_at e x d
     record_at d = ap start_of (known_same n e x Sort.Write d known)
 
     stored_at : (s : ℕ) → data_at f x s ≡ data_at e x s
     stored_at s = ap data_of (known_same n e x Sort.Data s known)
 
-    version_on : (c : ℕ) (v : Revision) → IsVersion e x c v → IsVersion f x c v
+    pub version_on : (c : ℕ) (v : Revision) → IsVersion e x c v → IsVersion f x c v
     version_on c v is = record { low = is.low; written = record_at v.commit.0 ∙ is.written; content = stored_at v.start.0 ∙ is.content; newest = λ d above low. record_at d ∙ is.newest d above low }
 
-    version_back : (c : ℕ) (v : Revision) → IsVersion f x c v → IsVersion e x c v
+    pub version_back : (c : ℕ) (v : Revision) → IsVersion f x c v → IsVersion e x c v
     version_back c v is = record { low = is.low; written = sym (record_at v.commit.0) ∙ is.written; content = sym (stored_at v.start.0) ∙ is.content; newest = λ d above low. sym (record_at d) ∙ is.newest d above low }
 
   -- where each cell has a version at c or none, it has so there

@@ -38,10 +38,10 @@ module _ (n : ℕ) (e : Entries) (x : Cell) (known : is_known_cell n x ≡ true)
   pub same_data : (s : ℕ) → data_at (known_entries n e) x s ≡ data_at e x s
   same_data s = ap data_of (known_same n e x Sort.Data s known)
 
-  version_there : (s : ℕ) (v : Revision) → IsVersion (known_entries n e) x s v → IsVersion e x s v
+  pub version_there : (s : ℕ) (v : Revision) → IsVersion (known_entries n e) x s v → IsVersion e x s v
   version_there s v is = record { low = is.low; written = sym (same_record v.commit.0) ∙ is.written; content = sym (same_data v.start.0) ∙ is.content; newest = λ c above low. sym (same_record c) ∙ is.newest c above low }
 
-  no_version : (s : ℕ) → NoVersion (known_entries n e) x s → NoVersion e x s
+  pub no_version : (s : ℕ) → NoVersion (known_entries n e) x s → NoVersion e x s
   no_version s none c low = sym (same_record c) ∙ none c low
 
   unlocked : NoLock (known_entries n e) x → NoLock e x
@@ -78,6 +78,9 @@ module _ (c : ℕ) (front gone : List ObserverOf) where
   abbrev LateAreKnown : Transactions → Type 0
   LateAreKnown ts = (s : ℕ) (t : TransactionOf) → c < s → map.get ts s ≡ Some t → are_known_writes n t.declared ≡ true
 
+  abbrev LocksAreLate : Entries → Type 0
+  LocksAreLate e = (x : Cell) (s : ℕ) (p : Cell) → lock_at e x s ≡ Some p → c < s
+
   -- what the step leaves
   pub record GoesThere (whole : StateOf) (seat : ℕ) (step : Step) (answer : Answer) (new : StateOf) : Type 0 where
     pub after : StateOf
@@ -87,8 +90,10 @@ module _ (c : ℕ) (front gone : List ObserverOf) where
     pub new_is : new ≡ without_others front after left
     pub primaries : Primaries after.entries
     pub declared : LateAreKnown after.transactions
+    pub locks : LocksAreLate after.entries
 
-  module _ (whole : StateOf) (os : whole.observers ≡ front ++ gone) (marks : Marks) (primaries : Primaries whole.entries) (declared : LateAreKnown whole.transactions) where
+  module _ (whole : StateOf) (os : whole.observers ≡ front ++ gone) (marks : Marks) (primaries : Primaries whole.entries) (declared : LateAreKnown whole.transactions)
+      (locks : LocksAreLate whole.entries) where
     abbrev e : Entries
     e = whole.entries
 
@@ -118,6 +123,18 @@ module _ (c : ℕ) (front gone : List ObserverOf) where
     primaries_back : (x : Cell) (s : ℕ) → Primaries (erase_lock e x s)
     primaries_back x s y u q of is = primaries y u q of (left_after_clearing (lock_at e) x s y u q (sym (same_there (lock_after_back e x s) y u) ∙ is)).0
 
+    late_put : (x : Cell) (s : ℕ) (k : _) (p : Cell) → c < s → LocksAreLate (put_lock e x s k p)
+    late_put x s k p late y u q is = elim (placed_or_before (lock_at e) x s p y u q (sym (same_there (lock_after_put e x s k p) y u) ∙ is)) [
+      | inl here ↦ subst (λ (w : ℕ). c < w) (sym here.1) late
+      | inr there ↦ locks y u q there.0
+    ]
+
+    late_commit : (x : Cell) (s d : ℕ) → LocksAreLate (commit_lock e x s d)
+    late_commit x s d y u q is = locks y u q (left_after_clearing (lock_at e) x s y u q (sym (same_there (lock_after_commit e x s d) y u) ∙ is)).0
+
+    late_back : (x : Cell) (s : ℕ) → LocksAreLate (erase_lock e x s)
+    late_back x s y u q is = locks y u q (left_after_clearing (lock_at e) x s y u q (sym (same_there (lock_after_back e x s) y u) ∙ is)).0
+
     own : (seat s : ℕ) (t : TransactionOf) → IsOwn lean seat s t → IsOwn whole seat s t
     own seat s t is = record { there = is.there; mine = is.mine }
 
@@ -131,10 +148,10 @@ module _ (c : ℕ) (front gone : List ObserverOf) where
       -- ---- what leaves the entries
 
       stays : (seat : ℕ) (step : Step) (answer : Answer) → new ≡ lean → StepCase whole seat step answer whole → GoesThere whole seat step answer new
-      stays seat step answer is taken = record { after = whole; left = marks; taken = taken; observers = os; new_is = is; primaries = primaries; declared = declared }
+      stays seat step answer is taken = record { after = whole; left = marks; taken = taken; observers = os; new_is = is; primaries = primaries; declared = declared; locks = locks }
 
       turns : (seat : ℕ) (step : Step) (answer : Answer) (s : ℕ) (t : TransactionOf) → are_known_writes n t.declared ≡ true → new ≡ with_transaction lean s t → StepCase whole seat step answer (with_transaction whole s t) → GoesThere whole seat step answer new
-      turns seat step answer s t known is taken = record { after = with_transaction whole s t; left = marks; taken = taken; observers = os; new_is = is; primaries = primaries; declared = known_with s t known }
+      turns seat step answer s t known is taken = record { after = with_transaction whole s t; left = marks; taken = taken; observers = os; new_is = is; primaries = primaries; declared = known_with s t known; locks = locks }
 
       -- ---- what changes them
 
@@ -147,6 +164,7 @@ module _ (c : ℕ) (front gone : List ObserverOf) where
         new_is = is ∙ ap (λ (f : Entries). record lean { entries = f; marks = with_mark front marks x }) (sym (known_commit n e x s known d));
         primaries = primaries_commit x s d;
         declared = declared;
+        locks = late_commit x s d;
       }
 
       backs_there : (seat : ℕ) (step : Step) (answer : Answer) (x : Cell) (s : ℕ) → IsOfFront x → new ≡ rolls_back lean x s → StepCase whole seat step answer (rolls_back whole x s) → GoesThere whole seat step answer new
@@ -158,6 +176,7 @@ module _ (c : ℕ) (front gone : List ObserverOf) where
         new_is = is ∙ ap (λ (f : Entries). record lean { entries = f }) (sym (known_erase n e x s known));
         primaries = primaries_back x s;
         declared = declared;
+        locks = late_back x s;
       }
 
       -- ---- reads
@@ -201,6 +220,7 @@ module _ (c : ℕ) (front gone : List ObserverOf) where
         new_is = is.new_is;
         primaries = primaries;
         declared = known_with s.0 (new_transaction seat work) refl;
+        locks = locks;
       }
       goes_there seat (Step.Read s x) (Answer.Locked start primary) not late known is = locked seat s x None start primary known is (λ k. k)
       goes_there seat (Step.Read s x) (Answer.Found start commit content) not late known is = found seat s x None (record { start = start; commit = commit; content = content }) late known is (λ to k. k)
@@ -223,6 +243,7 @@ module _ (c : ℕ) (front gone : List ObserverOf) where
             new_is = is.new_is ∙ ap (λ (f : Entries). record lean { entries = f; transactions = map.insert ts s.0 t }) (sym (known_put n e x s.0 known is.content is.primary));
             primaries = primaries_put x s.0 is.content is.primary (primary_is_known n is.t.declared is.primary writes is.primary_is);
             declared = known_with s.0 t writes;
+            locks = late_put x s.0 is.content is.primary late;
           }
       goes_there seat (Step.Prewrite s x) Answer.Conflict not late known is = turns seat (Step.Prewrite s x) Answer.Conflict s.0 _ (writes_known seat s.0 is.t late is.own) is.new_is
           (record { t = is.t; own = own seat s.0 is.t is.own; phase = is.phase; why = met n e x known s.0 is.why; new_is = refl })
@@ -236,6 +257,7 @@ module _ (c : ℕ) (front gone : List ObserverOf) where
             new_is = is.new_is;
             primaries = primaries;
             declared = known_with s.0 t (writes_known seat s.0 is.t late is.own);
+            locks = locks;
           }
       goes_there seat (Step.CommitPrimary s) Answer.Committed not late known is =
           let t = record is.t { phase = Phase.Committed (record { 0 = is.c }) } in
@@ -249,6 +271,7 @@ module _ (c : ℕ) (front gone : List ObserverOf) where
             new_is = is.new_is ∙ ap (λ (f : Entries). record lean { entries = f; marks = with_mark front marks is.primary; transactions = map.insert ts s.0 t }) (sym (known_commit n e is.primary s.0 first is.c));
             primaries = primaries_commit is.primary s.0 is.c;
             declared = known_with s.0 t writes;
+            locks = late_commit is.primary s.0 is.c;
           }
       goes_there seat (Step.CommitPrimary s) Answer.Lost not late known is =
           let writes = writes_known seat s.0 is.t late is.own in
@@ -328,26 +351,27 @@ module _ (c : ℕ) (front gone : List ObserverOf) (whole : StateOf) (marks : Mar
 -- ---- the laws
 
 -- a state that is another without the observers at its end, with any marks
-pub lacks_by : (c : ℕ) (front gone : List ObserverOf) (whole new : StateOf) (left : Marks) → new ≡ without_others front whole left → whole.observers ≡ front ++ gone → Primaries c front gone whole.entries → LateAreKnown c front gone whole.transactions → LacksOthers c gone whole new
-lacks_by c front gone whole new left is os primaries declared =
-    subst (LacksOthers c gone whole) (sym is) (record { observers = os; lean_is = refl; primaries = primaries; declared = declared })
+pub lacks_by : (c : ℕ) (front gone : List ObserverOf) (whole new : StateOf) (left : Marks) → new ≡ without_others front whole left → whole.observers ≡ front ++ gone → Primaries c front gone whole.entries → LateAreKnown c front gone whole.transactions
+    → LocksAreLate c front gone whole.entries → LacksOthers c gone whole new
+lacks_by c front gone whole new left is os primaries declared locks =
+    subst (LacksOthers c gone whole) (sym is) (record { observers = os; lean_is = refl; primaries = primaries; declared = declared; late = locks })
 
 pub others_are_never_missed : OthersAreNeverMissed
 others_are_never_missed c gone whole lean new seat step answer lacks not late known t =
     let front = lean.observers in
     let table : TableStep (without_others front whole lean.marks) seat step answer new = subst (λ (z : StateOf). TableStep z seat step answer new) lacks.lean_is t in
-    let there = goes_there c front gone whole lacks.observers lean.marks lacks.primaries lacks.declared new seat step answer not late known table.taken in
+    let there = goes_there c front gone whole lacks.observers lean.marks lacks.primaries lacks.declared lacks.late new seat step answer not late known table.taken in
     record {
       after = there.after;
       taken = record { allowed = sym (refused_alike front gone whole lacks.observers lean.marks seat step known) ∙ table.allowed; taken = there.taken };
-      lacks = lacks_by c front gone there.after new there.left there.new_is there.observers there.primaries there.declared;
+      lacks = lacks_by c front gone there.after new there.left there.new_is there.observers there.primaries there.declared there.locks;
     }
 
 pub marks_miss_nothing : MarksMissNothing
 marks_miss_nothing c gone whole lean new seat step answer lacks of t =
     let front = lean.observers in
     let table : TableStep (without_others front whole lean.marks) seat step answer new = subst (λ (z : StateOf). TableStep z seat step answer new) lacks.lean_is t in
-    lacks_by c front gone whole new new.marks (marks_stay c front gone whole lacks.observers lean.marks lacks.primaries lacks.declared new seat step answer of table.taken) lacks.observers lacks.primaries lacks.declared
+    lacks_by c front gone whole new new.marks (marks_stay c front gone whole lacks.observers lean.marks lacks.primaries lacks.declared lacks.late new seat step answer of table.taken) lacks.observers lacks.primaries lacks.declared lacks.late
 
 pub others_are_never_named : OthersAreNeverNamed
 others_are_never_named c gone whole lean new seat step answer lacks known t =

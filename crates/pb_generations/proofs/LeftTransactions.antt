@@ -1,11 +1,11 @@
 -- What is left of the transactions of a snapshot makes it a sound table, and is of no seat.
-use Rattle.std.proofs.Common.{◌≡◌, ℕ, ◌<◌, ◌≤◌, inl, inr, refl, sym, ◌∙◌, ap, subst, arith, Some, is_some, option_map}
+use Rattle.std.proofs.Common.{◌≡◌, ℕ, ◌<◌, ◌≤◌, inl, inr, refl, sym, ◌∙◌, ap, subst, arith, Some, None, is_some, option_map}
 use Rattle.std.proofs.lemmas.Bool.{cases_lt}
 use Rattle.std.proofs.lemmas.Option.{none-some}
 use Rattle.std.specs.FinMap as map
 use Rattle.pb_base.specs.Batch.{content_in}
 use Rattle.pb_base.proofs.Logic.{one_value, same_some}
-use Rattle.pb_generations.specs.Words.{Cell, Content, Revision, Entries, Phase, RecordedRead, StateOf, TransactionOf, Transactions, is_in, data_at, write_at, IsVersion, Has, TableView, IsSoundTable, IsCommittedAt}
+use Rattle.pb_generations.specs.Words.{Cell, Content, Revision, Entries, Phase, RecordedRead, StateOf, TransactionOf, Transactions, is_in, data_at, lock_at, write_at, IsVersion, Has, TableView, IsSoundTable, IsCommittedAt}
 use Rattle.pb_history.specs.TableView.{view_of, declared_by, prewritten_by}
 use Rattle.pb_history.proofs.Agreement.{ts}
 use Rattle.pb_history.proofs.HistoryTold.{same_stamp}
@@ -22,7 +22,7 @@ no_newer e x n v w a b = elim (cases_lt v.commit.0 w.commit.0) [
   | inr fine ↦ fine
 ]
 
-one_start : (e : Entries) (x : Cell) (n : ℕ) (v w : Revision) → IsVersion e x n v → IsVersion e x n w → v.start.0 ≡ w.start.0
+pub one_start : (e : Entries) (x : Cell) (n : ℕ) (v w : Revision) → IsVersion e x n v → IsVersion e x n w → v.start.0 ≡ w.start.0
 one_start e x n v w a b =
     let same : v.commit.0 ≡ w.commit.0 = omega (arith, no_newer e x n v w a b, no_newer e x n w v b a) in
     one_value _ v.start.0 w.start.0 a.written (ap (λ (k : ℕ). write_at e x k) same ∙ b.written)
@@ -30,25 +30,27 @@ one_start e x n v w a b =
 one_commit : (c d : ℕ) → Some (Phase.Committed (ts c)) ≡ Some (Phase.Committed (ts d)) → c ≡ d
 one_commit c d both = same_stamp (Phase.Committed (ts d)) c d (same_some _ _ (sym both)) (inr (inl refl))
 
--- ---- a snapshot
+-- ---- its entries
 
-module _ (whole : StateOf) (e : Entries) (had : Transactions) (sound : IsSoundTable whole) (snap : IsSnapshotOf whole e) (left : AreLeft whole e had) where
+-- of each write record the table has one on some cell, and its data stand beside it; a cell has one version at most, and no lock
+pub record HaveVersions (whole : StateOf) (e : Entries) : Type 0 where
+  pub written : (y : Cell) (c s : ℕ) → write_at e y c ≡ Some s → ((x : Cell) × (write_at whole.entries x c ≡ Some s)) × ((k : Content) × (data_at e y s ≡ Some k))
+  pub single : (y : Cell) (c s d u : ℕ) → write_at e y c ≡ Some s → write_at e y d ≡ Some u → s ≡ u
+  pub unlocked : (y : Cell) (s : ℕ) → lock_at e y s ≡ None
+
+-- a version of the table with this start and commit has its write record there
+pub version_record : (whole : StateOf) (x : Cell) (v : Revision) (c s : ℕ) → IsVersion whole.entries x whole.clock v → v.commit.0 ≡ c → v.start.0 ≡ s → write_at whole.entries x c ≡ Some s
+version_record whole x v c s is commit start = ap (λ (n : ℕ). write_at whole.entries x n) (sym commit) ∙ is.written ∙ ap (λ (n : ℕ). Some n) start
+
+module _ (whole : StateOf) (e : Entries) (had : Transactions) (sound : IsSoundTable whole) (snap : HaveVersions whole e) (left : AreLeft whole e had) where
   abbrev now : StateOf
   now = carried whole e had
 
   abbrev v : TableView
   v = view_of now
 
-  -- its write records are of the whole table
-  record_there : (x : Cell) (c s : ℕ) → write_at e x c ≡ Some s → write_at whole.entries x c ≡ Some s
-  record_there x c s is = let k = snap.only x c s is in ap (λ (n : ℕ). write_at whole.entries x n) (sym k.2) ∙ k.1.written ∙ ap (λ (n : ℕ). Some n) k.3
-
   whole_committed : (x : Cell) (c s : ℕ) → write_at e x c ≡ Some s → IsCommittedAt (view_of whole) s c
-  whole_committed x c s is = sound.record_committed x c s (record_there x c s is)
-
-  -- and its data stand beside them
-  data_there : (x : Cell) (c s : ℕ) → write_at e x c ≡ Some s → (k : Content) × (data_at e x s ≡ Some k)
-  data_there x c s is = let k = snap.only x c s is in (k.0.content, ap (λ (n : ℕ). data_at e x n) (sym k.3) ∙ (snap.kept x k.0 k.1).1)
+  whole_committed x c s is = let k = (snap.written x c s is).0 in sound.record_committed k.0 c s k.1
 
   -- ---- its transactions
 
@@ -107,20 +109,35 @@ module _ (whole : StateOf) (e : Entries) (had : Transactions) (sound : IsSoundTa
     written = λ x c s is.
         let g = left.all x c s is in
         let k = left.each s g.0 g.1 in
-        let d = data_there x c s is in
+        let d = (snap.written x c s is).1 in
         let here = ap (λ (n : ℕ). write_at e x n) (at_record s g.0 g.1 x c is) ∙ is in
         (is_committed_at x c s is, (d.0, ap (λ o. content_in (declared_by o) x) g.1 ∙ (k.declared x d.0).1 (here, d.1), d.1));
     stands = λ s c x k is content.
         let g = got_content now s x k content in
         ap (λ (n : ℕ). write_at e x n) (sym (at_commit s g.0 g.1 c is)) ∙ (((left.each s g.0 g.1).declared x k).0 g.2).0;
-    single = λ x c s d u a b.
-        let p = snap.only x c s a in
-        let q = snap.only x d u b in
-        sym p.3 ∙ one_start whole.entries x whole.clock p.0 q.0 p.1 q.1 ∙ q.3;
+    single = snap.single;
   }
 
   ended : AreEnded whole had
   ended s t there = let k = left.each s t there in let b = bounds_there s t there in (omega (arith, b.0, b.1), omega (arith, k.unseated))
 
+-- with what is left of its transactions, such entries make a sound table
+pub left_sound : (whole : StateOf) (e : Entries) (ts : Transactions) → IsSoundTable whole → HaveVersions whole e → AreLeft whole e ts → IsSoundTable (carried whole e ts) × AreEnded whole ts
+left_sound whole e had sound snap left = (snapshot_sound (view_of (carried whole e had)) (snapshot_view whole e had sound snap left), ended whole e had sound snap left)
+
+-- ---- a snapshot
+
+snapshot_has : (whole : StateOf) (e : Entries) → IsSnapshotOf whole e → HaveVersions whole e
+snapshot_has whole e snap = record {
+  written = λ y c s is.
+      let k = snap.only y c s is in
+      ((y, version_record whole y k.0 c s k.1 k.2 k.3), (k.0.content, ap (λ (n : ℕ). data_at e y n) (sym k.3) ∙ (snap.kept y k.0 k.1).1));
+  single = λ y c s d u a b.
+      let p = snap.only y c s a in
+      let q = snap.only y d u b in
+      sym p.3 ∙ one_start whole.entries y whole.clock p.0 q.0 p.1 q.1 ∙ q.3;
+  unlocked = snap.unlocked;
+}
+
 pub left_are_sound : LeftAreSound
-left_are_sound whole e had sound snap left = (snapshot_sound (view_of (carried whole e had)) (snapshot_view whole e had sound snap left), ended whole e had sound snap left)
+left_are_sound whole e had sound snap left = left_sound whole e had sound (snapshot_has whole e snap) left

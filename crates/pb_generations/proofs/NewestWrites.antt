@@ -1,6 +1,6 @@
 -- What is newest of an unlocked cell, in a table to which a legal journal leads, is the newest write of the journal's history, and
--- what serves for the table has each later one.
-use Rattle.std.proofs.Common.{◌≡◌, ℕ, ◌≤◌, inl, inr, arith, List, Option, Some, None, sym, ap, ◌∙◌}
+-- what has the same write records above a timestamp has each later one.
+use Rattle.std.proofs.Common.{◌≡◌, ℕ, ◌<◌, ◌≤◌, inl, inr, arith, List, Option, Some, None, sym, ap, ◌∙◌}
 use Rattle.std.proofs.lemmas.Bool.{cases_lt}
 use Rattle.std.proofs.lemmas.Option.{none-some}
 use Rattle.pb_generations.specs.Words.{Cell, Content, Revision, IsNewestVersion, NoLock, last_timestamp, write_at, StateOf, Entry, IsSoundTable, Entries, data_at}
@@ -9,7 +9,12 @@ use Rattle.pb_history.specs.TableView.{view_of}
 use Rattle.pb_history.proofs.Agreement.{Agrees}
 use Rattle.pb_history.proofs.SnapshotsTold.{phase_in_view, content_in_view, stands_at, written_by}
 use Rattle.pb_generations.specs.KeptTables.{IsNewestWrite, HasWritesAbove}
-use Rattle.pb_generations.specs.Mirrored.{SameEntries}
+
+-- above c a cell has the same write records in both, of starts above c, and the same data of these
+pub record SameAbove (c : ℕ) (whole kept : Entries) (x : Cell) : Type 0 where
+  pub records : (d : ℕ) → c < d → write_at kept x d ≡ write_at whole x d
+  pub starts : (d s : ℕ) → c < d → write_at whole x d ≡ Some s → c < s
+  pub stored : (s : ℕ) → c < s → data_at kept x s ≡ data_at whole x s
 
 module _ (journal : List Entry) (whole : StateOf) (g : Agrees journal whole) (i : IsSoundTable whole) (x : Cell) (unlocked : NoLock whole.entries x) where
   -- a committed write up to the last timestamp has its write record
@@ -45,12 +50,12 @@ module _ (journal : List Entry) (whole : StateOf) (g : Agrees journal whole) (i 
   has_content : (n : Member) (k : Content) → InHistory whole.observers journal n → WritesTo n x k → write_at whole.entries x n.commit ≡ Some n.start → data_at whole.entries x n.start ≡ Some k
   has_content n k there writes written = i.record_data x n.commit n.start written ∙ content_in_view journal whole g i n there x ∙ writes
 
-  -- what serves for the table has those above c
-  pub writes_above : (c : ℕ) (e : Entries) → SameEntries c whole.entries e → HasWritesAbove whole.observers c journal e x
+  -- what has the same records above c has those writes
+  pub writes_above : (c : ℕ) (e : Entries) → SameAbove c whole.entries e x → HasWritesAbove whole.observers c journal e x
   writes_above c e m = record {
     each = λ n k there writes above.
         let low = (i.stamped n.start n.commit (inr (phase_in_view journal whole g i n there))).1 in
         let written = recorded n k there writes (omega (arith, low, i.small)) in
-        (m.records x n.commit above ∙ written, m.stored x n.start (m.starts x n.commit n.start above written) ∙ has_content n k there writes written);
-    only = λ d s above there. written_by journal whole g i x d s (sym (m.records x d above) ∙ there);
+        (m.records n.commit above ∙ written, m.stored n.start (m.starts n.commit n.start above written) ∙ has_content n k there writes written);
+    only = λ d s above there. written_by journal whole g i x d s (sym (m.records d above) ∙ there);
   }

@@ -48,7 +48,7 @@ module _ (number : ℕ → ℕ) (one : IsOneToOne number) where
 
   -- ---- no two cells become one
 
-  one_cell : (x y : Cell) → new_cell x ≡ new_cell y → x ≡ y
+  pub one_cell : (x y : Cell) → new_cell x ≡ new_cell y → x ≡ y
   unfolding acknowledged_by
   one_cell (Cell.Data r c) (Cell.Data s d) e = e
   one_cell (Cell.Data r c) (Cell.Ack p s d) e = absurd cc

@@ -7,12 +7,12 @@ use Rattle.pb_history.proofs.TransactionAfter.{case_observers}
 use Rattle.pb_generations.specs.Words.{ObserverOf, Entries, Step, StateOf, Transactions, opening, TableStep, Entry, JournalLeads, IsLegal}
 use Rattle.pb_generations.specs.Renumbered.{AreNumberedBy, IsOneToOne, IsRenumbered, TransactionsAreRenumbered, renumbered_entry, renumbered_journal, renumbered_step, renumbered_transaction}
 use Rattle.pb_generations.specs.SameButMarks.{is_of_marks, without_marks, IsLegalButMarks}
+use Rattle.pb_generations.proofs.HistoryButMarks.{without_twice}
 use Rattle.pb_generations.proofs.JoinedJournals.{journal_observers}
 use Rattle.pb_generations.proofs.JournalsWithMore.{marks_alone}
 use Rattle.pb_generations.proofs.RenumberedEntries.{AreMoved, entries_renumbered, nothing_moved}
 use Rattle.pb_generations.proofs.RenumberedRefusals.{under_numbers, allowed_renumbered}
 use Rattle.pb_generations.proofs.RenumberedSteps.{GoesRenumbered, goes_renumbered}
-use Rattle.pb_generations.proofs.WithAddedObservers.{without_twice}
 
 still_of_marks : (number : ℕ → ℕ) (step : Step) → is_of_marks (renumbered_step number step) ≡ is_of_marks step
 still_of_marks number step = grind arith

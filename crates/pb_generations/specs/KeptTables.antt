@@ -1,13 +1,17 @@
--- A table that is kept over any number of generations: it is opened, takes steps, and where it is quiet it may get more observers,
--- or begin anew with a snapshot of itself. What holds of one table's legal journal holds of the journal of all its generations.
-use Rattle.std.specs.Prelude.{◌≡◌, ℕ, ◌<◌, List, [], ◌∷◌, ◌++◌, Option, Some, None, slice_get}
-use Rattle.pb_generations.specs.Words.{Cell, Content, Row, Ts, Revision, Entries, data_at, write_at, Step, Answer, StateOf, Transactions, opening, acknowledged_in, IsNewestVersion, NoLock, last_timestamp, TableStep, ObserverOf, Entry, Received, Has, IsEntry, JournalLeads, IsQuiet, TellsOneHandler, TellsHandlers}
+-- A table that is kept over any number of generations: it is opened, takes steps, and where it is quiet it may begin anew with a
+-- snapshot of itself, also with another list of observers. What holds of one table's legal journal holds of the journal of all its
+-- generations.
+use Rattle.std.specs.Prelude.{◌≡◌, ℕ, ◌<◌, ◌≤◌, true, false, List, [], ◌∷◌, ◌++◌, length, Option, Some, None, slice_get}
+use Rattle.pb_store.specs.Contents.{Marks}
+use Rattle.pb_steps.specs.Marks.{is_marked}
+use Rattle.pb_generations.specs.Words.{Cell, Content, Row, Ts, Revision, Entries, data_at, write_at, Step, Answer, StateOf, Transactions, opening, acknowledged_in, IsNewestVersion, NoLock, last_timestamp, TableStep, ObserverOf, Entry, Received, Has, IsEntry, JournalLeads, IsQuiet, TellsOneHandler}
+use Rattle.pb_history.specs.Handled.{Handles}
 use Rattle.pb_history.specs.History.{InHistory, IsSnapshot, Member, NoSnapshot, WritesTo}
 use Rattle.pb_history.specs.RecordsTold.{WroteAt}
 use Rattle.pb_history.specs.SnapshotsTold.{TellsSnapshots}
 use Rattle.pb_history.specs.Timestamps.{TellsTimestamps}
 use Rattle.pb_base.specs.Batch.{Writes}
-use Rattle.pb_txn.specs.Changes.{ChangeOf, IsWholeChange}
+use Rattle.pb_txn.specs.Changes.{ChangeOf, IsWholeChange, new_change}
 use Rattle.pb_txn.specs.Changes as changes
 use Rattle.pb_txn.specs.Conversations.{told}
 use Rattle.pb_txn.specs.declared.place.Outcome.{Outcome}
@@ -16,8 +20,11 @@ use Rattle.pb_notify.specs.Conversations.{Reaches}
 use Rattle.pb_notify.specs.Forms.{IsHeld}
 use Rattle.pb_notify.specs.Runs.{RunOf, watch_of, fresh, next_of}
 use Rattle.pb_state.specs.MoreObservers.{HasMoreObservers}
-use Rattle.pb_generations.specs.LateSteps.{StandsForWhole}
-use Rattle.pb_generations.specs.Mirrored.{carried}
+use Rattle.pb_generations.specs.Chosen.{AreChosen, IsChosenSnapshot, chosen_state, new_number}
+use Rattle.pb_generations.specs.LeftOut.{AnswersKnown, LacksOthers, NamesKnown, is_known_cell}
+use Rattle.pb_generations.specs.Mirrored.{IsMirroredBy, carried}
+use Rattle.pb_generations.specs.Renumbered.{renumbered_journal}
+use Rattle.pb_generations.specs.SameButMarks.{IsLegalButMarks}
 use Rattle.pb_generations.specs.Snapshots.{AreEnded, IsSnapshotOf}
 
 -- ---- the steps of jobs
@@ -54,85 +61,129 @@ ChangesAskSteps = (observers : List ObserverOf) (journal : List Entry) (j : Chan
 
 -- ---- the tables
 
--- a table is kept over generations: opened with these seats and this clock, it has these observers; the last generation began at c;
--- this is the journal of them all, and this the table as it is now
-pub data IsKeptTable : List ObserverOf → ℕ → ℕ → ℕ → List Entry → StateOf → Type 0 where
-  opened : (observers : List ObserverOf) (seats clock : ℕ) → clock < last_timestamp → IsKeptTable observers seats clock clock [] (opening observers seats clock)
-  stepped : (observers : List ObserverOf) (seats clock c : ℕ) (journal : List Entry) (old : StateOf) (e : Entry) (new : StateOf) → IsKeptTable observers seats clock c journal old
-      → IsStepOfJob observers journal e.step → TableStep old e.seat e.step e.answer new → IsKeptTable observers seats clock c (journal ++ e ∷ []) new
-  anew : (observers : List ObserverOf) (seats clock c : ℕ) (journal : List Entry) (old : StateOf) (f : Entries) (ts : Transactions) → IsKeptTable observers seats clock c journal old
-      → IsQuiet old → old.clock < last_timestamp → IsSnapshotOf old f → AreEnded old ts → IsKeptTable observers seats clock old.clock journal (carried old f ts)
-  -- more observers after those that it has, with a mark on each cell of theirs that has a write record
-  more : (observers : List ObserverOf) (seats clock c : ℕ) (journal : List Entry) (old : StateOf) (added : List ObserverOf) (new : StateOf) → IsKeptTable observers seats clock c journal old
-      → IsQuiet old → HasMoreObservers added old new → IsKeptTable (observers ++ added) seats clock c journal new
+-- A table is kept over generations: opened with these seats and this clock, it has these observers; those stand after them in its
+-- history, for runs of observers that are gone; the last generation began at c; this is the journal of them all, with the numbers
+-- that observers have by now; and this the table as it is. At each change of observers the whole old list is put before those of
+-- earlier changes. So one that stays stands there too, under a number of which the journal has no run.
+pub data IsKeptTable : List ObserverOf → List ObserverOf → ℕ → ℕ → ℕ → List Entry → StateOf → Type 0 where
+  opened : (observers : List ObserverOf) (seats clock : ℕ) → clock < last_timestamp → IsKeptTable observers [] seats clock clock [] (opening observers seats clock)
+  stepped : (observers gone : List ObserverOf) (seats clock c : ℕ) (journal : List Entry) (old : StateOf) (e : Entry) (new : StateOf) → IsKeptTable observers gone seats clock c journal old
+      → IsStepOfJob observers journal e.step → NamesKnown (length observers) e.step → TableStep old e.seat e.step e.answer new → IsKeptTable observers gone seats clock c (journal ++ e ∷ []) new
+  anew : (observers gone : List ObserverOf) (seats clock c : ℕ) (journal : List Entry) (old : StateOf) (f : Entries) (ts : Transactions) → IsKeptTable observers gone seats clock c journal old
+      → IsQuiet old → old.clock < last_timestamp → IsSnapshotOf old f → AreEnded old ts → IsKeptTable observers gone seats clock old.clock journal (carried old f ts)
+  -- the observers at these places stay, in this order, and after them come new ones, for which each cell of theirs that has a write
+  -- record is marked; in the journal all have their new numbers. One that doesn't stay may be among the new ones.
+  chosen : (observers gone : List ObserverOf) (seats clock c : ℕ) (journal : List Entry) (old : StateOf) (places : List ℕ) (front added : List ObserverOf) (f : Entries) (ts : Transactions) (new : StateOf)
+      → IsKeptTable observers gone seats clock c journal old → IsQuiet old → old.clock < last_timestamp
+      → AreChosen places observers front → IsChosenSnapshot places old f → AreEnded old ts → HasMoreObservers added (chosen_state old front f ts) new
+      → IsKeptTable (front ++ added) (observers ++ gone) seats clock old.clock (renumbered_journal (new_number places (length (front ++ added))) journal) new
 
 -- so it is after a run of an observer, as far as that went
 abbrev pub RunsKeepTables : Type 0
 RunsKeepTables =
-    (observers : List ObserverOf) (seats clock c : ℕ) (journal : List Entry) (old new : StateOf) → IsKeptTable observers seats clock c journal old
+    (observers gone : List ObserverOf) (seats clock c : ℕ) (journal : List Entry) (old new : StateOf) → IsKeptTable observers gone seats clock c journal old
     → (seat o : ℕ) (observer : ObserverOf) (row : Row) (said : List Received) (k : RunOf) → slice_get observers o ≡ Some observer → Reaches (fresh (watch_of o observer row)) said k
-    → JournalLeads old (entries_by seat said) new → IsKeptTable observers seats clock c (journal ++ entries_by seat said) new
+    → JournalLeads old (entries_by seat said) new → IsKeptTable observers gone seats clock c (journal ++ entries_by seat said) new
 
 -- and after a change, as far as that went
 abbrev pub ChangesKeepTables : Type 0
 ChangesKeepTables =
-    (observers : List ObserverOf) (seats clock c : ℕ) (journal : List Entry) (old new : StateOf) → IsKeptTable observers seats clock c journal old
-    → (seat : ℕ) (j k : ChangeOf) (said : List Received) → changes.Converses j said k
-    → JournalLeads old (entries_by seat said) new → IsKeptTable observers seats clock c (journal ++ entries_by seat said) new
+    (observers gone : List ObserverOf) (seats clock c : ℕ) (journal : List Entry) (old new : StateOf) → IsKeptTable observers gone seats clock c journal old
+    → (seat : ℕ) (batch : Writes) (said : List Received) (k : ChangeOf) → changes.Converses (new_change batch) said k
+    → JournalLeads old (entries_by seat said) new → IsKeptTable observers gone seats clock c (journal ++ entries_by seat said) new
 
 -- and after a whole change, by its conversation alone
 abbrev pub WholeChangesKeepTables : Type 0
 WholeChangesKeepTables =
-    (observers : List ObserverOf) (seats clock c : ℕ) (journal : List Entry) (old new : StateOf) → IsKeptTable observers seats clock c journal old
+    (observers gone : List ObserverOf) (seats clock c : ℕ) (journal : List Entry) (old new : StateOf) → IsKeptTable observers gone seats clock c journal old
     → (seat : ℕ) (batch : Writes) (start : Ts) (said : List Received) (o : Outcome) → IsWholeChange batch start said o
-    → JournalLeads old (entries_by seat said) new → IsKeptTable observers seats clock c (journal ++ entries_by seat said) new
+    → JournalLeads old (entries_by seat said) new → IsKeptTable observers gone seats clock c (journal ++ entries_by seat said) new
 
 -- and after the next mark was asked for
 abbrev pub MarksKeepTables : Type 0
 MarksKeepTables =
-    (observers : List ObserverOf) (seats clock c : ℕ) (journal : List Entry) (old new : StateOf) → IsKeptTable observers seats clock c journal old
+    (observers gone : List ObserverOf) (seats clock c : ℕ) (journal : List Entry) (old new : StateOf) → IsKeptTable observers gone seats clock c journal old
     → (seat : ℕ) (after : Option Cell) (answer : Answer) (said : List Received) → said ≡ told (Step.NextMark after) answer ∷ []
-    → JournalLeads old (entries_by seat said) new → IsKeptTable observers seats clock c (journal ++ entries_by seat said) new
+    → JournalLeads old (entries_by seat said) new → IsKeptTable observers gone seats clock c (journal ++ entries_by seat said) new
+
+-- ---- what holds of them
 
 -- what holds of each table that is kept, with the journal of all its generations
-abbrev pub OfKept : (List ObserverOf → ℕ → ℕ → ℕ → List Entry → StateOf → Type 0) → Type 0
-OfKept Holds = (observers : List ObserverOf) (seats clock c : ℕ) (journal : List Entry) (now : StateOf) → IsKeptTable observers seats clock c journal now → Holds observers seats clock c journal now
+abbrev pub OfKept : (List ObserverOf → List ObserverOf → ℕ → ℕ → ℕ → List Entry → StateOf → Type 0) → Type 0
+OfKept Holds =
+    (observers gone : List ObserverOf) (seats clock c : ℕ) (journal : List Entry) (now : StateOf) → IsKeptTable observers gone seats clock c journal now → Holds observers gone seats clock c journal now
 
--- the journal of all generations is one of a whole table, but for steps of marks
+-- where a cell of an observer's column isn't marked, each of its write records has an acknowledgment by a run that began no earlier
+abbrev pub AreCovered : List ObserverOf → Marks → Entries → Type 0
+AreCovered observers marks e =
+    (o : ℕ) (observer : ObserverOf) → slice_get observers o ≡ Some observer → (row : Row) → is_marked marks (Cell.Data row observer.column) ≡ false
+    → (c u : ℕ) → write_at e (Cell.Data row observer.column) c ≡ Some u → (d : ℕ) × (s : ℕ) × (write_at e (Cell.Ack o row observer.column) d ≡ Some s) × (c ≤ s)
+
+-- But for steps of marks, the journal is a legal one of a whole table, which has also the observers that are gone. Without these, and
+-- but for its marks, what is there now serves for it; and there no change is left unmarked that isn't acknowledged.
+pub record StandsForAll (observers gone : List ObserverOf) (seats clock c : ℕ) (journal : List Entry) (now : StateOf) : Type 0 where
+  pub whole : StateOf
+  pub legal : IsLegalButMarks (observers ++ gone) seats clock journal whole
+  pub lean : StateOf
+  pub lacks : LacksOthers c gone whole lean
+  pub mirrors : IsMirroredBy c lean now.entries now.transactions
+  pub now_is : now ≡ carried lean now.entries now.transactions
+  pub observers_are : now.observers ≡ observers
+  pub covered : AreCovered observers now.marks whole.entries
+
+-- the journal of all generations is one of a whole table
 abbrev pub KeptTablesAreWhole : Type 0
-KeptTablesAreWhole = OfKept StandsForWhole
+KeptTablesAreWhole = OfKept StandsForAll
 
--- over all generations, two committed runs of an observer that handle a change are one
+-- no lock that a table which is kept answers to the next step of a job has an acknowledgment of an observer that is gone as its primary
+abbrev pub KeptAnswersAreKnown : Type 0
+KeptAnswersAreKnown =
+    OfKept (λ observers gone seats clock c journal now. (seat : ℕ) (step : Step) (answer : Answer) (new : StateOf) → IsStepOfJob observers journal step → NamesKnown (length observers) step → TableStep now seat step answer new
+    → AnswersKnown (length observers) answer)
+
+-- the table with all observers of its history: also those that are gone
+abbrev pub with_gone : List ObserverOf → StateOf → StateOf
+with_gone gone now = record now { observers = now.observers ++ gone }
+
+-- Over all generations, two committed runs of an observer that handle a change are one, also where the observer is gone. An observer
+-- that was gone and came back is another one: it has another number, and handles all once more.
 abbrev pub HandledOnceInAll : Type 0
-HandledOnceInAll = OfKept (λ _ _ _ _ journal now. TellsOneHandler journal now)
+HandledOnceInAll = OfKept (λ _ gone _ _ _ journal now. TellsOneHandler journal (with_gone gone now))
 
--- where the table is quiet now, each committed change of any generation is handled by a committed run of each of its observers,
--- those that it got later too
+-- Where the table is quiet now, each committed change of any generation, also one by a run of an observer that is gone, is handled by
+-- a committed run of each observer that it has, whenever it got that.
 abbrev pub HandledWhenQuietInAll : Type 0
-HandledWhenQuietInAll = OfKept (λ _ _ _ _ journal now. TellsHandlers journal now)
+HandledWhenQuietInAll =
+    OfKept (λ observers gone _ _ _ journal now. IsQuiet now → (u : Member) → InHistory (observers ++ gone) journal u
+    → (o : ℕ) (observer : ObserverOf) → slice_get observers o ≡ Some observer
+    → (row : Row) (content : Content) → WritesTo u (Cell.Data row observer.column) content
+    → (m : Member) × InHistory (observers ++ gone) journal m × Handles (observers ++ gone) journal m o row u.commit)
 
 -- each read of any generation returns its snapshot of the history of them all
 abbrev pub SnapshotsInAll : Type 0
-SnapshotsInAll = OfKept (λ _ _ _ _ journal now. TellsSnapshots journal now)
+SnapshotsInAll = OfKept (λ _ gone _ _ _ journal now. TellsSnapshots journal (with_gone gone now))
 
 -- the newest write to x of a history, or that there is none
 abbrev pub IsNewestWrite : List ObserverOf → List Entry → Cell → Option Revision → Type 0
 IsNewestWrite observers journal x None = NoSnapshot observers journal last_timestamp x
 IsNewestWrite observers journal x (Some v) = IsSnapshot observers journal last_timestamp x v.start.0 v.commit.0 v.content
 
--- what is newest of an unlocked cell is the newest write of all generations
+-- what is newest of an unlocked cell is the newest write of all generations, but for acknowledgments of observers that are gone
 abbrev pub NewestInAll : Type 0
-NewestInAll = OfKept (λ _ _ _ _ journal now. (x : Cell) (v : Option Revision) → NoLock now.entries x → IsNewestVersion now.entries x v → IsNewestWrite now.observers journal x v)
+NewestInAll =
+    OfKept (λ observers gone _ _ _ journal now. (x : Cell) (v : Option Revision) → is_known_cell (length observers) x ≡ true → NoLock now.entries x → IsNewestVersion now.entries x v
+    → IsNewestWrite (observers ++ gone) journal x v)
 
 -- the timestamps of all generations rise, from above the clock as opened up to that of the table
 abbrev pub TimestampsRiseInAll : Type 0
-TimestampsRiseInAll = OfKept (λ _ _ clock _ journal now. TellsTimestamps clock journal now)
+TimestampsRiseInAll = OfKept (λ _ gone _ clock _ journal now. TellsTimestamps clock journal (with_gone gone now))
 
 -- entries have each write to x of a commit above c, with its content, and no other write record there
 pub record HasWritesAbove (observers : List ObserverOf) (c : ℕ) (journal : List Entry) (e : Entries) (x : Cell) : Type 0 where
   pub each : (m : Member) (k : Content) → InHistory observers journal m → WritesTo m x k → c < m.commit → (write_at e x m.commit ≡ Some m.start) × (data_at e x m.start ≡ Some k)
   pub only : (d s : ℕ) → c < d → write_at e x d ≡ Some s → WroteAt observers journal x d s
 
--- of an unlocked cell, the table has each write since its last generation began
+-- of an unlocked cell, if it isn't an acknowledgment of one that is gone, the table has each write since its last generation began
 abbrev pub LaterWritesInAll : Type 0
-LaterWritesInAll = OfKept (λ _ _ _ c journal now. (x : Cell) → NoLock now.entries x → HasWritesAbove now.observers c journal now.entries x)
+LaterWritesInAll =
+    OfKept (λ observers gone _ _ c journal now. (x : Cell) → is_known_cell (length observers) x ≡ true → NoLock now.entries x → HasWritesAbove (observers ++ gone) c journal now.entries x)

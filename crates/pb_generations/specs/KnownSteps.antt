@@ -19,6 +19,6 @@ RunsNameKnown =
     (n o : ℕ) (observer : ObserverOf) (row : Row) (said : List Received) (k : RunOf) (step : Step) → o < n → Reaches (fresh (watch_of o observer row)) said k → AreKnownAnswers n said
     → next_of k ≡ Some step → NamesKnown n step
 
--- and of a change
+-- and of a change of data cells, whatever it was answered
 abbrev pub ChangesNameKnown : Type 0
 ChangesNameKnown = (n : ℕ) (batch : Writes) (said : List Received) (j : ChangeOf) (step : Step) → is_batch batch ≡ true → changes.Converses (new_change batch) said j → changes.next_of j ≡ Some step → NamesKnown n step

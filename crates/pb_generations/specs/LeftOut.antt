@@ -34,12 +34,14 @@ abbrev pub without_others : List ObserverOf → StateOf → Marks → StateOf
 without_others front whole marks = record whole { entries = known_entries (length front) whole.entries; observers = front; marks = marks }
 
 -- The second table is the first without the observers that are gone, which stand at the end of its list, with any marks. No lock
--- on a known cell has an acknowledgment of theirs as its primary, and no transaction that began after c declares to write one.
+-- on a known cell has an acknowledgment of theirs as its primary, no transaction that began after c declares to write one, and
+-- each lock is of such a transaction.
 pub record LacksOthers (c : ℕ) (gone : List ObserverOf) (whole lean : StateOf) : Type 0 where
   pub observers : whole.observers ≡ lean.observers ++ gone
   pub lean_is : lean ≡ without_others lean.observers whole lean.marks
   pub primaries : (x : Cell) (s : ℕ) (p : Cell) → is_known_cell (length lean.observers) x ≡ true → lock_at whole.entries x s ≡ Some p → is_known_cell (length lean.observers) p ≡ true
   pub declared : (s : ℕ) (t : TransactionOf) → c < s → map.get whole.transactions s ≡ Some t → are_known_writes (length lean.observers) t.declared ≡ true
+  pub late : (x : Cell) (s : ℕ) (p : Cell) → lock_at whole.entries x s ≡ Some p → c < s
 
 -- ---- the steps
 

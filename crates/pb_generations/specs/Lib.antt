@@ -5,6 +5,7 @@ pub mod Renumbered
 pub mod LateSteps
 pub mod Snapshots
 pub mod LeftOut
+pub mod Chosen
 pub mod KnownSteps
 pub mod KeptTables
 pub mod InTime

@@ -20,7 +20,7 @@ pub use Rattle.pb_steps.specs.declared.phase.Phase.{Phase}
 pub use Rattle.pb_steps.specs.declared.seen.RecordedRead.{RecordedRead}
 pub use Rattle.pb_steps.specs.declared.step.Answer.{Answer}
 pub use Rattle.pb_steps.specs.declared.step.Step.{Step}
-pub use Rattle.pb_history.specs.Handled.{IsQuiet, TellsHandlers, TellsOneHandler}
+pub use Rattle.pb_history.specs.Handled.{IsQuiet, TellsOneHandler}
 pub use Rattle.pb_history.specs.History.{Has, IsEntry}
 pub use Rattle.pb_history.specs.Journals.{IsLegal, JournalLeads}
 pub use Rattle.pb_history.specs.Laws.{SoundHasData}

@@ -1,10 +1,11 @@
 //! Generations of a table are one: what a table does that was carried over is what the whole table would have done.
 //!
 //! A table that outlives its process need not keep all that ever was written. Where it is quiet it
-//! can begin anew with a snapshot: the newest version of each cell, acknowledgments too. It can also
-//! get more observers then, for which all that was ever written is still to be handled. These laws
-//! state that no later step of a job shows a difference, so that the past and what comes later are
-//! one legal journal, and the promises of `pb_history` hold of all generations together. They
+//! can begin anew with a snapshot: the newest version of each cell, acknowledgments too. Its
+//! observers may be others then: some stay, in any order, and keep what they have acknowledged; some
+//! go, and theirs go with them; and for new ones all that was ever written is still to be handled.
+//! These laws state that no later step of a job shows a difference, so that the past and what comes
+//! later are one legal journal, and the promises of `pb_history` hold of all generations together. They
 //! follow from the definition of a step (`pb_steps`), from the laws of journals (`pb_history`), and
 //! from what a run of an observer asks (`pb_notify`); `pb_keeper` rests on them. For example, a
 //! cell is written at 2 and again at 6, and a run of start 7 has handled both; a snapshot at 8
@@ -12,10 +13,12 @@
 //! of before, and finds the write of 6, although that of 2 is gone. No run handles 6 again.
 #![tactic(auto)]
 
+ghost use Rattle.pb_generations.specs.Chosen.{ChosenAreSound};
 ghost use Rattle.pb_generations.specs.InTime.{ChangesAreInTime, MarksAreInTime, RefusalsCarryOver, RunsAreInTime};
 ghost use Rattle.pb_generations.specs.KeptTables.{ChangesAskSteps, ChangesKeepTables, MarksKeepTables, RunsKeepTables};
 ghost use Rattle.pb_generations.specs.KeptTables.{HandledOnceInAll, HandledWhenQuietInAll, WholeChangesKeepTables};
-ghost use Rattle.pb_generations.specs.KeptTables.{KeptTablesAreWhole, LaterWritesInAll, NewestInAll, RunsAskSteps};
+ghost use Rattle.pb_generations.specs.KeptTables.{KeptAnswersAreKnown, KeptTablesAreWhole, LaterWritesInAll};
+ghost use Rattle.pb_generations.specs.KeptTables.{NewestInAll, RunsAskSteps};
 ghost use Rattle.pb_generations.specs.KeptTables.{SnapshotsInAll, TimestampsRiseInAll};
 ghost use Rattle.pb_generations.specs.KnownSteps.{ChangesNameKnown, RunsNameKnown};
 ghost use Rattle.pb_generations.specs.LateSteps.{GenerationsAreOne, StepsCarryOver};
@@ -24,14 +27,13 @@ ghost use Rattle.pb_generations.specs.LeftOut.{OthersAreNeverMissed, OthersAreNe
 ghost use Rattle.pb_generations.specs.LeftOut.{SameRefusals, SnapshotsLeaveOut, SnapshotsServeWithoutOthers};
 ghost use Rattle.pb_generations.specs.Mirrored.{OldMayBeDropped, QuietCarriesOver, QuietMirrorsItself};
 ghost use Rattle.pb_generations.specs.Renumbered.{JournalsMayBeRenumbered, RenumberedAreQuiet};
-ghost use Rattle.pb_generations.specs.SameButMarks.{ObserversMayBeAdded};
 ghost use Rattle.pb_generations.specs.Snapshots.{LeftAreSound};
 ghost use Rattle.pb_generations.specs.Snapshots.{SnapshotsCarryOver, SnapshotsServe};
 ghost use Rattle.pb_state.specs.SnapshotViews.{SnapshotsAreSound};
 
 use pb_history::{
-    behind_is_marked, handled_at_most_once, handled_when_quiet, reads_tell_snapshots,
-    sound_has_data, steps_keep_sound, timestamps_rise, transactions_are_told,
+    handled_at_most_once, reads_tell_snapshots, sound_has_data, steps_keep_sound, timestamps_rise,
+    transactions_are_told,
 };
 use pb_notify::jobs_are_allowed;
 use pb_txn::{plans_are_allowed, plans_converse};
@@ -60,11 +62,12 @@ pub fn generations_are_one()
 }
 
 /// A snapshot of a quiet table serves for it, and a state may be opened with one: with what is left of the transactions that wrote
-/// its versions it is a sound table.
+/// its versions it is a sound table. So is what was chosen of one for other observers.
 pub fn snapshots_serve()
     ensures serve { SnapshotsServe }
     ensures sound { SnapshotsAreSound }
     ensures left { LeftAreSound }
+    ensures chosen { ChosenAreSound }
 {
     old_may_be_dropped();
     sound_has_data();
@@ -83,26 +86,6 @@ pub fn jobs_ask_steps()
     ensures changes { ChangesAskSteps }
 {
     plans_converse();
-}
-
-/// A table that is kept over generations is one after each run of an observer and each change, as far as these went, and after the
-/// next mark was asked for.
-pub fn jobs_keep_tables()
-    ensures runs { RunsKeepTables }
-    ensures changes { ChangesKeepTables }
-    ensures whole { WholeChangesKeepTables }
-    ensures marks { MarksKeepTables }
-{
-    jobs_ask_steps();
-}
-
-/// A quiet table may get more observers after those that it has, with a mark on each cell of theirs that was written: but for
-/// steps of marks, the journal that led to it is also a legal one of a table that was opened with all of them.
-pub fn observers_may_be_added()
-    ensures { ObserversMayBeAdded }
-{
-    behind_is_marked();
-    sound_has_data();
 }
 
 /// The observers of a table may get other numbers, no two the same one: but for steps of marks, the renumbered journal is a legal
@@ -128,7 +111,7 @@ pub fn others_may_be_left_out()
 }
 
 /// What a run of an observer that stays asks next names none of the others' acknowledgments, where no lock that it was answered has
-/// one of them as its primary; and what a change asks next names none.
+/// one of them as its primary; and what a change of data cells asks next names none.
 pub fn jobs_name_known_cells()
     ensures runs { RunsNameKnown }
     ensures changes { ChangesNameKnown }
@@ -149,18 +132,35 @@ pub fn snapshots_serve_without_others()
     steps_keep_sound();
 }
 
-/// A table that is opened, takes the steps of jobs, and where it is quiet gets more observers or begins anew with a snapshot, any
-/// number of times, stands for a whole table: but for steps of marks, the journal of all its generations is a legal one that leads
-/// to it.
+/// A table that is opened, takes the steps of jobs, and where it is quiet begins anew with a snapshot, also with other observers, any
+/// number of times, stands for a whole table, which has the observers that are gone after its own. But for steps of marks, the
+/// journal of all its generations, with the numbers that observers have by now, is a legal one that leads to that. No lock that is
+/// answered to a job has an acknowledgment of an observer that is gone as its primary.
 pub fn kept_tables_are_whole()
-    ensures { KeptTablesAreWhole }
+    ensures whole { KeptTablesAreWhole }
+    ensures answers { KeptAnswersAreKnown }
 {
-    behind_is_marked();
-    observers_may_be_added();
+    journals_may_be_renumbered();
     old_may_be_dropped();
+    others_may_be_left_out();
     snapshots_carry_over();
-    snapshots_serve();
+    snapshots_serve_without_others();
+    sound_has_data();
     steps_carry_over();
+}
+
+/// A table that is kept over generations is one after each run of an observer and each change, as far as these went, and after the
+/// next mark was asked for.
+pub fn jobs_keep_tables()
+    ensures runs { RunsKeepTables }
+    ensures changes { ChangesKeepTables }
+    ensures whole { WholeChangesKeepTables }
+    ensures marks { MarksKeepTables }
+{
+    jobs_ask_steps();
+    jobs_name_known_cells();
+    kept_tables_are_whole();
+    plans_converse();
 }
 
 /// A step that names no transaction of before is refused by a carried table for the same reason as by the whole one.
@@ -176,17 +176,21 @@ pub fn jobs_are_in_time()
     ensures marks { MarksAreInTime }
 {
     jobs_are_allowed();
+    jobs_ask_steps();
     jobs_keep_tables();
+    jobs_name_known_cells();
     kept_tables_are_whole();
+    others_may_be_left_out();
     plans_are_allowed();
     plans_converse();
     refusals_carry_over();
     transactions_are_told();
 }
 
-/// Over all generations no change is handled by two committed runs of one observer; where the table is quiet none is left
-/// unhandled; each read returns its snapshot of the whole history; what is newest of an unlocked cell is the newest write of that
-/// history, and each write since the last generation began is there; and timestamps rise.
+/// Over all generations no change is handled by two committed runs of one observer, where one that was gone and came back is
+/// another; where the table is quiet each is handled by every observer that it has; each read returns its snapshot of the whole
+/// history; what is newest of an unlocked cell is the newest write of that history, and each write since the last generation began is
+/// there, but for acknowledgments of observers that are gone; and timestamps rise.
 pub fn promises_hold_over_generations()
     ensures once { HandledOnceInAll }
     ensures handled { HandledWhenQuietInAll }
@@ -196,9 +200,7 @@ pub fn promises_hold_over_generations()
     ensures timestamps { TimestampsRiseInAll }
 {
     handled_at_most_once();
-    handled_when_quiet();
     kept_tables_are_whole();
-    old_may_be_dropped();
     reads_tell_snapshots();
     timestamps_rise();
 }

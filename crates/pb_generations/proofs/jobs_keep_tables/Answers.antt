@@ -1,101 +1,117 @@
-use Rattle.std.proofs.Common.{◌≡◌, ℕ, List, [], ◌∷◌, ◌++◌, Some, slice_get, sym, ap, subst, ◌∙◌, append_assoc, append-nil}
-use Rattle.pb_generations.specs.Words.{Cell, Row, Ts, ObserverOf, Step, StateOf, Entry, Received, JournalLeads}
+use Rattle.std.proofs.Common.{◌≡◌, ℕ, true, List, [], ◌∷◌, ◌++◌, length, map, refl, sym, ap, subst, ◌∙◌, append_assoc, append-nil}
+use Rattle.std.proofs.lemmas.Bool.{and_parts}
+use Rattle.pb_base.specs.Batch.{Writes}
+use Rattle.pb_history.proofs.DeclaredCells.{batch_plain}
 use Rattle.pb_steps.specs.declared.step.Declared.{Declared}
-use Rattle.pb_txn.specs.declared.place.Outcome.{Outcome}
-use Rattle.pb_txn.specs.Forms.{IsWhole, committed, conflicted_first, conflicted_later, lost, prewrites, secondaries, AreCleared}
-use Rattle.pb_txn.specs.Changes.{ChangeOf}
+use Rattle.pb_steps.specs.declared.step.Work.{Work}
+use Rattle.pb_txn.specs.Changes.{ChangeOf, IsWholeChange, new_change}
 use Rattle.pb_txn.specs.Changes as changes
+use Rattle.pb_txn.specs.Conversations.{told}
+use Rattle.pb_txn.specs.Forms.{IsWhole, committed, conflicted_first, conflicted_later, lost, prewrites, secondaries, AreCleared}
+use Rattle.pb_txn.specs.declared.place.Outcome.{Outcome}
 use Rattle.pb_notify.specs.Allowed.{entries_by}
-use Rattle.pb_notify.specs.Conversations.{Reaches, made, took, computed}
-use Rattle.pb_notify.specs.Runs.{RunOf, watch_of, fresh}
-use Rattle.pb_history.proofs.JournalParts.{leads_in_parts}
-use Rattle.pb_history.proofs.Updates.{has_right}
-use Rattle.pb_generations.specs.KeptTables.{IsKeptTable, stepped, IsStepOfJob, RunsAskSteps, ChangesAskSteps}
-use Rattle.pb_generations.proofs.SeatEntries.{entry, by_append, said_there}
+use Rattle.pb_generations.specs.Words.{Cell, Ts, ObserverOf, Step, Answer, StateOf, Entry, Received, JournalLeads}
+use Rattle.pb_generations.specs.KeptTables.{IsKeptTable, stepped, IsStepOfJob, ChangesAskSteps}
+use Rattle.pb_generations.specs.LeftOut.{NamesKnown, is_known_cell, are_known_writes}
+use Rattle.pb_generations.proofs.KeptRuns.{kept_run}
+use Rattle.pb_generations.proofs.KnownJobs.{AllNameKnown, change_all_known, declared_batch}
+use Rattle.pb_generations.proofs.LeftOutDeclarations.{plain_are_known}
+use Rattle.pb_generations.proofs.SeatEntries.{entry}
 use Rattle.pb_generations.proofs.jobs_keep_tables.Goals as goal
 
-module _ (observers : List ObserverOf) (seats clock c : ℕ) (seat : ℕ) where
-  -- a run, from its first step on
-  module _ (asks : RunsAskSteps) (journal : List Entry) (old : StateOf) (kept : IsKeptTable observers seats clock c journal old) (o : ℕ) (observer : ObserverOf) (row : Row) (there : slice_get observers o ≡ Some observer) where
-    of_run : (said : List Received) (k : RunOf) (new : StateOf) → Reaches (fresh (watch_of o observer row)) said k → JournalLeads old (entries_by seat said) new → IsKeptTable observers seats clock c (journal ++ entries_by seat said) new
-    of_run said k new made leads =
-        subst (λ (l : List Entry). IsKeptTable observers seats clock c l new) (sym (append-nil journal)) (subst (λ (s : StateOf). IsKeptTable observers seats clock c journal s) (sym leads) kept)
-    of_run said k new (took before from r to reaches next can is hears) leads =
-        let part = leads_in_parts old (entries_by seat before) (entry seat r ∷ []) new (subst (λ (l : List Entry). JournalLeads old l new) (by_append seat before (r ∷ [])) leads) in
-        let mid = of_run before from part.0 reaches part.1 in
-        let asked = asks observers (journal ++ entries_by seat before) seat o observer row before from r.step there reaches (λ x has. has_right journal (entries_by seat before) _ (said_there seat before x has)) next in
-        let last = subst (λ (s : StateOf). IsKeptTable observers seats clock c ((journal ++ entries_by seat before) ++ entry seat r ∷ []) s) (sym part.2.2) (stepped observers seats clock c (journal ++ entries_by seat before) part.0 (entry seat r) part.2.0 mid asked part.2.1) in
-        subst (λ (l : List Entry). IsKeptTable observers seats clock c l new) (append_assoc journal (entries_by seat before) (entry seat r ∷ []) ∙ ap (λ (l : List Entry). journal ++ l) (sym (by_append seat before (r ∷ [])))) last
-    of_run said k new (computed before from to reaches local step) leads = of_run said from new reaches leads
+module _ (observers : List ObserverOf) where
+  -- each is a step of a job, whatever the journal, and names known cells
+  abbrev AreAsked : List Received → Type 0
+  AreAsked [] = Unit {0}
+  AreAsked (r ∷ rs) = ((journal : List Entry) → IsStepOfJob observers journal r.step) × NamesKnown (length observers) r.step × AreAsked rs
 
-  of_change : ChangesAskSteps → (journal : List Entry) (old new : StateOf) → IsKeptTable observers seats clock c journal old → (j k : ChangeOf) (said : List Received) → changes.Converses j said k
-      → JournalLeads old (entries_by seat said) new → IsKeptTable observers seats clock c (journal ++ entries_by seat said) new
-  of_change asks journal old new kept j k [] converses leads =
-      subst (λ (l : List Entry). IsKeptTable observers seats clock c l new) (sym (append-nil journal)) (subst (λ (s : StateOf). IsKeptTable observers seats clock c journal s) (sym leads) kept)
-  of_change asks journal old new kept j k (r ∷ said) converses leads =
-      let first = stepped observers seats clock c journal old (entry seat r) leads.0 kept (asks observers journal j r.step converses.0) leads.1 in
-      let rest = of_change asks (journal ++ entry seat r ∷ []) leads.0 new first (changes.answered j r.answer) k said converses.2 leads.2 in
-      subst (λ (l : List Entry). IsKeptTable observers seats clock c l new) (append_assoc journal (entry seat r ∷ []) (entries_by seat said)) rest
+  of_asked : (gone : List ObserverOf) (seats clock c seat : ℕ) (journal : List Entry) (old new : StateOf) (said : List Received) → IsKeptTable observers gone seats clock c journal old → AreAsked said
+      → JournalLeads old (entries_by seat said) new → IsKeptTable observers gone seats clock c (journal ++ entries_by seat said) new
+  of_asked gone seats clock c seat journal old new [] kept are leads =
+      subst (λ (l : List Entry). IsKeptTable observers gone seats clock c l new) (sym (append-nil journal)) (subst (λ (s : StateOf). IsKeptTable observers gone seats clock c journal s) (sym leads) kept)
+  of_asked gone seats clock c seat journal old new (r ∷ said) kept are leads =
+      let first = stepped observers gone seats clock c journal old (entry seat r) leads.0 kept (are.0 journal) are.1 leads.1 in
+      let rest = of_asked gone seats clock c seat (journal ++ entry seat r ∷ []) leads.0 new said first are.2 leads.2 in
+      subst (λ (l : List Entry). IsKeptTable observers gone seats clock c l new) (append_assoc journal (entry seat r ∷ []) (entries_by seat said)) rest
 
--- ---- a whole change
+  -- ---- a change, as far as it went
 
--- a step that reads no cell at a timestamp is one of a job
-abbrev IsUntimed : Step → Type 0
-IsUntimed (Step.ReadAt s x t) = ⊥
-IsUntimed _ = Unit {0}
+  change_asked : ChangesAskSteps → (j k : ChangeOf) (said : List Received) → changes.Converses j said k → AllNameKnown (length observers) said → AreAsked said
+  change_asked asks j k [] talk known = tt
+  change_asked asks j k (r ∷ said) talk known = (λ journal. asks observers journal j r.step talk.0, known.0, change_asked asks (changes.answered j r.answer) k said talk.2 known.1)
 
-abbrev AreUntimed : List Received → Type 0
-AreUntimed [] = Unit {0}
-AreUntimed (r ∷ rs) = IsUntimed r.step × AreUntimed rs
+  -- ---- a whole change
 
-of_job : (observers : List ObserverOf) (journal : List Entry) (step : Step) → IsUntimed step → IsStepOfJob observers journal step
-of_job observers journal (Step.ReadAt s x t) is = absurd is
-of_job observers journal _ is = tt
+  abbrev AreKnown : List Cell → Type 0
+  AreKnown [] = Unit {0}
+  AreKnown (x ∷ xs) = (is_known_cell (length observers) x ≡ true) × AreKnown xs
 
-untimed_append : (a b : List Received) → AreUntimed a → AreUntimed b → AreUntimed (a ++ b)
-untimed_append [] b are rest = rest
-untimed_append (r ∷ a) b are rest = (are.0, untimed_append a b are.1 rest)
+  known_writes : (ws : Writes) → are_known_writes (length observers) ws ≡ true → AreKnown (map (λ w. w.0) ws)
+  known_writes [] known = tt
+  known_writes (w ∷ ws) known = let parts = and_parts (is_known_cell (length observers) w.0) (are_known_writes (length observers) ws) known in (parts.0, known_writes ws parts.1)
 
-untimed_prewrites : (s : Ts) (xs : List Cell) → AreUntimed (prewrites s xs)
-untimed_prewrites s [] = tt
-untimed_prewrites s (x ∷ xs) = (tt, untimed_prewrites s xs)
+  known_parts : (xs ys : List Cell) → AreKnown (xs ++ ys) → AreKnown xs × AreKnown ys
+  known_parts [] ys known = (tt, known)
+  known_parts (x ∷ xs) ys known = let parts = known_parts xs ys known.1 in ((known.0, parts.0), parts.1)
 
-untimed_secondaries : (s : Ts) (xs : List Cell) → AreUntimed (secondaries s xs)
-untimed_secondaries s [] = tt
-untimed_secondaries s (x ∷ xs) = (tt, untimed_secondaries s xs)
+  asked_append : (a b : List Received) → AreAsked a → AreAsked b → AreAsked (a ++ b)
+  asked_append [] b are rest = rest
+  asked_append (r ∷ a) b are rest = (are.0, are.1, asked_append a b are.2 rest)
 
-untimed_cleared : (xs : List Cell) (rs : List Received) → AreCleared xs rs → AreUntimed rs
-untimed_cleared [] rs is = subst AreUntimed (sym is) tt
-untimed_cleared (x ∷ xs) [] is = tt
-untimed_cleared (x ∷ xs) (r ∷ rs) is = (subst IsUntimed (sym is.0) tt, untimed_cleared xs rs is.2)
+  asked_prewrites : (s : Ts) (xs : List Cell) → AreKnown xs → AreAsked (prewrites s xs)
+  asked_prewrites s [] known = tt
+  asked_prewrites s (x ∷ xs) known = (λ journal. tt, known.0, asked_prewrites s xs known.1)
 
--- no conversation of a transaction has one
-untimed_whole : (s : Ts) (what : Declared) (cells : List Cell) (said : List Received) (o : Outcome) → IsWhole s what cells said o → AreUntimed said
-untimed_whole s what cells said o (committed x others c) = (tt, untimed_append (prewrites s (x ∷ others)) _ (untimed_prewrites s (x ∷ others)) (tt, (tt, untimed_secondaries s others)))
-untimed_whole s what cells said o (conflicted_first x after) = (tt, (tt, tt))
-untimed_whole s what cells said o (conflicted_later x y before after a cs can cleared) = (tt, untimed_append (prewrites s (x ∷ before)) _ (untimed_prewrites s (x ∷ before)) (tt, (tt, untimed_cleared before cs cleared)))
-untimed_whole s what cells said o (lost x others c cs cleared) = (tt, untimed_append (prewrites s (x ∷ others)) _ (untimed_prewrites s (x ∷ others)) (tt, (tt, untimed_cleared others cs cleared)))
+  asked_secondaries : (s : Ts) (xs : List Cell) → AreKnown xs → AreAsked (secondaries s xs)
+  asked_secondaries s [] known = tt
+  asked_secondaries s (x ∷ xs) known = (λ journal. tt, known.0, asked_secondaries s xs known.1)
 
-module _ (observers : List ObserverOf) (seats clock c : ℕ) (seat : ℕ) where
-  of_untimed : (journal : List Entry) (old new : StateOf) (said : List Received) → IsKeptTable observers seats clock c journal old → AreUntimed said → JournalLeads old (entries_by seat said) new
-      → IsKeptTable observers seats clock c (journal ++ entries_by seat said) new
-  of_untimed journal old new [] kept are leads =
-      subst (λ (l : List Entry). IsKeptTable observers seats clock c l new) (sym (append-nil journal)) (subst (λ (s : StateOf). IsKeptTable observers seats clock c journal s) (sym leads) kept)
-  of_untimed journal old new (r ∷ said) kept are leads =
-      let first = stepped observers seats clock c journal old (entry seat r) leads.0 kept (of_job observers journal r.step are.0) leads.1 in
-      let rest = of_untimed (journal ++ entry seat r ∷ []) leads.0 new said first are.1 leads.2 in
-      subst (λ (l : List Entry). IsKeptTable observers seats clock c l new) (append_assoc journal (entry seat r ∷ []) (entries_by seat said)) rest
+  asked_cleared : (xs : List Cell) (rs : List Received) → AreKnown xs → AreCleared xs rs → AreAsked rs
+  asked_cleared [] rs known is = subst AreAsked (sym is) tt
+  asked_cleared (x ∷ xs) [] known is = tt
+  asked_cleared (x ∷ xs) (r ∷ rs) known is = (λ journal. subst (IsStepOfJob observers journal) (sym is.0) tt, subst (NamesKnown (length observers)) (sym is.0) known.0, asked_cleared xs rs known.1 is.2)
+
+  module _ (s : Ts) (batch : Writes) where
+    asked_whole : (cells : List Cell) (said : List Received) (o : Outcome) → AreKnown cells → IsWhole s (Declared.Script batch) cells said o → AreAsked said
+    asked_whole cells said o known (committed x others c) =
+        (λ journal. tt, tt, asked_append (prewrites s (x ∷ others)) _ (asked_prewrites s (x ∷ others) known) (λ journal. tt, tt, (λ journal. tt, tt, asked_secondaries s others known.1)))
+    asked_whole cells said o known (conflicted_first x after) = (λ journal. tt, tt, (λ journal. tt, known.0, tt))
+    asked_whole cells said o known (conflicted_later x y before after a cs can cleared) =
+        let parts = known_parts before (y ∷ after) known.1 in
+        (λ journal. tt, tt, asked_append (prewrites s (x ∷ before)) _ (asked_prewrites s (x ∷ before) (known.0, parts.0)) (λ journal. tt, parts.1.0, (λ journal. tt, known.0, asked_cleared before cs parts.0 cleared)))
+    asked_whole cells said o known (lost x others c cs cleared) =
+        (λ journal. tt, tt, asked_append (prewrites s (x ∷ others)) _ (asked_prewrites s (x ∷ others) known) (λ journal. tt, tt, (λ journal. tt, tt, asked_cleared others cs known.1 cleared)))
+
+-- the first step of a transaction is its declaration
+begins_with : (s : Ts) (what : Declared) (cells : List Cell) (said : List Received) (o : Outcome) → IsWhole s what cells said o → (more : List Received) × (said ≡ told (Step.Declare s what) Answer.Done ∷ more)
+begins_with s what cells said o (committed x others c) = (_, refl)
+begins_with s what cells said o (conflicted_first x after) = (_, refl)
+begins_with s what cells said o (conflicted_later x y before after a cs can cleared) = (_, refl)
+begins_with s what cells said o (lost x others c cs cleared) = (_, refl)
+
+-- so a change that a table took is of a batch
+whole_asked : (observers : List ObserverOf) (seat : ℕ) (batch : Writes) (start : Ts) (said : List Received) (o : Outcome) (old new : StateOf) → IsWholeChange batch start said o → JournalLeads old (entries_by seat said) new → AreAsked observers said
+whole_asked observers seat batch start said o old new whole leads =
+    let begin = told (Step.Begin Work.Script) (Answer.At start) in
+    let first = begins_with start (Declared.Script batch) _ whole.rest o whole.whole in
+    let took = subst (λ (l : List Received). JournalLeads old (entries_by seat l) new) (whole.said_is ∙ ap (λ (l : List Received). begin ∷ l) first.1) leads in
+    let is = declared_batch seat batch old new begin (told (Step.Declare start (Declared.Script batch)) Answer.Done) first.0 start took refl in
+    let cells = known_writes observers batch (plain_are_known (length observers) batch (batch_plain batch is)) in
+    subst (AreAsked observers) (sym whole.said_is) (λ journal. tt, tt, asked_whole observers start batch _ whole.rest o cells whole.whole)
 
 pub returns-clause-runs : goal.returns-clause-runs
-returns-clause-runs c observers seats clock g journal old new kept seat o observer row said k there reaches leads = of_run observers seats clock g seat c.jobs_ask_steps.ensures.runs journal old kept o observer row there said k new reaches leads
+returns-clause-runs c observers gone seats clock g journal old new kept seat o observer row said k there reaches leads =
+    (kept_run c.jobs_ask_steps.ensures.runs c.jobs_name_known_cells.ensures.runs c.kept_tables_are_whole.ensures.answers observers gone seats clock g journal old kept seat o observer row there said k new reaches leads).0
 
 pub returns-clause-changes : goal.returns-clause-changes
-returns-clause-changes c observers seats clock g journal old new kept seat j k said converses leads = of_change observers seats clock g seat c.jobs_ask_steps.ensures.changes journal old new kept j k said converses leads
+returns-clause-changes c observers gone seats clock g journal old new kept seat batch said k talk leads =
+    let known = change_all_known (length observers) seat batch old new said k talk leads in
+    of_asked observers gone seats clock g seat journal old new said kept (change_asked observers c.jobs_ask_steps.ensures.changes (new_change batch) k said talk known) leads
 
 pub returns-clause-whole : goal.returns-clause-whole
-returns-clause-whole c observers seats clock g journal old new kept seat batch start said o whole leads =
-    let are = subst AreUntimed (sym whole.said_is) (tt, untimed_whole start (Declared.Script batch) _ whole.rest o whole.whole) in
-    of_untimed observers seats clock g seat journal old new said kept are leads
+returns-clause-whole c observers gone seats clock g journal old new kept seat batch start said o whole leads =
+    of_asked observers gone seats clock g seat journal old new said kept (whole_asked observers seat batch start said o old new whole leads) leads
 
 pub returns-clause-marks : goal.returns-clause-marks
-returns-clause-marks c observers seats clock g journal old new kept seat after answer said is leads = of_untimed observers seats clock g seat journal old new said kept (subst AreUntimed (sym is) (tt, tt)) leads
+returns-clause-marks c observers gone seats clock g journal old new kept seat after answer said is leads =
+    of_asked observers gone seats clock g seat journal old new said kept (subst (AreAsked observers) (sym is) (λ journal. tt, tt, tt)) leads

@@ -5,6 +5,7 @@ use Rattle.pb_generations.specs.Snapshots.{SnapshotsServe}
 use Rattle.pb_generations.proofs.QuietTables.{no_lock_at, no_record_above}
 use Rattle.pb_generations.proofs.ServingSnapshots.{led_bounded, opening_bounded, snapshot_serves}
 use Rattle.pb_state.proofs.SnapshotViews.{snapshot_sound}
+use Rattle.pb_generations.proofs.ChosenSound.{chosen_are_sound}
 use Rattle.pb_generations.proofs.LeftTransactions.{left_are_sound}
 use Rattle.pb_generations.proofs.snapshots_serve.Goals as goal
 
@@ -21,3 +22,6 @@ returns-clause-sound c = snapshot_sound
 
 pub returns-clause-left : goal.returns-clause-left
 returns-clause-left c = left_are_sound
+
+pub returns-clause-chosen : goal.returns-clause-chosen
+returns-clause-chosen c = chosen_are_sound
