@@ -29,6 +29,7 @@ use Rattle.pb_notify.specs.Led.{MachinesAreLed}
 use Rattle.pb_notify.specs.Runs.{watch_of}
 use Rattle.pb_passes.specs.declared.passes.TheConstants.{MAX_PASSES}
 use Rattle.pb_passes.specs.Passes.{job_on, IsRun, IsOfOther, AreRuns, before_all, runs as ran_then, passes_by, IsWalk, at_beginning, found, IsPass, ArePasses, at_first, one_more, IsDrain}
+use Rattle.pb_generations.specs.Chosen.{ChosenAreSound}
 use Rattle.pb_generations.specs.Snapshots.{LeftAreSound}
 use Rattle.pb_keeper.specs.Keeps.{AreMade, none, one_more as one_more_change}
 use Rattle.pb_keeper.specs.Leads.{IsEndedChange}
@@ -264,9 +265,9 @@ module _ (once : StepsHaveOneOutcome) (keeps : StepsKeepSound) where
         let same = same_snoc ks ls batch other e in
         joined m a b s t u v p q sound (λ i j h k. all_once ks ls s u m i j same.0 f g sound h k) (λ i w after h k. made_once batch other c d t v i a b same.1 is is2 after h k)
 
-pub replay_once : StepsHaveOneOutcome → StepsKeepSound → OpeningIsSound → LeftAreSound → EachHasOneMeaning → MachinesAreLed → ReplayHasOneOutcome
-replay_once once keeps opens left meaning led first changes a b judged f g =
-    (all_once once keeps meaning led first.state.observers judged changes changes f.leads.said g.leads.said first.state a.state b.state refl f.leads.form.form g.leads.form.form (first_sound keeps opens left f.past first f.began) f.leads.leads g.leads.leads).state_is
+pub replay_once : StepsHaveOneOutcome → StepsKeepSound → OpeningIsSound → LeftAreSound → ChosenAreSound → EachHasOneMeaning → MachinesAreLed → ReplayHasOneOutcome
+replay_once once keeps opens left chosen meaning led first changes a b judged f g =
+    (all_once once keeps meaning led first.state.observers judged changes changes f.leads.said g.leads.said first.state a.state b.state refl f.leads.form.form g.leads.form.form (first_sound keeps opens left chosen f.past first f.began) f.leads.leads g.leads.leads).state_is
 
 -- ---- observers that are added
 
@@ -291,12 +292,15 @@ marked_once more old m n f g =
     (λ x. same_units (map.get m.marks x) (map.get n.marks x) (both_or_none (is_marked m.marks x) (is_marked n.marks x) (marked_too more old m n f g x) (marked_too more old n m g f x))) in
     f.is ∙ (λ i. record old { observers = old.observers ++ more; marks = marks i }) ∙ sym g.is
 
-pub caught_up_once : StepsHaveOneOutcome → StepsKeepSound → OpeningIsSound → LeftAreSound → EachHasOneMeaning → MachinesAreLed → CatchingUpHasOneOutcome
-caught_up_once once keeps opens left meaning led first changes old a b more judged k f g =
-    let observers = old.state.observers ++ more in
-    let same = marked_once more old.state f.marked.state g.marked.state f.observed g.observed in
-    let sound = marked_sound keeps opens left k.past changes first old a more k.began k.leads f in
-    let one = of_drain once keeps meaning led observers judged f.drained.said (subst (λ (l : List ObserverOf). IsDrain l f.drained.said) (ap (λ (z : StateOf). z.observers) f.observed.is) f.drained.form.form) in
-    let other = of_drain once keeps meaning led observers judged g.drained.said (subst (λ (l : List ObserverOf). IsDrain l g.drained.said) (ap (λ (z : StateOf). z.observers) g.observed.is) g.drained.form.form) in
+pub caught_up_once : StepsHaveOneOutcome → StepsKeepSound → OpeningIsSound → LeftAreSound → ChosenAreSound → EachHasOneMeaning → MachinesAreLed → CatchingUpHasOneOutcome
+caught_up_once once keeps opens left chosen meaning led first changes old between a b places front more judged k quiet is f g =
+    let observers = front ++ more in
+    let same = marked_once more between.state f.marked.state g.marked.state f.observed g.observed in
+    let sound = marked_sound keeps opens left chosen k.past changes first old between a places front more k.began k.leads is f in
+    let one = of_drain once keeps meaning led observers judged f.drained.said (subst (λ (l : List ObserverOf). IsDrain l f.drained.said) (observers_after f.marked.state f.observed) f.drained.form.form) in
+    let other = of_drain once keeps meaning led observers judged g.drained.said (subst (λ (l : List ObserverOf). IsDrain l g.drained.said) (observers_after g.marked.state g.observed) g.drained.form.form) in
     (drain_on_once once keeps meaning led observers judged 0 f.drained.said g.drained.said f.marked.state a.state b.state one other sound f.drained.leads
     (subst (λ (z : StateOf). JournalLeads z (entries_by 0 g.drained.said) b.state) (sym same) g.drained.leads)).state_is
+  where
+    observers_after : (m : StateOf) → HasMoreObservers more between.state m → m.observers ≡ front ++ more
+    observers_after m has = ap (λ (z : StateOf). z.observers) has.is ∙ ap (λ (z : StateOf). z.observers ++ more) is.is

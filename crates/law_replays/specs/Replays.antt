@@ -3,7 +3,8 @@ use Rattle.std.specs.Prelude.{◌≡◌, ℕ, ◌≤◌, List, ◌++◌, Some, s
 use Rattle.pb_base.specs.Batch.{Writes}
 use Rattle.pb_isa.specs.declared.limits.TheConstants.{MAX_RECORD_BYTES}
 use Rattle.pb_verify.specs.Observers.{ObserverOf}
-use Rattle.pb_keeper.specs.Keeps.{CatchesUp, Keeps}
+use Rattle.pb_history.specs.Handled.{IsQuiet}
+use Rattle.pb_keeper.specs.Keeps.{CatchesUp, IsChosenOf, Keeps}
 use Rattle.pb_keeper.specs.Stats.{KeptTable}
 
 -- the program of each is judged for a record of a size that there is, as every accepted one is
@@ -14,8 +15,9 @@ AreJudged observers = (n : ℕ) (o : ObserverOf) → slice_get observers n ≡ S
 abbrev pub ReplayHasOneOutcome : Type 0
 ReplayHasOneOutcome = (first : KeptTable) (changes : List Writes) (a b : KeptTable) → AreJudged first.state.observers → Keeps first changes a → Keeps first changes b → a.state ≡ b.state
 
--- Where a table that keeps changes gets more observers, and these catch up, entries, marks, clock and transactions follow from the table
--- and from the observers.
+-- Where a quiet table that keeps changes goes on with some of its observers, and gets others, which catch up, entries, marks, clock and
+-- transactions follow from the table that it goes on with and from the observers.
 abbrev pub CatchingUpHasOneOutcome : Type 0
 CatchingUpHasOneOutcome =
-    (first : KeptTable) (changes : List Writes) (old a b : KeptTable) (more : List ObserverOf) → AreJudged (old.state.observers ++ more) → Keeps first changes old → CatchesUp more old a → CatchesUp more old b → a.state ≡ b.state
+    (first : KeptTable) (changes : List Writes) (old between a b : KeptTable) (places : List ℕ) (front more : List ObserverOf) → AreJudged (front ++ more) → Keeps first changes old → IsQuiet old.state
+    → IsChosenOf places front old between → CatchesUp more between a → CatchesUp more between b → a.state ≡ b.state

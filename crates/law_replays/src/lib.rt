@@ -3,7 +3,7 @@
 //! By `pb_keeper` some conversation of the only seat leads to a table that keeps changes. This law says that there is one such
 //! table: made anew of the same changes, in the same order, from the same beginning, it has the same entries, marks, clock
 //! and transactions, acknowledgments and timestamps included. So a log of a snapshot and of changes stands for its table.
-//! Observers that are added to it catch up in one way, too.
+//! Observers that it gets as it begins anew catch up in one way, too.
 #![tactic(auto)]
 
 ghost use Rattle.law_replays.specs.Replays.{CatchingUpHasOneOutcome, ReplayHasOneOutcome};
@@ -25,8 +25,8 @@ pub fn replay_has_one_outcome()
     machines_are_led();
 }
 
-/// Two tables that came from one that keeps changes, as it got the same observers, and these caught up, are the same, if all
-/// programs are judged so.
+/// Two tables that came from one, as it went on with some observers of a quiet table that keeps changes, got the same others, and
+/// these caught up, are the same, if all programs are judged so.
 pub fn catching_up_has_one_outcome()
     ensures { CatchingUpHasOneOutcome }
 {

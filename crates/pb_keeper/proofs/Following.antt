@@ -34,9 +34,10 @@ use Rattle.pb_notify.specs.Allowed.{entries_by}
 use Rattle.pb_notify.specs.Forms.{its_begin, IsRunConversation, absent, clean, ran, conflicted, lost as lost_run, blocked}
 use Rattle.pb_notify.specs.Runs.{Watch}
 use Rattle.pb_notify.specs.declared.need.JobEnd.{JobEnd}
+use Rattle.pb_generations.specs.Chosen.{ChosenAreSound}
 use Rattle.pb_generations.specs.Snapshots.{LeftAreSound}
 use Rattle.pb_keeper.specs.Leads.{IsEndedChange}
-use Rattle.pb_keeper.specs.Keeps.{IsFirstTable, IsAnew, opened, anew, observed, KeepsFrom, KeptFollowOneAnother}
+use Rattle.pb_keeper.specs.Keeps.{IsFirstTable, IsAnew, IsChosenOf, opened, anew, changed, KeepsFrom, KeptFollowOneAnother}
 use Rattle.pb_keeper.specs.Stats.{KeptTable}
 use Rattle.pb_keeper.proofs.EachPart.{HoldsOfParts, of_all, of_drain}
 use Rattle.pb_keeper.proofs.Resting.{first_sound, from_sound, marked_sound}
@@ -56,7 +57,7 @@ has_phase (Some h) = true
 has_phase None = false
 
 -- the step begins no transaction, and stamps none but this
-abbrev is_step_within : ℕ → Step → Bool
+abbrev pub is_step_within : ℕ → Step → Bool
 is_step_within s (Step.Begin work) = false
 is_step_within s (Step.Stamp u) = u.0 == s
 is_step_within s _ = true
@@ -190,7 +191,7 @@ begin_step old new work s sound b follow = (
 -- ---- conversations
 
 -- all of it is within a transaction
-abbrev AreWithin : ℕ → List Received → Type 0
+abbrev pub AreWithin : ℕ → List Received → Type 0
 AreWithin s [] = Unit {0}
 AreWithin s (r ∷ rs) = (is_step_within s r.step ≡ true) × AreWithin s rs
 
@@ -199,7 +200,7 @@ within_on s [] b p q = q
 within_on s (r ∷ a) b p q = (p.0, within_on s a b p.1 q)
 
 -- it is that of one transaction
-record IsOfOne (said : List Received) : Type 0 where
+pub record IsOfOne (said : List Received) : Type 0 where
   pub s : Ts
   pub work : Work
   pub rest : List Received
@@ -246,7 +247,7 @@ module _ (s : Ts) where
   planned : (before plan : List Received) → IsPlainFrom s before → AreWithin s.0 plan → IsOfOne (before ++ plan)
   planned before plan f w = one_more before plan (record { s = s; work = f.work; rest = f.rest; said_is = f.said_is; within = plain_within s.0 f.rest f.plain }) w
 
-run_is_of_one : (o : Watch) (said : List Received) (end : JobEnd) (run : Option Meant) → IsRunConversation o said end run → IsOfOne said
+pub run_is_of_one : (o : Watch) (said : List Received) (end : JobEnd) (run : Option Meant) → IsRunConversation o said end run → IsOfOne said
 run_is_of_one o said end run (absent s k before w look none few can) = planned s before _ (looked_from s _ None 0 (its_begin o s) k before look (begin_from s o)) (refl, tt)
 run_is_of_one o said end run (clean s seen k before w i late few can) = planned s before _ (acknowledged_from s o seen k before i) (refl, tt)
 run_is_of_one o said end run (ran s seen talk k before plan f c w i few on whole can) =
@@ -289,39 +290,54 @@ module _ (keeps : StepsKeepSound) (observers : List ObserverOf) where
 
 -- ---- generations
 
-module _ (keeps : StepsKeepSound) (opens : OpeningIsSound) (left : LeftAreSound) where
+-- each transaction is committed, as it was before
+abbrev ComeFrom : StateOf → StateOf → Type 0
+ComeFrom old new = (s : ℕ) (t : TransactionOf) → got new s ≡ Some t → (c : Ts) × (t.phase ≡ Phase.Committed c) × IsCommittedAt (view_of old) s c.0
+
+-- so what is left of the transactions follows one another too
+left_follow : (old new : StateOf) → ComeFrom old new → Follow old → Follow new
+left_follow old new from follow s c u stamped there low = follow s c u (stays s c stamped) (stays_there u there) low
+  where
+    stays : (s c : ℕ) → has_this_commit c (got new s) ≡ true → has_this_commit c (got old s) ≡ true
+    stays s c e =
+        let t = some_transaction (got new s) (there_is c (got new s) e) in
+        let k = from s t.0 t.1 in
+        ap (is_phase_at c) (k.2 ∙ ap Some (sym k.1)) ∙ ap (has_this_commit c) (sym t.1) ∙ e
+
+    stays_there : (s : ℕ) → has_transaction (got new s) ≡ true → has_transaction (got old s) ≡ true
+    stays_there s e = let t = some_transaction (got new s) e in ap has_phase (from s t.0 t.1).2
+
+module _ (keeps : StepsKeepSound) (opens : OpeningIsSound) (left : LeftAreSound) (chosen : ChosenAreSound) where
   from_follow : (past changes : List Writes) (first table : KeptTable) → IsFirstTable past first → Follow first.state → KeepsFrom first changes table → Follow table.state
   from_follow past changes first table began follow k =
-      of_all first.state.observers (parts_follow keeps first.state.observers) changes k.said k.form.form first.state table.state (first_sound keeps opens left past first began) follow k.leads
+      of_all first.state.observers (parts_follow keeps first.state.observers) changes k.said k.form.form first.state table.state (first_sound keeps opens left chosen past first began) follow k.leads
 
   first_follow : (past : List Writes) (first : KeptTable) → IsFirstTable past first → Follow first.state
   first_follow past first (opened observers) = λ s c u stamped there low. absurd (let no : false ≡ true = ap has_transaction (sym (finite.get-empty nat_cmp u)) ∙ there in cc)
   first_follow past first (anew before changes start old new began k quiet room is stats) =
-      let sound = from_sound keeps opens left before changes start old began k in
+      let sound = from_sound keeps opens left chosen before changes start old began k in
       let was = from_follow before changes start old began (first_follow before start began) k in
-      subst Follow (sym is.is) (λ s c u stamped there low. was s c u (stays old.state first.state sound is s c stamped) (stays_there old.state first.state sound is u there) low)
+      left_follow old.state first.state (at_snapshot old.state first.state sound is) was
     where
-      committed_at : (old new : StateOf) → IsSoundTable old → IsAnew old new → (s : ℕ) (t : TransactionOf) → got new s ≡ Some t → (c : Ts) × (t.phase ≡ Phase.Committed c) × IsCommittedAt (view_of old) s c.0
-      committed_at old new sound is s t e =
+      at_snapshot : (old new : StateOf) → IsSoundTable old → IsAnew old new → ComeFrom old new
+      at_snapshot old new sound is s t e =
           let l = is.left.each s t e in
           let v = is.snapshot.only l.some.0 l.commit.0 s l.some.1 in
           let stands = v.1.written in
           (l.commit, l.phase, sound.record_committed l.some.0 l.commit.0 s (ap (write_at old.entries l.some.0) (sym v.2) ∙ stands ∙ ap Some v.3))
-
-      stays : (old new : StateOf) → IsSoundTable old → IsAnew old new → (s c : ℕ) → has_this_commit c (got new s) ≡ true → has_this_commit c (got old s) ≡ true
-      stays old new sound is s c e =
-          let t = some_transaction (got new s) (there_is c (got new s) e) in
-          let k = committed_at old new sound is s t.0 t.1 in
-          ap (is_phase_at c) (k.2 ∙ ap Some (sym k.1)) ∙ ap (has_this_commit c) (sym t.1) ∙ e
-
-      stays_there : (old new : StateOf) → IsSoundTable old → IsAnew old new → (s : ℕ) → has_transaction (got new s) ≡ true → has_transaction (got old s) ≡ true
-      stays_there old new sound is s e =
-          let t = some_transaction (got new s) e in
-          ap has_phase (committed_at old new sound is s t.0 t.1).2
-  first_follow past first (observed before changes start old new more began k quiet up) =
+  first_follow past first (changed before changes start old between new places front more began k quiet room is up) =
+      let sound = from_sound keeps opens left chosen before changes start old began k in
       let was = from_follow before changes start old began (first_follow before start began) k in
-      of_drain up.marked.state.observers (parts_follow keeps up.marked.state.observers) up.drained.said up.drained.form.form up.marked.state first.state (marked_sound keeps opens left before changes start old new more began k up)
-      (subst Follow (sym up.observed.is) was) up.drained.leads
+      of_drain up.marked.state.observers (parts_follow keeps up.marked.state.observers) up.drained.said up.drained.form.form up.marked.state first.state
+      (marked_sound keeps opens left chosen before changes start old between new places front more began k is up)
+      (subst Follow (sym up.observed.is) (left_follow old.state between.state (at_choice old between sound is) was)) up.drained.leads
+    where
+      at_choice : (old new : KeptTable) → IsSoundTable old.state → IsChosenOf places front old new → ComeFrom old.state new.state
+      at_choice old new sound is s t e =
+          let l = is.left.each s t e in
+          let v = is.snapshot.only l.some.0 l.commit.0 s l.some.1 in
+          let stands = v.3.written in
+          (l.commit, l.phase, sound.record_committed v.0 l.commit.0 s (ap (write_at old.state.entries v.0) (sym v.4) ∙ stands ∙ ap Some v.5))
 
   pub kept_follow : KeptFollowOneAnother
   kept_follow first changes table k s c u d earlier later low =

@@ -89,17 +89,17 @@ stops_by state new step (Stopped.Refused why) same is out = subst (IsOutAt why) 
 stops_by state new step Stopped.Conflict same is out = absurd is
 
 pub mark_stops : MarksAreInTime → (state new : StateOf) (x : Option Cell) (e : Stopped) → WasKept state → new ≡ state → IsLeftFor state (Step.NextMark x) e → IsStop e new
-mark_stops in_time state new x e k same is = stops_by state new (Step.NextMark x) e same is (λ why refused. absurd (in_time k.observers 0 k.c (entries_by 0 k.said) state k.kept x why refused))
+mark_stops in_time state new x e k same is = stops_by state new (Step.NextMark x) e same is (λ why refused. absurd (in_time k.observers k.gone 0 k.c (entries_by 0 k.said) state k.kept x why refused))
 
 pub run_stops : RunsAreInTime → (first job : RunOf) (stats : ObserverStats) (start state new : StateOf) (step : Step) (e : Stopped) → WasKept start → IsKnownJob start.observers first → RanSoFar first job stats start state → next_of job ≡ Some step → new ≡ state → IsLeftFor state step e → IsStop e new
 run_stops in_time first job stats start state new step e k is so_far next same refusal =
-    let there = subst (λ (l : List ObserverOf). slice_get l is.n ≡ Some is.o) (kept_observers k.observers 1 0 k.c (entries_by 0 k.said) start k.kept) is.there in
+    let there = subst (λ (l : List ObserverOf). slice_get l is.n ≡ Some is.o) (kept_observers k.observers k.gone 1 0 k.c (entries_by 0 k.said) start k.kept) is.there in
     let reaches = subst (λ (j : RunOf). Reaches j so_far.said job) is.is so_far.form.reaches in
-    stops_by state new step e same refusal (λ why refused. in_time k.observers 0 k.c k.said so_far.said start state k.kept so_far.leads is.n is.o is.row job step why there is.row_fits is.column_fits reaches next refused)
+    stops_by state new step e same refusal (λ why refused. in_time k.observers k.gone 0 k.c k.said so_far.said start state k.kept so_far.leads is.n is.o is.row job step why there is.row_fits is.column_fits reaches next refused)
 
 pub change_stops : ChangesAreInTime → (batch : Writes) (job : ChangeOf) (start state new : StateOf) (step : Step) (e : Stopped) → WasKept start → ChangedSoFar batch job start state → change_next job ≡ Some step → new ≡ state → IsLeftFor state step e → IsStop e new
 change_stops in_time batch job start state new step e k so_far next same refusal =
-    stops_by state new step e same refusal (λ why refused. in_time k.observers 0 k.c k.said so_far.said start state k.kept so_far.leads batch job step why so_far.form next refused)
+    stops_by state new step e same refusal (λ why refused. in_time k.observers k.gone 0 k.c k.said so_far.said start state k.kept so_far.leads batch job step why so_far.form next refused)
 
 -- the job of an observer on a cell of its column
 pub job_is_of : (observers : List ObserverOf) (n : ℕ) (x : Cell) (job : RunOf) → (row_of x).0 < 2 ^ 64 → column_of x < 2 ^ 64 → HasColumn observers n x → IsJobOn observers n x job → IsKnownJob observers job

@@ -1,6 +1,7 @@
 -- Changes that are kept, one after another, and from generation to generation.
-use Rattle.std.proofs.Common.{arith, ◌≡◌, ◌<◌, List, [], ◌∷◌, ◌++◌, ◌+◌, ◌≤◌, length, refl, sym, ap, subst, ◌∙◌}
-use Rattle.std.proofs.lemmas.List.{append_assoc, append-nil, length-append, length-replicate}
+use Rattle.std.proofs.Common.{arith, ◌≡◌, ℕ, ◌<◌, List, [], ◌∷◌, ◌++◌, ◌+◌, length, slice_index_or, Some, slice_get, refl, sym, ap, subst, ◌∙◌}
+use Rattle.std.proofs.lemmas.List.{append_assoc, append-nil, length-append, length-map, length-replicate}
+use Rattle.std.proofs.lemmas.Option.{slice_get_within}
 use Rattle.pb_base.specs.Batch.{Writes}
 use Rattle.pb_base.specs.declared.names.Ts.{Ts}
 use Rattle.pb_verify.specs.Observers.{ObserverOf}
@@ -8,25 +9,29 @@ use Rattle.pb_steps.specs.Readings.{last_timestamp}
 use Rattle.pb_steps.specs.State.{StateOf}
 use Rattle.pb_history.specs.Handled.{IsQuiet}
 use Rattle.pb_history.specs.Laws.{StepsKeepSound, OpeningIsSound}
+use Rattle.pb_history.specs.Sound.{IsSoundTable}
 use Rattle.pb_history.specs.declared.entry.Received.{Received}
 use Rattle.pb_notify.specs.Allowed.{entries_by}
 use Rattle.pb_passes.specs.Passes.{IsDrain}
 use Rattle.pb_state.specs.MoreObservers.{HasMoreObservers}
-use Rattle.pb_generations.specs.KeptTables.{IsKeptTable, opened as opened_kept, anew as anew_kept, more as more_kept, RunsKeepTables, WholeChangesKeepTables, MarksKeepTables}
+use Rattle.pb_generations.specs.Chosen.{AreChosen, ChosenAreSound, new_number, renumbered_said}
+use Rattle.pb_generations.specs.KeptTables.{IsKeptTable, opened as opened_kept, anew as anew_kept, chosen as chosen_kept, RunsKeepTables, WholeChangesKeepTables, MarksKeepTables}
 use Rattle.pb_generations.specs.Snapshots.{LeftAreSound}
+use Rattle.pb_generations.proofs.ChosenNumbers.{said_renumbered}
 use Rattle.pb_keeper.specs.Leads.{SaidLeads}
 use Rattle.pb_keeper.specs.Made.{IsMade}
-use Rattle.pb_keeper.specs.Keeps.{none, one_more, AreMade, AreMadeInAll, nothing_made, change_made, caught_up, CatchesUp, Keeps, KeepsFrom, IsFirstTable, opened, anew, observed, BeginningKeepsNone, IsWholeTable, KeptIsWhole}
-use Rattle.pb_keeper.specs.Stats.{no_runs, sum_of, AreKeptStats, Counted, KeptTable, first_stats, kept_table, nothing_said}
+use Rattle.pb_keeper.specs.Keeps.{none, one_more, AreMade, AreMadeInAll, nothing_made, change_made, observers_changed, total_in, CatchesUp, IsChosenOf, Keeps, KeepsFrom, IsFirstTable, opened, anew, changed, BeginningKeepsNone, IsWholeTable, KeptIsWhole}
+use Rattle.pb_keeper.specs.Stats.{no_runs, sum_of, AreKeptStats, AreStatsOf, Counted, KeptTable, chosen_stats, first_stats, kept_table}
 use Rattle.pb_keeper.specs.Stops.{WasKept}
 use Rattle.pb_keeper.specs.declared.stats.ObserverStats.{ObserverStats}
 use Rattle.pb_keeper.proofs.EachPart.{of_all, of_drain}
-use Rattle.pb_keeper.proofs.CatchingUp.{beyond_none, kept_with_none, none_counted, stats_with_more}
+use Rattle.pb_keeper.proofs.CatchingUp.{kept_with_none, none_counted, none_of_any}
 use Rattle.pb_keeper.proofs.KeptTables.{parts_leave}
 use Rattle.pb_keeper.proofs.Leading.{leads_none, leads_on, leads_observers}
 use Rattle.pb_keeper.proofs.NoConflicts.{changes_count_none, drain_counts_none}
+use Rattle.pb_keeper.proofs.Parting.{made_begins, stats_parted, stats_of_none}
 use Rattle.pb_keeper.proofs.Resting.{first_sound, first_free, from_sound, marked_free, marked_sound}
-use Rattle.pb_keeper.proofs.Statistics.{counted_none, counted_on, stats_append}
+use Rattle.pb_keeper.proofs.Statistics.{counted_none, counted_on, plus_assoc, plus_none}
 
 -- one more change
 pub kept_on : (first : KeptTable) (changes : List Writes) (batch : Writes) (commit : Ts) (old new : KeptTable) → Keeps first changes old → SaidLeads (Counted old.state.observers old.stats new.stats (IsMade old.state.observers batch commit)) old.state new.state
@@ -51,43 +56,71 @@ caught more old marked new begun stats has are g = record { marked = kept_table 
 
 -- ---- all generations
 
-made_on : (observers : List ObserverOf) (past changes : List Writes) (said more : List Received) → AreMadeInAll observers past said → AreMade observers changes more → AreMadeInAll observers (past ++ changes) (said ++ more)
-made_on observers past changes said more a none = subst (λ cs. AreMadeInAll observers cs (said ++ [])) (sym (append-nil past)) (subst (λ l. AreMadeInAll observers past l) (sym (append-nil said)) a)
-made_on observers past changes said more a (one_more cs before last batch commit b is) =
-    subst (λ l. AreMadeInAll observers (past ++ (cs ++ batch ∷ [])) l) (append_assoc said before last)
-    (subst (λ l. AreMadeInAll observers l ((said ++ before) ++ last)) (append_assoc past cs (batch ∷ []))
-    (change_made observers (past ++ cs) (said ++ before) last batch commit (made_on observers past cs said before a b) is))
+-- a generation's changes are made after those of the generations before
+made_on : (observers gone : List ObserverOf) (past changes : List Writes) (said more : List Received) (total did : ℕ → ObserverStats) → AreMadeInAll observers gone past said total → AreMade observers changes more → AreStatsOf observers more did
+    → AreMadeInAll observers gone (past ++ changes) (said ++ more) (λ o. sum_of (total o) (did o))
+made_on observers gone past changes said more total did a none are =
+    subst (λ (t : ℕ → ObserverStats). AreMadeInAll observers gone (past ++ []) (said ++ []) t) (sym (λ i o. plus_none (total o) i) ∙ (λ i o. sum_of (total o) (sym (stats_of_none observers [] did are refl) i o)))
+    (subst (λ cs. AreMadeInAll observers gone cs (said ++ []) total) (sym (append-nil past)) (subst (λ l. AreMadeInAll observers gone past l total) (sym (append-nil said)) a))
+made_on observers gone past changes said more total did a (one_more cs before last batch commit b is) are =
+    let p = stats_parted observers (before ++ last) did are before last refl (made_begins observers batch commit last is) in
+    subst (λ (t : ℕ → ObserverStats). AreMadeInAll observers gone (past ++ (cs ++ batch ∷ [])) (said ++ (before ++ last)) t)
+    ((λ i o. plus_assoc (total o) (p.earlier o) (p.later o) i) ∙ (λ i o. sum_of (total o) (sym p.total_is i o)))
+    (subst (λ l. AreMadeInAll observers gone (past ++ (cs ++ batch ∷ [])) l (λ o. sum_of (sum_of (total o) (p.earlier o)) (p.later o))) (append_assoc said before last)
+    (subst (λ l. AreMadeInAll observers gone l ((said ++ before) ++ last) (λ o. sum_of (sum_of (total o) (p.earlier o)) (p.later o))) (append_assoc past cs (batch ∷ []))
+    (change_made observers gone (past ++ cs) (said ++ before) last (λ o. sum_of (total o) (p.earlier o)) p.later batch commit (made_on observers gone past cs said before total p.earlier a b p.first) is p.last)))
 
-module _ (keeps : StepsKeepSound) (opens : OpeningIsSound) (left : LeftAreSound) (runs : RunsKeepTables) (whole : WholeChangesKeepTables) (marks : MarksKeepTables) where
+-- so many stats are kept as there are observers that stay, and others
+as_many_chosen : (places : List ℕ) (front more : List ObserverOf) (old between : KeptTable) (marked : List ObserverStats) → IsChosenOf places front old between → marked ≡ between.stats ++ first_stats more → length marked ≡ length (front ++ more)
+as_many_chosen places front more old between marked is are =
+    let stay : length between.stats ≡ length front = ap length is.stats_are ∙ length-map places (λ p. slice_index_or old.stats p no_runs) ∙ sym is.are.as_many in
+    ap length are ∙ length-append between.stats (first_stats more) ∙ (λ i. stay i + length-replicate (length more) no_runs i) ∙ sym (length-append front more)
+
+-- and each of those that stay has its stats
+place_within : (places : List ℕ) (front : List ObserverOf) (old between : KeptTable) → IsChosenOf places front old between → length old.stats ≡ length old.state.observers → (n p : ℕ) → slice_get places n ≡ Some p → p < length old.stats
+place_within places front old between is many n p e = let o = is.are.each n p e in subst (λ l. p < l) (sym many) (slice_get_within old.state.observers p o.0 o.1)
+
+module _ (keeps : StepsKeepSound) (opens : OpeningIsSound) (left : LeftAreSound) (chosen : ChosenAreSound) (runs : RunsKeepTables) (whole : WholeChangesKeepTables) (marks : MarksKeepTables) where
   -- a generation's changes, after those of the generations before
   whole_on : (observers : List ObserverOf) (past changes : List Writes) (first table : KeptTable) → IsFirstTable past first → first.state.observers ≡ observers → IsWholeTable observers past first → KeepsFrom first changes table → IsWholeTable observers (past ++ changes) table
   whole_on observers past changes first table began same w k = on (subst (λ (l : List ObserverOf). SaidLeads (Counted l first.stats table.stats (AreMade l changes)) first.state table.state) same k) where
     on : SaidLeads (Counted observers first.stats table.stats (AreMade observers changes)) first.state table.state → IsWholeTable observers (past ++ changes) table
     on g = record {
+      gone = w.gone;
       said = w.said ++ g.said;
-      made = made_on observers past changes w.said g.said w.made g.form.form;
-      c = w.c;
-      kept = of_all observers (parts_leave observers runs whole marks) changes g.said g.form.form w.c w.said first.state table.state w.kept g.leads;
       total = λ o. sum_of (w.total o) (g.form.total o);
-      did = stats_append observers w.said g.said w.total g.form.total w.did g.form.did;
+      made = made_on observers w.gone past changes w.said g.said w.total g.form.total w.made g.form.form g.form.did;
+      c = w.c;
+      kept = of_all observers (parts_leave observers runs whole marks) changes g.said g.form.form w.gone w.c w.said first.state table.state w.kept g.leads;
       clean = λ o.
-          let later = changes_count_none keeps observers changes g.said g.form.total first.state table.state g.form.form g.form.did (first_sound keeps opens left past first began) (first_free keeps opens left past first began) g.leads o in
+          let later = changes_count_none keeps observers changes g.said g.form.total first.state table.state g.form.form g.form.did (first_sound keeps opens left chosen past first began) (first_free keeps opens left chosen past first began) g.leads o in
           omega (arith, w.clean o, later);
       as_many = g.form.as_many ∙ w.as_many;
       are = g.form.grows w.total w.are;
     }
+
+  -- where such a table is quiet and gets other observers it is kept over generations still
+  kept_chosen : (observers gone : List ObserverOf) (c : ℕ) (said : List Received) (old between : KeptTable) (marked : StateOf) (places : List ℕ) (front more : List ObserverOf) → IsKeptTable observers gone 1 0 c (entries_by 0 said) old.state
+      → old.state.observers ≡ observers → IsSoundTable old.state → IsQuiet old.state → old.state.clock < last_timestamp → IsChosenOf places front old between → HasMoreObservers more between.state marked
+      → IsKeptTable (front ++ more) (observers ++ gone) 1 0 old.state.clock (entries_by 0 (renumbered_said (new_number places (length (front ++ more))) said)) marked
+  kept_chosen observers gone c said old between marked places front more k same sound quiet room is has =
+      let number = new_number places (length (front ++ more)) in
+      let ended = (chosen places front old.state between.state.entries between.state.transactions sound is.are is.snapshot is.left).1 in
+      subst (λ es. IsKeptTable (front ++ more) (observers ++ gone) 1 0 old.state.clock es marked) (sym (said_renumbered number 0 said))
+      (chosen_kept observers gone 1 0 c (entries_by 0 said) old.state places front more between.state.entries between.state.transactions marked k quiet room
+      (subst (λ l. AreChosen places l front) same is.are) is.snapshot ended (subst (λ (z : StateOf). HasMoreObservers more z marked) is.is has))
 
   room_at_first : 0 < last_timestamp
   room_at_first = grind arith
 
   first_whole : (past : List Writes) (first : KeptTable) → IsFirstTable past first → IsWholeTable first.state.observers past first
   first_whole past first (opened observers) = record {
+    gone = [];
     said = [];
+    total = λ o. no_runs;
     made = nothing_made observers;
     c = 0;
     kept = opened_kept observers 1 0 room_at_first;
-    total = λ o. no_runs;
-    did = nothing_said;
     clean = λ o. refl;
     as_many = length-replicate (length observers) no_runs;
     are = λ o lt. none_counted (length observers) o;
@@ -97,64 +130,75 @@ module _ (keeps : StepsKeepSound) (opens : OpeningIsSound) (left : LeftAreSound)
     where
       over : IsWholeTable start.state.observers (before ++ changes) old → IsWholeTable first.state.observers (before ++ changes) first
       over w =
-          let sound = from_sound keeps opens left before changes start old began k in
+          let sound = from_sound keeps opens left chosen before changes start old began k in
           let ended = (left old.state first.state.entries first.state.transactions sound is.snapshot is.left).1 in
           let observers = start.state.observers in
           let same : first.state.observers ≡ observers = ap (λ (z : StateOf). z.observers) is.is ∙ leads_observers start.state old.state k in
           subst (λ (l : List ObserverOf). IsWholeTable l (before ++ changes) first) (sym same) (record {
+            gone = w.gone;
             said = w.said;
+            total = w.total;
             made = w.made;
             c = old.state.clock;
-            kept = subst (λ (z : StateOf). IsKeptTable observers 1 0 old.state.clock (entries_by 0 w.said) z) (sym is.is) (anew_kept observers 1 0 w.c (entries_by 0 w.said) old.state first.state.entries first.state.transactions w.kept quiet room is.snapshot ended);
-            total = w.total;
-            did = w.did;
+            kept = subst (λ (z : StateOf). IsKeptTable observers w.gone 1 0 old.state.clock (entries_by 0 w.said) z) (sym is.is)
+                (anew_kept observers w.gone 1 0 w.c (entries_by 0 w.said) old.state first.state.entries first.state.transactions w.kept quiet room is.snapshot ended);
             clean = w.clean;
             as_many = ap length stats ∙ w.as_many;
             are = subst (AreKeptStats w.total) (sym stats) w.are;
           })
-  first_whole past first (observed before changes start old new more began k quiet up) =
+  first_whole past first (changed before changes start old between new places front more began k quiet room is up) =
       over (whole_on start.state.observers before changes start old began refl (first_whole before start began) k)
     where
       observers : List ObserverOf
-      observers = start.state.observers ++ more
+      observers = front ++ more
+
+      was : old.state.observers ≡ start.state.observers
+      was = leads_observers start.state old.state k
 
       same : up.marked.state.observers ≡ observers
-      same = ap (λ (z : StateOf). z.observers) up.observed.is ∙ ap (λ l. l ++ more) (leads_observers start.state old.state k)
+      same = ap (λ (z : StateOf). z.observers) up.observed.is ∙ ap (λ (z : StateOf). z.observers ++ more) is.is
 
       drain : SaidLeads (Counted observers up.marked.stats first.stats (IsDrain observers)) up.marked.state first.state
       drain = subst (λ (l : List ObserverOf). SaidLeads (Counted l up.marked.stats first.stats (IsDrain l)) up.marked.state first.state) same up.drained
 
       over : IsWholeTable start.state.observers (before ++ changes) old → IsWholeTable first.state.observers (before ++ changes) first
       over w =
-          let longer : length up.marked.stats ≡ length observers =
-          ap length up.stats_are ∙ length-append old.stats (first_stats more) ∙ (λ i. w.as_many i + length-replicate (length more) no_runs i) ∙ sym (length-append start.state.observers more) in
+          let said = renumbered_said (new_number places (length observers)) w.said in
+          let stats : up.marked.stats ≡ chosen_stats places old.stats ++ first_stats more = up.stats_are ∙ ap (λ l. l ++ first_stats more) is.stats_are in
+          let within = place_within places front old between is (w.as_many ∙ ap length (sym was)) in
           subst (λ (l : List ObserverOf). IsWholeTable l (before ++ changes) first) (sym (leads_observers up.marked.state first.state up.drained ∙ same)) (record {
-            said = w.said ++ drain.said;
-            made = caught_up start.state.observers more (before ++ changes) w.said drain.said w.made drain.form.form;
-            c = w.c;
-            kept = of_drain observers (parts_leave observers runs whole marks) drain.said drain.form.form w.c w.said up.marked.state first.state
-                (more_kept start.state.observers 1 0 w.c (entries_by 0 w.said) old.state more up.marked.state w.kept quiet up.observed) drain.leads;
-            total = λ o. sum_of (w.total o) (drain.form.total o);
-            did = stats_append observers w.said drain.said w.total drain.form.total (stats_with_more start.state.observers more w.said w.total w.did) drain.form.did;
+            gone = start.state.observers ++ w.gone;
+            said = said ++ drain.said;
+            total = λ o. sum_of (total_in places w.total o) (drain.form.total o);
+            made = observers_changed start.state.observers w.gone front more places (before ++ changes) w.said drain.said w.total drain.form.total w.made (subst (λ l. AreChosen places l front) was is.are) drain.form.form drain.form.did;
+            c = old.state.clock;
+            kept = of_drain observers (parts_leave observers runs whole marks) drain.said drain.form.form (start.state.observers ++ w.gone) old.state.clock said up.marked.state first.state
+                (kept_chosen start.state.observers w.gone w.c w.said old between up.marked.state places front more w.kept was (from_sound keeps opens left chosen before changes start old began k) quiet room is up.observed) drain.leads;
             clean = λ o.
-                let later = drain_counts_none keeps observers drain.said drain.form.total up.marked.state first.state drain.form.form drain.form.did (marked_sound keeps opens left before changes start old new more began k up)
-                (marked_free keeps opens left before changes start old new more began k up) drain.leads o in
-                omega (arith, w.clean o, later);
-            as_many = drain.form.as_many ∙ longer;
-            are = drain.form.grows w.total (subst (AreKeptStats w.total) (sym up.stats_are)
-                (kept_with_none w.total old.stats (length more) (λ o far. beyond_none start.state.observers w.said w.total w.did o (subst (λ n. n ≤ o) w.as_many far)) w.are));
+                let earlier = none_of_any w.total w.clean (slice_get places o) in
+                let later = drain_counts_none keeps observers drain.said drain.form.total up.marked.state first.state drain.form.form drain.form.did
+                (marked_sound keeps opens left chosen before changes start old between new places front more began k is up) (marked_free keeps opens left chosen old between new places front more is up) drain.leads o in
+                omega (arith, earlier, later);
+            as_many = drain.form.as_many ∙ as_many_chosen places front more old between up.marked.stats is up.stats_are;
+            are = drain.form.grows (total_in places w.total) (subst (AreKeptStats (total_in places w.total)) (sym stats) (λ o lt. kept_with_none w.total old.stats w.are (length more) places within o));
           })
 
   pub kept_is_whole : KeptIsWhole
   kept_is_whole first changes table k = whole_on first.state.observers k.past changes first table k.began refl (first_whole k.past first k.began) k.leads
 
-  -- where such a table is quiet and gets more observers it is kept over generations still
-  pub kept_marked : (past changes : List Writes) (first old : KeptTable) (marked : StateOf) (more : List ObserverOf) → IsFirstTable past first → KeepsFrom first changes old → IsQuiet old.state → HasMoreObservers more old.state marked
-      → WasKept marked
-  kept_marked past changes first old marked more began k quiet has =
-      let w = whole_on first.state.observers past changes first old began refl (first_whole past first began) k in
-      record { observers = first.state.observers ++ more; c = w.c; said = w.said; kept = more_kept first.state.observers 1 0 w.c (entries_by 0 w.said) old.state more marked w.kept quiet has }
-
   -- so it is kept over generations
   pub kept_before : (first : KeptTable) (changes : List Writes) (table : KeptTable) → Keeps first changes table → WasKept table.state
-  kept_before first changes table k = let w = kept_is_whole first changes table k in record { observers = first.state.observers; c = w.c; said = w.said; kept = w.kept }
+  kept_before first changes table k = let w = kept_is_whole first changes table k in record { observers = first.state.observers; gone = w.gone; c = w.c; said = w.said; kept = w.kept }
+
+  -- also where it has got other observers
+  pub kept_marked : (past changes : List Writes) (first old between : KeptTable) (marked : StateOf) (places : List ℕ) (front more : List ObserverOf) → IsFirstTable past first → KeepsFrom first changes old → IsQuiet old.state
+      → old.state.clock < last_timestamp → IsChosenOf places front old between → HasMoreObservers more between.state marked → WasKept marked
+  kept_marked past changes first old between marked places front more began k quiet room is has =
+      let w = whole_on first.state.observers past changes first old began refl (first_whole past first began) k in
+      record {
+        observers = front ++ more;
+        gone = first.state.observers ++ w.gone;
+        c = old.state.clock;
+        said = renumbered_said (new_number places (length (front ++ more))) w.said;
+        kept = kept_chosen first.state.observers w.gone w.c w.said old between marked places front more w.kept (leads_observers first.state old.state k) (from_sound keeps opens left chosen past changes first old began k) quiet room is has;
+      }

@@ -15,7 +15,7 @@ use Rattle.pb_txn.specs.Conversations.{told}
 use Rattle.pb_txn.specs.declared.place.Outcome.{Outcome}
 use Rattle.pb_notify.specs.Allowed.{entries_by}
 use Rattle.pb_passes.specs.Passes.{IsRun}
-use Rattle.pb_generations.specs.KeptTables.{IsKeptTable, opened, stepped, anew, more as more_kept, RunsKeepTables, WholeChangesKeepTables, MarksKeepTables}
+use Rattle.pb_generations.specs.KeptTables.{IsKeptTable, opened, stepped, anew, chosen, RunsKeepTables, WholeChangesKeepTables, MarksKeepTables}
 use Rattle.pb_keeper.specs.Leads.{SaidLeads, IsEndedChange}
 use Rattle.pb_keeper.specs.Counts.{CountsCommits}
 use Rattle.pb_keeper.specs.Stats.{Counted}
@@ -26,39 +26,41 @@ use Rattle.pb_keeper.proofs.Leading.{case_observers, entries_on}
 use Rattle.pb_keeper.proofs.PassAlong.{Led}
 use Rattle.pb_keeper.proofs.Wholes.{leads_parts}
 
--- over all generations its observers are those that it was opened with, and then those that it got later
-pub kept_observers : (observers : List ObserverOf) (seats clock c : ℕ) (journal : List Entry) (now : StateOf) → IsKeptTable observers seats clock c journal now → now.observers ≡ observers
-kept_observers observers seats clock c journal now (opened l n t room) = refl
-kept_observers observers seats clock c journal now (stepped l n t d g before e new k job step) = case_observers before e.seat now e.step e.answer step.taken ∙ kept_observers l n t d g before k
-kept_observers observers seats clock c journal now (anew l n t d g old f ts k quiet room snapshot ended) = kept_observers l n t d g old k
-kept_observers observers seats clock c journal now (more_kept l n t d g old added new k quiet has) = ap (λ (z : StateOf). z.observers) has.is ∙ ap (λ os. os ++ added) (kept_observers l n t d g old k)
+-- its observers are those that it is kept with
+pub kept_observers : (observers gone : List ObserverOf) (seats clock c : ℕ) (journal : List Entry) (now : StateOf) → IsKeptTable observers gone seats clock c journal now → now.observers ≡ observers
+kept_observers observers gone seats clock c journal now (opened l n t room) = refl
+kept_observers observers gone seats clock c journal now (stepped l h n t d g before e new k job known step) = case_observers before e.seat now e.step e.answer step.taken ∙ kept_observers l h n t d g before k
+kept_observers observers gone seats clock c journal now (anew l h n t d g old f ts k quiet room snapshot ended) = kept_observers l h n t d g old k
+kept_observers observers gone seats clock c journal now (chosen l h n t d g old places front added f ts new k quiet room are snapshot ended has) = ap (λ (z : StateOf). z.observers) has.is
 
 -- a conversation after which a table is kept that was kept before it
 abbrev pub LeavesKept : List ObserverOf → List Received → Type 0
-LeavesKept observers said = (c : ℕ) (before : List Received) (m n : StateOf) → IsKeptTable observers 1 0 c (entries_by 0 before) m → JournalLeads m (entries_by 0 said) n → IsKeptTable observers 1 0 c (entries_by 0 (before ++ said)) n
+LeavesKept observers said =
+    (gone : List ObserverOf) (c : ℕ) (before : List Received) (m n : StateOf) → IsKeptTable observers gone 1 0 c (entries_by 0 before) m → JournalLeads m (entries_by 0 said) n
+    → IsKeptTable observers gone 1 0 c (entries_by 0 (before ++ said)) n
 
 module _ (observers : List ObserverOf) where
   nothing_leaves : LeavesKept observers []
-  nothing_leaves c before m n k r =
-      subst (λ (l : List Received). IsKeptTable observers 1 0 c (entries_by 0 l) n) (sym (append-nil before)) (subst (λ (s : StateOf). IsKeptTable observers 1 0 c (entries_by 0 before) s) (sym r) k)
+  nothing_leaves gone c before m n k r =
+      subst (λ (l : List Received). IsKeptTable observers gone 1 0 c (entries_by 0 l) n) (sym (append-nil before)) (subst (λ (s : StateOf). IsKeptTable observers gone 1 0 c (entries_by 0 before) s) (sym r) k)
 
   leaves_on : (a b : List Received) → LeavesKept observers a → LeavesKept observers b → LeavesKept observers (a ++ b)
-  leaves_on a b p q c before m n k r =
+  leaves_on a b p q gone c before m n k r =
       let parts = leads_parts m n a b r in
-      subst (λ (l : List Received). IsKeptTable observers 1 0 c (entries_by 0 l) n) (append_assoc before a b) (q c (before ++ a) parts.0 n (p c before m parts.0 k parts.1) parts.2)
+      subst (λ (l : List Received). IsKeptTable observers gone 1 0 c (entries_by 0 l) n) (append_assoc before a b) (q gone c (before ++ a) parts.0 n (p gone c before m parts.0 k parts.1) parts.2)
 
   -- one journal after another is that of both conversations
-  as_one : (c : ℕ) (before said : List Received) (n : StateOf) → IsKeptTable observers 1 0 c (entries_by 0 before ++ entries_by 0 said) n → IsKeptTable observers 1 0 c (entries_by 0 (before ++ said)) n
-  as_one c before said n k = subst (λ (es : List Entry). IsKeptTable observers 1 0 c es n) (sym (entries_on before said)) k
+  as_one : (gone : List ObserverOf) (c : ℕ) (before said : List Received) (n : StateOf) → IsKeptTable observers gone 1 0 c (entries_by 0 before ++ entries_by 0 said) n → IsKeptTable observers gone 1 0 c (entries_by 0 (before ++ said)) n
+  as_one gone c before said n k = subst (λ (es : List Entry). IsKeptTable observers gone 1 0 c es n) (sym (entries_on before said)) k
 
   pub mark_leaves : MarksKeepTables → (after : Option Cell) (a : Answer) → LeavesKept observers (told (Step.NextMark after) a ∷ [])
-  mark_leaves marks after a c before m n k r = let said = told (Step.NextMark after) a ∷ [] in as_one c before said n (marks observers 1 0 c (entries_by 0 before) m n k 0 after a said refl r)
+  mark_leaves marks after a gone c before m n k r = let said = told (Step.NextMark after) a ∷ [] in as_one gone c before said n (marks observers gone 1 0 c (entries_by 0 before) m n k 0 after a said refl r)
 
   pub change_leaves : WholeChangesKeepTables → (batch : Writes) (o : Outcome) (said : List Received) → IsEndedChange batch o said → LeavesKept observers said
-  change_leaves whole batch o said is c before m n k r = as_one c before said n (whole observers 1 0 c (entries_by 0 before) m n k 0 batch is.0 said o is.1 r)
+  change_leaves whole batch o said is gone c before m n k r = as_one gone c before said n (whole observers gone 1 0 c (entries_by 0 before) m n k 0 batch is.0 said o is.1 r)
 
   run_leaves : RunsKeepTables → (i : ℕ) (x : Cell) (said : List Received) → IsRun observers i x said → LeavesKept observers said
-  run_leaves runs i x said is c before m n k r = as_one c before said n (runs observers 1 0 c (entries_by 0 before) m n k 0 i is.o (row_of x) said is.job is.observer.there is.reaches r)
+  run_leaves runs i x said is gone c before m n k r = as_one gone c before said n (runs observers gone 1 0 c (entries_by 0 before) m n k 0 i is.o (row_of x) said is.job is.observer.there is.reaches r)
 
   pub parts_leave : RunsKeepTables → WholeChangesKeepTables → MarksKeepTables → HoldsOfParts observers (LeavesKept observers)
   parts_leave runs whole marks = record { nothing = nothing_leaves; on = leaves_on; mark = mark_leaves marks; run = run_leaves runs; change = change_leaves whole }
@@ -67,9 +69,10 @@ module _ (observers : List ObserverOf) where
 pub kept_after : {P : List Received → Type 0} (a b : StateOf) → WasKept a → ((said : List Received) → P said → LeavesKept a.observers said) → SaidLeads P a b → WasKept b
 kept_after a b k leaves g = record {
   observers = k.observers;
+  gone = k.gone;
   c = k.c;
   said = k.said ++ g.said;
-  kept = subst (λ (l : List ObserverOf). LeavesKept l g.said) (kept_observers k.observers 1 0 k.c (entries_by 0 k.said) a k.kept) (leaves g.said g.form) k.c k.said a b k.kept g.leads;
+  kept = subst (λ (l : List ObserverOf). LeavesKept l g.said) (kept_observers k.observers k.gone 1 0 k.c (entries_by 0 k.said) a k.kept) (leaves g.said g.form) k.gone k.c k.said a b k.kept g.leads;
 }
 
 -- and after one whose runs are counted

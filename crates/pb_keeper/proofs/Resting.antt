@@ -19,10 +19,11 @@ use Rattle.pb_txn.specs.Conversations.{told}
 use Rattle.pb_notify.specs.Allowed.{entries_by}
 use Rattle.pb_passes.specs.Passes.{IsRun}
 use Rattle.pb_state.specs.MoreObservers.{HasMoreObservers}
+use Rattle.pb_generations.specs.Chosen.{ChosenAreSound}
 use Rattle.pb_generations.specs.Snapshots.{LeftAreSound}
 use Rattle.pb_keeper.specs.Stats.{KeptTable}
 use Rattle.pb_keeper.specs.Stops.{IsUnlocked}
-use Rattle.pb_keeper.specs.Keeps.{CatchesUp, IsFirstTable, opened, anew, observed, Keeps, KeepsFrom, KeptIsUnlocked}
+use Rattle.pb_keeper.specs.Keeps.{CatchesUp, IsChosenOf, IsFirstTable, opened, anew, changed, Keeps, KeepsFrom, KeptIsUnlocked}
 use Rattle.pb_keeper.proofs.EachPart.{HoldsOfParts, of_all, of_drain}
 use Rattle.pb_keeper.proofs.Wholes.{leads_parts, stays_sound, plain_walk, run_rests, change_commits, free_after}
 
@@ -70,37 +71,47 @@ more_sound more old new has sound = subst IsSoundTable (sym has.is) sound
 more_free : (more : List ObserverOf) (old new : StateOf) → HasMoreObservers more old new → IsUnlocked old → IsUnlocked new
 more_free more old new has free x u = ap (λ (z : StateOf). lock_at z.entries x u) has.is ∙ free x u
 
-module _ (keeps : StepsKeepSound) (opens : OpeningIsSound) (left : LeftAreSound) where
+module _ (keeps : StepsKeepSound) (opens : OpeningIsSound) (left : LeftAreSound) (chosen : ChosenAreSound) where
+  -- as a sound table goes on with the observers that stay, it is sound
+  chosen_sound : (places : List ℕ) (front : List ObserverOf) (old new : KeptTable) → IsChosenOf places front old new → IsSoundTable old.state → IsSoundTable new.state
+  chosen_sound places front old new is sound = subst IsSoundTable (sym is.is) (chosen places front old.state new.state.entries new.state.transactions sound is.are is.snapshot is.left).0
+
   -- as a generation begins, a table is sound
   pub first_sound : (past : List Writes) (first : KeptTable) → IsFirstTable past first → IsSoundTable first.state
   first_sound past first (opened observers) = opens observers 1 0 small
   first_sound past first (anew before changes start old new began leads quiet room is stats) =
       subst IsSoundTable (sym is.is) (left old.state first.state.entries first.state.transactions (stays_sound keeps start.state old.state leads.said (first_sound before start began) leads.leads) is.snapshot is.left).0
-  first_sound past first (observed before changes start old new more began leads quiet up) =
+  first_sound past first (changed before changes start old between new places front more began leads quiet room is up) =
       stays_sound keeps up.marked.state first.state up.drained.said
-      (more_sound more old.state up.marked.state up.observed (stays_sound keeps start.state old.state leads.said (first_sound before start began) leads.leads)) up.drained.leads
+      (more_sound more between.state up.marked.state up.observed
+      (chosen_sound places front old between is (stays_sound keeps start.state old.state leads.said (first_sound before start began) leads.leads))) up.drained.leads
 
   pub from_sound : (past changes : List Writes) (first table : KeptTable) → IsFirstTable past first → KeepsFrom first changes table → IsSoundTable table.state
   from_sound past changes first table began k = stays_sound keeps first.state table.state k.said (first_sound past first began) k.leads
 
-  -- and so it is where it got more observers
-  pub marked_sound : (past changes : List Writes) (first old new : KeptTable) (more : List ObserverOf) → IsFirstTable past first → KeepsFrom first changes old → (up : CatchesUp more old new) → IsSoundTable up.marked.state
-  marked_sound past changes first old new more began k up = more_sound more old.state up.marked.state up.observed (from_sound past changes first old began k)
+  -- and so it is where it got other observers
+  pub between_sound : (past changes : List Writes) (first old between : KeptTable) (places : List ℕ) (front : List ObserverOf) → IsFirstTable past first → KeepsFrom first changes old → IsChosenOf places front old between → IsSoundTable between.state
+  between_sound past changes first old between places front began k is = chosen_sound places front old between is (from_sound past changes first old began k)
+
+  pub marked_sound : (past changes : List Writes) (first old between new : KeptTable) (places : List ℕ) (front more : List ObserverOf) → IsFirstTable past first → KeepsFrom first changes old → IsChosenOf places front old between
+      → (up : CatchesUp more between new) → IsSoundTable up.marked.state
+  marked_sound past changes first old between new places front more began k is up = more_sound more between.state up.marked.state up.observed (between_sound past changes first old between places front began k is)
+
+  -- and no lock stands in it
+  pub marked_free : (old between new : KeptTable) (places : List ℕ) (front more : List ObserverOf) → IsChosenOf places front old between → (up : CatchesUp more between new) → IsUnlocked up.marked.state
+  marked_free old between new places front more is up = more_free more between.state up.marked.state up.observed is.snapshot.unlocked
 
   from_free : (past changes : List Writes) (first table : KeptTable) → IsFirstTable past first → IsUnlocked first.state → KeepsFrom first changes table → IsUnlocked table.state
   from_free past changes first table began free k =
       of_all first.state.observers (parts_rest keeps first.state.observers) changes k.said k.form.form first.state table.state (first_sound past first began) free k.leads
 
-  -- and no lock stands in it
+  -- nor does one as it begins
   pub first_free : (past : List Writes) (first : KeptTable) → IsFirstTable past first → IsUnlocked first.state
   first_free past first (opened observers) = opening_free observers
   first_free past first (anew before changes start old new began leads quiet room is stats) = is.snapshot.unlocked
-  first_free past first (observed before changes start old new more began leads quiet up) =
-      of_drain up.marked.state.observers (parts_rest keeps up.marked.state.observers) up.drained.said up.drained.form.form up.marked.state first.state (marked_sound before changes start old new more began leads up)
-      (more_free more old.state up.marked.state up.observed (from_free before changes start old began (first_free before start began) leads)) up.drained.leads
-
-  pub marked_free : (past changes : List Writes) (first old new : KeptTable) (more : List ObserverOf) → IsFirstTable past first → KeepsFrom first changes old → (up : CatchesUp more old new) → IsUnlocked up.marked.state
-  marked_free past changes first old new more began k up = more_free more old.state up.marked.state up.observed (from_free past changes first old began (first_free past first began) k)
+  first_free past first (changed before changes start old between new places front more began leads quiet room is up) =
+      of_drain up.marked.state.observers (parts_rest keeps up.marked.state.observers) up.drained.said up.drained.form.form up.marked.state first.state
+      (marked_sound before changes start old between new places front more began leads is up) (marked_free old between new places front more is up) up.drained.leads
 
   -- a table that keeps changes is sound
   pub kept_sound : (first : KeptTable) (changes : List Writes) (table : KeptTable) → Keeps first changes table → IsSoundTable table.state

@@ -42,10 +42,10 @@ added_both a b = λ i. record { runs = sum_up_to a.runs b.runs i; nonzero = sum_
 pub added_more : (a b : ObserverStats) → added (saturated a) b ≡ saturated (sum_of a b)
 added_more a b = λ i. record { runs = more_up_to a.runs b.runs i; nonzero = more_up_to a.nonzero b.nonzero i; conflicts = more_up_to a.conflicts b.conflicts i; asks = more_up_to a.asks b.asks i; instructions = more_up_to a.instructions b.instructions i }
 
-plus_assoc : (a b c : ObserverStats) → sum_of (sum_of a b) c ≡ sum_of a (sum_of b c)
+pub plus_assoc : (a b c : ObserverStats) → sum_of (sum_of a b) c ≡ sum_of a (sum_of b c)
 plus_assoc a b c = λ i. record { runs = sum_assoc a.runs b.runs c.runs i; nonzero = sum_assoc a.nonzero b.nonzero c.nonzero i; conflicts = sum_assoc a.conflicts b.conflicts c.conflicts i; asks = sum_assoc a.asks b.asks c.asks i; instructions = sum_assoc a.instructions b.instructions c.instructions i }
 
-plus_none : (a : ObserverStats) → sum_of a no_runs ≡ a
+pub plus_none : (a : ObserverStats) → sum_of a no_runs ≡ a
 plus_none a = λ i. record { runs = sum_none a.runs i; nonzero = sum_none a.nonzero i; conflicts = sum_none a.conflicts i; asks = sum_none a.asks i; instructions = sum_none a.instructions i }
 
 pub none_plus : (a : ObserverStats) → sum_of no_runs a ≡ a

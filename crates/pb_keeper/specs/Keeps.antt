@@ -1,6 +1,6 @@
--- A table that is kept over generations: it is opened with nothing in it, or begins anew from a quiet one, or gets more observers where
--- it is quiet, and then these changes led to it, and nothing else.
-use Rattle.std.specs.Prelude.{◌≡◌, ℕ, ◌<◌, List, [], ◌∷◌, ◌++◌, length}
+-- A table that is kept over generations: it is opened with nothing in it, or begins anew from a quiet one, also with other observers,
+-- and then these changes led to it, and nothing else.
+use Rattle.std.specs.Prelude.{◌≡◌, ℕ, ◌<◌, List, [], ◌∷◌, ◌++◌, length, slice_get}
 use Rattle.pb_base.specs.Batch.{Writes}
 use Rattle.pb_base.specs.declared.names.Ts.{Ts}
 use Rattle.pb_verify.specs.Observers.{ObserverOf}
@@ -13,12 +13,13 @@ use Rattle.pb_history.specs.declared.entry.Received.{Received}
 use Rattle.pb_notify.specs.Allowed.{entries_by}
 use Rattle.pb_passes.specs.Passes.{IsDrain}
 use Rattle.pb_state.specs.MoreObservers.{HasMoreObservers}
+use Rattle.pb_generations.specs.Chosen.{AreChosen, IsChosenSnapshot, chosen_state, new_number, renumbered_said}
 use Rattle.pb_generations.specs.KeptTables.{IsKeptTable}
 use Rattle.pb_generations.specs.Mirrored.{carried}
 use Rattle.pb_generations.specs.Snapshots.{AreLeft, IsSnapshotOf}
 use Rattle.pb_keeper.specs.Leads.{SaidLeads}
 use Rattle.pb_keeper.specs.Made.{IsMade}
-use Rattle.pb_keeper.specs.Stats.{AreKeptStats, AreStatsOf, Counted, KeptTable, first_stats, kept_table}
+use Rattle.pb_keeper.specs.Stats.{AreKeptStats, AreStatsOf, Counted, KeptTable, chosen_stats, first_stats, kept_table, no_runs, total_at, sum_of}
 use Rattle.pb_keeper.specs.Stops.{IsUnlocked}
 use Rattle.pb_keeper.specs.declared.stats.ObserverStats.{ObserverStats}
 
@@ -43,7 +44,16 @@ pub record IsAnew (old new : StateOf) : Type 0 where
   pub snapshot : IsSnapshotOf old new.entries
   pub left : AreLeft old new.entries new.transactions
 
--- it got these observers after those that it had, with a mark on each cell of theirs that was ever written, and then a drain led on, by
+-- a quiet table goes on with the observers at these places: what stands is a snapshot of their cells, with what is left of its
+-- transactions, and the stats are theirs
+pub record IsChosenOf (places : List ℕ) (front : List ObserverOf) (old new : KeptTable) : Type 0 where
+  pub are : AreChosen places old.state.observers front
+  pub is : new.state ≡ chosen_state old.state front new.state.entries new.state.transactions
+  pub snapshot : IsChosenSnapshot places old.state new.state.entries
+  pub left : AreLeft old.state new.state.entries new.state.transactions
+  pub stats_are : new.stats ≡ chosen_stats places old.stats
+
+-- it got these observers after those that it had, with a mark on each cell of theirs that has a write record, and then a drain led on, by
 -- which they catch up; what its runs did is counted, of the new ones from nothing on
 pub record CatchesUp (more : List ObserverOf) (old new : KeptTable) : Type 0 where
   pub marked : KeptTable
@@ -56,8 +66,9 @@ pub data IsFirstTable : List Writes → KeptTable → Type 0 where
   opened : (observers : List ObserverOf) → IsFirstTable [] (opened_table observers)
   anew : (past changes : List Writes) (first old new : KeptTable) → IsFirstTable past first → KeepsFrom first changes old → IsQuiet old.state → old.state.clock < last_timestamp
       → IsAnew old.state new.state → new.stats ≡ old.stats → IsFirstTable (past ++ changes) new
-  observed : (past changes : List Writes) (first old new : KeptTable) (more : List ObserverOf) → IsFirstTable past first → KeepsFrom first changes old → IsQuiet old.state
-      → CatchesUp more old new → IsFirstTable (past ++ changes) new
+  -- with the observers at these places, and then others, which caught up
+  changed : (past changes : List Writes) (first old between new : KeptTable) (places : List ℕ) (front more : List ObserverOf) → IsFirstTable past first → KeepsFrom first changes old → IsQuiet old.state
+      → old.state.clock < last_timestamp → IsChosenOf places front old between → CatchesUp more between new → IsFirstTable (past ++ changes) new
 
 -- a table of the generation that begins with the first: these changes were made since
 pub record Keeps (first : KeptTable) (changes : List Writes) (table : KeptTable) : Type 0 where
@@ -81,24 +92,30 @@ abbrev pub KeptFollowOneAnother : Type 0
 KeptFollowOneAnother =
     (first : KeptTable) (changes : List Writes) (table : KeptTable) → Keeps first changes table → (s c u d : ℕ) → IsCommittedAt (view_of table.state) s c → IsCommittedAt (view_of table.state) u d → s < u → c < u
 
--- these changes of all generations, each once and in order, each with the drain that follows it, by the observers of its time; and where
--- observers were added, the drain by which they caught up
-pub data AreMadeInAll : List ObserverOf → List Writes → List Received → Type 0 where
-  nothing_made : (observers : List ObserverOf) → AreMadeInAll observers [] []
-  change_made : (observers : List ObserverOf) (changes : List Writes) (said more : List Received) (batch : Writes) (commit : Ts) → AreMadeInAll observers changes said → IsMade observers batch commit more
-      → AreMadeInAll observers (changes ++ batch ∷ []) (said ++ more)
-  caught_up : (observers added : List ObserverOf) (changes : List Writes) (said more : List Received) → AreMadeInAll observers changes said → IsDrain (observers ++ added) more
-      → AreMadeInAll (observers ++ added) changes (said ++ more)
+-- what the runs of the observers did, by their new numbers: of those that stay, and nothing of new ones and of those that are gone
+abbrev pub total_in : List ℕ → (ℕ → ObserverStats) → ℕ → ObserverStats
+total_in places total n = total_at total (slice_get places n)
+
+-- These changes of all generations were made, each once and in order, each with the drain that follows it, by the observers of its time;
+-- and where the observers changed, the drain by which new ones caught up. The conversation has the numbers that they have by now; those that
+-- are gone stand after the others. This is what the runs of each did that isn't gone, counted as they were made.
+pub data AreMadeInAll : List ObserverOf → List ObserverOf → List Writes → List Received → (ℕ → ObserverStats) → Type 0 where
+  nothing_made : (observers : List ObserverOf) → AreMadeInAll observers [] [] [] (λ o. no_runs)
+  change_made : (observers gone : List ObserverOf) (changes : List Writes) (said more : List Received) (total did : ℕ → ObserverStats) (batch : Writes) (commit : Ts) → AreMadeInAll observers gone changes said total
+      → IsMade observers batch commit more → AreStatsOf observers more did → AreMadeInAll observers gone (changes ++ batch ∷ []) (said ++ more) (λ o. sum_of (total o) (did o))
+  observers_changed : (observers gone front added : List ObserverOf) (places : List ℕ) (changes : List Writes) (said more : List Received) (total did : ℕ → ObserverStats) → AreMadeInAll observers gone changes said total
+      → AreChosen places observers front → IsDrain (front ++ added) more → AreStatsOf (front ++ added) more did
+      → AreMadeInAll (front ++ added) (observers ++ gone) changes (renumbered_said (new_number places (length (front ++ added))) said ++ more) (λ o. sum_of (total_in places total o) (did o))
 
 -- One conversation, of all generations, makes these changes and leads to the table; what is kept of an observer is what its runs did
--- in it. No run met a conflict, since the table has one seat, which makes one thing after another.
+-- in it. No run of theirs met a conflict, since the table has one seat, which makes one thing after another.
 pub record IsWholeTable (observers : List ObserverOf) (changes : List Writes) (table : KeptTable) : Type 0 where
+  pub gone : List ObserverOf
   pub said : List Received
-  pub made : AreMadeInAll observers changes said
-  pub c : ℕ
-  pub kept : IsKeptTable observers 1 0 c (entries_by 0 said) table.state
   pub total : ℕ → ObserverStats
-  pub did : AreStatsOf observers said total
+  pub made : AreMadeInAll observers gone changes said total
+  pub c : ℕ
+  pub kept : IsKeptTable observers gone 1 0 c (entries_by 0 said) table.state
   pub clean : (o : ℕ) → (total o).conflicts ≡ 0
   pub as_many : length table.stats ≡ length observers
   pub are : AreKeptStats total table.stats

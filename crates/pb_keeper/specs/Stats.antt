@@ -1,5 +1,5 @@
 -- What the runs of each observer did, counted along what the only seat said.
-use Rattle.std.specs.Prelude.{◌≡◌, ℕ, ◌+◌, ◌<◌, ◌==◌, Bool, true, false, cond, List, [], ◌∷◌, ◌++◌, length, replicate, slice_index_or, Option, Some}
+use Rattle.std.specs.Prelude.{◌≡◌, ℕ, ◌+◌, ◌<◌, ◌==◌, Bool, true, false, cond, List, [], ◌∷◌, ◌++◌, length, map, replicate, slice_index_or, Option, Some, None}
 use Rattle.std.specs.Io.Iter.{u64_saturate}
 use Rattle.pb_base.specs.declared.cell.Cell.{Cell}
 use Rattle.pb_verify.specs.Observers.{ObserverOf}
@@ -117,3 +117,12 @@ kept_table state stats = record { state = state; stats = stats }
 -- the numbers of so many observers before their first run
 abbrev pub first_stats : List ObserverOf → List ObserverStats
 first_stats observers = replicate (length observers) no_runs
+
+-- what is kept of the observers at these places
+abbrev pub chosen_stats : List ℕ → List ObserverStats → List ObserverStats
+chosen_stats places stats = map (λ p. slice_index_or stats p no_runs) places
+
+-- what the runs of an observer did, if there is one
+abbrev pub total_at : (ℕ → ObserverStats) → Option ℕ → ObserverStats
+total_at total None = no_runs
+total_at total (Some p) = total p

@@ -15,12 +15,14 @@ use Rattle.pb_notify.specs.Runs.{RunOf, watch_of, fresh}
 use Rattle.pb_generations.specs.KeptTables.{IsKeptTable}
 use Rattle.pb_keeper.specs.declared.change.Stopped.{Stopped}
 
--- the table is kept over generations, of which the last began at c, by what its only seat said since it was opened
+-- the table is kept over generations, of which the last began at c, by what its only seat said since it was opened, with the numbers that
+-- observers have by now
 pub record WasKept (state : StateOf) : Type 0 where
   pub observers : List ObserverOf
+  pub gone : List ObserverOf
   pub c : ℕ
   pub said : List Received
-  pub kept : IsKeptTable observers 1 0 c (entries_by 0 said) state
+  pub kept : IsKeptTable observers gone 1 0 c (entries_by 0 said) state
 
 -- no lock stands in the table
 abbrev pub IsUnlocked : StateOf → Type 0

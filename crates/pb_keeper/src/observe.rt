@@ -1,14 +1,16 @@
 //! Observers that a table gets after those that it has, and the passes by which they catch up with what was written before.
-ghost use Rattle.std.specs.Prelude.{◌≡◌, ◌≤◌, ◌+◌, ◌++◌, List, None, true, length, IfOk, IfErr, OnOk};
+ghost use Rattle.std.specs.Prelude.{◌≡◌, ◌<◌, ◌≤◌, ◌+◌, ◌++◌, List, None, true, ℕ, length, IfOk, IfErr, OnOk};
 ghost use Rattle.pb_base.specs.Batch.{Writes};
 ghost use Rattle.pb_base.specs.declared.limits.TheConstants.{MAX_OBSERVERS};
 ghost use Rattle.pb_history.specs.Handled.{IsQuiet};
 ghost use Rattle.pb_state.specs.MoreObservers.{HasMoreObservers};
+ghost use Rattle.pb_steps.specs.Readings.{last_timestamp};
 ghost use Rattle.pb_store.specs.Contents.{IsNextMark};
+ghost use Rattle.pb_verify.specs.Observers.{ObserverOf};
 ghost use Rattle.pb_keeper.specs.Counts.{commit_count};
-ghost use Rattle.pb_keeper.specs.Keeps.{CatchesUp, IsFirstTable, KeepsFrom};
+ghost use Rattle.pb_keeper.specs.Keeps.{CatchesUp, IsChosenOf, IsFirstTable, KeepsFrom};
 ghost use Rattle.pb_keeper.specs.Stats.{KeptTable, first_stats, kept_table};
-ghost use Rattle.pb_keeper.specs.Stops.{IsStop, WantsMemory};
+ghost use Rattle.pb_keeper.specs.Stops.{IsStop};
 
 use crate::change::Stopped;
 use crate::passes::{Drained, drain};
@@ -40,8 +42,11 @@ fn add_all<T: Tablet>(
     Ok(())
 }
 
-/// Adds observers after those of a quiet table, which keep what they have acknowledged, and makes passes until the new ones
+/// Adds observers after those that a table has, which keep what they have acknowledged, and makes passes until the new ones
 /// have handled all that was ever written to their columns, or so many passes as may be made. It returns what these did.
+///
+/// The table is one that goes on with the observers that stay of a quiet one, in their new order, before anything else is done
+/// with it: all of them stay where observers are only added.
 ///
 /// Where it fails, some cells may be marked, and the table serves for nothing more.
 pub fn observe_also<R: Wait, T: Tablet>(
@@ -60,21 +65,24 @@ pub fn observe_also<R: Wait, T: Tablet>(
         × (d.runs ≡ commit_count u.drained.said)) }
     // Where it rests no cell is marked.
     ensures quiet { IfOk result (λ d. d.rests ≡ true → IsNextMark state.new.marks None None) }
-    // From a table that keeps changes it is a generation's beginning, after all of them.
-    ensures begins { (past changes : List Writes) (first : KeptTable)
-        → IsFirstTable past first
-        → KeepsFrom first changes (kept_table state.old stats.old.items)
-        → IsQuiet state.old
+    // From what was chosen of a quiet table that keeps changes it is a generation's beginning,
+    // after all of them.
+    ensures begins { (past changes : List Writes) (first old : KeptTable) (places : List ℕ)
+        (front : List ObserverOf) → IsFirstTable past first
+        → KeepsFrom first changes old → IsQuiet old.state
+        → old.state.clock < last_timestamp
+        → IsChosenOf places front old (kept_table state.old stats.old.items)
         → OnOk result (IsFirstTable (past ++ changes)
         (kept_table state.new stats.new.items)) }
     // Then it conflicts with nothing.
-    ensures stops { (past changes : List Writes) (first : KeptTable)
-        → IsFirstTable past first
-        → KeepsFrom first changes (kept_table state.old stats.old.items)
-        → IsQuiet state.old
+    ensures stops { (past changes : List Writes) (first old : KeptTable) (places : List ℕ)
+        (front : List ObserverOf) → IsFirstTable past first
+        → KeepsFrom first changes old → IsQuiet old.state
+        → old.state.clock < last_timestamp
+        → IsChosenOf places front old (kept_table state.old stats.old.items)
         → IfErr result (λ e. IsStop e state.new) }
 {
-    // For the proof: a table that is kept over generations is so with more observers, and conflicts with nothing.
+    // For the proof: a table that is kept over generations is so with other observers, and conflicts with nothing.
     steps_keep_sound();
     snapshots_serve();
     jobs_keep_tables();

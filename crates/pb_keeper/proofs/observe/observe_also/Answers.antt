@@ -2,7 +2,7 @@ use Rattle.std.proofs.Common.{rules, Result, Ok, Err, IfOk, OnOk, ap, ◌∙◌}
 use Rattle.std.proofs.lemmas.List.{with_items_is, places}
 use Rattle.std.proofs.lemmas.Result.{IfOk-weaker}
 use Rattle.pb_steps.specs.State.{StateOf}
-use Rattle.pb_keeper.specs.Keeps.{observed}
+use Rattle.pb_keeper.specs.Keeps.{changed}
 use Rattle.pb_keeper.specs.Stats.{kept_table}
 use Rattle.pb_keeper.proofs.Keeping.{caught, kept_marked}
 use Rattle.pb_keeper.proofs.Leading.{leads_observers}
@@ -23,14 +23,14 @@ returns-in-Ok-clause-caught_up g c =
     (λ d p. (caught c.args.more.items (kept_table c.args.state.now c.args.stats.now.items) c.add_all.new.state c.drain.new.state c.deref_mut.result.now c.drain.new.stats c.in-Ok.ensures.observed (c.deref_mut.ensures.value ∙ c.in-Ok.ensures.stats) p.0, p.1)) c.drain.ensures.ok)
 
 pub returns-in-Ok-clause-begins : goal.returns-in-Ok-clause-begins
-returns-in-Ok-clause-begins g c past changes first began k quiet =
+returns-in-Ok-clause-begins g c past changes first old places front began k quiet room is =
     rw (with_items_is c.add_all.new.stats c.drain.new.stats (search (rules, places)))
     (on_ok c.drain.result _ _
-    (λ d p. observed past changes first (kept_table c.args.state.now c.args.stats.now.items) (kept_table c.drain.new.state c.drain.new.stats) c.args.more.items began k quiet
+    (λ d p. changed past changes first old (kept_table c.args.state.now c.args.stats.now.items) (kept_table c.drain.new.state c.drain.new.stats) places front c.args.more.items began k quiet room is
     (caught c.args.more.items (kept_table c.args.state.now c.args.stats.now.items) c.add_all.new.state c.drain.new.state c.deref_mut.result.now c.drain.new.stats c.in-Ok.ensures.observed (c.deref_mut.ensures.value ∙ c.in-Ok.ensures.stats) p.0)) c.drain.ensures.ok)
 
 pub returns-in-Ok-clause-stops : goal.returns-in-Ok-clause-stops
-returns-in-Ok-clause-stops g c past changes first began k quiet =
+returns-in-Ok-clause-stops g c past changes first old places front began k quiet room is =
     c.drain.ensures.stops
-    (kept_marked c.steps_keep_sound.ensures.step c.steps_keep_sound.ensures.opening c.snapshots_serve.ensures.left c.jobs_keep_tables.ensures.runs c.jobs_keep_tables.ensures.whole c.jobs_keep_tables.ensures.marks
-    past changes first (kept_table c.args.state.now c.args.stats.now.items) c.add_all.new.state c.args.more.items began k quiet c.in-Ok.ensures.observed)
+    (kept_marked c.steps_keep_sound.ensures.step c.steps_keep_sound.ensures.opening c.snapshots_serve.ensures.left c.snapshots_serve.ensures.chosen c.jobs_keep_tables.ensures.runs c.jobs_keep_tables.ensures.whole c.jobs_keep_tables.ensures.marks
+    past changes first old (kept_table c.args.state.now c.args.stats.now.items) c.add_all.new.state places front c.args.more.items began k quiet room is c.in-Ok.ensures.observed)
