@@ -1,23 +1,31 @@
--- A snapshot of a quiet table begins the next generation.
-use Rattle.std.proofs.Common.{◌≡◌, ℕ, arith, List, [], ◌∷◌, refl, sym, ap, ◌∙◌, subst}
+-- A snapshot of a quiet table begins the next generation, and what is chosen of it goes on with other observers.
+use Rattle.std.proofs.Common.{◌≡◌, ℕ, arith, List, [], ◌∷◌, Some, refl, sym, ap, ◌∙◌, subst}
 use Rattle.pb_base.specs.Batch.{Writes}
+use Rattle.pb_base.specs.declared.cell.Cell.{Cell}
+use Rattle.pb_base.specs.declared.content.Revision.{Revision}
+use Rattle.pb_verify.specs.Observers.{ObserverOf}
+use Rattle.pb_steps.specs.Readings.{IsVersion}
 use Rattle.pb_steps.specs.State.{StateOf}
 use Rattle.pb_steps.specs.Steps.{StepCase}
 use Rattle.pb_steps.specs.declared.step.Answer.{Answer}
 use Rattle.pb_steps.specs.declared.step.Step.{Step}
+use Rattle.pb_history.specs.History.{Has}
 use Rattle.pb_history.specs.Journals.{JournalLeads}
 use Rattle.pb_history.specs.Laws.{StepsKeepSound, OpeningIsSound}
+use Rattle.pb_history.specs.Sound.{IsSoundTable}
 use Rattle.pb_history.specs.declared.entry.Entry.{Entry}
 use Rattle.pb_history.specs.declared.entry.Received.{Received}
 use Rattle.pb_notify.specs.Allowed.{entries_by}
+use Rattle.pb_generations.specs.Chosen.{ChosenAreSound, chosen_cell}
 use Rattle.pb_generations.specs.Snapshots.{LeftAreSound}
 use Rattle.pb_state.specs.CarriedOver.{IsCarriedOver}
-use Rattle.pb_keeper.specs.Keeps.{IsFirstTable, anew, observed, opened}
+use Rattle.pb_keeper.specs.Keeps.{IsFirstTable, KeepsFrom, anew, changed, opened}
 use Rattle.pb_keeper.specs.Leads.{SaidLeads}
-use Rattle.pb_keeper.specs.Stats.{KeptTable}
+use Rattle.pb_keeper.specs.Stats.{KeptTable, chosen_stats}
 use Rattle.pb_keeper.proofs.Resting.{from_sound}
 use Rattle.pb_snapshots.specs.Beginnings.{SnapshotsBegin}
-use Rattle.pb_snapshots.proofs.QuietBegins.{are_left_carried, snapshot_carried, state_carried}
+use Rattle.pb_snapshots.specs.Chosen.{ChosenBegin}
+use Rattle.pb_snapshots.proofs.QuietBegins.{are_left_carried, kept_there, no_more, only_those, snapshot_carried, snapshot_left, state_becomes, state_carried}
 
 -- no step changes how many seats there are
 case_seats : (old : StateOf) (seat : ℕ) (new : StateOf) (step : Step) (answer : Answer) → StepCase old seat step answer new → new.seats ≡ old.seats
@@ -34,18 +42,50 @@ leads_seats a b g = journal_seats a (entries_by 0 g.said) b g.leads
 first_seats : (past : List Writes) (first : KeptTable) → IsFirstTable past first → first.state.seats ≡ 1
 first_seats past first (opened observers) = refl
 first_seats past first (anew before changes start old new began k quiet room is stats) = ap (λ (z : StateOf). z.seats) is.is ∙ leads_seats start.state old.state k ∙ first_seats before start began
-first_seats past first (observed before changes start old new more began k quiet up) =
-    leads_seats up.marked.state first.state up.drained ∙ ap (λ (z : StateOf). z.seats) up.observed.is ∙ leads_seats start.state old.state k ∙ first_seats before start began
+first_seats past first (changed before changes start old between new places front more began k quiet room is up) =
+    leads_seats up.marked.state first.state up.drained
+    ∙ ap (λ (z : StateOf). z.seats) up.observed.is
+    ∙ ap (λ (z : StateOf). z.seats) is.is
+    ∙ leads_seats start.state old.state k
+    ∙ first_seats before start began
 
-module _ (keeps : StepsKeepSound) (opens : OpeningIsSound) (left : LeftAreSound) where
+module _ (keeps : StepsKeepSound) (opens : OpeningIsSound) (left : LeftAreSound) (sound_chosen : ChosenAreSound) where
+  module _ (past changes : List Writes) (first old new : KeptTable) (began : IsFirstTable past first) (k : KeepsFrom first changes old) where
+    old_sound : IsSoundTable old.state
+    old_sound = from_sound keeps opens left sound_chosen past changes first old began k
+
+    -- it has as many seats, and the clock of the snapshot is its own
+    carried_over : (observers : List ObserverOf) (clock : ℕ) (cells : List (Cell × Revision)) → clock ≡ old.state.clock → IsCarriedOver observers 1 clock cells new.state → IsCarriedOver observers old.state.seats old.state.clock cells new.state
+    carried_over observers clock cells same over =
+        let seats : 1 ≡ old.state.seats = sym (leads_seats first.state old.state k ∙ first_seats past first began) in
+        subst (λ (c : ℕ). IsCarriedOver observers old.state.seats c cells new.state) same (subst (λ (n : ℕ). IsCarriedOver observers n clock cells new.state) seats over)
+
   pub snapshots_begin : SnapshotsBegin
   snapshots_begin past changes first old new s began k quiet room taken over stats =
-      let sound = from_sound keeps opens left past changes first old began k in
-      let seats : 1 ≡ old.state.seats = sym (leads_seats first.state old.state k ∙ first_seats past first began) in
-      let is : IsCarriedOver old.state.observers old.state.seats old.state.clock s.cells new.state =
-      subst (λ (c : ℕ). IsCarriedOver old.state.observers old.state.seats c s.cells new.state) taken.clock (subst (λ (n : ℕ). IsCarriedOver old.state.observers n s.clock s.cells new.state) seats over) in
+      let sound = old_sound past changes first old new began k in
+      let is = carried_over past changes first old new began k old.state.observers s.clock s.cells taken.clock over in
       anew past changes first old new began k quiet room (record {
         is = state_carried old.state new.state s.cells sound quiet taken.each taken.all is;
         snapshot = snapshot_carried old.state new.state s.cells sound quiet taken.each taken.all is;
-        left = are_left_carried old.state new.state s.cells sound quiet taken.each taken.all is;
+        left = snapshot_left old.state new.state s.cells sound quiet taken.each taken.all is;
       }) (stats ∙ taken.stats)
+
+  pub chosen_begin : ChosenBegin
+  chosen_begin past changes first old new s u places front began k quiet are taken from over stats =
+      let sound = old_sound past changes first old new began k in
+      let becomes = chosen_cell places in
+      let each : (y : Cell) (v : Revision) → Has u.cells (y, v) → (x : Cell) × (becomes x ≡ Some y) × IsVersion old.state.entries x old.state.clock v = λ y v has. let x = from.each y v has in (x.0, x.1, taken.each x.0 v x.2) in
+      let all : (x y : Cell) (v : Revision) → becomes x ≡ Some y → IsVersion old.state.entries x old.state.clock v → Has u.cells (y, v) = λ x y v becoming there. from.all x y v becoming (taken.all x v there) in
+      let is = carried_over past changes first old new began k front u.clock u.cells (from.clock ∙ taken.clock) over in
+      record {
+        are = are;
+        is = state_becomes old.state new.state becomes front u.cells sound quiet each all is;
+        snapshot = record {
+          kept = kept_there old.state new.state becomes front u.cells sound quiet each all is;
+          only = only_those old.state new.state becomes front u.cells sound quiet each all is;
+          no_more = no_more old.state new.state becomes front u.cells sound quiet each all is;
+          unlocked = is.entries_are.unlocked;
+        };
+        left = are_left_carried old.state new.state becomes front u.cells sound quiet each all is;
+        stats_are = stats ∙ from.stats ∙ ap (chosen_stats places) taken.stats;
+      }

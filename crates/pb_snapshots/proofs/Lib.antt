@@ -4,6 +4,9 @@ pub mod Lists
 pub mod NoText
 pub mod Appending
 pub mod VersionWalks
+pub mod Places
+pub mod ChosenCells
+pub mod ChosenWalks
 pub mod QuietBegins
 pub mod Beginning
 pub mod TakenOrder

@@ -1,12 +1,13 @@
 -- The versions of a snapshot of a kept table are in the order in which a state takes them over.
-use Rattle.std.proofs.Common.{arith, ◌≡◌, ℕ, zero, suc, ◌<◌, ◌≤◌, ◌⊎◌, inl, inr, Bool, true, false, cond, ◌&&◌, ◌||◌, nat_lt, List, [], ◌∷◌, map, take, Option, Some, None, slice_get, Ordering, Less, Equal, Greater, refl, sym, ap, subst, ◌∙◌}
-use Rattle.std.specs.Cmp.{Equal-is, tied_itself}
+use Rattle.std.proofs.Common.{arith, ◌≡◌, ℕ, zero, suc, ◌<◌, ◌≤◌, ◌⊎◌, inl, inr, Bool, true, false, cond, ◌&&◌, ◌||◌, nat_lt, List, [], ◌∷◌, ◌++◌, length, map, take, Option, Some, None, slice_get, Ordering, Less, Equal, Greater, refl, sym, ap, subst, ◌∙◌}
+use Rattle.std.specs.Cmp.{Equal-is}
 use Rattle.std.specs.List.{AllByRecursion, list_all}
 use Rattle.std.specs.List.Sorted.{IsStrictlySortedBy}
 use Rattle.std.specs.FinMap.{nat_cmp-IsAntisymmetric}
 use Rattle.std.specs.Ordering.{eq_by_cmp, is_lt, nat_cmp, ordering_then}
-use Rattle.std.proofs.lemmas.Bool.{cases_lt, eq-eqb}
-use Rattle.pb_base.proofs.Logic.{and_true, same_some}
+use Rattle.std.proofs.lemmas.Bool.{cases_Bool, cases_lt, eq-eqb}
+use Rattle.std.proofs.lemmas.Option.{slice_get_cases}
+use Rattle.pb_base.proofs.Logic.{and_true, below_true, same_some}
 use Rattle.pb_base.specs.Batch.{Writes, content_in, is_batch, is_data_write}
 use Rattle.pb_base.specs.Cell.{cell_cmp, cell_cmp-IsAntisymmetric}
 use Rattle.pb_base.specs.declared.cell.Cell.{Cell}
@@ -14,6 +15,8 @@ use Rattle.pb_base.specs.declared.content.Content.{Content}
 use Rattle.pb_base.specs.declared.content.Revision.{Revision}
 use Rattle.pb_base.specs.declared.names.Row.{Row}
 use Rattle.pb_base.specs.declared.names.Ts.{Ts}
+use Rattle.pb_store.specs.Contents.{Entries}
+use Rattle.pb_store.specs.declared.slot.Sort.{Sort}
 use Rattle.pb_verify.specs.Observers.{ObserverOf, acknowledgment}
 use Rattle.pb_steps.specs.Readings.{IsVersion, NoLock, last_timestamp, write_at}
 use Rattle.pb_steps.specs.State.{StateOf, phase_in}
@@ -28,18 +31,26 @@ use Rattle.pb_history.specs.declared.entry.Entry.{Entry}
 use Rattle.pb_history.proofs.DeclaredCells.{batch_plain, run_plain}
 use Rattle.pb_history.proofs.Updates.{none_if}
 use Rattle.pb_notify.specs.Allowed.{entries_by}
-use Rattle.pb_generations.specs.KeptTables.{KeptTablesAreWhole, NewestInAll}
+use Rattle.pb_generations.specs.Chosen.{AreChosen, ChosenAreSound, chosen_cell}
+use Rattle.pb_generations.specs.KeptTables.{KeptTablesAreWhole, NewestInAll, StandsForAll}
+use Rattle.pb_generations.specs.LeftOut.{is_known_cell, known_entries}
 use Rattle.pb_generations.specs.Snapshots.{LeftAreSound}
 use Rattle.pb_generations.proofs.HistoryButMarks.{same_member}
-use Rattle.pb_state.specs.CarriedOver.{IsAmiss, MayFollow, comes_before, has_its_observer, is_content_of, is_of_column, is_stamp_of}
+use Rattle.pb_generations.proofs.KnownEntries.{unknown_none}
+use Rattle.pb_generations.proofs.LongerLists.{stay_in_front}
+use Rattle.pb_state.specs.CarriedOver.{AreInOrder, IsAmiss, MayFollow, comes_before, has_its_observer, is_content_of, is_of_column, is_stamp_of}
 use Rattle.pb_state.specs.declared.carry_fault.CarryFault.{CarryFault}
 use Rattle.pb_keeper.specs.Keeps.{Keeps, KeptFollowOneAnother, KeptIsUnlocked, KeptIsWhole}
 use Rattle.pb_keeper.specs.Stats.{KeptTable}
 use Rattle.pb_keeper.proofs.Leading.{leads_observers}
 use Rattle.pb_keeper.proofs.Resting.{kept_sound}
+use Rattle.pb_snapshots.specs.Chosen.{ChosenAreAccepted, IsChosenFrom}
+use Rattle.pb_snapshots.specs.Snapshot.{SnapshotOf}
+use Rattle.pb_snapshots.specs.Taken.{IsSnapshotTaken}
 use Rattle.pb_snapshots.specs.TakenOrder.{IsForMemory, TakenAreAccepted, TakenAreInOrder}
 use Rattle.pb_snapshots.specs.VersionWalks.{start_cmp, start_of_version}
-use Rattle.pb_snapshots.proofs.VersionWalks.{key_total, one_version}
+use Rattle.pb_snapshots.proofs.ChosenCells.{content_stays, observer_stays, one_cell}
+use Rattle.pb_snapshots.proofs.VersionWalks.{not_below_itself, one_version}
 
 -- ---- an ordered list
 
@@ -48,7 +59,7 @@ all_at P f [] n c all is = absurd cc
 all_at P f (x ∷ xs) zero c all is = subst (λ z. P (f z)) (same_some x c is) all.0
 all_at P f (x ∷ xs) (suc n) c all is = all_at P f xs n c all.1 is
 
-has_got : {A : Type 0} (xs : List A) (n : ℕ) (c : A) → slice_get xs n ≡ Some c → Has xs c
+pub has_got : {A : Type 0} (xs : List A) (n : ℕ) (c : A) → slice_get xs n ≡ Some c → Has xs c
 has_got [] n c is = absurd cc
 has_got (x ∷ xs) zero c is = inl (same_some x c is)
 has_got (x ∷ xs) (suc n) c is = inr (has_got xs n c is)
@@ -83,9 +94,6 @@ less_parts a b e = elim (less_of _ _ e) [
     less_of Less p e = inl refl
     less_of Equal p e = inr (refl, e)
     less_of Greater p e = absurd cc
-
-not_below_itself : (k : Ts × Cell) → start_cmp k k ≡ Less → ⊥
-not_below_itself k e = let tied = tied_itself key_total k in cc
 
 or_below : (b : Bool) (m n : ℕ) → m < n → (b || nat_lt m n) ≡ true
 or_below b m n h = grind arith
@@ -157,13 +165,30 @@ none_amiss CarryFault.CellTwice observers last before next may amiss = may.once 
 none_amiss CarryFault.NotItsContent observers last before next may amiss = true_is_false may.its_content amiss
 none_amiss CarryFault.NoItsObserver observers last before next may amiss = true_is_false may.observed amiss
 
+-- what stands among the known cells is on one of them
+known_if : (observers : List ObserverOf) (e : Entries) (x : Cell) (d s : ℕ) → write_at (known_entries (length observers) e) x d ≡ Some s → is_known_cell (length observers) x ≡ true
+known_if observers e x d s written = elim (cases_Bool (is_known_cell (length observers) x)) [
+  | inl known ↦ known
+  | inr unknown ↦ let none = unknown_none (length observers) e x Sort.Write d unknown in absurd cc
+]
+
+-- an observer that is there is one of the first
+own_of_first : (observers gone : List ObserverOf) (x : Cell) (v : Revision) → is_known_cell (length observers) x ≡ true → IsOwnVersion (observers ++ gone) x v → IsOwnVersion observers x v
+own_of_first observers gone (Cell.Data row column) v known own = (own.0, refl)
+own_of_first observers gone (Cell.Ack o row column) v known own =
+    let low = below_true o (length observers) known in
+    elim (slice_get_cases observers o).1 [
+      | inl there ↦ (own.0, ap (λ z. is_of_column z column) (there.2 ∙ sym (stay_in_front observers gone o there.0 there.2)) ∙ own.1)
+      | inr past ↦ absurd (omega (arith, past.0, low))
+    ]
+
 -- ---- a kept table
 
-module _ (keeps : StepsKeepSound) (opens : OpeningIsSound) (left : LeftAreSound) (follow : KeptFollowOneAnother) (unlocked : KeptIsUnlocked) (whole : KeptIsWhole) (newest : NewestInAll) (wholes : KeptTablesAreWhole)
-    (runs : RunsAreTold) (scripts : ScriptsWriteBatches) where
+module _ (keeps : StepsKeepSound) (opens : OpeningIsSound) (left : LeftAreSound) (sound_chosen : ChosenAreSound) (follow : KeptFollowOneAnother) (unlocked : KeptIsUnlocked) (whole : KeptIsWhole) (newest : NewestInAll)
+    (wholes : KeptTablesAreWhole) (runs : RunsAreTold) (scripts : ScriptsWriteBatches) where
   module _ (first : KeptTable) (changes : List Writes) (table : KeptTable) (k : Keeps first changes table) where
     sound : IsSoundTable table.state
-    sound = kept_sound keeps opens left first changes table k
+    sound = kept_sound keeps opens left sound_chosen first changes table k
 
     -- a version at the clock is of a committed transaction
     committed : (x : Cell) (v : Revision) → IsVersion table.state.entries x table.state.clock v → IsCommittedAt (view_of table.state) v.start.0 v.commit.0
@@ -186,41 +211,97 @@ module _ (keeps : StepsKeepSound) (opens : OpeningIsSound) (left : LeftAreSound)
       ];
     }
 
+    -- its cell is one of the table's observers
+    is_known : (x : Cell) (v : Revision) → IsVersion table.state.entries x table.state.clock v → (gone : List ObserverOf) (c : ℕ) (journal : List Entry) → StandsForAll first.state.observers gone 1 0 c journal table.state
+        → is_known_cell (length first.state.observers) x ≡ true
+    is_known x v is gone c journal stands =
+        let lean = stands.lean in
+        let same : lean.observers ≡ first.state.observers = sym (ap (λ (z : StateOf). z.observers) stands.now_is) ∙ stands.observers_are in
+        let written : write_at lean.entries x v.commit.0 ≡ Some v.start.0 = elim (cases_lt c v.commit.0) [
+          | inl later ↦ sym (stands.mirrors.entries_are.records x v.commit.0 later) ∙ is.written
+          | inr by_then ↦
+              let since : c ≤ table.state.clock = subst (λ (n : ℕ). c ≤ n) (sym (ap (λ (z : StateOf). z.clock) stands.now_is)) stands.mirrors.since in
+              let its : IsVersion table.state.entries x c v = record { low = by_then; written = is.written; content = is.content; newest = λ d higher low. is.newest d higher (omega (arith, low, since)) } in
+              (((stands.mirrors.entries_are.versions x).there v).1 its).written
+        ] in
+        subst (λ (l : List ObserverOf). is_known_cell (length l) x ≡ true) same
+        (known_if lean.observers stands.whole.entries x v.commit.0 v.start.0 (sym (ap (λ (z : StateOf). write_at z.entries x v.commit.0) stands.lacks.lean_is) ∙ written))
+
     is_own : (x : Cell) (v : Revision) → IsVersion table.state.entries x table.state.clock v → IsOwnVersion first.state.observers x v
     is_own x v is =
+        let observers = first.state.observers in
         let w = whole first changes table k in
+        let all = observers ++ w.gone in
         let journal = entries_by 0 w.said in
         let free : NoLock table.state.entries x = λ u low. unlocked first changes table k x u in
-        let write = newest first.state.observers 1 0 w.c journal table.state w.kept x (Some v) free (is_newest x v is) in
-        let stands = wholes first.state.observers 1 0 w.c journal table.state w.kept in
-        let same : table.state.observers ≡ stands.whole.observers = ap (λ (z : StateOf). z.observers) stands.now_is in
+        let stands = wholes observers w.gone 1 0 w.c journal table.state w.kept in
+        let known = is_known x v is w.gone w.c journal stands in
+        let write = newest observers w.gone 1 0 w.c journal table.state w.kept x (Some v) known free (is_newest x v is) in
         let m = write.m in
         let past = stands.legal.past in
-        let h : InHistory stands.whole.observers past m = same_member stands.whole.observers journal past (sym stands.legal.same) m (subst (λ l. InHistory l journal m) same write.in_history) in
-        let one = own stands.whole.observers past m x v write.start_is write.writes m.work refl ((scripts first.state.observers 1 0 past stands.whole stands.legal.legal).batch m h) (λ o row. (runs first.state.observers 1 0 past stands.whole stands.legal.legal).run m o row h) in
-        subst (λ l. IsOwnVersion l x v) (sym same ∙ leads_observers first.state table.state k.leads) one
+        let h : InHistory all past m = same_member all journal past (sym stands.legal.same) m write.in_history in
+        let same : stands.whole.observers ≡ all = stands.lacks.observers ∙ ap (λ (l : List ObserverOf). l ++ w.gone) (sym (ap (λ (z : StateOf). z.observers) stands.now_is) ∙ stands.observers_are) in
+        let there : InHistory stands.whole.observers past m = subst (λ (l : List ObserverOf). InHistory l past m) (sym same) h in
+        let one = own stands.whole.observers past m x v write.start_is write.writes m.work refl ((scripts all 1 0 past stands.whole stands.legal.legal).batch m there) (λ o row. (runs all 1 0 past stands.whole stands.legal.legal).run m o row there) in
+        own_of_first observers w.gone x v known (subst (λ (l : List ObserverOf). IsOwnVersion l x v) same one)
+
+    -- versions whose cells became these, no two of them one, are in order
+    module _ (becomes : Cell → Option Cell) (one_cell : (x y z : Cell) → becomes x ≡ Some z → becomes y ≡ Some z → x ≡ y) (list : List ObserverOf)
+        (stays_own : (x y : Cell) (v : Revision) → becomes x ≡ Some y → IsOwnVersion first.state.observers x v → IsOwnVersion list y v)
+        (last : ℕ) (cells : List (Cell × Revision)) (clock : last ≡ table.state.clock) (each : (y : Cell) (v : Revision) → Has cells (y, v) → (x : Cell) × (becomes x ≡ Some y) × IsVersion table.state.entries x table.state.clock v)
+        (rising : IsStrictlySortedBy start_cmp (map start_of_version cells)) where
+      comes : (d c : Cell × Revision) → Has cells d → Has cells c → (d.1.start.0 < c.1.start.0) ⊎ ((d.1.start.0 ≡ c.1.start.0) × (cell_cmp d.0 c.0 ≡ Less)) → comes_before d c ≡ true
+      comes d c before its (inl low) =
+          let x = each d.0 d.1 before in
+          let y = each c.0 c.1 its in
+          or_below _ d.1.commit.0 c.1.start.0 (follow first changes table k d.1.start.0 d.1.commit.0 c.1.start.0 c.1.commit.0 (committed x.0 d.1 x.2) (committed y.0 c.1 y.2) low)
+      comes d c before its (inr same) =
+          let x = each d.0 d.1 before in
+          let y = each c.0 c.1 its in
+          let commits = one_commit d.1.commit.0 c.1.commit.0 (phase_in table.state c.1.start.0) (sym (ap (phase_in table.state) same.0) ∙ committed x.0 d.1 x.2) (committed y.0 c.1 y.2) in
+          λ i. (eq-eqb d.1.start.0 c.1.start.0 same.0 i && (eq-eqb d.1.commit.0 c.1.commit.0 commits i && is_lt (same.1 i))) || nat_lt d.1.commit.0 c.1.start.0
+
+      -- of a cell there is one
+      once : (n : ℕ) (c : Cell × Revision) → slice_get cells n ≡ Some c → (v : Revision) → Has (take n cells) (c.0, v) → ⊥
+      once n c is v before =
+          let x = each c.0 v (has_taken cells n (c.0, v) before) in
+          let y = each c.0 c.1 (has_got cells n c is) in
+          let there : IsVersion table.state.entries y.0 table.state.clock v = subst (λ (z : Cell). IsVersion table.state.entries z table.state.clock v) (one_cell x.0 y.0 c.0 x.1 y.1) x.2 in
+          let less = below_at start_cmp start_of_version cells n c (c.0, v) rising is before in
+          not_below_itself (c.1.start, c.0) (subst (λ (w : Revision). start_cmp (w.start, c.0) (c.1.start, c.0) ≡ Less) (one_version table.state.entries y.0 table.state.clock v c.1 there y.2) less)
+
+      in_order : AreInOrder list last cells
+      in_order n c is =
+          let has = has_got cells n c is in
+          let x = each c.0 c.1 has in
+          let its = stays_own x.0 c.0 c.1 x.1 (is_own x.0 c.1 x.2) in
+          record {
+            above = above x.0 c.1 x.2;
+            by_then = subst (λ (z : ℕ). c.1.commit.0 ≤ z) (sym clock) x.2.low;
+            in_order = λ d before. comes d c (has_taken cells n d before) has (less_parts (start_of_version d) (start_of_version c) (below_at start_cmp start_of_version cells n c d rising is before));
+            once = once n c is;
+            its_content = its.0;
+            observed = its.1;
+          }
 
   pub taken_are_in_order : TakenAreInOrder
-  taken_are_in_order first changes table s k taken rising n c is = record {
-    above = above first changes table k c.0 c.1 version;
-    by_then = subst (λ (z : ℕ). c.1.commit.0 ≤ z) (sym taken.clock) version.low;
-    in_order = λ d before. comes d before (taken.each d.0 d.1 (has_taken s.cells n d before)) (less_parts (start_of_version d) (start_of_version c) (below_at start_cmp start_of_version s.cells n c d rising is before));
-    once = λ v before.
-        let same = one_version table.state.entries c.0 table.state.clock v c.1 (taken.each c.0 v (has_taken s.cells n (c.0, v) before)) version in
-        let less = below_at start_cmp start_of_version s.cells n c (c.0, v) rising is before in
-        not_below_itself (c.1.start, c.0) (subst (λ (w : Revision). start_cmp (w.start, c.0) (c.1.start, c.0) ≡ Less) same less);
-    its_content = (is_own first changes table k c.0 c.1 version).0;
-    observed = (is_own first changes table k c.0 c.1 version).1;
-  }
-    where
-      version : IsVersion table.state.entries c.0 table.state.clock c.1
-      version = taken.each c.0 c.1 (has_got s.cells n c is)
-
-      comes : (d : Cell × Revision) → Has (take n s.cells) d → IsVersion table.state.entries d.0 table.state.clock d.1 → (d.1.start.0 < c.1.start.0) ⊎ ((d.1.start.0 ≡ c.1.start.0) × (cell_cmp d.0 c.0 ≡ Less)) → comes_before d c ≡ true
-      comes d before its (inl low) = or_below _ d.1.commit.0 c.1.start.0 (follow first changes table k d.1.start.0 d.1.commit.0 c.1.start.0 c.1.commit.0 (committed first changes table k d.0 d.1 its) (committed first changes table k c.0 c.1 version) low)
-      comes d before its (inr same) =
-          let commits = one_commit d.1.commit.0 c.1.commit.0 (phase_in table.state c.1.start.0) (sym (ap (phase_in table.state) same.0) ∙ committed first changes table k d.0 d.1 its) (committed first changes table k c.0 c.1 version) in
-          λ i. (eq-eqb d.1.start.0 c.1.start.0 same.0 i && (eq-eqb d.1.commit.0 c.1.commit.0 commits i && is_lt (same.1 i))) || nat_lt d.1.commit.0 c.1.start.0
+  taken_are_in_order first changes table s k taken rising =
+      let stays_own : (x y : Cell) (v : Revision) → Some x ≡ Some y → IsOwnVersion first.state.observers x v → IsOwnVersion first.state.observers y v = λ x y v same its. subst (λ (z : Cell). IsOwnVersion first.state.observers z v) (same_some x y same) its in
+      in_order first changes table k Some (λ x y z a b. same_some x y (a ∙ sym b)) first.state.observers stays_own s.clock s.cells taken.clock (λ y v has. (y, refl, taken.each y v has)) rising
 
   pub taken_are_accepted : TakenAreAccepted
   taken_are_accepted first changes table s k taken rising n e why = none_amiss e first.state.observers s.clock (take n s.cells) why.0 (taken_are_in_order first changes table s k taken rising n why.0 why.1) why.2
+
+  chosen_are_in_order : (first : KeptTable) (changes : List Writes) (table : KeptTable) (s u : SnapshotOf) (places : List ℕ) (front : List ObserverOf) → Keeps first changes table → AreChosen places table.state.observers front
+      → IsSnapshotTaken table s → IsChosenFrom places s u → IsStrictlySortedBy start_cmp (map start_of_version u.cells) → AreInOrder front u.clock u.cells
+  chosen_are_in_order first changes table s u places front k are taken from rising =
+      let same : table.state.observers ≡ first.state.observers = leads_observers first.state table.state k.leads in
+      let chosen : AreChosen places first.state.observers front = subst (λ (l : List ObserverOf). AreChosen places l front) same are in
+      let stays_own : (x y : Cell) (v : Revision) → chosen_cell places x ≡ Some y → IsOwnVersion first.state.observers x v → IsOwnVersion front y v =
+      λ x y v stays its. (content_stays places first.state.observers front chosen x y v stays its.0, observer_stays places first.state.observers front chosen x y stays its.1) in
+      in_order first changes table k (chosen_cell places) (one_cell places) front stays_own u.clock u.cells (from.clock ∙ taken.clock)
+      (λ y v has. let x = from.each y v has in (x.0, x.1, taken.each x.0 v x.2)) rising
+
+  pub chosen_are_accepted : ChosenAreAccepted
+  chosen_are_accepted first changes table s u places front k are taken from rising n e why =
+      none_amiss e front u.clock (take n u.cells) why.0 (chosen_are_in_order first changes table s u places front k are taken from rising n why.0 why.1) why.2

@@ -5,3 +5,5 @@ pub mod VersionWalks
 pub mod Taken
 pub mod Beginnings
 pub mod TakenOrder
+pub mod Chosen
+pub mod ChosenWalks

@@ -27,11 +27,15 @@ start_cmp = then_cmp (on (λ k. k.0.0) nat_cmp) (on (λ k. k.1) cell_cmp)
 abbrev pub start_of_version : Cell × Revision → Ts × Cell
 start_of_version p = (p.1.start, p.0)
 
--- of each cell the version with the greatest commit at most s, and nothing else, in that order, each once
-pub record AreVersions (e : Entries) (s : ℕ) (cells : List (Cell × Revision)) : Type 0 where
-  pub each : (x : Cell) (v : Revision) → Has cells (x, v) → IsVersion e x s v
-  pub all : (x : Cell) (v : Revision) → IsVersion e x s v → Has cells (x, v)
+-- these versions and nothing else, in that order, each once
+pub record AreListed (is : Cell → Revision → Type 0) (cells : List (Cell × Revision)) : Type 0 where
+  pub each : (x : Cell) (v : Revision) → Has cells (x, v) → is x v
+  pub all : (x : Cell) (v : Revision) → is x v → Has cells (x, v)
   pub rising : IsStrictlySortedBy start_cmp (map start_of_version cells)
+
+-- of each cell the version with the greatest commit at most s
+abbrev pub AreVersions : Entries → ℕ → List (Cell × Revision) → Type 0
+AreVersions e s cells = AreListed (λ x v. IsVersion e x s v) cells
 
 -- ---- a walk
 
@@ -47,11 +51,15 @@ IsVersionIn e s slot v = IsVersion e slot.cell s v × (slot ≡ version_slot slo
 abbrev pub NoVersionIn : Entries → ℕ → Slot → Type 0
 NoVersionIn e s slot = (v : Revision) → IsVersionIn e s slot v → ⊥
 
--- a map has the version of each cell at s whose record isn't among the rest of the entries
-pub record HasVersions (e : Entries) (s : ℕ) (rest : List (Slot × Item)) (versions : BTreeMap (Ts × Cell) Revision) : Type 0 where
-  pub sound : (k : Ts × Cell) (v : Revision) → tree.get start_cmp versions k ≡ Some v → IsVersion e k.1 s v × (v.start ≡ k.0)
-  pub whole : (x : Cell) (v : Revision) → IsVersion e x s v → (tree.get start_cmp versions (v.start, x) ≡ Some v) ⊎ (is_some (find slot_cmp (version_slot x v) rest) ≡ true)
+-- a map has these versions and nothing else, each under its start and its cell; some may be left out
+pub record HasNoted (is left : Cell → Revision → Type 0) (versions : BTreeMap (Ts × Cell) Revision) : Type 0 where
+  pub sound : (k : Ts × Cell) (v : Revision) → tree.get start_cmp versions k ≡ Some v → is k.1 v × (v.start ≡ k.0)
+  pub whole : (x : Cell) (v : Revision) → is x v → (tree.get start_cmp versions (v.start, x) ≡ Some v) ⊎ left x v
   pub rising : tree.IsOrdered start_cmp versions
+
+-- of each cell the version at s, unless its record is among the rest of the entries
+abbrev pub HasVersions : Entries → ℕ → List (Slot × Item) → BTreeMap (Ts × Cell) Revision → Type 0
+HasVersions e s rest versions = HasNoted (λ x v. IsVersion e x s v) (λ x v. is_some (find slot_cmp (version_slot x v) rest) ≡ true) versions
 
 -- an entry of such a map as a snapshot lists it
 abbrev pub version_listed : (Ts × Cell) × Revision → Cell × Revision

@@ -1,5 +1,6 @@
 //! What a generation begins with.
 ghost use Rattle.pb_snapshots.specs.Beginnings.{SnapshotsBegin};
+ghost use Rattle.pb_snapshots.specs.Chosen.{ChosenBegin};
 
 use pb_generations::snapshots_serve;
 use pb_history::steps_keep_sound;
@@ -8,6 +9,14 @@ use pb_history::steps_keep_sound;
 /// table.
 pub fn snapshots_begin()
     ensures { SnapshotsBegin }
+{
+    snapshots_serve();
+    steps_keep_sound();
+}
+
+/// A state that took over what was chosen of such a snapshot goes on with the observers at these places.
+pub fn chosen_begin()
+    ensures { ChosenBegin }
 {
     snapshots_serve();
     steps_keep_sound();

@@ -12,9 +12,13 @@
 //!
 //! A snapshot that is taken of a quiet table begins its next generation: a state that took it over goes on as that table would.
 //! No state refuses the versions of a snapshot that was taken of a kept table.
+//!
+//! Where a table goes on with some of its observers, in any order, what is chosen of its snapshot serves: their acknowledgments
+//! and stats under their new numbers, and all data. The acknowledgments of others aren't kept.
 #![tactic(auto)]
 
 mod beginning_law;
+mod choosing;
 mod order_law;
 mod reading;
 mod record_laws;
@@ -22,8 +26,9 @@ mod snapshot;
 mod taking;
 mod writing;
 
-pub use beginning_law::snapshots_begin;
-pub use order_law::taken_are_in_order;
+pub use beginning_law::{chosen_begin, snapshots_begin};
+pub use choosing::choose_observers;
+pub use order_law::{chosen_are_accepted, taken_are_in_order};
 pub use reading::read_snapshot;
 pub use record_laws::{records_are_of_one_snapshot, snapshots_are_no_texts};
 pub use snapshot::Snapshot;

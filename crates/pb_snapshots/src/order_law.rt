@@ -1,4 +1,5 @@
 //! What a snapshot that was taken may be used for.
+ghost use Rattle.pb_snapshots.specs.Chosen.{ChosenAreAccepted};
 ghost use Rattle.pb_snapshots.specs.TakenOrder.{TakenAreAccepted, TakenAreInOrder};
 
 use pb_generations::{kept_tables_are_whole, promises_hold_over_generations, snapshots_serve};
@@ -10,6 +11,19 @@ use pb_keeper::tables_keep_their_changes;
 pub fn taken_are_in_order()
     ensures order { TakenAreInOrder }
     ensures accepted { TakenAreAccepted }
+{
+    kept_tables_are_whole();
+    promises_hold_over_generations();
+    runs_are_told();
+    scripts_write_batches();
+    snapshots_serve();
+    steps_keep_sound();
+    tables_keep_their_changes();
+}
+
+/// Nor does it refuse what is chosen of them for the observers that stay, by rising starts and by rising cells within one start.
+pub fn chosen_are_accepted()
+    ensures { ChosenAreAccepted }
 {
     kept_tables_are_whole();
     promises_hold_over_generations();

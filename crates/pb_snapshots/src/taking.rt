@@ -94,7 +94,7 @@ fn versions_up_to<T: Tablet>(
 }
 
 // The versions in a list.
-fn listed(
+pub(crate) fn listed(
     alloc: Global,
     versions: &BTreeMap<(Ts, Cell), Revision>,
 ) -> Result<Vec<(Cell, Revision)>, AllocError>

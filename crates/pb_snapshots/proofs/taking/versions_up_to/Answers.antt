@@ -5,7 +5,7 @@ use Rattle.pb_store.specs.declared.slot.Item.{Item}
 use Rattle.pb_store.specs.declared.slot.Slot.{Slot}
 use Rattle.pb_snapshots.specs.VersionWalks.{HasVersions}
 use Rattle.pb_state.proofs.EntryWalks.{first_and_rest, none_left}
-use Rattle.pb_snapshots.proofs.VersionWalks.{all_listed, none_noted}
+use Rattle.pb_snapshots.proofs.VersionWalks.{none_noted, versions_listed}
 use Rattle.pb_snapshots.proofs.taking.versions_up_to.Goals as goal
 
 pub loop-slot-init : goal.loop-slot-init
@@ -24,4 +24,4 @@ pub returns : goal.returns
 returns g c =
     let e = c.args.table.now.contents.entries in
     let none : entries_after c.loop-slot.after (map.entries e) ≡ [] = none_left _ (sym c.in_default.is ∙ c.next_entry.ensures.entry) in
-    all_listed e c.args.last.0 c.loop-slot.versions (subst (λ (xs : List (Slot × Item)). HasVersions e c.args.last.0 xs c.loop-slot.versions) none c.loop-slot.invariant)
+    versions_listed e c.args.last.0 c.loop-slot.versions (subst (λ (xs : List (Slot × Item)). HasVersions e c.args.last.0 xs c.loop-slot.versions) none c.loop-slot.invariant)

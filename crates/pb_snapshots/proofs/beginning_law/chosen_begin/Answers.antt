@@ -1,0 +1,5 @@
+use Rattle.pb_snapshots.proofs.Beginning.{chosen_begin}
+use Rattle.pb_snapshots.proofs.beginning_law.chosen_begin.Goals as goal
+
+pub returns : goal.returns
+returns c = chosen_begin c.steps_keep_sound.ensures.step c.steps_keep_sound.ensures.opening c.snapshots_serve.ensures.left c.snapshots_serve.ensures.chosen

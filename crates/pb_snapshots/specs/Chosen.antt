@@ -1,0 +1,37 @@
+-- A snapshot for other observers: of each cell of theirs its version, under their new numbers, and their stats.
+use Rattle.std.specs.Prelude.{◌≡◌, List, ℕ, Some, map}
+use Rattle.std.specs.List.Sorted.{IsStrictlySortedBy}
+use Rattle.pb_base.specs.Batch.{Writes}
+use Rattle.pb_base.specs.declared.cell.Cell.{Cell}
+use Rattle.pb_base.specs.declared.content.Revision.{Revision}
+use Rattle.pb_verify.specs.Observers.{ObserverOf}
+use Rattle.pb_history.specs.Handled.{IsQuiet}
+use Rattle.pb_history.specs.History.{Has}
+use Rattle.pb_state.specs.CarriedOver.{IsCarriedOver, WhyNotCarried}
+use Rattle.pb_state.specs.declared.carry_fault.CarryFault.{CarryFault}
+use Rattle.pb_generations.specs.Chosen.{AreChosen, chosen_cell}
+use Rattle.pb_keeper.specs.Keeps.{IsChosenOf, IsFirstTable, Keeps, KeepsFrom}
+use Rattle.pb_keeper.specs.Stats.{KeptTable, chosen_stats}
+use Rattle.pb_snapshots.specs.Snapshot.{SnapshotOf}
+use Rattle.pb_snapshots.specs.Taken.{IsSnapshotTaken}
+use Rattle.pb_snapshots.specs.TakenOrder.{IsForMemory}
+use Rattle.pb_snapshots.specs.VersionWalks.{start_cmp, start_of_version}
+
+-- the second snapshot is what the first has of the observers at these places
+pub record IsChosenFrom (places : List ℕ) (s u : SnapshotOf) : Type 0 where
+  pub clock : u.clock ≡ s.clock
+  pub stats : u.stats ≡ chosen_stats places s.stats
+  pub each : (y : Cell) (v : Revision) → Has u.cells (y, v) → (x : Cell) × (chosen_cell places x ≡ Some y) × Has s.cells (x, v)
+  pub all : (x y : Cell) (v : Revision) → chosen_cell places x ≡ Some y → Has s.cells (x, v) → Has u.cells (y, v)
+
+-- A state that took over what was chosen of a snapshot, which was taken of a quiet table, goes on with the observers at these places.
+abbrev pub ChosenBegin : Type 0
+ChosenBegin =
+    (past changes : List Writes) (first old new : KeptTable) (s u : SnapshotOf) (places : List ℕ) (front : List ObserverOf) → IsFirstTable past first → KeepsFrom first changes old → IsQuiet old.state
+    → AreChosen places old.state.observers front → IsSnapshotTaken old s → IsChosenFrom places s u → IsCarriedOver front 1 u.clock u.cells new.state → new.stats ≡ u.stats → IsChosenOf places front old new
+
+-- and none of its versions is refused but for want of memory
+abbrev pub ChosenAreAccepted : Type 0
+ChosenAreAccepted =
+    (first : KeptTable) (changes : List Writes) (table : KeptTable) (s u : SnapshotOf) (places : List ℕ) (front : List ObserverOf) → Keeps first changes table → AreChosen places table.state.observers front
+    → IsSnapshotTaken table s → IsChosenFrom places s u → IsStrictlySortedBy start_cmp (map start_of_version u.cells) → (n : ℕ) (e : CarryFault) → WhyNotCarried front u.clock u.cells n e → IsForMemory e
