@@ -3,11 +3,13 @@ use Rattle.std.proofs.Common.{◌≡◌, ℕ, ◌<◌, ◌≤◌, ◌^◌, Bool,
 use Rattle.pb_log.specs.declared.fault.LogFault.{LogFault}
 use Rattle.pb_log.specs.Causes.{IsNotBegun}
 use Rattle.pb_log.specs.Records.{blocks}
+use Rattle.pb_state.specs.declared.carry_fault.CarryFault.{CarryFault}
 use Rattle.pb_keeper.specs.Stops.{IsStop}
+use Rattle.pb_snapshots.specs.TakenOrder.{IsForMemory}
 use Rattle.pb_keep.specs.Words.{HasRecords, ObserverOf, StateOf, Stopped, WhyNotOpened, WhyNotPut, header}
 use Rattle.pb_keep.specs.declared.fault.KeepFault.{KeepFault}
 use Rattle.pb_keep.specs.declared.waiting.Waits.{Waits}
-use Rattle.pb_keep.specs.Anew.{why_stopped, IsNotQuiet, WhyNotObserved}
+use Rattle.pb_keep.specs.Changed.{why_refused, why_stopped, WhyNotChanged}
 use Rattle.pb_keep.specs.Causes.{IsOfAnew, IsOfFirst, IsOfPut, WhyNotKept, WhyNotMadeAgain, WhyNotServed}
 use Rattle.pb_keep.specs.Conversations.{KeeperView}
 use Rattle.pb_keep.specs.Left.{fault_by, IsOfLog, IsOfMaking, IsRightOf}
@@ -17,17 +19,21 @@ stopped_rightly (Stopped.NoMemory refused) state h = tt
 stopped_rightly (Stopped.Refused why) state h = h.1
 stopped_rightly Stopped.Conflict state h = absurd h
 
--- ---- where a table gets more observers
+-- ---- where a table goes on with other observers
 
-pub not_for_unrest : (e : Stopped) → IsNotQuiet (why_stopped e) → ⊥
-not_for_unrest (Stopped.NoMemory refused) h = h
-not_for_unrest (Stopped.Refused why) h = h
-not_for_unrest Stopped.Conflict h = h
+pub not_changed_by_stop : (waiting : List Waits) (old new : StateOf) (e : Stopped) → IsStop e new → WhyNotChanged waiting old new (why_stopped e)
+not_changed_by_stop waiting old new (Stopped.NoMemory refused) h = tt
+not_changed_by_stop waiting old new (Stopped.Refused why) h = h.1
+not_changed_by_stop waiting old new Stopped.Conflict h = absurd h
 
-pub stopped_observed : (waiting : List Waits) (old new : StateOf) (e : Stopped) → IsStop e new → WhyNotObserved waiting old new (why_stopped e)
-stopped_observed waiting old new (Stopped.NoMemory refused) h = tt
-stopped_observed waiting old new (Stopped.Refused why) h = h.1
-stopped_observed waiting old new Stopped.Conflict h = absurd h
+pub not_changed_for_memory : (waiting : List Waits) (old new : StateOf) (e : CarryFault) → IsForMemory e → WhyNotChanged waiting old new (why_refused e)
+not_changed_for_memory waiting old new (CarryFault.NoMemory refused) h = tt
+not_changed_for_memory waiting old new CarryFault.NotAboveStart h = absurd h
+not_changed_for_memory waiting old new CarryFault.AboveLast h = absurd h
+not_changed_for_memory waiting old new CarryFault.OutOfOrder h = absurd h
+not_changed_for_memory waiting old new CarryFault.CellTwice h = absurd h
+not_changed_for_memory waiting old new CarryFault.NotItsContent h = absurd h
+not_changed_for_memory waiting old new CarryFault.NoItsObserver h = absurd h
 
 -- ---- where the log fails
 

@@ -1,7 +1,7 @@
 -- A log that begins anew: with a snapshot of a quiet table, in the place of all that led to it.
 use Rattle.std.specs.Prelude.{◌≡◌, ◌≢◌, ℕ, ◌<◌, ◌≤◌, ◌^◌, false, List, [], length, Some}
 use Rattle.std.specs.FinMap as map
-use Rattle.pb_keep.specs.Words.{HasRecords, IsQuiet, IsSnapshotTaken, KeptTable, SnapshotOf, StateOf, Stopped, WhyNotOpened, are_of_their_cells, last_timestamp, lock_count, snapshot_bytes}
+use Rattle.pb_keep.specs.Words.{HasRecords, IsQuiet, IsSnapshotTaken, KeptTable, SnapshotOf, StateOf, WhyNotOpened, are_of_their_cells, last_timestamp, lock_count, snapshot_bytes}
 use Rattle.pb_keep.specs.declared.compact.SnapshotFault.{SnapshotFault}
 use Rattle.pb_keep.specs.declared.waiting.Waits.{Waits}
 use Rattle.pb_keep.specs.Kept.{origin_of, IsLogOf}
@@ -34,23 +34,3 @@ WhyNotAnew waiting table manifest before now file SnapshotFault.NoTimestamp = ta
 WhyNotAnew waiting table manifest before now file SnapshotFault.NotNew = (records : List (List ℕ)) × (records ≢ []) × HasRecords manifest records file
 WhyNotAnew waiting table manifest before now file SnapshotFault.Unwritable = HasAmiss table (λ s. are_of_their_cells s.cells ≡ false)
 WhyNotAnew waiting table manifest before now file SnapshotFault.TooLarge = HasAmiss table (λ s. 2 ^ 32 ≤ length (snapshot_bytes s))
-
--- ---- more observers
-
--- the fault of a run that was stopped
-abbrev pub why_stopped : Stopped → SnapshotFault
-why_stopped (Stopped.NoMemory refused) = SnapshotFault.NoMemory refused
-why_stopped (Stopped.Refused why) = SnapshotFault.NoTimestamp
-why_stopped Stopped.Conflict = SnapshotFault.NoTimestamp
-
--- the table isn't quiet
-abbrev pub IsNotQuiet : SnapshotFault → Type 0
-IsNotQuiet SnapshotFault.NotQuiet = Unit {0}
-IsNotQuiet _ = ⊥
-
--- why a table gets no more observers, where these lines wait: memory was refused, it wasn't quiet, or the last timestamp is given out
-abbrev pub WhyNotObserved : List Waits → StateOf → StateOf → SnapshotFault → Type 0
-WhyNotObserved waiting old new (SnapshotFault.NoMemory e) = Unit {0}
-WhyNotObserved waiting old new SnapshotFault.NotQuiet = IsLeftToDo waiting old
-WhyNotObserved waiting old new SnapshotFault.NoTimestamp = new.clock ≡ last_timestamp
-WhyNotObserved waiting old new _ = ⊥

@@ -10,4 +10,5 @@ pub mod Causes
 pub mod Input
 pub mod Served
 pub mod Anew
+pub mod Changed
 pub mod Laws

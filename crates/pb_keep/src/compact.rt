@@ -3,7 +3,8 @@ ghost use Rattle.std.specs.Prelude.{◌≡◌, ◌<◌, ◌^◌, true, false, le
 ghost use Rattle.sqlite_disk.specs.Disk.{Only};
 ghost use Rattle.pb_keeper.specs.Stats.{kept_table};
 ghost use Rattle.pb_history.specs.Handled.{IsQuiet};
-ghost use Rattle.pb_keep.specs.Anew.{why_stopped, BeginsAnew, IsLeftToDo, WhyNotAnew};
+ghost use Rattle.pb_keep.specs.Anew.{BeginsAnew, IsLeftToDo, WhyNotAnew};
+ghost use Rattle.pb_keep.specs.Changed.{why_refused, why_stopped};
 ghost use Rattle.pb_base.specs.Growths.{refused_growth};
 ghost use Rattle.pb_keep.specs.declared.compact.SnapshotFault.TheVariants as ends;
 
@@ -13,6 +14,7 @@ use pb_base::NoMemory;
 use pb_keeper::Stopped;
 use pb_log::{Log, LogFault};
 use pb_snapshots::{snapshot_record, take_snapshot};
+use pb_state::CarryFault;
 use pb_store::Tablet;
 use sqlite_disk::Disk;
 use std::alloc::{AllocError, Global};
@@ -59,6 +61,18 @@ impl From<LogFault> for SnapshotFault {
 
     fn from(e: LogFault) -> SnapshotFault {
         SnapshotFault::Log(e)
+    }
+}
+
+impl From<CarryFault> for SnapshotFault {
+    ghost from_gives = { λ e f. f ≡ why_refused e };
+
+    fn from(e: CarryFault) -> SnapshotFault {
+        match e {
+            CarryFault::NoMemory(refused) => SnapshotFault::NoMemory(refused),
+            // No version of a table that keeps changes is refused so.
+            _ => SnapshotFault::Unwritable,
+        }
     }
 }
 

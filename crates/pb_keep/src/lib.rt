@@ -17,7 +17,7 @@ mod keeper;
 mod laws;
 mod lines;
 mod made;
-mod observe;
+mod observers;
 mod service;
 mod take;
 mod waiting;

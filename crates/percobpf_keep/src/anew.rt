@@ -1,21 +1,25 @@
-//! A log that is compacted before any line, also for a longer manifest than its own.
-ghost use Rattle.std.specs.Prelude.{◌≡◌, ◌≤◌, ◌<◌, ◌^◌, length, string_bytes, IfOk, IfSome, IsTrue};
+//! A log that is compacted before any line, also for another manifest than its own.
+ghost use Rattle.std.specs.Prelude.{◌≡◌, ◌≤◌, ◌<◌, ◌+◌, ◌^◌, length, string_bytes, IfOk, IfSome, IsTrue};
 ghost use Rattle.sqlite_disk.specs.Disk.{Only};
 ghost use Rattle.pb_base.specs.declared.limits.TheConstants.{MAX_OBSERVERS};
+ghost use Rattle.pb_generations.specs.Chosen.{AreChosen};
 ghost use Rattle.pb_keeper.specs.Keeps.{opened_table};
 ghost use Rattle.pb_keeper.specs.Stats.{kept_table};
+ghost use Rattle.pb_verify.specs.Observers.{ObserverOf};
+ghost use Rattle.pb_keeper.specs.Choosing.{IsOneOf};
 ghost use Rattle.pb_keep.specs.Waits.{IsWaiting};
 
 use crate::compact::compact;
 use crate::file::open_file;
 use crate::names::{Names, names_of};
-use crate::table::{Kept, new_keeper, observers_of, open_log, short_text};
+use crate::table::{Kept, new_keeper, new_state, observers_of, open_log, short_text};
 use anyhow::{Result, bail};
-use pb_keeper::observers_added;
+use pb_keeper::{places_of, split_known};
 use pb_log::Log;
 use pb_verify::Observer;
 use sqlite_disk::{Disk, Unknown};
 use sqlite_std_file::FileFrom;
+use std::alloc::Global;
 use std::sync::Wait;
 
 // The manifest that the log has, if it has one.
@@ -35,9 +39,44 @@ fn manifest_of<D: Disk>(rt: &HostRuntime, log: &mut Log<D>, names: &Names) -> Re
     }
 }
 
-// Adds the observers that these have after those of the table, and lets them catch up. Prints how many they are, and how many runs
-// were made.
-fn observe_more<R: Wait>(
+// At which places of the table's observers these stand.
+fn places_in(
+    alloc: Global,
+    keeper: &Kept,
+    observers: &[Observer],
+    names: &Names,
+) -> Result<Vec<usize>>
+    ensures { IfOk result (λ v. AreChosen v.items keeper.now.state.observers observers.now) }
+{
+    match places_of(alloc, keeper.state.observers(), observers)? {
+        Some(places) => Ok(places),
+        None => bail!("{}: two of its observers are the same", names.log),
+    }
+}
+
+// Goes on with these observers, which the table has, and then with others. Returns how many runs these had.
+fn change_observers<R: Wait>(
+    waits: &R,
+    alloc: Global,
+    keeper: &mut Kept,
+    staying: Vec<Observer>,
+    added: Vec<Observer>,
+    names: &Names,
+) -> Result<u64>
+    requires few { length staying.items + length added.items ≤ MAX_OBSERVERS }
+    requires new { (o : ObserverOf) → IsOneOf added.items o
+        → IsOneOf keeper.old.state.observers o → ⊥ }
+    ensures log { keeper.new.log ≡ keeper.old.log }
+    ensures waiting { keeper.new.waiting ≡ keeper.old.waiting }
+{
+    let places = places_in(alloc, keeper, &staying, names)?;
+    let state = new_state(alloc, staying)?;
+    Ok(keeper.change_observers(waits, alloc, state, &places, added)?)
+}
+
+// Goes on with those of these observers that the table has, and then with the others, which catch up. Prints how many these are, how
+// many runs they had, and how many observers are gone.
+fn observe_others<R: Wait>(
     waits: &R,
     rt: &HostRuntime,
     keeper: &mut Kept,
@@ -48,19 +87,35 @@ fn observe_more<R: Wait>(
     ensures log { keeper.new.log ≡ keeper.old.log }
     ensures waiting { keeper.new.waiting ≡ keeper.old.waiting }
 {
-    let Some(added) = observers_added(keeper.state.observers(), observers)? else {
-        bail!(
-            "{}: its observers have to stay, in their order, and new ones stand after them",
-            names.log
-        );
-    };
-    let count = added.len();
-    let runs = keeper.observe_also(waits, rt.alloc(), added)?;
-    print!(rt; "added {count} runs {runs}\n")?;
+    let alloc = rt.alloc();
+    let before = keeper.state.observers().len();
+    let (staying, added) = split_known(alloc, keeper.state.observers(), observers)?;
+    let (count, gone) = (added.len(), before.saturating_sub(staying.len()));
+    let runs = change_observers(waits, alloc, keeper, staying, added, names)?;
+    print!(rt; "added {count} runs {runs} gone {gone}\n")?;
     Ok(())
 }
 
-// Opens the log with its own manifest, adds the observers that it gets, if any, and compacts it for this manifest.
+// Brings the observers of the table into the order of this manifest, which has the same.
+fn order_observers<R: Wait>(
+    waits: &R,
+    alloc: Global,
+    keeper: &mut Kept,
+    manifest: &str,
+    names: &Names,
+) -> Result<()>
+    ensures log { keeper.new.log ≡ keeper.old.log }
+    ensures waiting { keeper.new.waiting ≡ keeper.old.waiting }
+{
+    let observers = observers_of(alloc, manifest)?;
+    let places = places_in(alloc, keeper, &observers, names)?;
+    if !places.is_sorted() {
+        change_observers(waits, alloc, keeper, observers, Vec::new(alloc), names)?;
+    }
+    Ok(())
+}
+
+// Opens the log with its own manifest, goes on with the observers of this one, if it is another, and compacts it for this manifest.
 fn open_and_compact<R: Wait>(
     waits: &R,
     rt: &HostRuntime,
@@ -83,7 +138,8 @@ fn open_and_compact<R: Wait>(
     let found = open_log(waits, rt.alloc(), keeper, own)?;
     print!(rt; "open {found}\n")?;
     if let Some(observers) = observers {
-        observe_more(waits, rt, keeper, observers, names)?;
+        observe_others(waits, rt, keeper, observers, names)?;
+        order_observers(waits, rt.alloc(), keeper, manifest, names)?;
     }
     match compact(waits, rt, keeper, manifest, names)? {
         Ok(versions) => {
@@ -118,7 +174,7 @@ fn compact_file<R: Wait>(
 }
 
 /// Puts a log of this manifest that begins with a snapshot of the table in the place of this one, and prints how many versions it
-/// has. The log's own manifest may have fewer observers: then the others are added after these.
+/// has. The log's own manifest may have other observers: those of both keep what they have acknowledged.
 pub(crate) fn compact_alone<R: Wait>(
     waits: &R,
     rt: &HostRuntime,

@@ -1,7 +1,7 @@
 //! `percobpf_keep MANIFEST LOG` keeps a table on a disk. It opens the log, or makes it, makes its changes again with the
 //! observers of the manifest, and then reads lines of standard input and answers each on standard output.
 //! `percobpf_keep --compact MANIFEST LOG` puts a log in its place that begins with a snapshot of the table, also for a manifest
-//! with more observers. `percobpf_keep --compact-at BYTES MANIFEST LOG` does so while it serves, where the log has so many bytes.
+//! with other observers. `percobpf_keep --compact-at BYTES MANIFEST LOG` does so while it serves, where the log has so many bytes.
 //!
 //! It is main alone: `pb_keep` does what a line asks for. Here the table is made, and words, manifest and log are taken
 //! from the system. With the manifest of examples/copy.json, `put 7 0 2a` is answered `made 2 runs 1`.
@@ -34,9 +34,9 @@ line of standard input is answered: `put ROW COL HEX; ..`, `del ROW COL; ..`, `i
 `since COMMIT`, `list`, `quiet?`, `stats`, `begin`, `end`, `compact`. docs/KEEPING.md describes them.
 
 With --compact, a log that begins with a snapshot of the table is put in the place of LOG, if nothing is left to do. It has the
-newest version of each cell, and takes the place that these want. MANIFEST may have more observers after those of LOG: they run
-for all that was written before. With --compact-at, LOG is compacted while lines are answered, where it has at least BYTES bytes
-and twice as many as after the last time.
+newest version of each cell, and takes the place that these want. MANIFEST may have other observers than LOG: new ones run for all
+that was written before, and those of both go on. With --compact-at, LOG is compacted while lines are answered, where it has at
+least BYTES bytes and twice as many as after the last time.
 ";
 
 const ABOUT_HELP: &str = "two words are wanted, MANIFEST and LOG: `percobpf_keep --help` has more";

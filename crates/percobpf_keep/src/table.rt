@@ -2,6 +2,7 @@
 ghost use Rattle.std.specs.Prelude.{◌≡◌, ◌≤◌, ◌<◌, ◌^◌, length, string_bytes, IfOk, OnOk, IsTrue};
 ghost use Rattle.pb_base.specs.declared.limits.TheConstants.{MAX_OBSERVERS};
 ghost use Rattle.pb_store.specs.Contents.{nothing};
+ghost use Rattle.pb_steps.specs.State.{opening};
 ghost use Rattle.pb_keeper.specs.Keeps.{opened_table};
 ghost use Rattle.pb_keeper.specs.Stats.{kept_table};
 ghost use Rattle.pb_keep.specs.Waits.{IsWaiting};
@@ -59,6 +60,14 @@ fn table(alloc: Global) -> Result<Table<ListTablet>>
     }
 }
 
+/// A state with no entry, with these observers.
+pub(crate) fn new_state(alloc: Global, observers: Vec<Observer>) -> Result<State<ListTablet>>
+    requires few { length observers.items ≤ MAX_OBSERVERS }
+    ensures { IfOk result (λ s. s ≡ opening observers.items 1 0) }
+{
+    Ok(State::new(alloc, table(alloc)?, observers, 1, Ts(0)))
+}
+
 /// A keeper of a table with no entry, over this disk.
 pub(crate) fn new_keeper<D: Disk + Drop>(
     alloc: Global,
@@ -72,7 +81,7 @@ pub(crate) fn new_keeper<D: Disk + Drop>(
 {
     let observers = observers_of(alloc, manifest)?;
     let stats = no_stats(alloc, observers.len())?;
-    let state = State::new(alloc, table(alloc)?, observers, 1, Ts(0));
+    let state = new_state(alloc, observers)?;
     Ok(Keeper::new(alloc, disk, state, stats))
 }
 

@@ -1,0 +1,37 @@
+use Rattle.std.proofs.Common.{ap, refl, subst, sym}
+use Rattle.pb_state.specs.CarriedOver.{WhyNotCarried}
+use Rattle.pb_snapshots.specs.Snapshot.{snapshot_value}
+use Rattle.pb_keep.specs.Words.{IsCarriedOver, IsSnapshotTaken, KeptTable, SnapshotOf, kept_table}
+use Rattle.pb_keep.specs.Changed.{WhyNotChanged}
+use Rattle.pb_keep.proofs.Causing.{not_changed_for_memory}
+use Rattle.pb_keep.proofs.Mapping.{passed_on}
+use Rattle.pb_keep.proofs.keeper.Keeper.choose_into.Goals as goal
+
+pub returns-in_err-carry_over-clause-cause : goal.returns-in_err-carry_over-clause-cause
+returns-in_err-carry_over-clause-cause g c = λ past changes first began leads.
+    let k = c.args.self.now in
+    let front = c.args.state.now.observers in
+    let s : SnapshotOf = snapshot_value c.in_ok-snapshot.snapshot in
+    let u : SnapshotOf = snapshot_value c.in_ok-chosen.chosen in
+    let old : KeptTable = kept_table k.state k.stats.items in
+    let taken : IsSnapshotTaken old s = subst (λ l. IsSnapshotTaken (kept_table k.state l) s) c.deref.ensures.value c.in_ok-snapshot.ensures.taken in
+    let e = c.in_err-carry_over.field-0.0 in
+    let w = c.in_err-carry_over.ensures.err in
+    let why : WhyNotCarried front u.clock u.cells w.0 e = subst (λ l. WhyNotCarried front u.clock l w.0 e) c.deref-2.ensures.value w.2 in
+    passed_on c.from_residual-in_err-carry_over.result c.from_residual-in_err-carry_over.ensures.1
+    (λ f is. subst (λ z. WhyNotChanged k.waiting.items.items k.state k.state z) (sym is)
+    (not_changed_for_memory k.waiting.items.items k.state k.state e
+    (c.chosen_are_accepted.ensures first changes old s u c.args.places.now front (record { past = past; began = began; leads = leads }) c.requires.chosen taken c.in_ok-chosen.ensures.chosen c.in_ok-chosen.ensures.rising w.0 e why)))
+
+pub returns-clause-chosen : goal.returns-clause-chosen
+returns-clause-chosen g c = λ past changes first began leads.
+    let k = c.args.self.now in
+    let front = c.args.state.now.observers in
+    let s : SnapshotOf = snapshot_value c.in_ok-snapshot.snapshot in
+    let u : SnapshotOf = snapshot_value c.in_ok-chosen.chosen in
+    let old : KeptTable = kept_table k.state k.stats.items in
+    let new : KeptTable = kept_table c.carry_over.new.self c.in_ok-chosen.chosen.stats.items in
+    let taken : IsSnapshotTaken old s = subst (λ l. IsSnapshotTaken (kept_table k.state l) s) c.deref.ensures.value c.in_ok-snapshot.ensures.taken in
+    let cells : IsCarriedOver front c.args.state.now.seats u.clock u.cells new.state = subst (λ l. IsCarriedOver front c.args.state.now.seats u.clock l new.state) c.deref-2.ensures.value c.in_ok-carry_over.ensures.ok in
+    let carried : IsCarriedOver front 1 u.clock u.cells new.state = subst (λ n. IsCarriedOver front n u.clock u.cells new.state) (ap (λ t. t.seats) c.requires.opened) cells in
+    c.chosen_begin.ensures past changes first old new s u c.args.places.now front began leads (c.in_ok-is_idle.ensures.idle c.if-not-branch.false) c.requires.chosen taken c.in_ok-chosen.ensures.chosen carried refl
