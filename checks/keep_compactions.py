@@ -21,7 +21,7 @@ from pathlib import Path
 
 import logs
 from keep_ends import IN_USE, NO_SPACE, SmallDisk, expect
-from keep_room import NOT_QUIET, OTHERS_STAY, QUESTIONS, TOP, left_of, line_of, made_in, without_history
+from keep_room import NOT_QUIET, QUESTIONS, TOP, left_of, line_of, made_in, without_history
 
 NO_FILE = "No such file or directory (os error 2)"
 KINDS = ("kill", "after", "torn", "short", "enospc", "eio")
@@ -34,7 +34,7 @@ CHANGED, LATER = 150, 3
 
 
 def compacted(changes, versions, added=""):
-    """What a compaction of a log with so many changes prints, with what it prints of observers that are added, and its status."""
+    """What a compaction of a log with so many changes prints, with what it prints of other observers, and its status."""
     return 0, f"open {changes}\n{added}compacted {versions}\n", ""
 
 
@@ -68,7 +68,7 @@ def try_generations(room, changes):
 @dataclass(frozen=True)
 class Log:
     """A log of before and what it is once it is compacted, what is found in either, how many changes and versions it has, and what
-    comes next: the answers to a change after it is compacted. That is done for a manifest with more observers, where one is given;
+    comes next: the answers to a change after it is compacted. That is done for a manifest with other observers, where one is given;
     what is printed of these is `added`."""
 
     before: bytes
@@ -378,12 +378,10 @@ def try_refused(room, its):
         running.kill()
     log = room.log("absent")
     is_refused(room, "a log that isn't there", log, f"{log}: {NO_FILE}")
-    log = room.log("of-another")
-    log.write_bytes(its.before)
-    is_refused(room, "a log of another manifest", log, f"{log}: {OTHERS_STAY}", f"open {its.changes}\n", endless)
+    log = room.log("damaged")
     log.write_bytes(its.before[:-1])
     is_refused(room, "a log that is damaged", log, f"the log is damaged at byte {len(its.before) - 1}")
-    return 5 + try_names(room, its)
+    return 4 + try_names(room, its)
 
 
 def try_full(room, changes):

@@ -16,7 +16,6 @@ TOP = Path(__file__).resolve().parent.parent
 QUESTIONS = ("list", "quiet?", "stats")
 
 NOT_QUIET = "the table is not quiet"
-OTHERS_STAY = "its observers have to stay, in their order, and new ones stand after them"
 
 
 class Room:

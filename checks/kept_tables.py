@@ -4,6 +4,7 @@ It is written from docs/KEEPING.md and docs/FORMATS.md alone. It takes lines as 
 """
 from __future__ import annotations
 
+import json
 from dataclasses import astuple
 
 import logs
@@ -58,6 +59,15 @@ def read_request(line):
     return verb, *operands
 
 
+def known_by(manifest):
+    """What makes each observer of a manifest the same as one of another manifest. Helpers are a set."""
+    its = json.loads(manifest)
+    return [
+        (it["name"], it["column"], bytes.fromhex(it["code"]), frozenset(it["helpers"]), its["profile"], it.get("record", 1))
+        for it in its["observers"]
+    ]
+
+
 class OneSeat(model.Table):
     """A table of one seat, whose records of a cell rise in the order in which they are made, so that the newest is soon found."""
 
@@ -71,14 +81,14 @@ class OneSeat(model.Table):
 
 
 class KeptTable:
-    """A table with observers. `lines` are those of its changes since it began, and `groups` says which of them are of one group: from
-    one place up to another. Of the writes up to `begun` only the newest are there, and `before` are the runs that were committed by then.
+    """A table with observers; `known` says which of them are those of another manifest. `lines` are those of its changes since it began,
+    and `groups` says which of them are of one group: from one place up to another. Of the writes up to `begun` only the newest are there, and `before` are the runs that were committed by then.
     It has begun anew so often: `generation`. `size` has the bytes of its log, if each line is sent once the one before it is answered. From
     `least` bytes on it is compacted, and next from `limit` bytes on; so often it was too large, and not quiet: `left_large`."""
 
     def __init__(self, manifest):
         self.manifest = manifest
-        self.observers = model.observers_of(manifest)
+        self.observers, self.known = model.observers_of(manifest), known_by(manifest)
         self.table = OneSeat(self.observers)
         self.begun, self.generation, self.lines, self.groups = 0, 0, [], []
         self.size, self.least, self.limit, self.left_large = 0, LAST, LAST, 0
@@ -143,24 +153,31 @@ class KeptTable:
         newest = self.newest(row, column)
         return [f"{model.shown(newest[2])} commit {newest[1]}" if newest else "absent"]
 
-    def snapshot(self):
-        """The newest version of each cell, of which those of one transaction follow one another, and what the observers have done."""
-        table = self.table
-        newest = {cell: max(its.items()) for cell, its in table.records.items() if its}
-        versions = [Version(start, cell, commit, table.data[cell][start]) for cell, (commit, start) in newest.items()]
+    def snapshot(self, places=None):
+        """The newest version of each cell, of which those of one transaction follow one another, and what the observers have done; or
+        what a snapshot has of the observers at these places, each with the number of its place."""
+        table, places = self.table, range(len(self.observers)) if places is None else places
+        # of each cell, the one that it will be
+        cells = {cell: cell for cell in table.records if model.is_data(cell)}
+        cells |= {cell: (*cell[:3], places.index(cell[3])) for cell in table.records if not model.is_data(cell) and cell[3] in places}
+        newest = [(cell, *max(table.records[cell].items())) for cell in cells if table.records[cell]]
+        versions = [Version(start, cells[cell], commit, table.data[cell][start]) for cell, commit, start in newest]
         in_order = sorted(versions, key=lambda it: (it.start, it.cell))
-        return Snapshot(table.clock, [astuple(its) for its in table.counts], in_order)
+        return Snapshot(table.clock, [astuple(table.counts[place]) for place in places], in_order)
 
-    def begin_anew(self):
-        """Begins anew with the newest versions, where nothing is left to do. What is left of a transaction has declared those of them
-        that it wrote."""
-        self.before, table, snapshot = self.runs(), OneSeat(self.observers, self.table.clock), self.snapshot()
+    def begin_anew(self, places=None):
+        """Begins anew with the newest versions, where nothing is left to do, and with the observers at these places alone. What is left of
+        a transaction has declared those of them that it wrote."""
+        places = range(len(self.observers)) if places is None else places
+        snapshot, runs, counts = self.snapshot(places), self.runs(), self.table.counts
+        self.observers, self.known = [self.observers[place] for place in places], [self.known[place] for place in places]
+        self.before, table = [runs[place] for place in places], OneSeat(self.observers, self.table.clock)
         for it in snapshot.versions:
             table.data[it.cell][it.start] = it.content
             table.records[it.cell][it.commit] = it.start
             own = table.transactions.setdefault(it.start, model.Transaction(None, "script", "committed", it.commit))
             own.declared.append((it.cell, it.content))
-        table.counts = self.table.counts
+        table.counts = [counts[place] for place in places]
         self.table, self.begun, self.lines, self.groups = table, table.clock, [], []
         self.generation += 1
         self.log_has([logs.snapshot_record(snapshot)])
@@ -184,18 +201,30 @@ class KeptTable:
         if self.size >= self.limit and self.compact() is None:
             self.limit, self.left_large = 2 * self.size, self.left_large + 1
 
-    def observe_also(self, manifest):
-        """Gets the observers that this manifest has after its own, and makes passes, until they have caught up with all cells of their
-        columns, or so many as may be made. Answers how many they are, and how many runs were committed."""
-        added, table = model.observers_of(manifest)[len(self.observers) :], self.table
-        self.manifest, self.observers = manifest, [*self.observers, *added]
+    def change_observers(self, manifest):
+        """Goes on with the observers of this manifest, where nothing is left to do: with those that it has, then with the others, for which
+        passes are made, until they have caught up with all cells of their columns, or so many as may be made; and then in the order of
+        the manifest, where nothing is left to do again. Answers how many came, how many runs were committed, and how many are gone."""
+        observers, known, had = model.observers_of(manifest), known_by(manifest), len(self.known)
+        self.begin_anew([self.known.index(it) for it in known if it in self.known])
+        stayed = len(self.known)
+        runs = self.observe_also([(it, its) for it, its in zip(observers, known) if its not in self.known])
+        self.manifest = manifest
+        if self.left() == "quiet":
+            self.begin_anew([self.known.index(it) for it in known])
+        return len(known) - stayed, runs, had - stayed
+
+    def observe_also(self, added):
+        """Gets observers after its own, and makes passes. Answers how many runs were committed."""
+        observers, table, before = [it for it, _ in added], self.table, len(self.table.transactions)
+        self.observers, self.known = [*self.observers, *observers], [*self.known, *(its for _, its in added)]
         self.before += [0 for _ in added]
         table.observers, table.columns = self.observers, [it.column for it in self.observers]
         table.counts += [model.Counts() for _ in added]
-        columns, before = {it.column for it in added}, len(table.transactions)
+        columns = {it.column for it in observers}
         table.marks |= {cell for cell, its in table.records.items() if its and model.is_data(cell) and cell[1] in columns}
         model.passes(table, 0, self.observers)
-        return len(added), sum(it.phase == "committed" for it in list(table.transactions.values())[before:])
+        return sum(it.phase == "committed" for it in list(table.transactions.values())[before:])
 
     def since(self, above):
         """The writes above a commit, in the order of commits, and of cells within one. Of those up to where the table began, some are

@@ -3,7 +3,7 @@
 A session has a manifest, and a log that is opened several times. Its lines come one by one or many at once, and parted anywhere. The
 input ends after a line, within a group, or within a last line; or the program is killed once all is answered. Lines ask for compactions.
 Some programs are started to compact logs of so many bytes: these get a line once the one before it is answered, so that the model knows
-when that is. Between two starts the log may be compacted, for some with observers more, and then it has to have the newest versions of
+when that is. Between two starts the log may be compacted, for some with other observers, and then it has to have the newest versions of
 the model.
 """
 from __future__ import annotations
@@ -33,10 +33,12 @@ SECONDS = 60
 # A session is over once the table's clock is there, so that endless observers don't take the model minutes.
 LAST_TIMESTAMP = 3_000
 STARTS, BATCHES, LINES = (1, 2, 2, 3, 5), (1, 3, 6, 12), (1, 1, 1, 2, 5, 20, 60)
-# How often the log is compacted after a start; how likely that is for more observers; and how likely a program is started to do so from
+# How often the log is compacted after a start; how likely that is for other observers; and how likely a program is started to do so from
 # a size on, which is that many bytes above that of its log.
-COMPACTIONS, LONGER, LARGE = (0, 1, 1, 2), 0.4, 0.35
+COMPACTIONS, OTHERS, LARGE = (0, 1, 1, 2), 0.5, 0.35
 ABOVE = (-1, 0, 1, 40, 150, 400)
+# How likely an observer stays, and how many observers a manifest of others has at most.
+STAYS, MOST_OBSERVERS = 0.8, 8
 
 
 # A program that writes the cell of the row before its own, and none from row 0, so that each pass has one run, and marks one cell.
@@ -58,6 +60,8 @@ class Session:
         self.manifest, self.log = self.folder / "manifest.json", self.folder / "table.log"
         self.manifest.write_text(manifest)
         self.kept = KeptTable(manifest)
+        # all observers that the table had
+        self.had = json.loads(manifest)["observers"]
         self.sent, self.met, self.timer = b"", Counter(), threading.Timer(SECONDS, bool)
         # in which generation, after how many changes, the log was reported to have how many bytes
         self.reported = set()
@@ -192,16 +196,13 @@ class Session:
             self.exchange(parts_of(pick, b"".join(lines)), [answer for its in wanted for answer in its])
 
     def compact(self, manifest=None):
-        """Compacts the log, for a manifest with more observers where one is given, and where nothing is left to do, also not by these;
+        """Compacts the log, for a manifest with other observers where one is given, and where nothing is left to do, also not by these;
         else that is reported, and the log stays as it is."""
-        before, kept, file = self.log.read_bytes(), copy.deepcopy(self.kept), self.folder / "longer.json"
+        before, kept, file = self.log.read_bytes(), copy.deepcopy(self.kept), self.folder / "others.json"
         file.write_text(manifest or kept.manifest)
         printed, is_quiet = f"open {len(kept.lines)}\n", kept.left() == "quiet"
-        if is_quiet and manifest:
-            count, runs = kept.observe_also(manifest)
-            printed += f"added {count} runs {runs}\n"
-            self.met["observers added"] += count
-            self.met["runs that caught up"] += runs
+        if is_quiet and manifest not in (None, kept.manifest):
+            printed += self.change_observers(kept, manifest)
         words = [self.program, "--compact", file, self.log]
         ended = subprocess.run(words, stdin=subprocess.DEVNULL, capture_output=True, timeout=SECONDS)
         snapshot, versions = kept.snapshot(), kept.compact()
@@ -214,6 +215,20 @@ class Session:
         self.compare("the snapshot", logs.parts_of(self.log.read_bytes(), file.read_bytes()), (snapshot, []))
         self.kept = kept
         file.rename(self.manifest)
+
+    def change_observers(self, kept, manifest):
+        """What is printed where the table gets the observers of this manifest."""
+        known = kept.known
+        count, runs, gone = kept.change_observers(manifest)
+        places = [known.index(it) for it in kept.known if it in known]
+        others = json.loads(manifest)["observers"]
+        self.met["observers added"] += count
+        self.met["observers gone"] += gone
+        self.met["observers back"] += sum(it in self.had for it, its in zip(others, kept.known) if its not in known)
+        self.met["lists in another order"] += places != sorted(places)
+        self.met["runs that caught up"] += runs
+        self.had += [it for it in others if it not in self.had]
+        return f"added {count} runs {runs} gone {gone}\n"
 
     def close(self, pick, field):
         """Ends a program that has answered all but a group that hasn't ended."""
@@ -252,7 +267,7 @@ class Session:
                 self.exchange([b"compact\n"], self.take(b"compact"))
             self.close(pick, field)
             for _ in range(pick.choice(COMPACTIONS)):
-                self.compact(longer(pick, field, self.kept.manifest) if pick.random() < LONGER else None)
+                self.compact(others_from(pick, field, self.kept.manifest, self.had) if pick.random() < OTHERS else None)
 
 
 def parts_of(pick, text):
@@ -268,20 +283,27 @@ def with_fronts(pick, lines):
     return [line[len(front) :] + of_next for line, front, of_next in zip(lines, fronts, fronts[1:])]
 
 
-def longer(pick, field, manifest):
-    """A manifest with these observers and those of another one of this profile after them, or with these alone, as another text."""
+def others_from(pick, field, manifest, had):
+    """A manifest of this profile with some of its observers, some of those that the table had, and those of another manifest; or with the
+    same, as another text."""
     its = json.loads(manifest)
-    others = (json.loads(manifest_of(pick, field)) for _ in range(3))
-    more = next((other["observers"] for other in others if other["profile"] == its["profile"]), [])
-    count = len(its["observers"])
-    its["observers"] += [{**it, "name": f"more-{count + number}"} for number, it in enumerate(more)]
-    return json.dumps(its, indent=count)
+    own, others = its["observers"], (json.loads(manifest_of(pick, field)) for _ in range(3))
+    if pick.random() < 0.1:
+        return json.dumps(its, indent=pick.randrange(9))
+    new = next((other["observers"] for other in others if other["profile"] == its["profile"]), [])
+    back = [it for it in had if it not in own and pick.random() < 0.5]
+    staying = [it if pick.random() < 0.96 else {**it, "column": pick.choice(field.columns)} for it in own if pick.random() < STAYS]
+    named = {it["name"]: it for it in [*({**it, "name": f"{it['name'][:24]}-{pick.randrange(99)}"} for it in new), *back, *staying]}
+    its["observers"] = list(named.values())[-MOST_OBSERVERS:]
+    if pick.random() < 0.6:
+        pick.shuffle(its["observers"])
+    return json.dumps(its)
 
 
 def kept_files(session, fault):
     """A folder with what a session had that differs."""
     folder = Path(tempfile.mkdtemp(prefix="keep-differs-"))
-    for file in (session.manifest, session.log):
+    for file in (session.manifest, session.log, session.folder / "others.json"):
         if file.exists():
             (folder / file.name).write_bytes(file.read_bytes())
     (folder / "lines").write_bytes(session.sent)
