@@ -1,0 +1,64 @@
+-- Parts that were cut off.
+use Rattle.std.proofs.Common.{◌≡◌, ◌≢◌, ◌⊎◌, inl, inr, List, [], ◌∷◌, ◌++◌, refl, sym, ap, subst, ◌∙◌, append-nil}
+use Rattle.pb_conversations.specs.Words.{Received}
+use Rattle.pb_conversations.specs.Parts.{AreParts, no_part, one_part, EndsIn}
+use Rattle.pb_conversations.specs.Conversations.{JobOf, IsMove, took, went, IsConversation}
+use Rattle.pb_conversations.proofs.Joining.{end_there}
+use Rattle.pb_conversations.specs.Laws.{IsCutOff, PartsAreCut, ConversationsAreCut}
+
+-- ---- lists
+
+-- the second list of one part begins in the first of the other, or after it
+which_part : {A : Type 0} (a b c d : List A) → a ++ b ≡ c ++ d → ((x : List A) × (a ≡ c ++ x) × (d ≡ x ++ b)) ⊎ ((y : List A) × (c ≡ a ++ y) × (b ≡ y ++ d))
+which_part [] b c d e = inr (c, refl, e)
+which_part (x ∷ a) b [] d e = inl (x ∷ a, refl, sym e)
+which_part (x ∷ a) b (y ∷ c) d e =
+    let head : x ≡ y = cc in
+    let tail : a ++ b ≡ c ++ d = cc in
+    elim (which_part a b c d tail) [
+      | inl p ↦ inl (p.0, (λ i. head i ∷ p.1 i), p.2)
+      | inr p ↦ inr (p.0, (λ i. sym head i ∷ p.1 i), p.2)
+    ]
+
+-- ---- parts
+
+module _ {S : Type 0} (Part : S → S → List Received → Type 0) (IsBegun : S → List Received → Type 0) (each : (t u : S) (said more : List Received) → Part t u (said ++ more) → more ≢ [] → IsCutOff IsBegun t said) where
+  whole : (s u : S) (said : List Received) → AreParts Part s u said → EndsIn Part (IsCutOff IsBegun) s said
+  whole s u said p = end_there s u said p (inl refl)
+
+  in_next : (s t u : S) (had part left more : List Received) → AreParts Part s t had → Part t u part → part ≡ left ++ more → EndsIn Part (IsCutOff IsBegun) s (had ++ left)
+  in_next s t u had part left [] p next e = subst (λ l. EndsIn Part (IsCutOff IsBegun) s (had ++ l)) (e ∙ append-nil left) (whole s u (had ++ part) (one_part t u had part p next))
+  in_next s t u had part left (r ∷ rs) p next e = record { at = t; before = had; parts = p; last = left; ends = each t u left (r ∷ rs) (subst (Part t u) e next) (λ n. cc); said_is = refl }
+
+  cut : (s u : S) (all said more : List Received) → AreParts Part s u all → all ≡ said ++ more → EndsIn Part (IsCutOff IsBegun) s said
+  cut s u all [] more p e = whole s s [] no_part
+  cut s u all (r ∷ said) more no_part e = absurd cc
+  cut s u all (r ∷ said) more (one_part t v had part p next) e = elim (which_part had part (r ∷ said) more e) [
+    | inl w ↦ cut s t had (r ∷ said) w.0 p w.1
+    | inr w ↦ subst (EndsIn Part (IsCutOff IsBegun) s) (sym w.1) (in_next s t v had part w.0 more p next w.2)
+  ]
+
+pub parts_are_cut : {S : Type 0} (Part : S → S → List Received → Type 0) (IsBegun : S → List Received → Type 0) → PartsAreCut Part IsBegun
+parts_are_cut Part IsBegun each s u said more p = cut Part IsBegun each s u (said ++ more) said more p refl
+
+-- ---- conversations
+
+-- a step with its answer isn't cut
+one_entry : (r : Received) (said more : List Received) → r ∷ [] ≡ said ++ more → more ≢ [] → said ≡ []
+one_entry r [] more e some = refl
+one_entry r (x ∷ []) more e some = let none : more ≡ [] = cc in absurd (some none)
+one_entry r (x ∷ y ∷ said) more e some = absurd cc
+
+no_entry : (said more : List Received) → ◌≡◌ {A = List Received} [] (said ++ more) → said ≡ []
+no_entry [] more e = refl
+no_entry (x ∷ said) more e = absurd cc
+
+uncut : {S : Type 0} (job : JobOf S) (t u : S) (all said more : List Received) → IsMove job t u all → all ≡ said ++ more → more ≢ [] → said ≡ []
+uncut job t u all said more (took r next can hears) e some = one_entry r said more e some
+uncut job t u all said more (went goes) e some = no_entry said more e
+
+pub conversations_are_cut : {S : Type 0} (job : JobOf S) → ConversationsAreCut job
+conversations_are_cut job s u said more talk =
+    let c = parts_are_cut (IsMove job) (λ t l. ⊥) (λ t v l rest move some. inl (uncut job t v (l ++ rest) l rest move refl some)) s u said more talk in
+    let none : c.last ≡ [] = elim c.ends [ inl e ↦ e | inr never ↦ absurd never ] in
+    (c.at, subst (λ l. IsConversation job s l c.at) (sym (c.said_is ∙ ap (λ l. c.before ++ l) none ∙ append-nil c.before)) c.parts)

@@ -1,0 +1,5 @@
+pub mod Joining
+pub mod Asking
+pub mod Cutting
+pub mod OneOutcome
+pub mod Deciding

@@ -1,0 +1,45 @@
+-- What holds of all conversations, whatever the job, and of all that comes part after part.
+use Rattle.std.specs.Prelude.{◌≡◌, ◌≢◌, ◌⊎◌, List, [], ◌∷◌, ◌++◌, Some, None}
+use Rattle.pb_conversations.specs.Words.{Answer, Step, Received}
+use Rattle.pb_conversations.specs.Parts.{AreParts, EndsIn}
+use Rattle.pb_conversations.specs.Conversations.{JobOf, IsMove, IsConversation}
+
+-- ---- parts
+
+-- some parts, and then others from where they led, are parts
+abbrev pub PartsFollow : {S : Type 0} → (S → S → List Received → Type 0) → Type 0
+PartsFollow {S} Part = (s t u : S) (said more : List Received) → AreParts Part s t said → AreParts Part t u more → AreParts Part s u (said ++ more)
+
+-- what is left of a part that was cut off: nothing, or a beginning of it
+abbrev pub IsCutOff : {S : Type 0} → (S → List Received → Type 0) → S → List Received → Type 0
+IsCutOff IsBegun t said = (said ≡ []) ⊎ IsBegun t said
+
+-- where each part may be cut off before its end, parts may be anywhere: whole ones are left, and what is left of the next
+abbrev pub PartsAreCut : {S : Type 0} → (S → S → List Received → Type 0) → (S → List Received → Type 0) → Type 0
+PartsAreCut {S} Part IsBegun = ((t u : S) (said more : List Received) → Part t u (said ++ more) → more ≢ [] → IsCutOff IsBegun t said)
+    → (s u : S) (said more : List Received) → AreParts Part s u (said ++ more) → EndsIn Part (IsCutOff IsBegun) s said
+
+-- ---- conversations
+
+-- each beginning of a conversation is one, since it is cut between a step with its answer and the next
+abbrev pub ConversationsAreCut : {S : Type 0} → JobOf S → Type 0
+ConversationsAreCut {S} job = (s u : S) (said more : List Received) → IsConversation job s (said ++ more) u → (t : S) × IsConversation job s said t
+
+-- it asks nothing more, and goes nowhere by itself
+abbrev pub AsksNoMore : {S : Type 0} → JobOf S → S → List Received → Type 0
+AsksNoMore {S} job s said = (said ≡ []) × (job.next s ≡ None) × ((t : S) → job.goes s t → ⊥)
+
+-- each answer leads to one place, and so does what it does by itself, which is nothing where it asks
+pub record IsDetermined {S : Type 0} (job : JobOf S) (s : S) : Type 0 where
+  pub hears_one : (a : Answer) (t u : S) → job.hears s a t → job.hears s a u → t ≡ u
+  pub goes_one : (t u : S) → job.goes s t → job.goes s u → t ≡ u
+  pub asks_or_goes : (step : Step) (t : S) → job.next s ≡ Some step → job.goes s t → ⊥
+
+-- each step of these was answered as this rule says, which may look at the conversation before
+abbrev pub AreAnsweredBy : (List Received → Step → Answer) → List Received → Type 0
+AreAnsweredBy rule said = (front rest : List Received) (r : Received) → said ≡ front ++ r ∷ rest → r.answer ≡ rule front r.step
+
+-- two whole conversations of such a job that were answered by one rule are the same, and end at one place
+abbrev pub AnswersDecide : {S : Type 0} → JobOf S → Type 0
+AnswersDecide {S} job = (s : S) → ((t : S) (had : List Received) → IsConversation job s had t → IsDetermined job t) → (rule : List Received → Step → Answer) (said more : List Received)
+    → (e : EndsIn (IsMove job) (AsksNoMore job) s said) → (f : EndsIn (IsMove job) (AsksNoMore job) s more) → AreAnsweredBy rule said → AreAnsweredBy rule more → (said ≡ more) × (e.at ≡ f.at)

@@ -1,0 +1,17 @@
+-- Conversations part after part. A part leads from one place to another. A place is what the next part depends on: how often something was
+-- tried, the last mark that was found, where a plan stands.
+use Rattle.std.specs.Prelude.{◌≡◌, List, [], ◌++◌}
+
+-- parts from one place to another, one after another
+pub data AreParts {S E : Type 0} (Part : S → S → List E → Type 0) (s : S) : S → List E → Type 0 where
+  no_part : AreParts Part s s []
+  one_part : (t u : S) (said more : List E) → AreParts Part s t said → Part t u more → AreParts Part s u (said ++ more)
+
+-- parts, and then this where they lead: what ends them, or a part of which there is just a beginning
+pub record EndsIn {S E : Type 0} (Part : S → S → List E → Type 0) (Last : S → List E → Type 0) (s : S) (said : List E) : Type 0 where
+  pub at : S
+  pub before : List E
+  pub parts : AreParts Part s at before
+  pub last : List E
+  pub ends : Last at last
+  pub said_is : said ≡ before ++ last

@@ -1,0 +1,11 @@
+//! Conversations with the table: what is asked step by step, each step after the answer of the one before.
+//!
+//! A job is what asks ([`AsksSteps`]): a transaction's plan, a change, the run of an observer. Its value is where it stands, and
+//! that names the step that is next. Above it stands what comes part after part ([`ComesInParts`]): the tries of a change, the runs
+//! on a cell, the marks of a pass, the passes of a drain. Each of these is whole, or was cut off in a part. So a change that asks for its begin
+//! and is answered 1 has had the conversation `Begin(Script) At(1)`, which is a beginning of the whole one.
+#![tactic(auto)]
+
+mod laws;
+
+pub use laws::{AsksSteps, ComesInParts, answers_decide, conversations_are_cut, parts_are_cut};
