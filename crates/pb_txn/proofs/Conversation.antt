@@ -1,13 +1,14 @@
 -- What a plan has asked at each place, and that it is a beginning of a whole conversation.
 use Rattle.std.proofs.Common.{◌≡◌, suc, ◌+◌, true, false, List, [], ◌∷◌, ◌++◌, length, refl, sym, ◌∙◌, ap, subst, arith, append_assoc, append-nil, length-append, Some, None, ltb, eqb, ne_eqb, slice_get, option_map}
 use Rattle.std.proofs.lemmas.Bool.{lt-ltb, le-ltb}
-use Rattle.pb_txn.specs.Words.{Cell, Ts, Declared, Step, Answer, CanAnswer, Received}
+use Rattle.pb_txn.specs.Words.{Cell, Ts, Declared, Step, Answer, CanAnswer, Received, took, went, no_part, one_part}
 use Rattle.pb_txn.specs.declared.place.Outcome.{Outcome}
 use Rattle.pb_txn.specs.declared.place.PlanPlace.{PlanPlace}
 use Rattle.pb_txn.specs.Places.{declared_cells, place_after, after_prewrite, after_stamp, after_primary, prewrite_from, commit_from, clear_from, step_at}
-use Rattle.pb_txn.specs.Plans.{PlanOf, fresh, answered, outcome_at}
+use Rattle.pb_txn.specs.Plans.{PlanOf, fresh, outcome_at}
 use Rattle.pb_txn.specs.Conversations.{told, Converses}
 use Rattle.pb_txn.specs.Forms.{prewrites, secondaries, AreCleared, IsWhole, committed, conflicted_first, conflicted_later, lost, PlansConverse, PlansEnd, PlansStop}
+use Rattle.pb_txn.proofs.PlanTransactions.{keeps_start_and_what}
 use Rattle.pb_base.proofs.Logic.{same_some as some_some, none_some, some_none}
 
 prewrites_append : (s : Ts) (xs ys : List Cell) → prewrites s (xs ++ ys) ≡ prewrites s xs ++ prewrites s ys
@@ -221,14 +222,15 @@ module _ (s : Ts) (what : Declared) (x : Cell) (others : List Cell) where
     no_step_is_over p l (clearing o done y left more said cs at c ends) e = absurd (no_step (λ z. Step.Clear z) (x ∷ done) y (left ++ more) at e)
     no_step_is_over p l (over o said whole) e = (o, refl)
 
-    -- a talk goes on from the conversation so far
-    pub said_all : (p q : PlanOf) (l said : List Received) → p.start ≡ s.0 → p.what ≡ what → SoFar p.place l → Converses p said q → SoFar q.place (l ++ said)
-    said_all p q l [] s-is w-is so t = rw append-nil (subst (λ z. SoFar z.place l) (sym t) so)
-    said_all p q l (r ∷ rs) s-is w-is so t =
-        let next : step_at s.0 what p.place ≡ Some r.step = (λ i. step_at (sym s-is i) (sym w-is i) p.place) ∙ t.0 in
-        let count : length (declared_cells p.what) ≡ length cells = ap (λ w. length (declared_cells w)) w-is ∙ ap length cells_are in
-        let here : SoFar (place_after (length (declared_cells p.what)) p.place r.answer) (l ++ r ∷ []) = subst (λ n. SoFar (place_after n p.place r.answer) (l ++ r ∷ [])) (sym count) (said_more p.place l r.step r.answer so next t.1) in
-        subst (λ ys. SoFar q.place ys) (append_assoc l (r ∷ []) rs) (said_all (answered p r.answer) q (l ++ r ∷ []) rs s-is w-is here t.2)
+    -- so has all that a plan has asked
+    pub said_all : (q : PlanOf) (said : List Received) → Converses (fresh s.0 what) said q → SoFar q.place said
+    said_all q said no_part = declaring
+    said_all q said (one_part p u had more talk (took r next can to)) =
+        let same = keeps_start_and_what (fresh s.0 what) p had talk in
+        let step : step_at s.0 what p.place ≡ Some r.step = (λ i. step_at (sym same.0 i) (sym same.1 i) p.place) ∙ next in
+        let count : length (declared_cells p.what) ≡ length cells = ap (λ w. length (declared_cells w)) same.1 ∙ ap length cells_are in
+        subst (λ (z : PlanOf). SoFar z.place (had ++ r ∷ [])) (sym to) (subst (λ n. SoFar (place_after n p.place r.answer) (had ++ r ∷ [])) (sym count) (said_more p.place had r.step r.answer (said_all p had talk) step can))
+    said_all q said (one_part p u had more talk (went none)) = absurd none
 
   -- ---- what has been said can be ended
 
@@ -273,22 +275,17 @@ module _ (s : Ts) (what : Declared) (x : Cell) (others : List Cell) where
 -- the conversation at any place can be ended, by commits while none was refused, and else by clearing what is left
 pub plans_converse : PlansConverse
 plans_converse s what x others said q is t =
-    let so = said_all (record { 0 = s }) what x others is (fresh s what) q [] said refl refl declaring t in
+    let so = said_all (record { 0 = s }) what x others is q said t in
     let r = can_end (record { 0 = s }) what x others q.place said so in
     (r.0, r.1, subst (λ cs. IsWhole (record { 0 = s }) what cs (said ++ r.0) r.1) (sym is) r.2)
 
 pub plans_end : PlansEnd
 plans_end s what x others said q o is t e =
     subst (λ cs. IsWhole (record { 0 = s }) what cs said o) (sym is)
-    (over_is_whole (record { 0 = s }) what x others q.place said o (said_all (record { 0 = s }) what x others is (fresh s what) q [] said refl refl declaring t) e)
-
--- a plan keeps its start and its declaration
-stays : (p : PlanOf) (said : List Received) (q : PlanOf) → Converses p said q → (q.start ≡ p.start) × (q.what ≡ p.what)
-stays p [] q t = (ap (λ (z : PlanOf). z.start) t, ap (λ (z : PlanOf). z.what) t)
-stays p (r ∷ rs) q t = stays (answered p r.answer) rs q t.2
+    (over_is_whole (record { 0 = s }) what x others q.place said o (said_all (record { 0 = s }) what x others is q said t) e)
 
 -- at every place but the end there is a step, since the cells that a place names are declared
 pub plans_stop : PlansStop
 plans_stop s what x others said q is t e =
-    let same = stays (fresh s what) said q t in
-    no_step_is_over (record { 0 = s }) what x others is q.place said (said_all (record { 0 = s }) what x others is (fresh s what) q [] said refl refl declaring t) ((λ i. step_at (sym same.0 i) (sym same.1 i) q.place) ∙ e)
+    let same = keeps_start_and_what (fresh s what) q said t in
+    no_step_is_over (record { 0 = s }) what x others is q.place said (said_all (record { 0 = s }) what x others is q said t) ((λ i. step_at (sym same.0 i) (sym same.1 i) q.place) ∙ e)

@@ -5,9 +5,10 @@ use Rattle.pb_steps.specs.declared.phase.Phase.TheVariants as phases
 use Rattle.pb_txn.specs.declared.place.Outcome.{Outcome}
 use Rattle.pb_txn.specs.declared.place.PlanPlace.{PlanPlace}
 use Rattle.pb_txn.specs.Places.{declared_cells, place_after, after_prewrite, after_stamp, after_primary, prewrite_from, commit_from, clear_from, step_at}
-use Rattle.pb_txn.specs.Plans.{PlanOf, answered}
+use Rattle.pb_txn.specs.Plans.{PlanOf, next_of, answered}
 use Rattle.pb_txn.specs.Conversations.{Converses}
 use Rattle.pb_txn.specs.Allowed.{names}
+use Rattle.pb_conversations.proofs.Asking.{conversation_unfolds}
 use Rattle.pb_txn.proofs.DistinctCells.{take_one, take_all}
 use Rattle.pb_base.proofs.Logic.{same_some as same_step, same_some as same_transaction, same_number as itself}
 
@@ -116,12 +117,13 @@ module _ (observers : List ObserverOf) (seat s : ℕ) (what : Declared) where
 
   pub stays_at_place : (p q : PlanOf) (said : List Received) (u t : TransactionOf) → p.start ≡ s → p.what ≡ what → IsAt cells p.place u → Converses p said q
       → transaction_from observers (Some u) (map (entry_of seat) (filter (λ r. names s r.step) said)) ≡ Some t → IsAt cells q.place t
-  stays_at_place p q [] u t s-is w-is i talk told = subst (λ (z : PlanOf). IsAt cells z.place t) (sym talk) (subst (IsAt cells p.place) (same_transaction u t told) i)
+  stays_at_place p q [] u t s-is w-is i talk told = subst (λ (z : PlanOf). IsAt cells z.place t) (sym (conversation_unfolds next_of answered p q [] talk)) (subst (IsAt cells p.place) (same_transaction u t told) i)
   stays_at_place p q (r ∷ rs) u t s-is w-is i talk told =
-      let next : step_at s what p.place ≡ Some r.step = (λ j. step_at (sym s-is j) (sym w-is j) p.place) ∙ talk.0 in
-      let m = one p.place u r.step r.answer i next talk.1 in
+      let first = conversation_unfolds next_of answered p q (r ∷ rs) talk in
+      let next : step_at s what p.place ≡ Some r.step = (λ j. step_at (sym s-is j) (sym w-is j) p.place) ∙ first.0 in
+      let m = one p.place u r.step r.answer i next first.1 in
       let on = map (entry_of seat) (filter (λ x. names s x.step) rs) in
       let at : IsAt cells (answered p r.answer).place m.v = subst (λ w. IsAt cells (place_after (length (declared_cells w)) p.place r.answer) m.v) (sym w-is) m.at in
       let rest : transaction_from observers (Some m.v) on ≡ Some t =
       sym (m.told on) ∙ ap (transaction_from observers (Some u)) (sym (map_cond (entry_of seat) (names s r.step) r (filter (λ x. names s x.step) rs))) ∙ told in
-      stays_at_place (answered p r.answer) q rs m.v t s-is w-is at talk.2 rest
+      stays_at_place (answered p r.answer) q rs m.v t s-is w-is at first.2 rest

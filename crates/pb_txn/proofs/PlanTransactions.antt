@@ -1,10 +1,11 @@
 -- The transaction of a plan, whose entries are the plan's conversation, has come to where the plan stands.
 use Rattle.std.proofs.Common.{arith, ◌≡◌, ℕ, inl, inr, true, false, cond, List, [], ◌∷◌, map, Some, refl, sym, ap, subst, ◌∙◌, ◌==◌, filter}
 use Rattle.std.specs.FinMap as finite
-use Rattle.pb_txn.specs.Words.{are_distinct, Declared, Step, Answer, CanAnswer, StateOf, TransactionOf, new_transaction, Entry, Received, Has, IsEntry, TellsHistory, TellsTransactions, transaction_from}
+use Rattle.pb_txn.specs.Words.{are_distinct, Declared, Step, Answer, CanAnswer, StateOf, TransactionOf, new_transaction, Entry, Received, Has, IsEntry, TellsHistory, TellsTransactions, transaction_from, took, went, no_part, one_part}
+use Rattle.pb_conversations.proofs.Asking.{conversation_unfolds}
 use Rattle.pb_txn.specs.declared.place.PlanPlace.{PlanPlace}
 use Rattle.pb_txn.specs.Places.{declared_cells}
-use Rattle.pb_txn.specs.Plans.{PlanOf, fresh, answered}
+use Rattle.pb_txn.specs.Plans.{PlanOf, fresh, next_of, answered}
 use Rattle.pb_txn.specs.Conversations.{Converses}
 use Rattle.pb_txn.specs.Allowed.{names, HasSaid, IsWorkInRange}
 use Rattle.pb_txn.proofs.DeclaredCells.{cells_are}
@@ -14,8 +15,11 @@ use Rattle.pb_base.proofs.Logic.{one_value as same_transaction, same_some as sam
 
 -- a plan keeps its start and its declaration
 pub keeps_start_and_what : (p q : PlanOf) (said : List Received) → Converses p said q → (q.start ≡ p.start) × (q.what ≡ p.what)
-keeps_start_and_what p q [] talk = (ap (λ (z : PlanOf). z.start) talk, ap (λ (z : PlanOf). z.what) talk)
-keeps_start_and_what p q (r ∷ rs) talk = keeps_start_and_what (answered p r.answer) q rs talk.2
+keeps_start_and_what p q said no_part = (refl, refl)
+keeps_start_and_what p q said (one_part t u had more talk (took r next can to)) =
+    let same = keeps_start_and_what p t had talk in
+    (ap (λ (z : PlanOf). z.start) to ∙ same.0, ap (λ (z : PlanOf). z.what) to ∙ same.1)
+keeps_start_and_what p q said (one_part t u had more talk (went none)) = absurd none
 
 -- ---- what was declared
 
@@ -62,8 +66,10 @@ module _ (seat s : ℕ) (what : Declared) where
 
   pub cells_by_now : (journal : List Entry) (state : StateOf) (said : List Received) (q : PlanOf) (t : TransactionOf) → TellsHistory journal state → finite.get state.transactions s ≡ Some t
       → IsWorkInRange state.observers t.work → Converses (fresh s what) said q → HasSaid journal seat s said → HasCellsAt q.place what t
-  cells_by_now journal state [] q t tells there range talk has = subst (λ (z : PlanOf). HasCellsAt z.place what t) (sym talk) tt
-  cells_by_now journal state (r ∷ rs) q t tells there range talk has = grind (arith, has_cells, cells_at, is_declared, q.place)
+  cells_by_now journal state [] q t tells there range talk has = subst (λ (z : PlanOf). HasCellsAt z.place what t) (sym (conversation_unfolds next_of answered (fresh s what) q [] talk)) tt
+  cells_by_now journal state (r ∷ rs) q t tells there range talk has =
+      let first = conversation_unfolds next_of answered (fresh s what) q (r ∷ rs) talk in
+      has_cells q.place what t (cells_at journal state t tells there range (is_declared journal r rs first.0 first.1 has))
 
 -- ---- where it stands
 

@@ -1,7 +1,7 @@
 -- Changes of a script: a transaction that begins and then follows its plan. The contracts of `ChangeJob` cite them,
 -- and those of `pb_world` and `pb_threads` say by them what an actor or a worker has asked.
 use Rattle.std.specs.Prelude.{◌≡◌, ◌≢◌, List, [], ◌∷◌, ◌++◌, Option, Some, None}
-use Rattle.pb_txn.specs.Words.{Writes, Ts, Work, Declared, Step, Answer, batch_in, CanAnswer, Received}
+use Rattle.pb_txn.specs.Words.{Writes, Ts, Work, Declared, Step, Answer, batch_in, Received, JobOf, asking, IsConversation}
 use Rattle.pb_txn.specs.declared.place.Outcome.{Outcome}
 use Rattle.pb_txn.specs.Places.{declared_cells}
 use Rattle.pb_txn.specs.Plans.{PlanOf, fresh}
@@ -52,10 +52,13 @@ outcome_of j = outcome_in j.plan
 
 -- ---- conversations
 
+-- a change does nothing but ask
+abbrev pub change_job : JobOf ChangeOf
+change_job = asking next_of answered
+
 -- from one place to another, each of its next steps was answered with one of its answers
 abbrev pub Converses : ChangeOf → List Received → ChangeOf → Type 0
-Converses p [] q = q ≡ p
-Converses p (r ∷ rs) q = (next_of p ≡ Some r.step) × CanAnswer r.step r.answer × Converses (answered p r.answer) rs q
+Converses p said q = IsConversation change_job p said q
 
 -- it begins at this start, and the rest is that of a transaction of its cells
 pub record IsWholeChange (batch : Writes) (start : Ts) (said : List Received) (o : Outcome) : Type 0 where

@@ -3,6 +3,7 @@
 use crate::place::Outcome;
 use crate::plan::Plan;
 use pb_base::{Batch, NoMemory};
+use pb_conversations::AsksSteps;
 use pb_steps::{Answer, Declaration, Declared, Step, Work};
 use std::alloc::Global;
 use std::marker::Model;
@@ -27,6 +28,12 @@ impl Model for ChangeJob {
     ghost view = { λ j. record { batch = batch_by j.what j.plan; plan = j.plan } };
 
     ghost invariant = { λ j. (j.begin ≡ steps.Begin works.Script) × IsChange j.what j.plan };
+}
+
+impl AsksSteps for ChangeJob {
+    ghost use Rattle.pb_txn.specs.Changes.{change_job};
+
+    ghost job = { change_job };
 }
 
 impl ChangeJob {

@@ -7,6 +7,7 @@ ghost use Rattle.pb_txn.specs.Plans.{what_in, IsDeclaration};
 
 use crate::place::{Outcome, PlanPlace, place_after};
 use pb_base::{Cell, Ts};
+use pb_conversations::AsksSteps;
 use pb_steps::{Answer, Declaration, Declared, Step};
 use std::marker::Model;
 
@@ -33,6 +34,12 @@ impl Model for Plan {
     ghost view = { λ p. record { start = p.start.0; what = what_in p.declare; place = p.place } };
 
     ghost invariant = { λ p. IsPlan p.start.0 p.declare p.later p.place };
+}
+
+impl AsksSteps for Plan {
+    ghost use Rattle.pb_txn.specs.Conversations.{plan_job};
+
+    ghost job = { plan_job };
 }
 
 // How many cells are written: of a run one more than its writes, since it also writes its
