@@ -1,14 +1,14 @@
 -- The machine of a job was led from entry to where it stands.
-use Rattle.std.proofs.Common.{arith, ◌≡◌, ℕ, Bool, List, [], ◌∷◌, length, None, refl, ap, subst, ◌∙◌}
-use Rattle.pb_notify.specs.Words.{Cell, Ts, JudgedOf, Placement, IsPlacement, Ask, Position, AsksAt, Answer, Received, PlanOf, outcome_of, PlansConverse, PlansEnd}
+use Rattle.std.proofs.Common.{arith, ◌≡◌, ℕ, Bool, List, length, None, refl, ap, subst, ◌∙◌}
+use Rattle.pb_notify.specs.Words.{Cell, Ts, JudgedOf, Placement, IsPlacement, Ask, Position, AsksAt, Answer, Received, PlanOf, PlansConverse, PlansEnd, no_part, one_part, took, went}
 use Rattle.pb_txn.specs.Conversations as plan_converses
-use Rattle.pb_txn.specs.Plans as plans
 use Rattle.pb_notify.specs.declared.place.RunPlace.{RunPlace}
 use Rattle.pb_notify.specs.Places.{place_after, GoesOnFrom, IsToldAt}
 use Rattle.pb_notify.specs.Runs.{Watch, RunOf, fresh}
-use Rattle.pb_notify.specs.Conversations.{Reaches, made, took, computed}
+use Rattle.pb_notify.specs.Conversations.{Reaches}
 use Rattle.pb_notify.specs.Forms.{IsLooking}
 use Rattle.pb_notify.specs.Led.{MachineStandsAt, IsLed, IsMachineOf, MachinesAreLed, IsAskingAt, HasEnded, AsksAreOpen, EndedRunsMean}
+use Rattle.pb_txn.proofs.PlanTransactions.{keeps_start_and_what}
 use Rattle.pb_notify.proofs.LookConversation as looks
 use Rattle.pb_notify.proofs.RunConversation as conversation
 
@@ -39,9 +39,9 @@ computed_led o judged x place next led c = grind arith
 
 -- and so wherever a job has come
 reached_led : (j : RunOf) (said : List Received) (k : RunOf) → AtLed j.place → Reaches j said k → AtLed k.place
-reached_led j said k led made = led
-reached_led j said k led (took before from r to reaches next can is told) = grind (arith, answered_led, from.locked, from.place, r.answer, from.watch.judged, reached_led j before from led reaches)
-reached_led j said k led (computed before from to reaches need c) = computed_led from.watch.observer from.watch.judged (Cell.Data from.watch.row from.watch.column) from.place to.place (reached_led j said from led reaches) c.comes
+reached_led j said k led no_part = led
+reached_led j said k led (one_part from to before more reaches (took r next can is)) = grind (arith, answered_led, from.locked, from.place, r.answer, from.watch.judged, reached_led j before from led reaches)
+reached_led j said k led (one_part from to before more reaches (went c)) = computed_led from.watch.observer from.watch.judged (Cell.Data from.watch.row from.watch.column) from.place to.place (reached_led j before from led reaches) c.1.comes
 
 -- ---- with the conversation
 
@@ -75,8 +75,7 @@ asks_are_open o said k reaches = asking_led k.place (reached_led (fresh o) said 
 
 -- a plan declares what it was made for
 keeps_what : (p : PlanOf) (said : List Received) (q : PlanOf) → plan_converses.Converses p said q → q.what ≡ p.what
-keeps_what p [] q t = ap (λ (z : PlanOf). z.what) t
-keeps_what p (r ∷ rs) q t = keeps_what (plans.answered p r.answer) rs q t.2
+keeps_what p said q t = (keeps_start_and_what p q said t).1
 
 module _ (o : Watch) where
   ended_at : (n : ℕ) (place : RunPlace) (said : List Received) → conversation.SoFar o n place said → HasEnded o place said

@@ -1,6 +1,7 @@
 -- The steps of a plan keep whose transaction it is and what for, and it declares nothing but at first.
 use Rattle.std.proofs.Common.{arith, ◌≡◌, ℕ, Bool, true, false, cond, List, [], ◌∷◌, length, Option, Some, refl, sym, ap, subst, ◌∙◌}
-use Rattle.pb_notify.specs.Words.{Ts, Declared, Step, Answer, ObserverOf, TransactionOf, Received, names_start, transaction_after, is_begin, PlanPlace, declared_cells, place_after, step_at, PlanOf, answered, Converses}
+use Rattle.pb_notify.specs.Words.{Ts, Declared, Step, Answer, ObserverOf, TransactionOf, Received, names_start, transaction_after, is_begin, PlanPlace, declared_cells, place_after, step_at, PlanOf, answered, next_of, Converses, no_part, one_part, took, went}
+use Rattle.pb_conversations.proofs.Asking.{conversation_unfolds}
 use Rattle.pb_notify.proofs.RecordedReads.{after}
 
 -- ---- after an answer it declares no more
@@ -14,14 +15,11 @@ IsLater _ = Unit {0}
 later : (count : ℕ) (p : PlanPlace) (a : Answer) → IsLater (place_after count p a)
 later count p a = grind arith
 
-stays_later : (p q : PlanOf) (said : List Received) → IsLater p.place → Converses p said q → IsLater q.place
-stays_later p q [] i talk = subst (λ (z : PlanOf). IsLater z.place) (sym talk) i
-stays_later p q (r ∷ rs) i talk = stays_later (answered p r.answer) q rs (later (length (declared_cells p.what)) p.place r.answer) talk.2
-
 -- so a plan that still declares has said nothing
 pub declaring_said_nothing : (p q : PlanOf) (said : List Received) → q.place ≡ PlanPlace.Declaring → Converses p said q → said ≡ []
-declaring_said_nothing p q [] e talk = refl
-declaring_said_nothing p q (r ∷ rs) e talk = absurd (subst IsLater e (stays_later (answered p r.answer) q rs (later (length (declared_cells p.what)) p.place r.answer) talk.2))
+declaring_said_nothing p q said e no_part = refl
+declaring_said_nothing p q said e (one_part t u had more talk (took r next can to)) = absurd (subst IsLater (ap (λ (z : PlanOf). z.place) (sym to) ∙ e) (later (length (declared_cells t.what)) t.place r.answer))
+declaring_said_nothing p q said e (one_part t u had more talk (went none)) = absurd none
 
 -- ---- what its steps are
 
@@ -77,7 +75,8 @@ module _ (observers : List ObserverOf) (seat : ℕ) where
   pub plan_keeps : (s : Ts) (p q : PlanOf) (said : List Received) (u : TransactionOf) → Converses p said q → KeepsRun u (after observers seat s said (Some u))
   plan_keeps s p q [] u talk = (u, refl, record { seat = refl; work = refl })
   plan_keeps s p q (r ∷ rs) u talk =
-      let n = no_begin p.start p.place r.step (plan_step p.start p.what p.place r.step talk.0) in
+      let first = conversation_unfolds next_of answered p q (r ∷ rs) talk in
+      let n = no_begin p.start p.place r.step (plan_step p.start p.what p.place r.step first.0) in
       let k = if_named (names_start s.0 r.step r.answer) u _ (after_one r.step r.answer u n) in
-      let on = plan_keeps s (answered p r.answer) q rs k.0 talk.2 in
+      let on = plan_keeps s (answered p r.answer) q rs k.0 first.2 in
       (on.0, ap (after observers seat s rs) k.1 ∙ on.1, record { seat = on.2.seat ∙ k.2.seat; work = on.2.work ∙ k.2.work })

@@ -1,6 +1,6 @@
 -- What a job has asked at each place, and that it is a beginning of a whole conversation.
 use Rattle.std.proofs.Common.{◌≡◌, ℕ, ◌<◌, ◌≤◌, Bool, true, false, cond, List, [], ◌∷◌, ◌++◌, Option, Some, None, refl, sym, ap, subst, ◌∙◌, arith, append_assoc, append-nil, nat_lt, not, ◌&&◌, ◌==◌}
-use Rattle.pb_notify.specs.Words.{Cell, Ts, Revision, Talk, tells_old, record_by, Ask, ask_of, Position, Meant, IsMeant, Seen, Work, Declared, Step, Answer, CanAnswer, old_at, version_in, acknowledged_in, value_in, Received, Outcome, declared_cells, PlanOf, outcome_of, told, IsWhole, PlansConverse, PlansEnd}
+use Rattle.pb_notify.specs.Words.{Cell, Ts, Revision, Talk, tells_old, record_by, Ask, ask_of, Position, Meant, IsMeant, Seen, Work, Declared, Step, Answer, CanAnswer, old_at, version_in, acknowledged_in, value_in, Received, Outcome, declared_cells, PlanOf, outcome_of, told, IsWhole, PlansConverse, PlansEnd, no_part, one_part, took, went}
 use Rattle.pb_txn.specs.Plans as plans
 use Rattle.pb_txn.specs.Conversations as conversations
 use Rattle.pb_notify.specs.declared.look.TheConstants.{MAX_LOCKED}
@@ -12,19 +12,13 @@ use Rattle.pb_notify.specs.declared.place.RunPlace.{RunPlace}
 use Rattle.pb_notify.specs.Looks.{look_after, locked_after}
 use Rattle.pb_notify.specs.Places.{place_after, locked_at, after_begin, if_found, after_cell, if_recalled, seen_so_far, after_acknowledgment, after_recall, after_ask, by_outcome, ComesTo, goes, waits, declares, GoesOnFrom, AtPlace, step_at}
 use Rattle.pb_notify.specs.Runs.{Watch, RunOf, fresh, answered, need_at}
-use Rattle.pb_notify.specs.Conversations.{Reaches, made, took, computed}
+use Rattle.pb_notify.specs.Conversations.{Reaches}
 use Rattle.pb_notify.specs.Forms.{AreRounds, one_more, at_first, its_begin, IsObserved, IsAcknowledged, IsRecalled, AreAsked, dirty, asked as asked_more, IsRunOn, LooksFrom, at_cell, at_acknowledgment, at_old, at_ask, IsRunConversation, absent, clean, ran, conflicted, lost, blocked, WasMeant, JobsConverse, JobsEnd}
 use Rattle.pb_notify.specs.Led.{IsBeforeSweep}
 use Rattle.pb_notify.proofs.Kept.{at_after, at_computed}
 use Rattle.pb_notify.proofs.LookConversation.{IsIn, InLook, LooksAs, AfterLook, IsBlocked, look_more}
 use Rattle.pb_notify.proofs.LookConversation as looks
 use Rattle.pb_base.proofs.Logic.{same_some as same_step, none_some}
-
--- a plan's talk goes on by one step
-plan_more : (p : PlanOf) (said : List Received) (q : PlanOf) (r : Received) → conversations.Converses p said q → plans.next_of q ≡ Some r.step → CanAnswer r.step r.answer
-    → conversations.Converses p (said ++ r ∷ []) (plans.answered q r.answer)
-plan_more p [] q r t next can = (ap plans.next_of (sym t) ∙ next, can, ap (λ z. plans.answered z r.answer) t)
-plan_more p (x ∷ xs) q r t next can = (t.0, t.1, plan_more (plans.answered p x.answer) xs q r t.2 next can)
 
 -- where a look returns what the cell holds, the count is as before
 tells_few : (n : ℕ) (look : Look) (b a : Answer) → n < MAX_LOCKED → look_after n look b ≡ Looked.Tells a → locked_after n look b < MAX_LOCKED
@@ -198,7 +192,21 @@ module _ (o : Watch) where
 
     plan_step : (n r : ℕ) (p : PlanOf) (said : List Received) (t : Step) (a : Answer) → IsPlanned n r p said → plans.next_of p ≡ Some t → CanAnswer t a
         → IsPlanned n r (plans.answered p a) (said ++ told t a ∷ [])
-    plan_step n r p said t a i next can = grind (arith, plan_more, append_assoc, i.s, i.seen, i.talk, i.base, i.asked, i.run, i.run_on, i.meant, i.result, i.plan, i.converses_are, i.said_is, i.few)
+    plan_step n r p said t a i next can = record {
+      s = i.s;
+      seen = i.seen;
+      talk = i.talk;
+      base = i.base;
+      asked = i.asked;
+      run = i.run;
+      run_on = i.run_on;
+      meant = i.meant;
+      result = i.result;
+      plan = i.plan ++ told t a ∷ [];
+      converses_are = one_part p (plans.answered p a) i.plan (told t a ∷ []) i.converses_are (took (told t a) next can refl);
+      said_is = ap (λ l. l ++ told t a ∷ []) i.said_is ∙ append_assoc i.base i.plan (told t a ∷ []);
+      few = i.few;
+    }
 
     said_more : (n : ℕ) (place : RunPlace) (said : List Received) (t : Step) (a : Answer) → AtPlace n place → SoFar n place said → step_at o.observer o.row o.column place ≡ Some t → CanAnswer t a
         → SoFar (locked_at n place a) (place_after second n place a) (said ++ told t a ∷ [])
@@ -228,7 +236,21 @@ module _ (o : Watch) where
       subst (λ talk. AreAsked o s seen talk n said) (sym st.talk) was,
       at_first,
     )
-    comes_more n s v seen place said few given was (declares r what st) = grind (arith, append-nil, st.leaves, v.talk, st.left, given.program, given.bytes, given.start, st.result, st.declares)
+    comes_more n s v seen place said few given was (declares r what st) = record {
+      s = s;
+      seen = seen;
+      talk = v.talk;
+      base = said;
+      asked = was;
+      run = st.left;
+      run_on = record { program = st.leaves.judged ∙ given.program; bytes = st.leaves.bytes ∙ given.bytes; start = st.leaves.start ∙ given.start; talk_is = st.leaves.talk };
+      meant = st.leaves.meant;
+      result = st.result;
+      plan = [];
+      converses_are = subst (λ w. conversations.Converses (plans.fresh s.0 (Declared.Run o.observer st.left)) [] (plans.fresh s.0 w)) (sym st.declares) no_part;
+      said_is = sym (append-nil said);
+      few = few;
+    }
 
     computed_more : (n : ℕ) (place next : RunPlace) (said : List Received) → AtPlace n place → SoFar n place said → GoesOnFrom o.observer o.judged cell place next → SoFar n next said
     computed_more n place next said at i c = grind (arith, comes_more)
@@ -277,7 +299,7 @@ module _ (o : Watch) where
     from_asked : (n : ℕ) (s : Ts) (seen : Seen) (talk : Talk) (said : List Received) → n < MAX_LOCKED → AreAsked o s seen talk n said → CanEnd said
     from_asked n s seen talk said few was =
         let f : Meant = record { judged = o.judged; bytes = bytes_of seen; start = s.0; talk = talk; result = 0; writes = [] } in
-        after said [] (from_plan n s seen talk said [] f _ few was (record { program = refl; bytes = refl; start = refl; talk_is = refl }) refl)
+        after said [] (from_plan n s seen talk said [] f _ few was (record { program = refl; bytes = refl; start = refl; talk_is = refl }) no_part)
 
     from_recalling : (n : ℕ) (s : Ts) (seen : Seen) (look : Look) (said : List Received) → n < MAX_LOCKED → SoFar n (RunPlace.Recalling s seen look) said → CanEnd said
     from_recalling n s seen look said few i =
@@ -345,9 +367,10 @@ module _ (o : Watch) where
     holds_computed said k place h comes = grind (arith, at_computed, computed_more, o.observer, o.judged, k.place, h.watch, k.locked, h.at, h.so)
 
     pub reached_holds : (said : List Received) (k : RunOf) → Reaches (fresh o) said k → Holds said k
-    reached_holds said k made = record { watch = refl; at = omega arith; so = (refl, refl) }
-    reached_holds said k (took before from r to reaches next can is told) = subst (Holds (before ++ r ∷ [])) (sym is) (holds_answered before from r (reached_holds before from reaches) next can)
-    reached_holds said k (computed before from to reaches need c) = subst (Holds before) (sym c.same) (holds_computed before from to.place (reached_holds before from reaches) c.comes)
+    reached_holds said k no_part = record { watch = refl; at = omega arith; so = (refl, refl) }
+    reached_holds said k (one_part from to before more reaches (took r next can is)) = subst (Holds (before ++ r ∷ [])) (sym is.0) (holds_answered before from r (reached_holds before from reaches) next can)
+    reached_holds said k (one_part from to before more reaches (went c)) =
+        subst (λ l. Holds l to) (sym (append-nil before)) (subst (Holds before) (sym c.1.same) (holds_computed before from to.place (reached_holds before from reaches) c.1.comes))
 
     ended : (said : List Received) (place : RunPlace) (end : JobEnd) (n : ℕ) → SoFar n place said → need_at place ≡ Need.Over end → IsEnded end said
     ended said place end n i e = grind arith

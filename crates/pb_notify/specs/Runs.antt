@@ -70,13 +70,6 @@ pub record Computes (j k : RunOf) : Type 0 where
   pub comes : GoesOnFrom j.watch.observer j.watch.judged (Cell.Data j.watch.row j.watch.column) j.place k.place
   pub same : k ≡ record j { place = k.place }
 
--- ---- all instructions up to the next ask or the exit
-
--- any number of instructions, one after the other, each where one is next
-pub data ComputesOn (j : RunOf) : RunOf → Type 0 where
-  at_first : ComputesOn j j
-  one_more : (k l : RunOf) → ComputesOn j k → need_of k ≡ Need.Local → Computes k l → ComputesOn j l
-
 -- its next instruction takes memory: the first, or the exit
 abbrev pub GrowsNext : RunOf → Type 0
 GrowsNext j = GrowsAt j.place

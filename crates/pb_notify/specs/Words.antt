@@ -43,6 +43,8 @@ pub use Rattle.pb_history.specs.Places.{entries_of}
 pub use Rattle.pb_history.specs.TransactionsTold.{BeginsOnce, TellsTransactions, entries_naming, is_begin, names_start, transaction_after, transaction_by, transaction_from}
 pub use Rattle.pb_history.specs.declared.entry.Entry.{Entry}
 pub use Rattle.pb_history.specs.declared.entry.Received.{Received}
+pub use Rattle.pb_conversations.specs.Conversations.{IsConversation, JobOf, took, went}
+pub use Rattle.pb_conversations.specs.Parts.{no_part, one_part}
 pub use Rattle.pb_txn.specs.Allowed.{HasSaid, IsTimely, IsWorkInRange, PlansAreAllowed, names}
 pub use Rattle.pb_txn.specs.Conversations.{Converses, told}
 pub use Rattle.pb_txn.specs.Forms.{IsWhole, PlansConverse, PlansEnd}

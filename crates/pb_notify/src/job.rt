@@ -2,6 +2,7 @@
 use crate::need::Need;
 use crate::place::{RunPlace, begin, keep_step, leave_turn, locked_at, take_answer, tells_old};
 use pb_base::{Cell, Column, NoMemory, ObserverNo, Row};
+use pb_conversations::AsksSteps;
 use pb_steps::{Answer, Step, Work};
 use pb_verify::Accepted;
 use pb_vm::Moved;
@@ -42,10 +43,17 @@ impl Model for ObserverJob {
     ghost invariant = { λ j. IsJob j.observer j.row j.column j.locked j.place j.next };
 }
 
+impl AsksSteps for ObserverJob {
+    ghost use Rattle.pb_notify.specs.Conversations.{run_job};
+
+    ghost job = { run_job };
+}
+
 impl ObserverJob {
     ghost use Rattle.std.specs.Prelude.{◌≡◌, ◌≢◌, None, Some, MatchOption, OnOk, OnErr};
     ghost use Rattle.pb_notify.specs.declared.need.Need.TheVariants.{Local, Call};
-    ghost use Rattle.pb_notify.specs.Runs.{fresh, next_of, HasNext, need_of, IsSlotOf, answered, HearsLook, CanTake, Computes, ComputesOn, GrowsNext};
+    ghost use Rattle.pb_notify.specs.Runs.{fresh, next_of, HasNext, need_of, IsSlotOf, answered, HearsLook, CanTake, Computes, GrowsNext};
+    ghost use Rattle.pb_notify.specs.Conversations.{ComputesOn};
 
     /// The run of this observer, whose program this is, on the cell of this row and column. It takes no memory.
     pub fn new(
