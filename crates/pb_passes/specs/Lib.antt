@@ -1,2 +1,3 @@
 pub mod Words
 pub mod Passes
+pub mod Begun

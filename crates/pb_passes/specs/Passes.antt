@@ -1,7 +1,7 @@
 -- Passes over the marked cells (OSDI 2010, section 2.4): each mark is found, and the observers of its column are run
 -- on it.
-use Rattle.std.specs.Prelude.{◌≡◌, ◌≢◌, ℕ, ◌+◌, ◌<◌, ◌⊎◌, Bool, true, false, List, [], ◌∷◌, ◌++◌, length, Option, Some, None, slice_get}
-use Rattle.pb_passes.specs.Words.{Cell, row_of, column_of, Meant, Step, Answer, ObserverOf, Received, told, JobEnd, Need, RunOf, watch_of, fresh, need_of, Reaches, IsRunConversation, WasMeant}
+use Rattle.std.specs.Prelude.{◌≡◌, ◌≢◌, ℕ, ◌+◌, ◌<◌, ◌⊎◌, Bool, true, false, List, [], ◌∷◌, length, Option, Some, None, slice_get}
+use Rattle.pb_passes.specs.Words.{Cell, row_of, column_of, Meant, Step, Answer, ObserverOf, Received, told, JobEnd, Need, RunOf, watch_of, fresh, need_of, Reaches, IsRunConversation, WasMeant, AreParts, EndsIn}
 use Rattle.pb_passes.specs.declared.passes.TheConstants.{MAX_PASSES}
 
 -- the observer of this number is one of the cell's column
@@ -41,43 +41,59 @@ pub record IsOfOther (observers : List ObserverOf) (n : ℕ) (x : Cell) : Type 0
   pub there : slice_get observers n ≡ Some o
   pub column : o.column ≢ column_of x
 
+-- the part of the observer of this number: its run, or nothing where its column is another
+abbrev pub IsTurnOf : List ObserverOf → ℕ → Cell → List Received → Type 0
+IsTurnOf observers n x said = IsRun observers n x said ⊎ (IsOfOther observers n x × (said ≡ []))
+
+-- that of the next observer
+abbrev pub IsNextTurn : List ObserverOf → Cell → ℕ → ℕ → List Received → Type 0
+IsNextTurn observers x n m said = (m ≡ n + 1) × IsTurnOf observers n x said
+
 -- a run of each observer of the cell's column among the first so many, in file order
-pub data AreRuns (observers : List ObserverOf) (x : Cell) : ℕ → List Received → Type 0 where
-  before_all : AreRuns observers x 0 []
-  runs : (n : ℕ) (said more : List Received) → AreRuns observers x n said → IsRun observers n x more → AreRuns observers x (n + 1) (said ++ more)
-  passes_by : (n : ℕ) (said : List Received) → AreRuns observers x n said → IsOfOther observers n x → AreRuns observers x (n + 1) said
+abbrev pub AreRuns : List ObserverOf → Cell → ℕ → List Received → Type 0
+AreRuns observers x n said = AreParts (IsNextTurn observers x) 0 n said
 
 -- a run of each observer of the cell's column
 abbrev pub AreAllRuns : List ObserverOf → Cell → List Received → Type 0
 AreAllRuns observers x said = AreRuns observers x (length observers) said
 
+-- the next mark was found, after this one, and then come the runs on its cell
+pub record IsMarkRun (observers : List ObserverOf) (after now : Option Cell) (said : List Received) : Type 0 where
+  pub x : Cell
+  pub found : now ≡ Some x
+  pub more : List Received
+  pub runs : AreAllRuns observers x more
+  pub said_is : said ≡ told (Step.NextMark after) (Answer.Marked x) ∷ more
+
 -- from the beginning on to this cell each mark was found, and followed by the runs on its cell
-pub data IsWalk (observers : List ObserverOf) : List Received → Option Cell → Type 0 where
-  at_beginning : IsWalk observers [] None
-  found : (said : List Received) (after : Option Cell) (x : Cell) (more : List Received) → IsWalk observers said after → AreRuns observers x (length observers) more
-      → IsWalk observers (said ++ told (Step.NextMark after) (Answer.Marked x) ∷ more) (Some x)
+abbrev pub IsWalk : List ObserverOf → List Received → Option Cell → Type 0
+IsWalk observers said last = AreParts (IsMarkRun observers) None last said
+
+-- no mark was found after this cell
+abbrev pub IsMarkless : Option Cell → Option Cell → List Received → Type 0
+IsMarkless last after said = (after ≡ last) × (said ≡ told (Step.NextMark after) Answer.NoMark ∷ [])
 
 -- one pass on to where there is no mark; it ends so after the last cell that it found, if any
-pub record IsPass (observers : List ObserverOf) (last : Option Cell) (said : List Received) : Type 0 where
-  pub before : List Received
-  pub walk : IsWalk observers before last
-  pub said_is : said ≡ before ++ told (Step.NextMark last) Answer.NoMark ∷ []
+abbrev pub IsPass : List ObserverOf → Option Cell → List Received → Type 0
+IsPass observers last said = EndsIn (IsMarkRun observers) (IsMarkless last) None said
 
 -- one that found a mark, or none
 abbrev pub IsPassThat : List ObserverOf → Bool → List Received → Type 0
 IsPassThat observers true said = (x : Cell) × IsPass observers (Some x) said
 IsPassThat observers false said = IsPass observers None said
 
+-- the next pass, which found a mark
+abbrev pub IsNextPass : List ObserverOf → ℕ → ℕ → List Received → Type 0
+IsNextPass observers n m said = (m ≡ n + 1) × IsPassThat observers true said
+
 -- so many passes, each of which found a mark
-pub data ArePasses (observers : List ObserverOf) : ℕ → List Received → Type 0 where
-  at_first : ArePasses observers 0 []
-  one_more : (n : ℕ) (said more : List Received) (x : Cell) → ArePasses observers n said → IsPass observers (Some x) more → ArePasses observers (n + 1) (said ++ more)
+abbrev pub ArePasses : List ObserverOf → ℕ → List Received → Type 0
+ArePasses observers n said = AreParts (IsNextPass observers) 0 n said
+
+-- after so many passes one that finds no mark, or nothing where no more may be made
+abbrev pub EndsDrain : List ObserverOf → ℕ → List Received → Type 0
+EndsDrain observers count said = ((count < MAX_PASSES) × IsPass observers None said) ⊎ ((count ≡ MAX_PASSES) × (said ≡ []))
 
 -- the first pass that finds no mark is the last, or the last that may be made
-pub record IsDrain (observers : List ObserverOf) (said : List Received) : Type 0 where
-  pub count : ℕ
-  pub before : List Received
-  pub passes : ArePasses observers count before
-  pub rest : List Received
-  pub said_is : said ≡ before ++ rest
-  pub ends : ((count < MAX_PASSES) × IsPass observers None rest) ⊎ ((count ≡ MAX_PASSES) × (rest ≡ []))
+abbrev pub IsDrain : List ObserverOf → List Received → Type 0
+IsDrain observers said = EndsIn (IsNextPass observers) (EndsDrain observers) 0 said
