@@ -1,6 +1,6 @@
 -- What all workers did, stated of their seats.
-use Rattle.std.proofs.Common.{◌≡◌, ℕ, zero, suc, ◌+◌, ◌-◌, ◌<◌, List, [], ◌∷◌, length, map, Option, Some, None, refl, sym, ap, subst, ◌∙◌, arith, slice_index_or}
-use Rattle.std.proofs.lemmas.List.{get_or-map}
+use Rattle.std.proofs.Common.{◌≡◌, ℕ, zero, suc, ◌+◌, ◌-◌, ◌<◌, List, [], ◌∷◌, length, Option, Some, None, sym, ap, subst, ◌∙◌, arith, slice_index_or}
+use Rattle.std.proofs.lemmas.List.{get_or-map, length-map}
 use Rattle.std.proofs.lemmas.Option.{slice_get-get_or}
 use Rattle.pb_threads.specs.Words.{Refusal, Writes, ObserverOf, Entry, SeatOf, AreSeatsFrom}
 use Rattle.pb_threads.specs.declared.worker.Worker.{Worker}
@@ -14,15 +14,8 @@ seats_are_numbered from j [] a k d lt = absurd (omega (arith, lt))
 seats_are_numbered from j (s ∷ ss) a zero d lt = a.0 ∙ omega arith
 seats_are_numbered from j (s ∷ ss) a (suc k) d lt = grind (arith, seats_are_numbered (from + 1) j ss a.2 k d (omega arith))
 
-length_map : {A B : Type 0} (f : A → B) (xs : List A) → length (map f xs) ≡ length xs
-length_map f [] = refl
-length_map f (x ∷ xs) = ap suc (length_map f xs)
-
 pub as_many : (olds : List Worker) (seats : List SeatOf) → seats_in olds ≡ seats → length olds ≡ length seats
-as_many olds seats is = sym (length_map (λ (w : Worker). w.seat) olds) ∙ ap length is
-
-pub some_olds : (olds : List Worker) (seats : List SeatOf) → seats_in olds ≡ seats → 1 < length seats → 1 < length olds
-some_olds olds seats is some = subst (λ n. 1 < n) (ap length (sym is) ∙ length_map (λ (w : Worker). w.seat) olds) some
+as_many olds seats is = sym (length-map olds (λ (w : Worker). w.seat)) ∙ ap length is
 
 some_worker : (ws : List Worker) → 1 < length ws → Worker
 some_worker [] lt = absurd (omega (arith, lt))
@@ -47,7 +40,7 @@ module _ {opening : OpeningOf} (observers : List ObserverOf) (batches : List Wri
   number : (k : ℕ) → k < length olds → (slice_index_or olds k e).seat.number ≡ k
   number k lt =
       let plain : 0 + k ≡ k = omega arith in
-      ap (λ (s : SeatOf). s.number) (old_seat k e.seat lt) ∙ seats_are_numbered 0 journal (seats_in olds) are k e.seat (subst (λ n. k < n) (sym (length_map (λ (w : Worker). w.seat) olds)) lt) ∙ plain
+      ap (λ (s : SeatOf). s.number) (old_seat k e.seat lt) ∙ seats_are_numbered 0 journal (seats_in olds) are k e.seat (subst (λ n. k < n) (sym (length-map olds (λ (w : Worker). w.seat))) lt) ∙ plain
 
   one : (w : ℕ) (d : SeatOf) → w + 1 < length olds
       → Gains (IsWork (Some opening) (w + 1) observers (share_of batches (length olds - 1) w) (flags_in news w) (slice_index_or (refusals_in news) (w + 1) None)) (slice_index_or (seats_in olds) (w + 1) d) (slice_index_or (seats_in news) (w + 1) d)
@@ -57,7 +50,7 @@ module _ {opening : OpeningOf} (observers : List ObserverOf) (batches : List Wri
   first d = grind (arith, e, number, refusal, old_seat, new_seat, all.main)
 
   many : length (seats_in olds) ≡ length olds
-  many = length_map (λ (w : Worker). w.seat) olds
+  many = length-map olds (λ (w : Worker). w.seat)
 
   pub work_is_joined : AreFilled batches → WorkedOn opening observers batches spares (seats_in olds) (seats_in news) (refusals_in news) (undone_below (is_done (flags_in news) (length news - 1)) (length batches))
-  work_is_joined filled = grind (arith, length_map, many, one, first, all.counted)
+  work_is_joined filled = grind (arith, length-map, many, one, first, all.counted)

@@ -1,9 +1,6 @@
 pub mod Refusing
 pub mod Gaining
-pub mod TryAlong
-pub mod ChangesAlong
 pub mod RunAlong
-pub mod PassAlong
-pub mod WorkAlong
+pub mod TryAlong
 pub mod Joined
 pub mod Swapping

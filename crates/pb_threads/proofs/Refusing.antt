@@ -17,5 +17,5 @@ may_refuse opens s n step res opened legal refused allowed = by (call_reason s n
     by (Some w) e = subst (λ (z : Result Answer Refusal). IfErr z (λ r. MayRefuse opens n step r)) (sym (refused w e)) (inr (record { shared = s; opened = opened; legal = legal; why = w; refused = e; told = refl }))
 
 -- the step that was asked next was refused
-pub stops_at : {opens : Option OpeningOf} (n : ℕ) (next : Option Step) (step : Step) (r : Refusal) → next ≡ Some step → MayRefuse opens n step r → IsSeatStop opens n next r
-stops_at n next step r e w = grind arith
+pub stops_at : {opens : Option OpeningOf} {n : ℕ} {next : Option Step} {step : Step} {r : Refusal} → next ≡ Some step → MayRefuse opens n step r → IsSeatStop opens n next r
+stops_at e w = grind arith

@@ -1,60 +1,40 @@
--- A try of a change on its way.
-use Rattle.std.proofs.Common.{◌≡◌, ◌≢◌, Bool, true, false, ◌||◌, List, [], ◌∷◌, ◌++◌, Option, Some, None, inl, refl, sym, ap, subst, ◌∙◌, arith}
-use Rattle.pb_threads.specs.Words.{Refusal, Writes, Step, Work, Answer, Declared, CanAnswer, Received, SeatOf, told, PlansStop, ChangeOf, new_change, outcome_of, Converses, ChangesConverse, ChangesEnd}
+-- A try of a change on its way to its end.
+use Rattle.std.proofs.Common.{◌≡◌, ◌≢◌, Bool, false, ◌||◌, List, [], ◌∷◌, ◌++◌, Option, Some, None, refl, sym, ap, ◌∙◌}
+use Rattle.std.proofs.Math.Bool.{or_assoc}
+use Rattle.pb_base.proofs.Logic.{or_false, some_none}
+use Rattle.pb_conversations.proofs.Asking.{conversation_unfolds}
+use Rattle.pb_threads.specs.Words.{Refusal, Writes, Step, Work, Answer, Declared, CanAnswer, Received, SeatOf, told, PlansStop, ChangeOf, new_change, outcome_of, Converses, took, no_part, one_part, ChangesConverse, ChangesEnd}
 use Rattle.pb_txn.specs.Plans as plans
 use Rattle.pb_txn.specs.Changes.{next_of, answered}
-use Rattle.pb_txn.proofs.ChangeConversation.{HasBegun, answered_has_begun as has_begun}
-use Rattle.pb_threads.specs.Gains.{OpeningOf, Gains, Told, MayRefuse, IsSeatStop, IsWant}
+use Rattle.pb_txn.proofs.ChangeConversation.{HasBegun, answered_has_begun}
+use Rattle.pb_threads.specs.Gains.{OpeningOf, Gains, Told, IsSeatStop}
 use Rattle.pb_threads.specs.Tries.{IsTry, committed_in, is_commit, has_commit}
-use Rattle.pb_threads.specs.Stops.{TryStops}
-use Rattle.pb_threads.proofs.Refusing.{stops_at}
-use Rattle.pb_threads.proofs.Gaining.{gains_none, gains_more, gains_as}
-use Rattle.pb_base.proofs.Logic.{or_false}
+use Rattle.pb_threads.specs.Stops.{Stops, IsTryBegun}
+use Rattle.pb_threads.proofs.Gaining.{gains_none, gains_as, gains_more, gains_left}
 
--- the conversation so far led here, and shows whether the transaction is committed
-pub record HasSaid (batch : Writes) (job : ChangeOf) (committed : Bool) (said : List Received) : Type 0 where
-  pub converses : Converses (new_change batch) said job
-  pub told : committed ≡ has_commit said
-
--- what the seat gained led the change to where it stands
+-- what the seat gained led the change to where it stands, and shows whether the transaction is committed
 abbrev pub IsAlong : Writes → SeatOf → SeatOf → ChangeOf → Bool → Type 0
-IsAlong batch a b job committed = Gains (HasSaid batch job committed) a b
+IsAlong batch a b job committed = Gains (λ said. Converses (new_change batch) said job × (committed ≡ has_commit said)) a b
 
-pub or_assoc : (a b c : Bool) → (a || (b || c)) ≡ ((a || b) || c)
-or_assoc true b c = refl
-or_assoc false b c = refl
+-- before its first step the conversation is empty, and nothing is committed
+pub try_at_first : (batch : Writes) (a : SeatOf) → IsAlong batch a a (new_change batch) false
+try_at_first batch a = gains_none (no_part, refl)
 
 -- one answer more reports a commit or doesn't
 commit_on : (said : List Received) (r : Received) → has_commit (said ++ r ∷ []) ≡ (has_commit said || is_commit r.answer)
 commit_on [] r = or_false (is_commit r.answer)
-commit_on (s ∷ ss) r = ap (λ b. is_commit s.answer || b) (commit_on ss r) ∙ or_assoc (is_commit s.answer) (has_commit ss) (is_commit r.answer)
+commit_on (s ∷ ss) r = ap (λ b. is_commit s.answer || b) (commit_on ss r) ∙ sym (or_assoc (is_commit s.answer) (has_commit ss) (is_commit r.answer))
 
--- one answer more leads a change on
-converse_on : (p : ChangeOf) (said : List Received) (q : ChangeOf) (step : Step) (a : Answer) → Converses p said q → next_of q ≡ Some step → CanAnswer step a → Converses p (said ++ told step a ∷ []) (answered q a)
-converse_on p [] q step a t e can = (ap next_of (sym t) ∙ e, can, ap (λ (z : ChangeOf). answered z a) t)
-converse_on p (r ∷ rs) q step a t e can = (t.0, t.1, converse_on (answered p r.answer) rs q step a t.2 e can)
+module _ {batch : Writes} {a b : SeatOf} {job : ChangeOf} {committed : Bool} (along : IsAlong batch a b job committed) where
+  pub try_after_step : {step : Step} {answer : Answer} {c : SeatOf} {k : ChangeOf} {now : Bool} → next_of job ≡ Some step → CanAnswer step answer → Told b step answer c → k ≡ answered job answer → now ≡ (committed || is_commit answer) → IsAlong batch a c k now
+  try_after_step {step} {answer} {k = k} e can t is now-is =
+      gains_more along t (λ said h. (one_part job k said _ h.0 (took (told step answer) e can is), now-is ∙ (ap (λ b. b || is_commit answer) h.1 ∙ sym (commit_on said (told step answer)))))
 
--- before its first step the conversation is empty, and nothing is committed
-pub try_at_first : (batch : Writes) (a : SeatOf) (job : ChangeOf) → job ≡ new_change batch → IsAlong batch a a job false
-try_at_first batch a job is = gains_none a (record { converses = is; told = refl })
-
-module _ (batch : Writes) (a b : SeatOf) (job : ChangeOf) (committed : Bool) (along : IsAlong batch a b job committed) where
-  pub try_after_step : (step : Step) → next_of job ≡ Some step → (answer : Answer) → CanAnswer step answer → (c : SeatOf) → Told b step answer c → (k : ChangeOf) → k ≡ answered job answer → (now : Bool) → now ≡ (committed || is_commit answer) → IsAlong batch a c k now
-  try_after_step step e answer can c t k is now now-is = grind (arith, gains_more, converse_on, commit_on)
-
-  stopped : {opens : Option OpeningOf} → ChangesConverse → batch ≢ [] → (r : Refusal) → IsSeatStop opens a.number (next_of job) r → Gains (TryStops opens a.number batch committed r) a b
-  stopped law some r stop = gains_as a b (λ said h. record { told = h.told; job = job; converses = h.converses; begins = law batch said job some h.converses; stop = stop }) along
-
-  pub try_refused : {opens : Option OpeningOf} → ChangesConverse → batch ≢ [] → (step : Step) → next_of job ≡ Some step → (r : Refusal) → MayRefuse opens b.number step r → Gains (TryStops opens a.number batch committed r) a b
-  try_refused {opens} law some step e r h = stopped law some r (stops_at a.number (next_of job) step r e (subst (λ n. MayRefuse opens n step r) along.number h))
-
-  pub try_wants : {opens : Option OpeningOf} → ChangesConverse → batch ≢ [] → (r : Refusal) → IsWant r → Gains (TryStops opens a.number batch committed r) a b
-  try_wants law some r w = stopped law some r (inl w)
+  -- it was cut off
+  pub try_left : {opens : Option OpeningOf} {r : Refusal} → ChangesConverse → batch ≢ [] → IsSeatStop opens b.number (next_of job) r → Gains (Stops opens a.number (IsTryBegun batch committed) r) a b
+  try_left law some stop = gains_left (next_of job) along (λ said h. record { told = h.1; job = job; converses = h.0; begins = law batch said job some h.0; next_is = refl }) stop
 
 -- ---- at its end
-
-no_step : (s : Step) → ◌≡◌ {A = Option Step} (Some s) None → ⊥
-no_step s e = cc
 
 ended_by : (batch : Writes) (r : Received) (rest : List Received) (q : ChangeOf) → batch ≢ [] → PlansStop → ChangesEnd → Converses (new_change batch) (r ∷ rest) q → next_of q ≡ None → HasBegun batch r rest q
     → IsTry batch (committed_in (outcome_of q)) (r ∷ rest)
@@ -72,9 +52,9 @@ ended_by (w ∷ ws) r rest q some stop end t e b =
     }
 
 -- at its end a change is a whole try, which committed where its outcome says so
-pub try_ends : (batch : Writes) (said : List Received) (q : ChangeOf) → batch ≢ [] → PlansStop → ChangesEnd → Converses (new_change batch) said q → next_of q ≡ None → IsTry batch (committed_in (outcome_of q)) said
-try_ends batch [] q some stop end t e = absurd (no_step (Step.Begin Work.Script) (ap next_of (sym t) ∙ e))
-try_ends batch (r ∷ rest) q some stop end t e = ended_by batch r rest q some stop end t e (has_begun batch r rest q t)
+whole_try : (batch : Writes) (said : List Received) (q : ChangeOf) → batch ≢ [] → PlansStop → ChangesEnd → Converses (new_change batch) said q → next_of q ≡ None → IsTry batch (committed_in (outcome_of q)) said
+whole_try batch [] q some stop end t e = absurd (some_none (Step.Begin Work.Script) (ap next_of (sym (conversation_unfolds next_of answered (new_change batch) q [] t)) ∙ e))
+whole_try batch (r ∷ rest) q some stop end t e = ended_by batch r rest q some stop end t e (answered_has_begun batch r rest q t)
 
-pub has_ended : (batch : Writes) (a b : SeatOf) (job : ChangeOf) (committed : Bool) → IsAlong batch a b job committed → batch ≢ [] → PlansStop → ChangesEnd → next_of job ≡ None → Gains (IsTry batch (committed_in (outcome_of job))) a b
-has_ended batch a b job committed along some stop end e = gains_as a b (λ said h. try_ends batch said job some stop end h.converses e) along
+pub try_ends : {batch : Writes} {a b : SeatOf} {job : ChangeOf} {committed : Bool} → IsAlong batch a b job committed → batch ≢ [] → PlansStop → ChangesEnd → next_of job ≡ None → Gains (IsTry batch (committed_in (outcome_of job))) a b
+try_ends {batch} {job = job} along some stop end e = gains_as (λ said h. whole_try batch said job some stop end h.0 e) along

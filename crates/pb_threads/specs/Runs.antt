@@ -1,14 +1,10 @@
 -- A run of an observer between two of its calls, and how it ended.
-use Rattle.std.specs.Prelude.{◌≢◌, Bool, true, false, List}
-use Rattle.pb_threads.specs.Words.{Received, JobEnd, Need, RunOf, need_of, Reaches}
-
--- it goes on by its machine's instructions alone
-abbrev pub ReachesOn : RunOf → RunOf → Type 0
-ReachesOn j k = (first : RunOf) (said : List Received) → Reaches first said j → Reaches first said k
+use Rattle.std.specs.Prelude.{◌≢◌, Bool, true, false}
+use Rattle.pb_threads.specs.Words.{JobEnd, Need, RunOf, need_of, ComputesOn}
 
 -- it goes on by its machine's instructions alone, and isn't at one
 pub record IsComputed (j k : RunOf) : Type 0 where
-  pub reaches : (first : RunOf) (said : List Received) → Reaches first said j → Reaches first said k
+  pub on : ComputesOn j k
   pub calls : need_of k ≢ Need.Local
 
 -- the end of a run that committed

@@ -1,6 +1,6 @@
 -- The changes of one worker: each is tried until a try of it commits, or so often as may be.
 use Rattle.std.specs.Prelude.{◌≡◌, ℕ, ◌+◌, ◌*◌, ◌<◌, ◌≤◌, Bool, true, false, ◌||◌, List, [], ◌∷◌, ◌++◌, length, Option, Some, None, slice_get}
-use Rattle.pb_threads.specs.Words.{Ts, Writes, Answer, Received, Outcome, IsWholeChange}
+use Rattle.pb_threads.specs.Words.{Ts, Writes, Answer, Received, Outcome, IsWholeChange, AreParts, EndsIn}
 use Rattle.pb_threads.specs.declared.tries.TheConstants.{MAX_TRIES}
 
 -- the outcome of a committed transaction, at whatever timestamp
@@ -30,32 +30,34 @@ pub record IsTry (batch : Writes) (committed : Bool) (said : List Received) : Ty
   pub whole : IsWholeChange batch start said outcome
   pub ended : is_commit_outcome outcome ≡ committed
 
+-- the next try, which didn't commit
+abbrev pub IsNextVain : Writes → ℕ → ℕ → List Received → Type 0
+IsNextVain batch n m said = (m ≡ n + 1) × IsTry batch false said
+
 -- so many tries, none of which committed
-pub data AreVain (batch : Writes) : ℕ → List Received → Type 0 where
-  at_first : AreVain batch 0 []
-  one_more : (n : ℕ) (said more : List Received) → AreVain batch n said → IsTry batch false more → AreVain batch (n + 1) (said ++ more)
+abbrev pub AreVain : Writes → ℕ → List Received → Type 0
+AreVain batch n said = AreParts (IsNextVain batch) 0 n said
 
 -- tries of which the last committed
-pub record IsDone (batch : Writes) (said : List Received) : Type 0 where
-  pub count : ℕ
-  pub few : count < MAX_TRIES
-  pub vain : List Received
-  pub tries : AreVain batch count vain
-  pub last : List Received
-  pub commits : IsTry batch true last
-  pub said_is : said ≡ vain ++ last
+abbrev pub IsDone : Writes → List Received → Type 0
+IsDone batch said = EndsIn (IsNextVain batch) (λ count last. (count < MAX_TRIES) × IsTry batch true last) 0 said
 
 -- all tries of a change, and whether one committed
 abbrev pub AreTries : Writes → Bool → List Received → Type 0
 AreTries batch true said = IsDone batch said
 AreTries batch false said = AreVain batch MAX_TRIES said
 
--- the first changes of one of n workers, its first at this number and each later one n further, with whether each
--- committed
-pub data AreTried (batches : List Writes) (n first : ℕ) : List Bool → List Received → Type 0 where
-  before_all : AreTried batches n first [] []
-  tried : (done : List Bool) (said : List Received) (batch : Writes) (committed : Bool) (more : List Received) → AreTried batches n first done said
-      → slice_get batches (first + length done * n) ≡ Some batch → AreTries batch committed more → AreTried batches n first (done ++ committed ∷ []) (said ++ more)
+-- the tries of the change that comes after so many of one of n workers, its first at this number and each later one n further
+pub record IsNextTried (batches : List Writes) (n first : ℕ) (done now : List Bool) (said : List Received) : Type 0 where
+  pub batch : Writes
+  pub there : slice_get batches (first + length done * n) ≡ Some batch
+  pub committed : Bool
+  pub now_is : now ≡ done ++ committed ∷ []
+  pub tries : AreTries batch committed said
+
+-- its first changes, with whether each committed
+abbrev pub AreTried : List Writes → ℕ → ℕ → List Bool → List Received → Type 0
+AreTried batches n first done said = AreParts (IsNextTried batches n first) [] done said
 
 -- all of them
 pub record AreAllTried (batches : List Writes) (n first : ℕ) (done : List Bool) (said : List Received) : Type 0 where

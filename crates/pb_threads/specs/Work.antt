@@ -1,14 +1,15 @@
 -- What workers leave: what each seat gained, and which changes are unfinished. The contract of `run_workers` cites
 -- `WorkedOn`; what it means for the journal is the law `changes_are_made`.
-use Rattle.std.specs.Prelude.{◌≡◌, ◌≢◌, ℕ, ◌+◌, ◌-◌, ◌/◌, ◌%◌, ◌<◌, ◌≤◌, zero, suc, Bool, false, if◌then◌else◌, List, [], ◌∷◌, ◌++◌, length, map, vec_capacity, slice_get, Option, Some, None, slice_index_or}
+use Rattle.std.specs.Prelude.{◌≡◌, ◌≢◌, ℕ, ◌+◌, ◌-◌, ◌/◌, ◌%◌, ◌<◌, ◌≤◌, ◌⊎◌, zero, suc, Bool, false, if◌then◌else◌, List, [], ◌∷◌, ◌++◌, length, map, vec_capacity, slice_get, Option, Some, None, slice_index_or}
 use Rattle.std.specs.Option.{option_or}
-use Rattle.pb_threads.specs.Words.{Refusal, Writes, ObserverOf, Received, SharedOf, SeatOf}
+use Rattle.pb_threads.specs.Words.{Refusal, Writes, Step, ObserverOf, Received, SharedOf, SeatOf}
 use Rattle.pb_threads.specs.declared.worker.Worker.{Worker}
 use Rattle.pb_threads.specs.declared.run.Rooms.{Rooms}
 use Rattle.pb_threads.specs.Gains.{Gains, OpeningOf, opening_of}
 use Rattle.pb_threads.specs.Tries.{AreAllTried}
 use Rattle.pb_passes.specs.Passes.{IsDrain}
-use Rattle.pb_threads.specs.Stops.{ChangesStop, DrainStops}
+use Rattle.pb_passes.specs.Begun.{IsDrainBegun}
+use Rattle.pb_threads.specs.Stops.{Stops, AreChangesBegun}
 use Rattle.pb_threads.specs.Swaps.{Spare, AreSwapped}
 
 -- of all changes those of one of so many workers: its first at this number, and each later one so many further
@@ -20,28 +21,31 @@ pub record ShareOfChanges : Type 0 where
 abbrev pub share_of : List Writes → ℕ → ℕ → ShareOfChanges
 share_of batches workers first = record { batches = batches; workers = workers; first = first }
 
--- all changes, and then passes up to one without a mark, or so many as may be made
-pub record IsWorkDone (observers : List ObserverOf) (share : ShareOfChanges) (done : List Bool) (said : List Received) : Type 0 where
+-- all changes, and then this
+pub record AreTriedThen (share : ShareOfChanges) (done : List Bool) (Last : List Received → Type 0) (said : List Received) : Type 0 where
   pub changes : List Received
   pub tried : AreAllTried share.batches share.workers share.first done changes
   pub passes : List Received
-  pub drained : IsDrain observers passes
+  pub drained : Last passes
   pub said_is : said ≡ changes ++ passes
 
--- just a beginning of that
-pub data IsWorkBegun (opens : Option OpeningOf) (seat : ℕ) (observers : List ObserverOf) (share : ShareOfChanges) (done : List Bool) (r : Refusal) : List Received → Type 0 where
-  in_changes : (said : List Received) → ChangesStop opens seat share.batches share.workers share.first done r said → IsWorkBegun opens seat observers share done r said
-  in_passes : (said part : List Received) → AreAllTried share.batches share.workers share.first done said → DrainStops opens seat observers r part → IsWorkBegun opens seat observers share done r (said ++ part)
+-- all changes, and then passes up to one without a mark, or so many as may be made
+abbrev pub IsWorkDone : List ObserverOf → ShareOfChanges → List Bool → List Received → Type 0
+IsWorkDone observers share done said = AreTriedThen share done (IsDrain observers) said
+
+-- just a beginning of that: in the changes, or in the passes
+abbrev pub IsWorkBegun : List ObserverOf → ShareOfChanges → List Bool → Option Step → List Received → Type 0
+IsWorkBegun observers share done next said = AreChangesBegun share.batches share.workers share.first done next said ⊎ AreTriedThen share done (IsDrainBegun observers next) said
 
 -- what a worker's seat gained: only with a refusal just a beginning
 abbrev pub IsWork : Option OpeningOf → ℕ → List ObserverOf → ShareOfChanges → List Bool → Option Refusal → List Received → Type 0
 IsWork opens seat observers share done None said = IsWorkDone observers share done said
-IsWork opens seat observers share done (Some r) said = IsWorkBegun opens seat observers share done r said
+IsWork opens seat observers share done (Some r) said = Stops opens seat (IsWorkBegun observers share done) r said
 
 -- passes alone: only with a refusal just a beginning
 abbrev pub IsDrainTo : Option OpeningOf → ℕ → List ObserverOf → Option Refusal → List Received → Type 0
 IsDrainTo opens seat observers None said = IsDrain observers said
-IsDrainTo opens seat observers (Some r) said = DrainStops opens seat observers r said
+IsDrainTo opens seat observers (Some r) said = Stops opens seat (IsDrainBegun observers) r said
 
 -- what the main seat gained: passes alone, whether a spare was refused or not. Its refusal is the first of the swaps',
 -- or else that of the passes.

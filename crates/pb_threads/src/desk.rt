@@ -12,6 +12,7 @@ use pb_base::Refusal;
 use pb_core::{Seat, Shared};
 use pb_steps::{Answer, Step};
 use pb_store::Tablet;
+use std::alloc::Global;
 use std::sync::{Mutex, Wait};
 
 /// A shared table, by itself or within what keeps more of it, that takes calls. Its `opening` says how it was opened, where
@@ -97,19 +98,24 @@ impl Desk {
     }
 }
 
-// The gate, and then the call. The gate comes first, so that a worker held there holds no lock.
-pub(crate) fn ask<R: Wait, C: Callee, G: Gate>(
-    rt: &R,
-    shared: &Mutex<C>,
-    seat: &mut Seat,
-    step: &Step,
-    gate: &G,
-) -> Result<Answer, Refusal>
-    ensures told { IfOk result (λ a. Told seat.old step.now a seat.new) }
-    ensures can { IfOk result (λ a. CanAnswer step.now a) }
-    ensures refused { IfErr result (λ r. MayRefuse C.opening seat.old.number step.now r) }
-    ensures seat { OnErr result (seat.new ≡ seat.old) }
-{
-    gate.pass(seat.number(), step);
-    Desk::call(rt, shared, seat, step)
+/// How a worker calls the table: by its lock, and each time past the gate. What its jobs grow by comes from `alloc`.
+#[derive(Drop)]
+pub(crate) struct Caller<'a, R, C, G> {
+    pub(crate) rt: &'a R,
+    pub(crate) alloc: Global,
+    pub(crate) shared: &'a Mutex<C>,
+    pub(crate) gate: &'a G,
+}
+
+impl<'a, R: Wait, C: Callee, G: Gate> Caller<'a, R, C, G> {
+    /// The gate, and then the call. The gate comes first, so that a worker held there holds no lock.
+    pub(crate) fn ask(&self, seat: &mut Seat, step: &Step) -> Result<Answer, Refusal>
+        ensures told { IfOk result (λ a. Told seat.old step.now a seat.new) }
+        ensures can { IfOk result (λ a. CanAnswer step.now a) }
+        ensures refused { IfErr result (λ r. MayRefuse C.opening seat.old.number step.now r) }
+        ensures seat { OnErr result (seat.new ≡ seat.old) }
+    {
+        self.gate.pass(seat.number(), step);
+        Desk::call(self.rt, self.shared, seat, step)
+    }
 }

@@ -6,7 +6,7 @@ ghost use Rattle.pb_threads.specs.Gains.{opening_of};
 ghost use Rattle.pb_threads.specs.Swaps.{spares_of};
 ghost use Rattle.pb_threads.specs.Work.{Works, EachWorks, RestWork, AllWork, HasRooms, WorkedOn, AreFilled, KeepsOpening, seats_in, refusals_in, flags_in, is_done, undone_below};
 
-use crate::desk::Callee;
+use crate::desk::{Callee, Caller};
 use crate::gate::Gate;
 use crate::named::{Held, Opening, hold, into_shared};
 use crate::spares::work_beside_swaps;
@@ -174,13 +174,10 @@ fn note_unfinished(workers: &[Worker], changes: usize, unfinished: &mut Vec<usiz
 
 // Each worker in a thread of its own, or on a thread that there is.
 pub(crate) fn in_threads<R: Threads + Wait + Sync, C: Callee + Send, G: Gate>(
-    rt: &R,
-    alloc: Global,
-    shared: &Mutex<C>,
+    caller: &Caller<R, C, G>,
     workers: &mut [Worker],
     observers: &[Observer],
     batches: &[Batch],
-    gate: &G,
 )
     requires few { length workers.old ≤ MAX_SEATS }
     requires numbered { length observers.now ≤ MAX_OBSERVERS }
@@ -191,30 +188,23 @@ pub(crate) fn in_threads<R: Threads + Wait + Sync, C: Callee + Send, G: Gate>(
         return;
     }
     thread::for_each_mut(
-        rt,
+        caller.rt,
         workers,
         count,
         &|place: usize, worker: &mut Worker|
             requires { (0 < count) × (count ≤ MAX_SEATS) × (length observers.now ≤ MAX_OBSERVERS) }
             ensures { Works C.opening observers.entry.now batches.entry.now
                 count place worker.entry.now worker.exit.now }
-        {
-            work(
-                rt, alloc, shared, worker, observers, batches, count, place, gate,
-            )
-        },
+        { work(caller, worker, observers, batches, count, place) },
     );
 }
 
 // The workers of all seats but the first.
 pub(crate) fn work_rest<R: Threads + Wait + Sync, C: Callee + Send, G: Gate>(
-    rt: &R,
-    alloc: Global,
-    shared: &Mutex<C>,
+    caller: &Caller<R, C, G>,
     workers: &mut [Worker],
     observers: &[Observer],
     batches: &[Batch],
-    gate: &G,
 )
     requires some { 1 < length workers.old }
     requires few { length workers.old ≤ MAX_SEATS }
@@ -222,20 +212,17 @@ pub(crate) fn work_rest<R: Threads + Wait + Sync, C: Callee + Send, G: Gate>(
     ensures { RestWork C.opening observers.now batches.now workers.old workers.new }
 {
     let (_, rest) = workers.split_at_mut(1);
-    in_threads(rt, alloc, shared, rest, observers, batches, gate);
+    in_threads(caller, rest, observers, batches);
 }
 
 // The workers beside the swaps, and after them the last passes of the main seat, since a worker that was refused may
 // leave marks.
 fn run_all<R: Threads + Wait + Sync, T: Tablet + Send, J: Opening + Send + Sync, G: Gate>(
-    rt: &R,
-    alloc: Global,
-    shared: &Mutex<Held<T, J>>,
+    caller: &Caller<R, Held<T, J>, G>,
     workers: Vec<Worker>,
     observers: &[Observer],
     batches: &[Batch],
     spares: Vec<(usize, T)>,
-    gate: &G,
 ) -> Vec<Worker>
     requires some { 1 < length workers.items }
     requires few { length workers.items ≤ MAX_SEATS }
@@ -243,10 +230,8 @@ fn run_all<R: Threads + Wait + Sync, T: Tablet + Send, J: Opening + Send + Sync,
     ensures { AllWork J.opening observers.now batches.now
         (spares_of T.contents spares.items) workers.items result.items }
 {
-    let (mut workers, swapped) = work_beside_swaps(
-        rt, alloc, shared, workers, observers, batches, spares, gate,
-    );
-    drain_last(rt, alloc, shared, &mut workers[0], swapped, observers, gate);
+    let (mut workers, swapped) = work_beside_swaps(caller, workers, observers, batches, spares);
+    drain_last(caller, &mut workers[0], swapped, observers);
     workers
 }
 
@@ -295,9 +280,13 @@ fn run_held<R: Threads + Wait + Sync, T: Tablet + Send, J: Opening + Send + Sync
     look_through(&batches);
     seat_all(alloc, seats, &mut workers);
     let desk: Mutex<Held<T, J>> = hold(shared);
-    let workers = run_all(
-        rt, alloc, &desk, workers, &observers, &batches, spares, gate,
-    );
+    let caller = Caller {
+        rt,
+        alloc,
+        shared: &desk,
+        gate,
+    };
+    let workers = run_all(&caller, workers, &observers, &batches, spares);
     let shared = into_shared(desk);
     note_unfinished(&workers, batches.len(), &mut unfinished);
     part(workers, &mut back, &mut refusals);

@@ -5,6 +5,7 @@ ghost use Rattle.pb_base.specs.declared.limits.TheConstants.{MAX_SEATS, MAX_OBSE
 ghost use Rattle.pb_threads.specs.Swaps.{IsSwapped, AreSwapped, spares_of};
 ghost use Rattle.pb_threads.specs.Work.{RestWork};
 
+use crate::desk::Caller;
 use crate::gate::Gate;
 use crate::named::{Held, Opening};
 use crate::run::work_rest;
@@ -12,7 +13,6 @@ use crate::worker::Worker;
 use pb_base::{Batch, Refusal};
 use pb_store::Tablet;
 use pb_verify::Observer;
-use std::alloc::Global;
 use std::sync::{Mutex, Wait};
 use std::thread;
 use std::thread::Threads;
@@ -80,14 +80,11 @@ pub(crate) fn work_beside_swaps<
     J: Opening + Send + Sync,
     G: Gate,
 >(
-    rt: &R,
-    alloc: Global,
-    shared: &Mutex<Held<T, J>>,
+    caller: &Caller<R, Held<T, J>, G>,
     workers: Vec<Worker>,
     observers: &[Observer],
     batches: &[Batch],
     spares: Vec<(usize, T)>,
-    gate: &G,
 ) -> (Vec<Worker>, Option<Refusal>)
     requires some { 1 < length workers.items }
     requires few { length workers.items ≤ MAX_SEATS }
@@ -100,11 +97,13 @@ pub(crate) fn work_beside_swaps<
     // Without swaps there is no thread for them, since a worker that is alone in its process takes less time.
     if spares.is_empty() {
         let mut workers = workers;
-        work_rest(rt, alloc, shared, &mut workers, observers, batches, gate);
+        work_rest(caller, &mut workers, observers, batches);
         spares.destroy_empty();
         return (workers, None);
     }
     let waiting = &mut spares;
+    // For the proof: a join gives no clause of a closure that captures the caller whole.
+    let (rt, alloc, shared, gate) = (caller.rt, caller.alloc, caller.shared, caller.gate);
     let worked = thread::join(
         rt,
         move || -> Vec<Worker>
@@ -114,7 +113,13 @@ pub(crate) fn work_beside_swaps<
                 workers.items result.items }
         {
             let mut workers = workers;
-            work_rest(rt, alloc, shared, &mut workers, observers, batches, gate);
+            let caller = Caller {
+                rt,
+                alloc,
+                shared,
+                gate,
+            };
+            work_rest(&caller, &mut workers, observers, batches);
             workers
         },
         move || -> Option<Refusal>

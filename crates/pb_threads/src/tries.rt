@@ -4,9 +4,9 @@ ghost use Rattle.pb_base.specs.declared.limits.TheConstants.{MAX_SEATS};
 ghost use Rattle.pb_txn.specs.Changes.{new_change, outcome_of};
 ghost use Rattle.pb_threads.specs.Gains.{Gains, IsWant};
 ghost use Rattle.pb_threads.specs.Tries.{IsTry, AreTries, AreAllTried, committed_in, is_commit};
-ghost use Rattle.pb_threads.specs.Stops.{TryStops, TriesStop, ChangesStop};
+ghost use Rattle.pb_threads.specs.Stops.{Stops, IsTryBegun, AreTriesBegun, AreChangesBegun};
 
-use crate::desk::{Callee, ask};
+use crate::desk::{Callee, Caller};
 use crate::gate::Gate;
 use crate::waits::{turns_of, yield_for};
 use pb_base::{Batch, NoMemory, Refusal};
@@ -14,7 +14,7 @@ use pb_core::Seat;
 use pb_steps::Answer;
 use pb_txn::{ChangeJob, Outcome, changes_converse, plans_converse};
 use std::alloc::Global;
-use std::sync::{Mutex, Wait};
+use std::sync::Wait;
 
 /// How often a change is tried at most, so that a worker ends whatever others commit before it.
 pub const MAX_TRIES: u32 = 100;
@@ -67,17 +67,14 @@ fn has_committed(job: &ChangeJob) -> bool
 // One try of a change, and whether it committed. It may be left with its transaction committed, and some of its cells
 // still locked.
 fn try_once<R: Wait, C: Callee, G: Gate>(
-    rt: &R,
-    alloc: Global,
-    shared: &Mutex<C>,
+    caller: &Caller<R, C, G>,
     seat: &mut Seat,
     batch: &Batch,
-    gate: &G,
 ) -> Result<bool, Cut>
     ensures ok { IfOk result (λ committed. Gains (IsTry batch.now committed) seat.old seat.new) }
     ensures err { IfErr result
         (λ cut. Gains
-        (TryStops C.opening seat.old.number batch.now cut.committed cut.refusal)
+        (Stops C.opening seat.old.number (IsTryBegun batch.now cut.committed) cut.refusal)
         seat.old seat.new) }
 {
     // For the proof: a batch has some cells; and what a change has asked is a beginning of its conversation, and at
@@ -86,18 +83,18 @@ fn try_once<R: Wait, C: Callee, G: Gate>(
     plans_converse();
     changes_converse();
     let mut committed = false;
-    let mut job = match job_of(alloc, batch) {
+    let mut job = match job_of(caller.alloc, batch) {
         Ok(job) => job,
         Err(refused) => {
             let refusal = Refusal::from(refused);
             return Err(Cut { refusal, committed });
         }
     };
-    for _turn in rt.forever() {
+    for _turn in caller.rt.forever() {
         let Some(step) = job.next() else {
             return Ok(has_committed(&job));
         };
-        match ask(rt, shared, seat, step, gate) {
+        match caller.ask(seat, step) {
             Ok(answer) => {
                 // Noted at once, since a step after the commit may be refused.
                 committed = or_commits(committed, &answer);
@@ -111,21 +108,18 @@ fn try_once<R: Wait, C: Callee, G: Gate>(
 
 // Tries a change until it commits, or so often as may be, and returns whether it committed.
 fn try_all<R: Wait, C: Callee, G: Gate>(
-    rt: &R,
-    alloc: Global,
-    shared: &Mutex<C>,
+    caller: &Caller<R, C, G>,
     seat: &mut Seat,
     batch: &Batch,
-    gate: &G,
 ) -> Result<bool, Cut>
     ensures ok { IfOk result (λ committed. Gains (AreTries batch.now committed) seat.old seat.new) }
     ensures err { IfErr result
         (λ cut. Gains
-        (TriesStop C.opening seat.old.number batch.now cut.committed cut.refusal)
+        (Stops C.opening seat.old.number (AreTriesBegun batch.now cut.committed) cut.refusal)
         seat.old seat.new) }
 {
     for count in 0..MAX_TRIES {
-        let committed = try_once(rt, alloc, shared, seat, batch, gate)?;
+        let committed = try_once(caller, seat, batch)?;
         if committed {
             return Ok(true);
         }
@@ -158,15 +152,12 @@ fn note(done: &mut Vec<bool>, committed: bool)
 /// Tries the changes of one of so many workers, its first at this number and each later one so many further. It notes
 /// of each whether it committed.
 pub(crate) fn change_all<R: Wait, C: Callee, G: Gate>(
-    rt: &R,
-    alloc: Global,
-    shared: &Mutex<C>,
+    caller: &Caller<R, C, G>,
     seat: &mut Seat,
     batches: &[Batch],
     count: usize,
     first: usize,
     done: &mut Vec<bool>,
-    gate: &G,
 ) -> Result<(), Refusal>
     requires some { 0 < count }
     requires few { count ≤ MAX_SEATS }
@@ -175,7 +166,8 @@ pub(crate) fn change_all<R: Wait, C: Callee, G: Gate>(
         (Gains (AreAllTried batches.now count first done.new.items) seat.old seat.new) }
     ensures err { IfErr result
         (λ r. Gains
-        (ChangesStop C.opening seat.old.number batches.now count first done.new.items r)
+        (Stops C.opening seat.old.number
+        (AreChangesBegun batches.now count first done.new.items) r)
         seat.old seat.new) }
 {
     // For the proof: what a change has asked is a beginning of its conversation.
@@ -185,7 +177,7 @@ pub(crate) fn change_all<R: Wait, C: Callee, G: Gate>(
         // For the proof: a batch has some cells.
         batches[next].known();
         make_room(done)?;
-        match try_all(rt, alloc, shared, seat, &batches[next], gate) {
+        match try_all(caller, seat, &batches[next]) {
             Ok(committed) => {
                 note(done, committed);
                 next += count;

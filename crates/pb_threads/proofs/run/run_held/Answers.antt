@@ -4,7 +4,7 @@ use Rattle.pb_threads.specs.declared.worker.Worker.{Worker}
 use Rattle.pb_threads.specs.Gains.{OpeningOf, opening_of}
 use Rattle.pb_threads.specs.Swaps.{Spare, spares_of}
 use Rattle.pb_threads.specs.Work.{AllWork, AreFilled, seats_in, refusals_in, flags_in, is_done, undone_below}
-use Rattle.pb_threads.proofs.Joined.{as_many, some_olds, work_is_joined}
+use Rattle.pb_threads.proofs.Joined.{as_many, work_is_joined}
 use Rattle.pb_threads.proofs.run.run_held.Goals as goal
 
 pub returns-clause-worked : goal.returns-clause-worked
@@ -20,8 +20,7 @@ returns-clause-worked g c =
     let all : AllWork (opening_of c.args.shared) obs c.args.batches.items spares olds news = subst (λ (o : OpeningOf). AllWork o obs c.args.batches.items spares olds news) (sym c.requires.opened) held in
     let were : seats_in olds ≡ c.args.seats.items = c.seat_all.ensures in
     let are : AreSeatsFrom 0 c.args.shared.journal (seats_in olds) = subst (λ (ss : List SeatOf). AreSeatsFrom 0 c.args.shared.journal ss) (sym were) c.requires.seated.each in
-    let many : 1 < length c.args.seats.items = omega (arith, c.requires.some, c.args.seats.ok.0) in
-    let some : 1 < length olds = some_olds olds c.args.seats.items were many in
+    let some : 1 < length olds = omega (arith, as_many olds c.args.seats.items were, c.requires.some, c.args.seats.ok.0) in
     let back : c.part.new.seats.items ≡ seats_in news = c.part.ensures.seats in
     let refusals : c.part.new.refusals.items ≡ refusals_in news = c.part.ensures.refusals in
     let filled : AreFilled c.args.batches.items = subst (λ (bs : List Writes). AreFilled bs) c.deref.ensures.value c.look_through.ensures in
