@@ -1,10 +1,9 @@
 -- A try that was left after its commit has committed.
 use Rattle.std.proofs.Common.{arith, ◌≡◌, ◌≢◌, ◌⊎◌, Bool, true, false, ◌||◌, List, [], ◌∷◌, ◌++◌, inl, inr, refl, sym, ap, subst, ◌∙◌}
 use Rattle.pb_worker.specs.Words.{Ts, Cell, Writes, Step, Answer, Work, Declared, CanAnswer, Received, Has, Outcome, PlanPlace, told, IsWhole, AreCleared, committed, conflicted_first, conflicted_later, lost, prewrites, secondaries, ChangeOf, new_change, Converses, is_commit_outcome, is_commit, has_commit}
-use Rattle.pb_txn.specs.Plans.{fresh}
 use Rattle.pb_txn.proofs.ChangeConversation.{HasBegun, answered_has_begun as has_begun}
 use Rattle.pb_txn.proofs.Conversation.{SoFar, declaring, prewriting, stamping, committing, finishing, settling, clearing, over, said_all, clears, are_cleared}
-use Rattle.pb_threads.proofs.TryAlong.{or_assoc}
+use Rattle.std.proofs.Math.Bool.{or_assoc}
 use Rattle.pb_worker.proofs.Committing.{HasCommitted}
 use Rattle.std.proofs.lemmas.Bool.{or_from as both_false, or_right as true_right}
 use Rattle.pb_base.proofs.Logic.{not_both}
@@ -21,7 +20,7 @@ left_false false b e = refl
 -- a commit stands in one part of a list or in the other
 pub commit_in : (xs ys : List Received) → has_commit (xs ++ ys) ≡ (has_commit xs || has_commit ys)
 commit_in [] ys = refl
-commit_in (x ∷ xs) ys = ap (λ b. is_commit x.answer || b) (commit_in xs ys) ∙ or_assoc (is_commit x.answer) (has_commit xs) (has_commit ys)
+commit_in (x ∷ xs) ys = ap (λ b. is_commit x.answer || b) (commit_in xs ys) ∙ sym (or_assoc (is_commit x.answer) (has_commit xs) (has_commit ys))
 
 -- it clears a cell, as a transaction does only where it failed
 abbrev is_clear : Step → Bool
@@ -35,7 +34,7 @@ has_clear (r ∷ rs) = is_clear r.step || has_clear rs
 
 clear_in : (xs ys : List Received) → has_clear (xs ++ ys) ≡ (has_clear xs || has_clear ys)
 clear_in [] ys = refl
-clear_in (x ∷ xs) ys = ap (λ b. is_clear x.step || b) (clear_in xs ys) ∙ or_assoc (is_clear x.step) (has_clear xs) (has_clear ys)
+clear_in (x ∷ xs) ys = ap (λ b. is_clear x.step || b) (clear_in xs ys) ∙ sym (or_assoc (is_clear x.step) (has_clear xs) (has_clear ys))
 
 -- prewrites commit nothing
 no_prewrite : (s : Ts) (xs : List Cell) → has_commit (prewrites s xs) ≡ false
@@ -136,7 +135,7 @@ of_begun (w ∷ ws) r rest q some b e =
     let batch : Writes = w ∷ ws in
     let s : Ts = record { 0 = b.s } in
     let first : has_commit (told (Step.Begin Work.Script) (Answer.At s) ∷ rest) ≡ true = ap (λ (z : Received). has_commit (z ∷ rest)) (sym b.first) ∙ e in
-    let so = said_all s (Declared.Script batch) w.0 _ refl (fresh b.s (Declared.Script batch)) b.plan [] rest refl refl declaring b.said in
+    let so = said_all s (Declared.Script batch) w.0 _ refl b.plan rest b.said in
     let k = at_place s (Declared.Script batch) w.0 _ b.plan.place rest so first in
     (s, record { commit = k.0; begun = inl b.first; declared = inr k.1; stamped = inr k.2; committed = inr k.3 })
 

@@ -1,10 +1,9 @@
 -- For each change of a worker that was committed, the worker's list records one start.
 use Rattle.std.proofs.Common.{◌≡◌, ℕ, zero, suc, ◌+◌, ◌*◌, ◌<◌, ◌⊎◌, Bool, true, false, cond, eqb, List, [], ◌∷◌, ◌++◌, length, Option, Some, None, inl, inr, refl, sym, ap, subst, ◌∙◌, arith, slice_get, slice_index_or}
 use Rattle.std.proofs.lemmas.Bool.{eq-eqb, ne_eqb}
-use Rattle.pb_worker.specs.Words.{Ts, Refusal, Writes, Step, Answer, Work, ObserverOf, Received, Has, told, OpeningOf, AreTried, tried, ChangesStop, share_of, IsWork, IsWorkBegun, in_changes, in_passes, AreFilled}
-use Rattle.pb_threads.specs.Tries.{before_all}
+use Rattle.pb_worker.specs.Words.{Ts, Refusal, Writes, Step, Answer, Work, ObserverOf, Received, Has, told, OpeningOf, AreTried, AreTriedThen, AreChangesBegun, no_part, one_part, share_of, IsWork, AreFilled}
 use Rattle.pb_worker.proofs.Committing.{commit_of, HasCommitted, committed_within}
-use Rattle.pb_worker.proofs.RunCommits.{HasBegunRun, CommitRuns, run_left, run_right, of_drain, of_drain_stop}
+use Rattle.pb_worker.proofs.RunCommits.{HasBegunRun, CommitRuns, run_left, run_right, drain_commits_runs, begun_drain_commits_runs}
 use Rattle.pb_worker.proofs.TryCommits.{TellsCommit, of_tries, of_cut}
 use Rattle.pb_history.proofs.Updates.{has_before as has_left, has_right, has_which}
 
@@ -134,31 +133,34 @@ module _ (batches : List Writes) (n first : ℕ) where
     one_more = (start', record { made = its_made; only = its_only; apart = its_apart })
 
   of_tried : (done : List Bool) (said : List Received) → AreTried batches n first done said → StartsOf done said
-  of_tried done said before_all = at_first
-  of_tried flags all (tried done said batch is more before at tries) = grind (arith, of_tries, one_more, of_tried done said before)
+  of_tried done said no_part = at_first
+  of_tried done said (one_part flags now had more before t) =
+      let s = of_tried flags had before in
+      let k = of_tries t.batch t.committed more t.tries in
+      subst (λ (fs : List Bool). StartsOf fs (had ++ more)) (sym t.now_is) (one_more flags had s.0 s.1 t.batch t.there t.committed k.0 more k.1)
 
   -- ---- whether it was stopped or not
 
   module _ (filled : AreFilled batches) (seat : ℕ) (observers : List ObserverOf) (done : List Bool) where
-    of_changes_stop : {opens : Option OpeningOf} → (r : Refusal) (said : List Received) → ChangesStop opens seat batches n first done r said → StartsOf done said
-    of_changes_stop r said c =
-        let s = of_tried c.flags c.before c.tried in
-        let t = of_cut seat c.batch c.committed r c.part (filled _ c.batch c.next) c.stops in
-        let after = one_more c.flags c.before s.0 s.1 c.batch c.next c.committed t.0 c.part t.1 in
-        subst (λ l. StartsOf done l) (sym c.said_is) (elim c.done_is [
-          | inl is ↦ subst (λ (fs : List Bool). StartsOf fs (c.before ++ c.part)) (sym is) after
+    of_changes_begun : (next : Option Step) (said : List Received) → AreChangesBegun batches n first done next said → StartsOf done said
+    of_changes_begun next said c =
+        let s = of_tried c.at c.before c.parts in
+        let in_next = c.ends in
+        let t = of_cut in_next.batch in_next.committed next c.last (filled _ in_next.batch in_next.there) in_next.tries in
+        let after = one_more c.at c.before s.0 s.1 in_next.batch in_next.there in_next.committed t.0 c.last t.1 in
+        subst (λ l. StartsOf done l) (sym c.said_is) (elim in_next.done_is [
+          | inl is ↦ subst (λ (fs : List Bool). StartsOf fs (c.before ++ c.last)) (sym is) after
           | inr is ↦
-              let none : CommitRuns c.part = record { each = λ u h. let o = t.1.only u h in absurd (neither c.committed o.0 is.1) } in
-              subst (λ (fs : List Bool). StartsOf fs (c.before ++ c.part)) (sym is.0) (with_runs c.flags c.before c.part none s)
+              let none : CommitRuns c.last = record { each = λ u h. let o = t.1.only u h in absurd (neither in_next.committed o.0 is.1) } in
+              subst (λ (fs : List Bool). StartsOf fs (c.before ++ c.last)) (sym is.0) (with_runs c.at c.before c.last none s)
         ])
       where
         neither : (b : Bool) → b ≡ true → b ≡ false → ⊥
         neither b p q = cc
 
-    of_part : {opens : Option OpeningOf} → (r : Refusal) (said : List Received) → IsWorkBegun opens seat observers (share_of batches n first) done r said → StartsOf done said
-    of_part r said (in_changes said' c) = of_changes_stop r said c
-    of_part r all (in_passes said part t d) = with_runs done said part (of_drain_stop seat observers r part d) (of_tried done said t.tried)
+    of_then : {Last : List Received → Type 0} → ((passes : List Received) → Last passes → CommitRuns passes) → (said : List Received) → AreTriedThen (share_of batches n first) done Last said → StartsOf done said
+    of_then commits said w = subst (λ l. StartsOf done l) (sym w.said_is) (with_runs done w.changes w.passes (commits w.passes w.drained) (of_tried done w.changes w.tried.tried))
 
     pub of_work : (opens : Option OpeningOf) (r : Option Refusal) (said : List Received) → IsWork opens seat observers (share_of batches n first) done r said → StartsOf done said
-    of_work opens None said w = subst (λ l. StartsOf done l) (sym w.said_is) (with_runs done w.changes w.passes (of_drain observers w.passes w.drained) (of_tried done w.changes w.tried.tried))
-    of_work opens (Some r) said w = of_part r said w
+    of_work opens None said w = of_then (drain_commits_runs observers) said w
+    of_work opens (Some r) said w = elim w.begun [ inl c ↦ of_changes_begun w.next said c | inr t ↦ of_then (begun_drain_commits_runs observers w.next) said t ]

@@ -1,7 +1,7 @@
 -- Of all tries of a change one is committed at most, with this start.
 use Rattle.std.proofs.Common.{arith, ◌≡◌, ◌≢◌, ℕ, Bool, true, false, ◌||◌, List, [], ◌∷◌, ◌++◌, inl, inr, refl, sym, ap, subst, ◌∙◌, Option}
-use Rattle.pb_worker.specs.Words.{Cell, Ts, Refusal, Writes, Step, Answer, Declared, Received, Has, Outcome, told, IsWhole, committed, conflicted_first, conflicted_later, lost, prewrites, secondaries, IsWholeChange, OpeningOf, is_commit_outcome, is_commit, has_commit, IsTry, AreVain, IsDone, AreTries, TriesStop}
-use Rattle.pb_threads.specs.Tries.{at_first, one_more}
+use Rattle.pb_worker.specs.Words.{Cell, Ts, Writes, Step, Answer, Declared, Received, Has, Outcome, told, IsWhole, committed, conflicted_first, conflicted_later, lost, prewrites, secondaries, IsWholeChange, is_commit_outcome, is_commit, has_commit, IsTry, AreVain, IsDone, AreTries, AreTriesBegun}
+use Rattle.pb_conversations.proofs.Joining.{of_parts}
 use Rattle.pb_worker.proofs.Committing.{commit_of, HasCommitted, committed_within}
 use Rattle.pb_worker.proofs.CutTries.{commit_in, ended_uncommitted, cut_commits}
 use Rattle.pb_worker.proofs.OneTransaction.{of_change}
@@ -26,8 +26,8 @@ try_in_vain batch said t = grind (arith, ended_uncommitted, t.whole.rest, t.star
 
 -- nor in several
 tries_in_vain : (batch : Writes) (n : ℕ) (said : List Received) → AreVain batch n said → has_commit said ≡ false
-tries_in_vain batch n said at_first = refl
-tries_in_vain batch m all (one_more n said more before t) = commit_in said more ∙ both_false (has_commit said) (has_commit more) (tries_in_vain batch n said before) (try_in_vain batch more t)
+tries_in_vain batch n said tries =
+    of_parts (record { nothing = refl; both = λ a b p q. commit_in a b ∙ both_false (has_commit a) (has_commit b) p q }) (λ m k more t. try_in_vain batch more t.1) 0 n said tries
 
 -- ---- a committed try
 
@@ -65,12 +65,12 @@ module _ (batch : Writes) (n : ℕ) (vain part said : List Received) (tries : Ar
 -- of the tries of a change that is done only the last committed
 of_done : (batch : Writes) (said : List Received) → IsDone batch said → (start : Ts) × TellsCommit batch true start said
 of_done batch said d =
-    let t = d.commits in
+    let t = d.ends.1 in
     let own = of_change batch t.start d.last t.outcome t.whole in (
       t.start,
       record {
-        made = λ e. made_in_part batch d.count d.vain d.last said d.tries d.said_is t.start (by_change batch t.start d.last t.outcome t.ended t.whole);
-        only = λ u h. (refl, own.own.each (commit_of u) (only_in_part batch d.count d.vain d.last said d.tries d.said_is u h) u refl);
+        made = λ e. made_in_part batch d.at d.before d.last said d.parts d.said_is t.start (by_change batch t.start d.last t.outcome t.ended t.whole);
+        only = λ u h. (refl, own.own.each (commit_of u) (only_in_part batch d.at d.before d.last said d.parts d.said_is u h) u refl);
       },
     )
 
@@ -80,20 +80,20 @@ of_tries batch is said d = grind (arith, of_done, has_none, tries_in_vain)
 
 -- ---- a change that was left in a try
 
--- and so do those of a change that was left
-pub of_cut : {opens : Option OpeningOf} (seat : ℕ) (batch : Writes) (is : Bool) (r : Refusal) (said : List Received) → batch ≢ [] → TriesStop opens seat batch is r said → (start : Ts) × TellsCommit batch is start said
-of_cut seat batch is r said some t =
-    let s = t.stops in
+-- and so do those of a change that was cut off
+pub of_cut : (batch : Writes) (is : Bool) (next : Option Step) (said : List Received) → batch ≢ [] → AreTriesBegun batch is next said → (start : Ts) × TellsCommit batch is start said
+of_cut batch is next said some t =
+    let s = t.ends.1 in
     let b = s.begins in
-    let own = of_change batch b.0 (t.part ++ b.1) b.2 b.3 in
-    let its : (u : Ts) → Has t.part (commit_of u) → u ≡ b.0 = λ u h. own.own.each (commit_of u) (has_left t.part b.1 (commit_of u) h) u refl in (
+    let own = of_change batch b.0 (t.last ++ b.1) b.2 b.3 in
+    let its : (u : Ts) → Has t.last (commit_of u) → u ≡ b.0 = λ u h. own.own.each (commit_of u) (has_left t.last b.1 (commit_of u) h) u refl in (
       b.0,
       record {
         made = λ e.
-            let c = cut_commits batch t.part s.job some s.converses (sym s.told ∙ e) in
-            made_in_part batch t.count t.vain t.part said t.tries t.said_is b.0 (subst (λ u. HasCommitted batch u t.part) (its c.0 c.1.committed) c.1);
+            let c = cut_commits batch t.last s.job some s.converses (sym s.told ∙ e) in
+            made_in_part batch t.at t.before t.last said t.parts t.said_is b.0 (subst (λ u. HasCommitted batch u t.last) (its c.0 c.1.committed) c.1);
         only = λ u h.
-            let k = only_in_part batch t.count t.vain t.part said t.tries t.said_is u h in
-            (s.told ∙ has_committed t.part u k, its u k);
+            let k = only_in_part batch t.at t.before t.last said t.parts t.said_is u h in
+            (s.told ∙ has_committed t.last u k, its u k);
       },
     )

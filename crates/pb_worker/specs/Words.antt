@@ -30,6 +30,7 @@ pub use Rattle.pb_history.specs.declared.entry.Entry.{Entry}
 pub use Rattle.pb_history.specs.declared.entry.Received.{Received}
 pub use Rattle.pb_core.specs.Calls.{AreSeats, AreSeatsFrom, SeatOf, SharedOf}
 pub use Rattle.pb_core.specs.Histories.{IsLegalTable}
+pub use Rattle.pb_conversations.specs.Parts.{no_part, one_part}
 pub use Rattle.pb_txn.specs.Changes.{ChangeOf, Converses, IsWholeChange, new_change}
 pub use Rattle.pb_txn.specs.Conversations.{told}
 pub use Rattle.pb_txn.specs.Forms.{AreCleared, IsWhole, committed, conflicted_first, conflicted_later, lost, prewrites, secondaries}
@@ -39,9 +40,10 @@ pub use Rattle.pb_notify.specs.Forms.{AreAsked, AreRounds, IsAcknowledged, IsLoo
 pub use Rattle.pb_notify.specs.Runs.{Watch, watch_of}
 pub use Rattle.pb_notify.specs.declared.need.JobEnd.{JobEnd}
 pub use Rattle.pb_threads.specs.Gains.{Gains, OpeningOf}
-pub use Rattle.pb_passes.specs.Passes.{ArePasses, AreRuns, IsDrain, IsPass, IsRun, IsWalk, at_beginning, found, passes_by, runs}
-pub use Rattle.pb_threads.specs.Stops.{ChangesStop, DrainStops, PassStops, RunStops, RunsStop, TriesStop, at_a_mark, in_runs}
+pub use Rattle.pb_passes.specs.Begun.{IsDrainBegun, IsRunBegun}
+pub use Rattle.pb_passes.specs.Passes.{IsDrain, IsRun}
+pub use Rattle.pb_threads.specs.Stops.{AreChangesBegun, AreTriesBegun}
 pub use Rattle.pb_threads.specs.Swaps.{Spare}
-pub use Rattle.pb_threads.specs.Tries.{AreTried, AreTries, AreVain, IsDone, IsTry, has_commit, is_commit, is_commit_outcome, tried}
-pub use Rattle.pb_threads.specs.Work.{AreFilled, IsDrainTo, IsLastDrain, IsWork, IsWorkBegun, WorkedOn, in_changes, in_passes, is_done, share_of, undone_below}
+pub use Rattle.pb_threads.specs.Tries.{AreTried, AreTries, AreVain, IsDone, IsTry, has_commit, is_commit, is_commit_outcome}
+pub use Rattle.pb_threads.specs.Work.{AreFilled, AreTriedThen, IsDrainTo, IsLastDrain, IsWork, WorkedOn, is_done, share_of, undone_below}
 pub use Rattle.pb_ending.specs.Agrees.{Agree}
