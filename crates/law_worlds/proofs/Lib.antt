@@ -1,6 +1,5 @@
-pub mod Machines
-mod Jobs
+mod Machines
+pub mod Jobs
 mod Events
 mod Runs
 mod Stops
-mod Opened

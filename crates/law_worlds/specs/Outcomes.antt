@@ -1,7 +1,7 @@
 -- What comes of an event, and of a list of events: two outcomes of one world are the same. Sound worlds alone have one,
 -- since of an unsound table a step may have two.
 use Rattle.std.specs.Prelude.{◌≡◌, ◌≢◌, ℕ, List}
-use Rattle.law_worlds.specs.Words.{Event, EventFault, Note, fault_code, memory_fault, WorldOf, Happens, RunsTo, StopsAtEvent, IsSoundWorld, IsOpened}
+use Rattle.law_worlds.specs.Words.{Event, Note, fault_code, memory_fault, WorldOf, Happens, RunsTo, StopsAtEvent, IsSoundWorld, IsOpened}
 
 -- two notes, each with the world that is left, are the same
 pub record AreOneEvent (n : Note) (v : WorldOf) (m : Note) (u : WorldOf) : Type 0 where

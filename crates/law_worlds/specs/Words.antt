@@ -5,7 +5,6 @@ pub use Rattle.pb_base.specs.declared.names.Ts.{Ts}
 pub use Rattle.pb_base.specs.declared.refusal.Reason.{Reason}
 pub use Rattle.pb_isa.specs.Machine.{IsPlacement, Placement}
 pub use Rattle.pb_isa.specs.Meaning.{Means}
-pub use Rattle.pb_isa.specs.Programs.{JudgedOf}
 pub use Rattle.pb_isa.specs.declared.limits.TheConstants.{MAX_RECORD_BYTES}
 pub use Rattle.pb_helpers.specs.declared.ask.Ask.{Ask}
 pub use Rattle.pb_sound.specs.OneMeaning.{EachHasOneMeaning}
@@ -31,8 +30,8 @@ pub use Rattle.pb_world.specs.Actors.{ActorSteps, AnswersJob, CallSteps, Instruc
 pub use Rattle.pb_world.specs.Events.{CrashesActor, EventDoes, Happens, Launches, OwnAnswers, OwnCalls, RunsTo, StepsActor, StopsAtEvent, WorldOf, fault_of}
 pub use Rattle.pb_world.specs.Faults.{fault_code, memory_fault}
 pub use Rattle.pb_world.specs.Headline.{IsOpened}
-pub use Rattle.pb_world.specs.Jobs.{Computes, RulesAccept, is_local, next_of}
-pub use Rattle.pb_world.specs.Sound.{EventsKeepSound, IsSoundWorld, JobCame, RunCame}
+pub use Rattle.pb_world.specs.Jobs.{Computes, is_local, next_of}
+pub use Rattle.pb_world.specs.Sound.{EventsKeepSound, IsSoundWorld, JobCame}
 pub use Rattle.pb_world.specs.declared.fault.EventFault.{EventFault}
 pub use Rattle.pb_world.specs.declared.job.ActorJob.{ActorJob}
 pub use Rattle.pb_world.specs.declared.note.Note.{Note}

@@ -1,5 +1,5 @@
 -- All seats of a table are still all its seats after a call of one of them.
-use Rattle.std.proofs.Common.{◌≡◌, ◌≢◌, ℕ, zero, suc, ◌+◌, ◌<◌, Bool, cond, List, [], ◌∷◌, ◌++◌, slice_get, slice_set, Some, refl, sym, ap, ◌∙◌, arith, eq-eqb, length-set, ◌==◌}
+use Rattle.std.proofs.Common.{◌≡◌, ◌≢◌, ℕ, zero, suc, ◌+◌, ◌<◌, Bool, cond, List, [], ◌∷◌, ◌++◌, slice_get, slice_set, Some, refl, sym, ap, ◌∙◌, arith, append-nil, eq-eqb, length-set, ◌==◌}
 use Rattle.pb_world.specs.Words.{Step, Answer, Entry, Received, entries_of, SharedOf, SeatOf, Calls, AreSeatsFrom, AreSeats}
 use Rattle.pb_base.proofs.Logic.{same_some as some_same, none_some as some_none}
 
@@ -18,13 +18,9 @@ entries_join n (x ∷ xs) ys = one_more (x.seat == n) (received_of x) (entries_o
 own : (n : ℕ) (j : List Entry) (e : Entry) → e.seat ≡ n → entries_of n (j ++ e ∷ []) ≡ entries_of n j ++ received_of e ∷ []
 own n j e is = grind (arith, eq-eqb, entries_join, e.seat)
 
-pub append-none : (xs : List Received) → xs ++ [] ≡ xs
-append-none [] = refl
-append-none (x ∷ xs) = ap (λ l. x ∷ l) (append-none xs)
-
 -- an entry of another seat adds nothing to a seat's
 other : (n : ℕ) (j : List Entry) (e : Entry) → e.seat ≢ n → entries_of n (j ++ e ∷ []) ≡ entries_of n j
-other n j e apart = grind (arith, entries_join, append-none, e.seat)
+other n j e apart = grind (arith, entries_join, append-nil, e.seat)
 
 less_apart : (a b : ℕ) → a < b → a ≢ b
 less_apart a b lt e = omega (arith, lt, e)

@@ -1,27 +1,22 @@
 -- Whatever events happen, a world stays sound.
-use Rattle.std.proofs.Common.{◌≡◌, ◌≢◌, ℕ, ◌<◌, Bool, true, false, eqb, List, [], ◌∷◌, ◌++◌, length, get_or, slice_set, refl, sym, ◌∙◌, ap, subst, arith, Option, Some, None, slice_get, MatchBool, MatchOption, get_or-set_same, get_or-set_other, length-set, option_map}
+use Rattle.std.proofs.Common.{◌≡◌, ◌≢◌, ℕ, ◌<◌, Bool, true, false, eqb, List, [], ◌∷◌, ◌++◌, if◌then◌else◌, length, get_or, slice_set, refl, sym, ◌∙◌, ap, subst, arith, append_assoc, append-nil, Option, Some, None, slice_get, MatchBool, MatchOption, get_or-set_same, get_or-set_other, length-set, option_map}
 use Rattle.std.proofs.lemmas.Bool.{eqb-false, eqb-true}
-use Rattle.std.proofs.lemmas.List.{set-get_or}
+use Rattle.std.proofs.lemmas.List.{set-get_or, set-set}
 use Rattle.std.proofs.lemmas.Option.{slice_get_within, slice_get-get_or, get_or_from_slice_get}
-use Rattle.pb_world.specs.Words.{Reason, reason_code, Writes, Row, Step, Answer, CanAnswer, opening, ObserverOf, Entry, Received, JournalLeads, IsLegal, SharedOf, SeatOf, Calls, call_reason, AreSeats, IsLegalTable, ChangeOf, new_change, Converses, Need, Watch, RunOf, watch_of, fresh, need_of, Reaches, took, computed, Event, Job}
+use Rattle.pb_world.specs.Words.{Reason, reason_code, Writes, Row, Step, Answer, opening, ObserverOf, Entry, Received, JournalLeads, IsLegal, SharedOf, SeatOf, Calls, call_reason, AreSeats, IsLegalTable, JobOf, IsMove, took, went, no_part, one_part, new_change, Need, Watch, RunOf, watch_of, fresh, need_of, Reaches, run_job, Event, Job}
 use Rattle.pb_txn.specs.Changes as changes
-use Rattle.pb_notify.specs.Conversations as conversations
 use Rattle.pb_world.specs.declared.actor.Actor.{Actor}
 use Rattle.pb_world.specs.declared.job.ActorJob.{ActorJob}
 use Rattle.pb_world.specs.declared.note.Note.{Note}
-use Rattle.pb_world.specs.Jobs.{next_of, is_local, is_local_need, Takes, Computes, RulesAccept, IsReady}
-use Rattle.pb_world.specs.Actors.{Stepped, AnswersJob, RefusesJob, CallSteps, Instructs, IsIdle, JobSteps, StepsTo, launched, crashed}
+use Rattle.pb_world.specs.Jobs.{next_of, is_local, is_local_need, is_over, Takes, Computes, RulesAccept, IsReady}
+use Rattle.pb_world.specs.Actors.{Stepped, ChangesJobAlone, AnswersJob, RefusesJob, CallSteps, Instructs, IsIdle, StepsTo, launched, crashed}
 use Rattle.pb_world.specs.Events.{WorldOf, change_of, job_for, with_actor, actor_of, no_actor, no_launch, fault_of, Launches, StepsActor, CrashesActor, OwnAnswers, OwnCalls, EventDoes}
-use Rattle.pb_world.specs.Sound.{HasObserver, ChangeCame, RunCame, JobCame, CameSinceLaunch, IsSoundWorld, EventsKeepSound}
-use Rattle.pb_world.proofs.SeatLists.{seats_after_call, append-none}
+use Rattle.pb_world.specs.Sound.{IsJobOf, HasConversed, JobCame, CameSinceLaunch, IsSoundWorld, EventsKeepSound}
+use Rattle.pb_world.proofs.SeatLists.{seats_after_call}
 use Rattle.pb_base.proofs.Logic.{same_some as some_same, none_some as some_none}
 use Rattle.pb_history.proofs.JournalParts.{one_more as leads_more}
 
 -- ---- lists
-
-append_assoc' : (xs ys zs : List Received) → (xs ++ ys) ++ zs ≡ xs ++ (ys ++ zs)
-append_assoc' [] ys zs = refl
-append_assoc' (x ∷ xs) ys zs = ap (λ l. x ∷ l) (append_assoc' xs ys zs)
 
 -- what stands at a place of a list with one item changed
 pub data IsAfterSet {A : Type 0} (xs : List A) (k : ℕ) (y : A) (i : ℕ) (x : A) : Type 0 where
@@ -59,53 +54,89 @@ call_legal s seat told st a t l c =
 
 -- ---- jobs
 
-converses_push : (p : ChangeOf) (said : List Received) (q : ChangeOf) (st : Step) (a : Answer) → Converses p said q → changes.next_of q ≡ Some st → CanAnswer st a → Converses p (said ++ record { step = st; answer = a } ∷ []) (changes.answered q a)
-converses_push p [] q st a t next can = (subst (λ x. changes.next_of x ≡ Some st) t next, can, ap (λ x. changes.answered x a) t)
-converses_push p (r ∷ rs) q st a t next can = (t.0, t.1, converses_push (changes.answered p r.answer) rs q st a t.2 next can)
+-- what an actor follows asks as a change or a run does, and goes on as a run does
+abbrev pub actor_job : JobOf ActorJob
+actor_job = record { next = next_of; hears = Takes; goes = λ j k. (is_local j ≡ true) × Computes j k }
 
--- the same run, further on
-run_goes_on : (w : WorldOf) (r l : RunOf) (said more : List Received) → l.watch ≡ r.watch → RunCame w r said → Reaches (fresh r.watch) more l → RunCame w l more
-run_goes_on w r l said more same m reaches = record {
-  its = subst (HasObserver w) (sym same) m.its;
-  accepted = subst (λ (o : Watch). RulesAccept o.judged) (sym same) m.accepted;
-  reaches = subst (λ (o : Watch). Reaches (fresh o) more l) (sym same) reaches;
-}
+-- it stays what it was launched for
+pub of_move : (w : WorldOf) (job : Job) (j k : ActorJob) (more : List Received) → IsMove actor_job j k more → IsJobOf w job j → IsJobOf w job k
+of_move w job j k more m its = grind arith
 
--- a job that took an answer has come on by it
-came_on : (w : WorldOf) (j k : ActorJob) (said : List Received) (st : Step) (a : Answer) → JobCame w j said → next_of j ≡ Some st → CanAnswer st a → Takes j a k → JobCame w k (said ++ record { step = st; answer = a } ∷ [])
-came_on w (ActorJob.Change c) k said st a m next can takes =
-    let more : ChangeCame w (changes.answered c a) (said ++ record { step = st; answer = a } ∷ []) = record { number = m.number; there = m.there; is = m.is; converses = converses_push (new_change c.batch) said c st a m.converses next can } in
-    subst (λ x. JobCame w x (said ++ record { step = st; answer = a } ∷ [])) (sym takes) more
-came_on w (ActorJob.Run r) k said st a m next can takes =
-    let l = takes.0 in
-    let same : l.watch ≡ r.watch = ap (λ (x : RunOf). x.watch) takes.2 in
-    let reaches = took said r (record { step = st; answer = a }) l m.reaches next can takes.2 takes.3 in
-    subst (λ x. JobCame w x (said ++ record { step = st; answer = a } ∷ [])) (sym takes.1) (run_goes_on w r l said (said ++ record { step = st; answer = a } ∷ []) same m reaches)
+-- that depends on the observers and the changes alone
+pub of_in : (w v : WorldOf) (job : Job) (j : ActorJob) → v.shared.state.observers ≡ w.shared.state.observers → v.batches ≡ w.batches → IsJobOf w job j → IsJobOf v job j
+of_in w v (Job.Change n) (ActorJob.Change c) os bs is = subst (λ x. change_of x n ≡ Some c.batch) (sym bs) is
+of_in w v (Job.Run o row) (ActorJob.Run r) os bs is =
+    (is.0, is.1, record { observer = is.2.observer; there = subst (λ x. slice_get x r.watch.observer ≡ Some is.2.observer) (sym os) is.2.there; program = is.2.program; column = is.2.column })
+of_in w v (Job.Change n) (ActorJob.Run r) os bs is = absurd is
+of_in w v (Job.Run o row) (ActorJob.Change c) os bs is = absurd is
+
+-- a run that did an instruction isn't over
+computed_goes : (j k : ActorJob) → Computes j k → is_over k ≡ false
+computed_goes j k did = grind arith
 
 local_by : (n : Need) → is_local_need n ≡ true → n ≡ Need.Local
 local_by n e = grind arith
 
--- an instruction leaves the conversation as it was
-came_by : (w : WorldOf) (j k : ActorJob) (said : List Received) → JobCame w j said → is_local j ≡ true → Computes j k → JobCame w k said
-came_by w (ActorJob.Change c) k said m local did = absurd did
-came_by w (ActorJob.Run r) k said m local did =
-    let l = did.0 in
-    let same : l.watch ≡ r.watch = ap (λ (x : RunOf). x.watch) did.2.same in
-    let reaches = computed said r l m.reaches (local_by (need_of r) local) did.2 in
-    subst (λ x. JobCame w x said) (sym did.1) (run_goes_on w r l said said same m reaches)
+-- the same run, further on
+ran_on : (w : WorldOf) (r l : RunOf) (said more : List Received) → l.watch ≡ r.watch → JobCame w (ActorJob.Run r) said → IsMove run_job r l more → IsReady (ActorJob.Run l) × HasConversed (ActorJob.Run l) (said ++ more)
+ran_on w r l said more same came m = (subst (λ (o : Watch). RulesAccept o.judged) (sym same) came.ready, subst (λ o. Reaches (fresh o) (said ++ more) l) (sym same) (one_part r l said more came.converses m))
 
--- what a job came by depends on the observers and the changes alone
-came_in : (w v : WorldOf) (j : ActorJob) (said : List Received) → v.shared.state.observers ≡ w.shared.state.observers → v.batches ≡ w.batches → JobCame w j said → JobCame v j said
-came_in w v j said os bs m = grind arith
+-- a job that has moved on has come there
+goes_with : (w : WorldOf) (j k : ActorJob) (said more : List Received) → JobCame w j said → IsMove actor_job j k more → IsReady k × HasConversed k (said ++ more)
+goes_with w (ActorJob.Change c) k said more came (took r next can takes) =
+    subst (λ x. IsReady x × HasConversed x (said ++ r ∷ [])) (sym takes) (came.ready, one_part c (changes.answered c r.answer) said (r ∷ []) came.converses (took r next can refl))
+goes_with w (ActorJob.Change c) k said more came (went g) = absurd g.1
+goes_with w (ActorJob.Run r) k said more came (took e next can takes) =
+    subst (λ x. IsReady x × HasConversed x (said ++ e ∷ [])) (sym takes.1) (ran_on w r takes.0 said (e ∷ []) (ap (λ (x : RunOf). x.watch) takes.2) came (took e next can (takes.2, takes.3)))
+goes_with w (ActorJob.Run r) k said more came (went g) =
+    subst (λ x. IsReady x × HasConversed x (said ++ [])) (sym g.1.1) (ran_on w r g.1.0 said [] (ap (λ (x : RunOf). x.watch) g.1.2.same) came (went (local_by (need_of r) g.0, g.1.2)))
+
+came_on : (w : WorldOf) (j k : ActorJob) (said more : List Received) → JobCame w j said → IsMove actor_job j k more → JobCame w k (said ++ more)
+came_on w j k said more came m = let on = goes_with w j k said more came m in record { job = came.job; its = of_move w came.job j k more m came.its; ready = on.0; converses = on.1 }
 
 -- a job stays tied while the observers and the changes stay
 tied_in : (w v : WorldOf) (seat : SeatOf) (n : ℕ) (j : ActorJob) → v.shared.state.observers ≡ w.shared.state.observers → v.batches ≡ w.batches → CameSinceLaunch w seat n j → CameSinceLaunch v seat n j
-tied_in w v seat n j os bs t = record { before = t.before; said = t.said; counted = t.counted; received = t.received; came = came_in w v j t.said os bs t.came }
+tied_in w v seat n j os bs t = record {
+  before = t.before;
+  said = t.said;
+  counted = t.counted;
+  received = t.received;
+  came = record { job = t.came.job; its = of_in w v t.came.job j os bs t.came.its; ready = t.came.ready; converses = t.came.converses };
+}
+
+-- and goes on with what its seat received since
+tied_on : (w : WorldOf) (seat told : SeatOf) (n : ℕ) (j k : ActorJob) (more : List Received) → CameSinceLaunch w seat n j → told.received ≡ seat.received ++ more → IsMove actor_job j k more → CameSinceLaunch w told n k
+tied_on w seat told n j k more t is m =
+    record { before = t.before; said = t.said ++ more; counted = t.counted; received = is ∙ (ap (λ l. l ++ more) t.received ∙ append_assoc t.before t.said more); came = came_on w j k t.said more t.came m }
+
+-- ---- launches
+
+-- a job as it is launched: it is what was asked for, has said nothing, and isn't at its end
+pub record IsMade (w : WorldOf) (job : Job) (j : ActorJob) : Type 0 where
+  pub its : IsJobOf w job j
+  pub converses : HasConversed j []
+  pub goes_on : is_over j ≡ false
+
+module _ (w : WorldOf) where
+  change_made : (k : ℕ) (found : Option Writes) (made : ActorJob) → change_of w.batches k ≡ found → option_map (λ batch. ActorJob.Change (new_change batch)) found ≡ Some made → IsMade w (Job.Change k) made
+  change_made k None made is e = absurd (some_none made e)
+  change_made k (Some x) made is e =
+      subst (IsMade w (Job.Change k)) (some_same (ActorJob.Change (new_change x)) made e) (record { its = is; converses = no_part; goes_on = refl })
+
+  run_made : (o : ℕ) (row : Row) (found : Option ObserverOf) (made : ActorJob) → slice_get w.shared.state.observers o ≡ found → option_map (λ (x : ObserverOf). ActorJob.Run (fresh (watch_of o x row))) found ≡ Some made → IsMade w (Job.Run o row) made
+  run_made o row None made is e = absurd (some_none made e)
+  run_made o row (Some x) made is e =
+      subst (IsMade w (Job.Run o row)) (some_same (ActorJob.Run (fresh (watch_of o x row))) made e)
+      (record { its = (refl, refl, record { observer = x; there = is; program = refl; column = refl }); converses = no_part; goes_on = refl })
+
+  pub made_is : (job : Job) (made : ActorJob) → job_for w job ≡ Some made → IsMade w job made
+  made_is (Job.Change k) made is = change_made k (change_of w.batches k) made refl is
+  made_is (Job.Run o row) made is = run_made o row (slice_get w.shared.state.observers o) made refl is
 
 -- ---- what a step does to the table and to its seat
 
 -- a step of an actor asks nothing of the table, or is one call by its seat
-data Moves (s : SharedOf) (seat : SeatOf) (t : SharedOf) (told : SeatOf) : Type 0 where
+pub data Moves (s : SharedOf) (seat : SeatOf) (t : SharedOf) (told : SeatOf) : Type 0 where
   stays : t ≡ s → told ≡ seat → Moves s seat t told
   calls : (st : Step) (a : Answer) → Calls s seat st a t told → Moves s seat t told
 
@@ -114,7 +145,7 @@ moves_legal : (s : SharedOf) (seat : SeatOf) (t : SharedOf) (told : SeatOf) → 
 moves_legal s seat t told (stays t-is told-is) l = subst (λ x. IsLegalTable x) (sym t-is) l
 moves_legal s seat t told (calls st a c) l = call_legal s seat told st a t l c
 
-moves_observers : (s : SharedOf) (seat : SeatOf) (t : SharedOf) (told : SeatOf) → Moves s seat t told → t.state.observers ≡ s.state.observers
+pub moves_observers : (s : SharedOf) (seat : SeatOf) (t : SharedOf) (told : SeatOf) → Moves s seat t told → t.state.observers ≡ s.state.observers
 moves_observers s seat t told x = grind arith
 
 set_same : {A : Type 0} (xs : List A) (k : ℕ) (x y : A) → slice_get xs k ≡ Some x → y ≡ x → slice_set xs k y ≡ xs
@@ -129,87 +160,63 @@ moves_seats s seats k seat t told (calls st a c) is are = seats_after_call s sea
 
 -- ---- what a step leaves of a job
 
--- what is left of the job is tied to what its seat received by then
-record IsSteppedTo (w : WorldOf) (seat : SeatOf) (n : ℕ) (to : Stepped) : Type 0 where
-  pub moves : Moves w.shared seat to.table to.seat
-  pub tied : (k : ActorJob) → to.job ≡ Some k → CameSinceLaunch w to.seat n k
+-- the job that there was has moved, by what its seat received by then, and isn't at its end
+pub record HasMoved (seat : SeatOf) (was : Option ActorJob) (k : ActorJob) (told : SeatOf) : Type 0 where
+  pub from : ActorJob
+  pub was_is : was ≡ Some from
+  pub more : List Received
+  pub received : told.received ≡ seat.received ++ more
+  pub move : IsMove actor_job from k more
+  pub goes_on : is_over k ≡ false
 
-none_left : (w : WorldOf) (told : SeatOf) (n : ℕ) (rest : Option ActorJob) → rest ≡ None → (k : ActorJob) → rest ≡ Some k → CameSinceLaunch w told n k
-none_left w told n rest none k some = absurd (some_none k (sym none ∙ some))
+-- what is left, if anything, has moved
+pub record IsSteppedTo (s : SharedOf) (seat : SeatOf) (was : Option ActorJob) (to : Stepped) : Type 0 where
+  pub moves : Moves s seat to.table to.seat
+  pub left : (k : ActorJob) → to.job ≡ Some k → HasMoved seat was k to.seat
 
-instructed : (w : WorldOf) (seat : SeatOf) (n : ℕ) (j : ActorJob) (to : Stepped) → is_local j ≡ true → CameSinceLaunch w seat n j → Instructs w.shared seat j to → IsSteppedTo w seat n to
-instructed w seat n j to local tie d = record {
-  moves = stays d.same.table d.same.list;
-  tied = grind (arith, came_by, d.same.list, tie.came, d.computes, tie.before, tie.counted, tie.received);
-}
+module _ (s : SharedOf) (seat : SeatOf) (to : Stepped) where
+  -- of what is gone nothing is to be shown
+  left_none : (was : Option ActorJob) → ChangesJobAlone s seat to.table to.seat → to.job ≡ None → IsSteppedTo s seat was to
+  left_none was same none = record { moves = stays same.table same.list; left = λ k is. absurd (some_none k (sym none ∙ is)) }
 
-idled : (w : WorldOf) (seat : SeatOf) (n : ℕ) (to : Stepped) → IsIdle w.shared seat to → IsSteppedTo w seat n to
-idled w seat n to d = record { moves = stays d.same.table d.same.list; tied = none_left w to.seat n to.job d.left }
+  instructed : (j : ActorJob) → is_local j ≡ true → Instructs s seat j to → IsSteppedTo s seat (Some j) to
+  instructed j local d = record {
+    moves = stays d.same.table d.same.list;
+    left = λ k is.
+        let same : d.after ≡ k = some_same d.after k (sym d.left ∙ is) in
+        record { from = j; was_is = refl; more = []; received = ap (λ (x : SeatOf). x.received) d.same.list ∙ sym (append-nil seat.received); move = subst (λ x. IsMove actor_job j x []) same (went (local, d.computes)); goes_on = subst (λ x. is_over x ≡ false) same (computed_goes j d.after d.computes) };
+  }
 
-answered : (w : WorldOf) (seat : SeatOf) (n : ℕ) (j : ActorJob) (st : Step) (to : Stepped) → next_of j ≡ Some st → CameSinceLaunch w seat n j → AnswersJob w.shared seat j st to → IsSteppedTo w seat n to
-answered w seat n j st to next tie d = record {
-  moves = calls st d.answer d.calls;
-  tied = grind (arith, came_on, append_assoc', tie.came, d.can, d.takes, tie.before, tie.counted, d.calls.received, tie.received);
-}
+  -- what is left of a job that took an answer isn't at its end
+  unless_over_left : (j k : ActorJob) (b : Bool) → is_over j ≡ b → (if b then None else Some j) ≡ Some k → (j ≡ k) × (is_over k ≡ false)
+  unless_over_left j k b is e = grind arith
 
-called_by : (w : WorldOf) (seat : SeatOf) (n : ℕ) (j : ActorJob) (st : Step) (to : Stepped) (why : Option Reason) → next_of j ≡ Some st → CameSinceLaunch w seat n j
-    → MatchOption why (AnswersJob w.shared seat j st to) (λ y. RefusesJob w.shared seat y to) → IsSteppedTo w seat n to
-called_by w seat n j st to None next tie d = answered w seat n j st to next tie d
-called_by w seat n j st to (Some y) next tie d = record { moves = stays d.same.table d.same.list; tied = none_left w to.seat n to.job d.left }
+  answered : (j : ActorJob) (st : Step) → next_of j ≡ Some st → AnswersJob s seat j st to → IsSteppedTo s seat (Some j) to
+  answered j st next d = record {
+    moves = calls st d.answer d.calls;
+    left = λ k is.
+        let on = unless_over_left d.after k (is_over d.after) refl (sym d.left ∙ is) in
+        record { from = j; was_is = refl; more = record { step = st; answer = d.answer } ∷ []; received = d.calls.received; move = subst (λ x. IsMove actor_job j x (record { step = st; answer = d.answer } ∷ [])) on.0 (took (record { step = st; answer = d.answer }) next d.can d.takes); goes_on = on.1 };
+  }
 
-asked : (w : WorldOf) (seat : SeatOf) (n : ℕ) (j : ActorJob) (to : Stepped) (o : Option Step) → next_of j ≡ o → CameSinceLaunch w seat n j
-    → MatchOption o (IsIdle w.shared seat to) (λ st. CallSteps w.shared seat j st to) → IsSteppedTo w seat n to
-asked w seat n j to None is tie d = idled w seat n to d
-asked w seat n j to (Some st) is tie d = called_by w seat n j st to (call_reason w.shared seat.number st) is tie d
+  called_by : (j : ActorJob) (st : Step) (why : Option Reason) → next_of j ≡ Some st → MatchOption why (AnswersJob s seat j st to) (λ y. RefusesJob s seat y to) → IsSteppedTo s seat (Some j) to
+  called_by j st None next d = answered j st next d
+  called_by j st (Some y) next d = left_none (Some j) d.same d.left
 
--- whatever a step of a job came to
-job_steps : (w : WorldOf) (seat : SeatOf) (n : ℕ) (j : ActorJob) (to : Stepped) → CameSinceLaunch w seat n j → JobSteps w.shared seat j to → IsSteppedTo w seat n to
-job_steps w seat n j to tie d = by (is_local j) refl d
-  where
-    by : (b : Bool) → is_local j ≡ b → MatchBool b (Instructs w.shared seat j to) (MatchOption (next_of j) (IsIdle w.shared seat to) (λ st. CallSteps w.shared seat j st to)) → IsSteppedTo w seat n to
-    by true local d = instructed w seat n j to local tie d
-    by false local d = asked w seat n j to (next_of j) refl tie d
+  asked : (j : ActorJob) (o : Option Step) → next_of j ≡ o → MatchOption o (IsIdle s seat to) (λ st. CallSteps s seat j st to) → IsSteppedTo s seat (Some j) to
+  asked j None is d = left_none (Some j) d.same d.left
+  asked j (Some st) is d = called_by j st (call_reason s seat.number st) is d
 
-actor_steps : (w : WorldOf) (seat : SeatOf) (n : ℕ) (o : Option ActorJob) (to : Stepped) → ((j : ActorJob) → o ≡ Some j → CameSinceLaunch w seat n j) → StepsTo w.shared seat o to → IsSteppedTo w seat n to
-actor_steps w seat n None to tie d = idled w seat n to d
-actor_steps w seat n (Some j) to tie d = job_steps w seat n j to (tie j refl) d
+  job_steps : (j : ActorJob) (b : Bool) → is_local j ≡ b → MatchBool b (Instructs s seat j to) (MatchOption (next_of j) (IsIdle s seat to) (λ st. CallSteps s seat j st to)) → IsSteppedTo s seat (Some j) to
+  job_steps j true local d = instructed j local d
+  job_steps j false local d = asked j (next_of j) refl d
+
+  -- whatever a step of an actor came to
+  pub actor_steps : (o : Option ActorJob) → StepsTo s seat o to → IsSteppedTo s seat o to
+  actor_steps None d = left_none None d.same d.left
+  actor_steps (Some j) d = job_steps j (is_local j) refl d
 
 -- ---- events
-
--- one actor changed, and its seat
-pub step_keeps_world : (w v : WorldOf) (k : ℕ) (n : Note) → 0 < k → IsSoundWorld w → StepsActor w k n v → IsSoundWorld v
-step_keeps_world w v k n some s d = subst (λ x. IsSoundWorld x) (sym d.after) here
-  where
-    u : WorldOf
-    u = record w { shared = v.shared; seats = slice_set w.seats k d.told; actors = slice_set w.actors k d.stepped }
-
-    to : Stepped
-    to = record { note = n; table = v.shared; seat = d.told; job = d.stepped.job }
-
-    left : IsSteppedTo w d.seat d.stepped.launched to
-    left = subst (λ m. IsSteppedTo w d.seat m to) (sym d.steps.launched) (actor_steps w d.seat d.actor.launched d.actor.job to (λ j is. s.tied k d.actor d.seat j d.its_actor d.its_seat is) d.steps.steps)
-
-    observers : v.shared.state.observers ≡ w.shared.state.observers
-    observers = moves_observers w.shared d.seat v.shared d.told left.moves
-
-    tie : (i : ℕ) (a : Actor) (seat : SeatOf) (j : ActorJob) → IsAfterSet w.actors k d.stepped i a → IsAfterSet w.seats k d.told i seat → a.job ≡ Some j → CameSinceLaunch u seat a.launched j
-    tie i a seat j (changed e a-is) (changed f seat-is) job =
-        let here : CameSinceLaunch w d.told d.stepped.launched j = left.tied j (subst (λ (x : Actor). x.job ≡ Some j) a-is job) in
-        tied_in w u seat a.launched j observers refl (subst (λ (x : Actor). CameSinceLaunch w seat x.launched j) (sym a-is) (subst (λ x. CameSinceLaunch w x d.stepped.launched j) (sym seat-is) here))
-    tie i a seat j (changed e a-is) (unchanged apart is) job = absurd (apart e)
-    tie i a seat j (unchanged apart is) (changed f seat-is) job = absurd (apart f)
-    tie i a seat j (unchanged apart is) (unchanged apart' is') job = tied_in w u seat a.launched j observers refl (s.tied i a seat j is is' job)
-
-    none : (a : Actor) → IsAfterSet w.actors k d.stepped 0 a → a.job ≡ None
-    none a x = grind arith
-
-    here : IsSoundWorld u
-    here = record {
-      legal = moves_legal w.shared d.seat v.shared d.told left.moves s.legal;
-      seats = moves_seats w.shared w.seats k d.seat v.shared d.told left.moves d.its_seat s.seats;
-      own = λ a is. none a (after_set w.actors k d.stepped 0 a is);
-      tied = λ i a seat j is is' job. tie i a seat j (after_set w.actors k d.stepped i a is) (after_set w.seats k d.told i seat is') job;
-    }
 
 -- one actor changed alone
 with_sound : (w : WorldOf) (k : ℕ) (b : Actor) → 0 < k → IsSoundWorld w → ((seat : SeatOf) (j : ActorJob) → slice_get w.seats k ≡ Some seat → b.job ≡ Some j → CameSinceLaunch w seat b.launched j) → IsSoundWorld (with_actor w k b)
@@ -230,26 +237,12 @@ with_sound w k b some s tie = record {
         tied_in w (with_actor w k b) seat a.launched j refl refl (subst (λ (x : Actor). CameSinceLaunch w seat x.launched j) (sym a-is) here)
     at i a seat j (unchanged apart is) is' job = tied_in w (with_actor w k b) seat a.launched j refl refl (s.tied i a seat j is is' job)
 
--- a crash leaves no job to be tied
+-- an actor without job isn't tied
+idle_sound : (w : WorldOf) (k : ℕ) (a : Actor) → 0 < k → IsSoundWorld w → IsSoundWorld (with_actor w k (crashed a))
+idle_sound w k a some s = with_sound w k (crashed a) some s (λ seat j is job. absurd (some_none j job))
+
 crashed_sound : (w v : WorldOf) (k : ℕ) (n : Note) → 0 < k → IsSoundWorld w → CrashesActor w k n v → IsSoundWorld v
-crashed_sound w v k n some s d = subst (λ x. IsSoundWorld x) (sym d.after) (with_sound w k (crashed d.actor) some s (λ seat j is job. absurd (some_none j job)))
-
--- a job that is made has come there without a word
-change_made : (w : WorldOf) (k : ℕ) (o : Option Writes) (made : ActorJob) → change_of w.batches k ≡ o → option_map (λ batch. ActorJob.Change (new_change batch)) o ≡ Some made → IsReady made → JobCame w made []
-change_made w k o made is e ready = grind arith
-
-run_made : (w : WorldOf) (o : ℕ) (row : Row) (found : Option ObserverOf) (made : ActorJob) → slice_get w.shared.state.observers o ≡ found → option_map (λ (x : ObserverOf). ActorJob.Run (fresh (watch_of o x row))) found ≡ Some made → IsReady made → JobCame w made []
-run_made w o row None made is e ready = absurd (some_none made e)
-run_made w o row (Some x) made is e ready =
-    let same : ActorJob.Run (fresh (watch_of o x row)) ≡ made = some_same (ActorJob.Run (fresh (watch_of o x row))) made e in
-    let fits = subst (λ y. IsReady y) (sym same) ready in
-    let here : RunCame w (fresh (watch_of o x row)) [] = record { its = record { observer = x; there = is; program = refl; column = refl }; accepted = fits; reaches = conversations.made } in
-    subst (λ y. JobCame w y []) same here
-
--- a job that was just made has said nothing
-came_first : (w : WorldOf) (job : Job) (made : ActorJob) → job_for w job ≡ Some made → IsReady made → JobCame w made []
-came_first w (Job.Change k) made is ready = change_made w k (change_of w.batches k) made refl is ready
-came_first w (Job.Run o row) made is ready = run_made w o row (slice_get w.shared.state.observers o) made refl is ready
+crashed_sound w v k n some s d = subst (λ x. IsSoundWorld x) (sym d.after) (idle_sound w k d.actor some s)
 
 -- its conversation begins at the end of its seat's list
 launched_sound : (w v : WorldOf) (k : ℕ) (job : Job) (n : Note) → 0 < k → IsSoundWorld w → Launches w k job n v → IsSoundWorld v
@@ -258,36 +251,64 @@ launched_sound w v k job n some s d = subst (λ x. IsSoundWorld x) (sym d.after)
     at : (seat : SeatOf) (j : ActorJob) → slice_get w.seats k ≡ Some seat → Some d.made ≡ Some j → CameSinceLaunch w seat (length d.seat.received) j
     at seat j is e =
         let same : d.seat ≡ seat = some_same d.seat seat (sym d.its_seat ∙ is) in
+        let made = made_is w job d.made d.made_is in
         let here : CameSinceLaunch w seat (length d.seat.received) d.made = record {
           before = seat.received;
           said = [];
           counted = ap (λ (x : SeatOf). length x.received) (sym same);
-          received = sym (append-none seat.received);
-          came = came_first w job d.made d.made_is d.ready;
+          received = sym (append-nil seat.received);
+          came = record { job = job; its = made.its; ready = d.ready; converses = made.converses };
         } in
         subst (λ x. CameSinceLaunch w seat (length d.seat.received) x) (some_same d.made j e) here
 
--- the world's own step
-own_moved : (w v : WorldOf) (seat told : SeatOf) → IsSoundWorld w → slice_get w.seats 0 ≡ Some seat → Moves w.shared seat v.shared told → v ≡ record w { shared = v.shared; seats = slice_set w.seats 0 told } → IsSoundWorld v
-own_moved w v seat told s its m after = subst (λ x. IsSoundWorld x) (sym after) (record {
-  legal = moves_legal w.shared seat v.shared told m s.legal;
-  seats = moves_seats w.shared w.seats 0 seat v.shared told m its s.seats;
+-- one seat changed by a call, whose actor has no job
+seat_moved : (w : WorldOf) (t : SharedOf) (k : ℕ) (seat told : SeatOf) → IsSoundWorld w → slice_get w.seats k ≡ Some seat → ((a : Actor) → slice_get w.actors k ≡ Some a → a.job ≡ None) → Moves w.shared seat t told → IsSoundWorld (record w { shared = t; seats = slice_set w.seats k told })
+seat_moved w t k seat told s its idle m = record {
+  legal = moves_legal w.shared seat t told m s.legal;
+  seats = moves_seats w.shared w.seats k seat t told m its s.seats;
   own = s.own;
-  tied = λ i a p j is is' job. at i a p j is (after_set w.seats 0 told i p is') job;
-})
+  tied = λ i a p j is is' job. at i a p j is (after_set w.seats k told i p is') job;
+}
   where
-    u : WorldOf
-    u = record w { shared = v.shared; seats = slice_set w.seats 0 told }
+    at : (i : ℕ) (a : Actor) (p : SeatOf) (j : ActorJob) → slice_get w.actors i ≡ Some a → IsAfterSet w.seats k told i p → a.job ≡ Some j → CameSinceLaunch (record w { shared = t; seats = slice_set w.seats k told }) p a.launched j
+    at i a p j is (changed e p-is) job = absurd (some_none j (sym (idle a (subst (λ n. slice_get w.actors n ≡ Some a) e is)) ∙ job))
+    at i a p j is (unchanged apart is') job = tied_in w (record w { shared = t; seats = slice_set w.seats k told }) p a.launched j (moves_observers w.shared seat t told m) refl (s.tied i a p j is is' job)
 
-    at : (i : ℕ) (a : Actor) (p : SeatOf) (j : ActorJob) → slice_get w.actors i ≡ Some a → IsAfterSet w.seats 0 told i p → a.job ≡ Some j → CameSinceLaunch u p a.launched j
-    at i a p j is (changed e p-is) job = absurd (some_none j (sym (s.own a (subst (λ n. slice_get w.actors n ≡ Some a) e is)) ∙ job))
-    at i a p j is (unchanged apart is') job = tied_in w u p a.launched j (moves_observers w.shared seat v.shared told m) refl (s.tied i a p j is is' job)
+-- a step of an actor: without its job first, then its seat, and then with what is left of the job
+pub step_keeps_world : (w v : WorldOf) (k : ℕ) (n : Note) → 0 < k → IsSoundWorld w → StepsActor w k n v → IsSoundWorld v
+step_keeps_world w v k n some s d = subst (λ x. IsSoundWorld x) (sym after) (with_sound mid k d.stepped some sound tie)
+  where
+    mid : WorldOf
+    mid = record w { shared = v.shared; seats = slice_set w.seats k d.told; actors = slice_set w.actors k (crashed d.actor) }
 
+    after : v ≡ with_actor mid k d.stepped
+    after = d.after ∙ ap (λ xs. record mid { actors = xs }) (sym (set-set w.actors k (crashed d.actor) d.stepped))
+
+    to : IsSteppedTo w.shared d.seat d.actor.job (record { note = n; table = v.shared; seat = d.told; job = d.stepped.job })
+    to = actor_steps w.shared d.seat _ d.actor.job d.steps.steps
+
+    none : (a : Actor) → IsAfterSet w.actors k (crashed d.actor) k a → a.job ≡ None
+    none a x = grind arith
+
+    sound : IsSoundWorld mid
+    sound = seat_moved (with_actor w k (crashed d.actor)) v.shared k d.seat d.told (idle_sound w k d.actor some s) d.its_seat (λ a is. none a (after_set w.actors k (crashed d.actor) k a is)) to.moves
+
+    left : (seat : SeatOf) (j : ActorJob) → IsAfterSet w.seats k d.told k seat → d.stepped.job ≡ Some j → CameSinceLaunch w seat d.stepped.launched j
+    left seat j (unchanged apart is) job = absurd (apart refl)
+    left seat j (changed e seat-is) job =
+        let m = to.left j job in
+        let tied = tied_on w d.seat d.told d.actor.launched m.from j m.more (s.tied k d.actor d.seat m.from d.its_actor d.its_seat m.was_is) m.received m.move in
+        subst (λ x. CameSinceLaunch w x d.stepped.launched j) (sym seat-is) (subst (λ x. CameSinceLaunch w d.told x j) (sym d.steps.launched) tied)
+
+    tie : (seat : SeatOf) (j : ActorJob) → slice_get (slice_set w.seats k d.told) k ≡ Some seat → d.stepped.job ≡ Some j → CameSinceLaunch mid seat d.stepped.launched j
+    tie seat j is job = tied_in w mid seat d.stepped.launched j (moves_observers w.shared d.seat v.shared d.told to.moves) refl (left seat j (after_set w.seats k d.told k seat is) job)
+
+-- the world's own step
 own_sound : (w v : WorldOf) (st : Step) (n : Note) → IsSoundWorld w → OwnCalls w st n v → IsSoundWorld v
 own_sound w v st n s d = by (call_reason w.shared d.seat.number st) d.calls
   where
     by : (r : Option Reason) → MatchOption r (OwnAnswers w d.seat st n v) (λ why. (n ≡ Note.Refused (reason_code why)) × (v ≡ w)) → IsSoundWorld v
-    by None c = own_moved w v d.seat c.told s d.its_seat (calls st c.answer c.calls) c.after
+    by None c = subst (λ x. IsSoundWorld x) (sym c.after) (seat_moved w v.shared 0 d.seat c.told s d.its_seat s.own (calls st c.answer c.calls))
     by (Some y) c = subst (λ x. IsSoundWorld x) (sym c.1) s
 
 -- where an event isn't at fault its actor isn't the world's own

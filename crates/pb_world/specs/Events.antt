@@ -1,6 +1,6 @@
 -- Worlds, and runs of a list of events. The contracts of `World` cite them, and the laws of this crate and of
 -- `law_worlds` speak of `RunsTo`.
-use Rattle.std.specs.Prelude.{◌≡◌, ℕ, ◌-◌, ◌≤◌, ◌==◌, if◌then◌else◌, List, [], ◌∷◌, length, take, replicate, Option, Some, None, MatchOption, slice_get, slice_set, ◌⊎◌, option_map, option_and_then}
+use Rattle.std.specs.Prelude.{◌≡◌, ℕ, ◌-◌, ◌≤◌, ◌==◌, if◌then◌else◌, List, [], ◌∷◌, length, take, replicate, Option, Some, None, MatchOption, Result, Ok, Err, slice_get, slice_set, ◌⊎◌, option_map, option_and_then}
 use Rattle.pb_world.specs.Words.{Writes, reason_code, Row, Step, Answer, ObserverOf, SharedOf, SeatOf, Calls, call_reason, new_change, watch_of, fresh, Event, Job}
 use Rattle.pb_world.specs.declared.actor.Actor.{Actor}
 use Rattle.pb_world.specs.declared.fault.EventFault.{EventFault}
@@ -170,6 +170,11 @@ MayWant w (Event.Sweep x) = OwnMayWant w (Step.Sweep x)
 pub record EventMayWant (w : WorldOf) (e : Event) : Type 0 where
   pub can : fault_of w e ≡ None
   pub wants : MayWant w e
+
+-- an event was tried: it happened, with its note; or it did nothing, at fault or since memory was refused
+abbrev pub TriesEvent : WorldOf → Event → Result Note EventFault → WorldOf → Type 0
+TriesEvent w e (Ok n) v = Happens w e n v
+TriesEvent w e (Err f) v = (v ≡ w) × (((f ≡ memory_fault) × EventMayWant w e) ⊎ (fault_of w e ≡ Some f))
 
 -- ---- lists of events
 

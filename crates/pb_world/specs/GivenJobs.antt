@@ -5,8 +5,8 @@ use Rattle.pb_world.specs.declared.actor.Actor.{Actor}
 use Rattle.pb_world.specs.declared.job.ActorJob.{ActorJob}
 use Rattle.pb_world.specs.declared.note.Note.{Note}
 use Rattle.pb_world.specs.Jobs.{is_over}
-use Rattle.pb_world.specs.Events.{WorldOf, change_of, actor_of, Happens, RunsTo, StopsAtEvent}
-use Rattle.pb_world.specs.Sound.{HasObserver}
+use Rattle.pb_world.specs.Events.{WorldOf, actor_of, Happens, RunsTo, StopsAtEvent}
+use Rattle.pb_world.specs.Sound.{IsJobOf}
 use Rattle.pb_world.specs.Headline.{IsOpened}
 
 -- the event launches or crashes this actor
@@ -21,12 +21,6 @@ pub record IsLastLaunch (es : List Event) (k : ℕ) (job : Job) : Type 0 where
   pub after : List Event
   pub es_is : es ≡ before ++ Event.Launch k job ∷ after
   pub last : (e : Event) → Has after e → LaunchesOrCrashes k e → ⊥
-
--- the change of this number, or a run of this observer on the cell of this row
-abbrev pub IsJobOf : WorldOf → Job → ActorJob → Type 0
-IsJobOf w (Job.Change k) (ActorJob.Change c) = change_of w.batches k ≡ Some c.batch
-IsJobOf w (Job.Run o row) (ActorJob.Run r) = (r.watch.observer ≡ o) × (r.watch.row ≡ row) × HasObserver w r.watch
-IsJobOf w job j = ⊥
 
 -- the actor's last launch among these events was for this job, which isn't at its end
 pub record IsGivenJob (es : List Event) (w : WorldOf) (k : ℕ) (j : ActorJob) : Type 0 where

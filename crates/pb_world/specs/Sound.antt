@@ -1,19 +1,12 @@
 -- What every world keeps: its journal is legal, each seat has its entries, and each actor's job is tied to what its seat received
 -- since the launch.
-use Rattle.std.specs.Prelude.{◌≡◌, ℕ, true, List, ◌++◌, length, Some, None, slice_get}
-use Rattle.pb_world.specs.Words.{is_batch, ObserverOf, Received, SeatOf, AreSeats, IsLegalTable, ChangeOf, new_change, Converses, Watch, RunOf, fresh, Reaches, Event}
+use Rattle.std.specs.Prelude.{◌≡◌, ℕ, List, ◌++◌, length, Some, None, slice_get}
+use Rattle.pb_world.specs.Words.{ObserverOf, Received, SeatOf, AreSeats, IsLegalTable, new_change, Converses, Watch, fresh, Reaches, Event, Job}
 use Rattle.pb_world.specs.declared.actor.Actor.{Actor}
 use Rattle.pb_world.specs.declared.job.ActorJob.{ActorJob}
 use Rattle.pb_world.specs.declared.note.Note.{Note}
-use Rattle.pb_world.specs.Jobs.{RulesAccept}
+use Rattle.pb_world.specs.Jobs.{IsReady}
 use Rattle.pb_world.specs.Events.{WorldOf, change_of, RunsTo}
-
--- a change of the script, led by its answers to where it stands
-pub record ChangeCame (w : WorldOf) (c : ChangeOf) (said : List Received) : Type 0 where
-  pub number : ℕ
-  pub there : change_of w.batches number ≡ Some c.batch
-  pub is : is_batch c.batch ≡ true
-  pub converses : Converses (new_change c.batch) said c
 
 -- the observer is there, with this program and this column
 pub record HasObserver (w : WorldOf) (o : Watch) : Type 0 where
@@ -22,16 +15,23 @@ pub record HasObserver (w : WorldOf) (o : Watch) : Type 0 where
   pub program : o.judged ≡ observer.program
   pub column : o.column ≡ observer.column
 
--- a run of an observer, led by its answers and its machine's instructions to where it stands
-pub record RunCame (w : WorldOf) (r : RunOf) (said : List Received) : Type 0 where
-  pub its : HasObserver w r.watch
-  pub accepted : RulesAccept r.watch.judged
-  pub reaches : Reaches (fresh r.watch) said r
+-- the change of this number, or a run of this observer on the cell of this row
+abbrev pub IsJobOf : WorldOf → Job → ActorJob → Type 0
+IsJobOf w (Job.Change k) (ActorJob.Change c) = change_of w.batches k ≡ Some c.batch
+IsJobOf w (Job.Run o row) (ActorJob.Run r) = (r.watch.observer ≡ o) × (r.watch.row ≡ row) × HasObserver w r.watch
+IsJobOf w job j = ⊥
 
--- the job was led to where it stands by the conversation
-abbrev pub JobCame : WorldOf → ActorJob → List Received → Type 0
-JobCame w (ActorJob.Change c) said = ChangeCame w c said
-JobCame w (ActorJob.Run r) said = RunCame w r said
+-- led from its first step to where it stands by its answers, and by its machine's instructions
+abbrev pub HasConversed : ActorJob → List Received → Type 0
+HasConversed (ActorJob.Change c) said = Converses (new_change c.batch) said c
+HasConversed (ActorJob.Run r) said = Reaches (fresh r.watch) said r
+
+-- a job of the script or of an observer, led to where it stands by the conversation
+pub record JobCame (w : WorldOf) (j : ActorJob) (said : List Received) : Type 0 where
+  pub job : Job
+  pub its : IsJobOf w job j
+  pub ready : IsReady j
+  pub converses : HasConversed j said
 
 -- what a seat received since the launch led the job to where it stands
 pub record CameSinceLaunch (w : WorldOf) (seat : SeatOf) (launched : ℕ) (j : ActorJob) : Type 0 where

@@ -33,9 +33,11 @@ pub use Rattle.pb_core.specs.Codes.{shared_code}
 pub use Rattle.pb_core.specs.Histories.{HandlesOnce, IsLegalTable, IsSnapshotHistory}
 pub use Rattle.pb_parse.specs.declared.event.Event.{Event}
 pub use Rattle.pb_parse.specs.declared.event.Job.{Job}
+pub use Rattle.pb_conversations.specs.Conversations.{IsMove, JobOf, took, went}
+pub use Rattle.pb_conversations.specs.Parts.{no_part, one_part}
 pub use Rattle.pb_txn.specs.Changes.{ChangeOf, ChangesConverse, Converses, IsWholeChange, new_change}
 pub use Rattle.pb_txn.specs.declared.place.Outcome.{Outcome}
-pub use Rattle.pb_notify.specs.Conversations.{Reaches, computed, took}
+pub use Rattle.pb_notify.specs.Conversations.{Reaches, run_job}
 pub use Rattle.pb_notify.specs.Forms.{IsRunConversation, JobsConverse}
 pub use Rattle.pb_notify.specs.Led.{AsksAreOpen, EndedRunsMean, HasEnded, IsAskingAt, IsMachineOf, MachineStandsAt, MachinesAreLed}
 pub use Rattle.pb_notify.specs.Runs.{RunOf, Watch, fresh, need_of, watch_of}

@@ -76,14 +76,13 @@ fn append<X: Drop>(list: &mut Vec<X>, item: X)
 }
 
 impl<T: Tablet> World<T> {
-    ghost use Rattle.std.specs.Prelude.{◌≡◌, ◌≢◌, ◌⊎◌, None, Some, true, MatchOption, MatchResult, IfOk, IfErr, OnOk, OnErr, length};
-    ghost use Rattle.std.specs.Option.{is_some};
+    ghost use Rattle.std.specs.Prelude.{◌≡◌, ◌⊎◌, None, Some, MatchOption, MatchResult, IfOk, IfErr, length};
     ghost use Rattle.pb_core.specs.Calls.{AreSeats};
     ghost use Rattle.pb_world.specs.Headline.{IsOpened};
     ghost use Rattle.pb_world.specs.Faults.{fault_code, memory_fault};
-    ghost use Rattle.pb_world.specs.Actors.{OnNote};
     ghost use Rattle.pb_world.specs.Jobs.{IsReady};
-    ghost use Rattle.pb_world.specs.Events.{idle_actors, actor_of, held_job, change_of, job_for, no_actor, no_launch, fault_of, Launches, StepsActor, CrashesActor, OwnCalls, EventDoes, StepMayWant, OwnMayWant, MayWant, EventMayWant, Happens, RunsTo, StopsAtEvent};
+    ghost use Rattle.pb_world.specs.Events.{idle_actors, actor_of, held_job, change_of, job_for, no_job, no_actor, OwnCalls, OwnMayWant, TriesEvent, RunsTo, StopsAtEvent};
+    ghost use Rattle.pb_parse.specs.declared.event.Event.TheVariants as events;
 
     /// A world over a table with all its seats, in order, where these changes may be launched. Its actors have no job.
     ///
@@ -173,75 +172,44 @@ impl<T: Tablet> World<T> {
         }
     }
 
-    // Whether there is such a change or observer.
-    fn is_known(&self, job: &Job) -> bool
-        ensures { result ≡ is_some (job_for self.now job.now) }
+    // The place of the actor of this number, if there is one.
+    fn place(&self, number: u32) -> Result<usize, EventFault>
+        ensures { MatchResult result
+            (λ at. (at ≡ number) × (no_actor (actor_of self.now at) ≡ None))
+            (λ f. no_actor (actor_of self.now number) ≡ Some f) }
     {
-        match job {
-            Job::Change(number) => self.change(*number).is_some(),
-            Job::Run(observer, _) => {
-                (observer.number() as usize) < self.shared.observers().len()
-            }
+        match self.actor(number) {
+            Some(_) => Ok(number as usize),
+            None => Err(EventFault::NoSuchActor),
         }
     }
 
-    // Why a launch can't happen, if it can't: the lowest number that applies.
-    fn no_launch(&self, number: u32, job: &Job) -> Option<EventFault>
-        ensures { result ≡ no_launch (actor_of self.now number) (job_for self.now job.now) }
-    {
-        let Some(actor) = self.actor(number) else {
-            return Some(EventFault::NoSuchActor);
-        };
-        if actor.job.is_some() {
-            Some(EventFault::Busy)
-        } else if self.is_known(job) {
-            None
-        } else {
-            Some(EventFault::NoSuchJob)
-        }
-    }
-
-    // Why an event can't happen, if it can't.
-    fn fault(&self, event: &Event) -> Option<EventFault>
-        ensures { result ≡ fault_of self.now event.now }
-    {
-        match event {
-            Event::Launch(number, job) => self.no_launch(*number, job),
-            Event::Step(number) | Event::Crash(number) => {
-                if self.actor(*number).is_none() {
-                    Some(EventFault::NoSuchActor)
-                } else {
-                    None
-                }
-            }
-            // The world's own steps name neither an actor nor a job.
-            _ => None,
-        }
-    }
-
-    // The job of a launch, before its first step.
-    fn make(&self, alloc: Global, job: &Job) -> Result<ActorJob, NoMemory>
-        requires { is_some (job_for self.now job.now) ≡ true }
+    // The job of a launch, before its first step, where there is such a change or observer.
+    fn make(&self, alloc: Global, job: &Job) -> Result<ActorJob, EventFault>
         ensures job { IfOk result (λ j. job_for self.now job.now ≡ Some j) }
         ensures ready { IfOk result IsReady }
+        ensures fault { IfErr result (λ f.
+            ((f ≡ memory_fault) × (no_job (job_for self.now job.now) ≡ None))
+            ⊎ (no_job (job_for self.now job.now) ≡ Some f)) }
     {
         match job {
             Job::Change(number) => {
-                let Some(batch) = self.change(*number) else {
-                    unreachable!()
-                };
+                let batch = self.change(*number).ok_or(EventFault::NoSuchJob)?;
                 // A copy, since the same change may be launched again.
-                let batch = batch.copy()?;
+                let batch = batch.copy().map_err(EventFault::NoMemory)?;
                 // For the proof: a batch has some cells, each named once.
                 batch.known();
                 match ChangeJob::new(alloc, batch) {
                     Ok(job) => Ok(ActorJob::Change(job)),
-                    Err((_, refused)) => Err(refused),
+                    Err((_, refused)) => Err(EventFault::NoMemory(refused)),
                 }
             }
             Job::Run(number, row) => {
-                let observer = &self.shared.observers()[number.number() as usize];
-                let program = Arc::try_clone(&observer.program)?;
+                let Some(observer) = self.shared.observers().get(number.number() as usize) else {
+                    return Err(EventFault::NoSuchJob);
+                };
+                let program = Arc::try_clone(&observer.program).map_err(NoMemory::from);
+                let program = program.map_err(EventFault::NoMemory)?;
                 // For the proof: the rules accept it.
                 program.known();
                 let job = ObserverJob::new(*number, program, *row, observer.column);
@@ -251,80 +219,63 @@ impl<T: Tablet> World<T> {
     }
 
     // An actor gets a job. It is made first, so that a refused growth leaves the actor as it was.
-    fn launch(&mut self, alloc: Global, number: u32, job: &Job) -> Result<Note, NoMemory>
-        requires { no_launch (actor_of self.old number) (job_for self.old job.now) ≡ None }
-        ensures { OnNote result (λ n. Launches self.old number job.now n self.new)
-            (self.new ≡ self.old) }
+    fn launch(&mut self, alloc: Global, number: u32, job: &Job) -> Result<Note, EventFault>
+        ensures { TriesEvent self.old (events.Launch number job.now) result self.new }
     {
+        let at = self.place(number)?;
+        if self.actors[at].job.is_some() {
+            return Err(EventFault::Busy);
+        }
         let made = self.make(alloc, job)?;
-        let said = self.seats[number as usize].received().len();
-        launch(&mut self.actors[number as usize], said, made);
+        let said = self.seats[at].received().len();
+        launch(&mut self.actors[at], said, made);
         Ok(Note::Launched)
     }
 
     // One step of an actor, by the seat of its number.
-    fn step(&mut self, alloc: Global, number: u32) -> Result<Note, NoMemory>
-        requires { no_actor (actor_of self.old number) ≡ None }
-        ensures { OnNote result (λ n. StepsActor self.old number n self.new)
-            ((self.new ≡ self.old) × StepMayWant self.old number) }
+    fn step(&mut self, alloc: Global, number: u32) -> Result<Note, EventFault>
+        ensures { TriesEvent self.old (events.Step number) result self.new }
     {
-        let seat = &mut self.seats[number as usize];
-        let actor = &mut self.actors[number as usize];
+        let at = self.place(number)?;
+        let seat = &mut self.seats[at];
+        let actor = &mut self.actors[at];
         match step_actor(alloc, &mut self.shared, seat, actor) {
             Ok(note) => Ok(note),
-            Err(e) => Err(e),
+            Err(refused) => Err(EventFault::NoMemory(refused)),
         }
     }
 
     // An actor loses its job; table and seats stay.
-    fn crash(&mut self, number: u32) -> Note
-        requires { no_actor (actor_of self.old number) ≡ None }
-        ensures { CrashesActor self.old number result self.new }
+    fn crash(&mut self, number: u32) -> Result<Note, EventFault>
+        ensures { TriesEvent self.old (events.Crash number) result self.new }
     {
-        crash(&mut self.actors[number as usize])
+        let at = self.place(number)?;
+        Ok(crash(&mut self.actors[at]))
     }
 
     // A step of no actor, by seat 0.
-    fn own_call(&mut self, step: &Step) -> Result<Note, NoMemory>
-        ensures { OnNote result (λ n. OwnCalls self.old step.now n self.new)
-            ((self.new ≡ self.old) × OwnMayWant self.old step.now) }
+    fn own_call(&mut self, step: &Step) -> Result<Note, EventFault>
+        ensures { MatchResult result (λ n. OwnCalls self.old step.now n self.new)
+            (λ f. (self.new ≡ self.old) × (f ≡ memory_fault) × OwnMayWant self.old step.now) }
     {
         match call(&mut self.shared, &mut self.seats[0], step) {
             Ok(answer) => Ok(Note::Called(answer)),
             Err(NotCalled::Refused(code)) => Ok(Note::Refused(code)),
-            Err(NotCalled::NoMemory(refused)) => Err(refused),
+            Err(NotCalled::NoMemory(refused)) => Err(EventFault::NoMemory(refused)),
         }
     }
 
-    // What an event does that isn't at fault.
-    fn does(&mut self, alloc: Global, event: &Event) -> Result<Note, NoMemory>
-        requires { fault_of self.old event.now ≡ None }
-        ensures { OnNote result (λ n. EventDoes self.old event.now n self.new)
-            ((self.new ≡ self.old) × MayWant self.old event.now) }
+    // One event. At fault, it did nothing, since each looks for what it needs before it does anything.
+    fn event(&mut self, alloc: Global, event: &Event) -> Result<Note, EventFault>
+        ensures { TriesEvent self.old event.now result self.new }
     {
         match event {
             Event::Launch(number, job) => self.launch(alloc, *number, job),
             Event::Step(number) => self.step(alloc, *number),
-            Event::Crash(number) => Ok(self.crash(*number)),
+            Event::Crash(number) => self.crash(*number),
             Event::Settle(cell) => self.own_call(&Step::Settle(*cell)),
             Event::Clear(cell) => self.own_call(&Step::Clear(*cell)),
             Event::Sweep(cell) => self.own_call(&Step::Sweep(*cell)),
-        }
-    }
-
-    // One event. At fault, it did nothing, since faults are looked for before it does anything.
-    fn event(&mut self, alloc: Global, event: &Event) -> Result<Note, EventFault>
-        ensures { MatchResult result (λ n. Happens self.old event.now n self.new)
-            (λ f. (self.new ≡ self.old)
-            × (((f ≡ memory_fault) × EventMayWant self.old event.now)
-            ⊎ (fault_of self.old event.now ≡ Some f))) }
-    {
-        if let Some(fault) = self.fault(event) {
-            return Err(fault);
-        }
-        match self.does(alloc, event) {
-            Ok(note) => Ok(note),
-            Err(refused) => Err(EventFault::NoMemory(refused)),
         }
     }
 

@@ -1,4 +1,4 @@
-use Rattle.law_worlds.proofs.Opened.{opened_sound}
+use Rattle.pb_world.proofs.Opening.{opened_sound}
 use Rattle.law_worlds.proofs.opened_worlds_are_sound.Goals as goal
 
 pub returns : goal.returns
