@@ -1,13 +1,11 @@
 -- Where acknowledgments are at or above the versions of their cells, so is what is read there later.
 use Rattle.std.proofs.Common.{◌≡◌, ℕ, ◌<◌, ◌≤◌, inl, inr, arith, List, Some, None, slice_get, sym, ap, subst}
 use Rattle.std.proofs.lemmas.Bool.{cases_lt}
-use Rattle.pb_generations.specs.Words.{Cell, Content, Row, Ts, Revision, ObserverOf, Entries, IsVersion, data_at, write_at, acknowledged_in, stamp_of, Answer, Step, StateOf, Entry, Has, IsEntry, IsSoundTable}
+use Rattle.pb_generations.specs.Words.{Cell, Content, Revision, Row, Ts, ObserverOf, Entries, IsVersion, data_at, write_at, acknowledged_in, stamp_of, StateOf, Answer, Step, Has, IsEntry, IsSoundTable, reads_recorded, Entry, IsHeld}
 use Rattle.pb_base.proofs.Logic.{one_value}
 use Rattle.pb_history.proofs.Updates.{none_if}
-use Rattle.pb_history.specs.TableView.{reads_recorded}
 use Rattle.pb_history.proofs.Acknowledgments.{stamp_stands}
 use Rattle.pb_history.proofs.Agreement.{Agrees, read_of, ts}
-use Rattle.pb_notify.specs.Forms.{IsHeld}
 use Rattle.pb_generations.specs.KeptTables.{ReadsAcknowledged}
 
 -- what each observer has acknowledged of a cell of its column at c is at or above the version there

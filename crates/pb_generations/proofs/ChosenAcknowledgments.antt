@@ -3,7 +3,7 @@
 use Rattle.std.proofs.Common.{◌≡◌, ℕ, ◌<◌, ◌≤◌, arith, List, ◌++◌, length, Option, Some, None, inl, inr, refl, sym, ap, subst, ◌∙◌, slice_get, zero, suc}
 use Rattle.std.proofs.lemmas.Option.{slice_get_within, slice_get_cases}
 use Rattle.pb_base.proofs.Logic.{none_some, same_some}
-use Rattle.pb_generations.specs.Words.{Cell, Row, Revision, ObserverOf, StateOf, IsVersion, stamp_of, write_at}
+use Rattle.pb_generations.specs.Words.{Cell, Revision, Row, ObserverOf, IsVersion, write_at, stamp_of, StateOf}
 use Rattle.pb_generations.specs.Chosen.{AreChosen, new_number, place_among, placed_after}
 use Rattle.pb_generations.specs.Renumbered.{IsRenumbered, renumbered_cell}
 use Rattle.pb_generations.proofs.AcknowledgedReads.{AreAcknowledgedAt}

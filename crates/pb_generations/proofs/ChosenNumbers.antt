@@ -3,8 +3,7 @@
 use Rattle.std.proofs.Common.{◌≡◌, ℕ, zero, suc, ◌+◌, ◌≤◌, ◌==◌, arith, Bool, true, false, cond, not, List, [], ◌∷◌, ◌++◌, length, Option, Some, None, option_map, slice_get, refl, sym, ap, ◌∙◌}
 use Rattle.std.proofs.lemmas.Option.{none-some, slice_get_within}
 use Rattle.pb_base.proofs.Logic.{one_value, same_some}
-use Rattle.pb_generations.specs.Words.{Cell, ObserverOf, Entry, Received}
-use Rattle.pb_notify.specs.Allowed.{entries_by}
+use Rattle.pb_generations.specs.Words.{Cell, ObserverOf, Entry, Received, entries_by}
 use Rattle.pb_generations.specs.Chosen.{AreChosen, chosen_cell, new_number, place_among, placed_after, renumbered_received, renumbered_said}
 use Rattle.pb_generations.specs.Renumbered.{AreNumberedBy, IsOneToOne, renumbered_cell, renumbered_entry, renumbered_journal, renumbered_step}
 use Rattle.pb_generations.specs.SameButMarks.{SameButMarks, is_of_marks, without_marks}

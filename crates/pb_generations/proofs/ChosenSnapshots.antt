@@ -5,12 +5,8 @@ use Rattle.std.proofs.lemmas.Bool.{cases_lt}
 use Rattle.std.proofs.lemmas.List.{length-append}
 use Rattle.std.proofs.lemmas.Option.{none-some, slice_get_cases, slice_get_within}
 use Rattle.pb_base.proofs.Logic.{not_both, one_value}
-use Rattle.pb_store.specs.Contents.{Marks}
-use Rattle.pb_steps.specs.Marks.{is_marked}
-use Rattle.pb_steps.specs.Readings.{start_of}
+use Rattle.pb_generations.specs.Words.{Cell, Revision, Row, ObserverOf, Entries, Marks, Sort, is_marked, IsVersion, data_at, data_of, start_of, write_at, StateOf, Transactions, IsQuiet, SoundHasData, IsSoundTable, HasMoreObservers}
 use Rattle.pb_history.proofs.MarksCover.{observed_one}
-use Rattle.pb_state.specs.MoreObservers.{HasMoreObservers}
-use Rattle.pb_generations.specs.Words.{Cell, Row, Revision, ObserverOf, Entries, Sort, StateOf, Transactions, data_at, data_of, write_at, IsVersion, IsQuiet, IsSoundTable, SoundHasData}
 use Rattle.pb_generations.specs.Chosen.{AreChosen, IsChosenSnapshot, chosen_cell, chosen_state, new_number, place_among, placed_after}
 use Rattle.pb_generations.specs.KeptTables.{AreCovered}
 use Rattle.pb_generations.specs.LeftOut.{LacksOthers, is_known_cell, known_entries, without_others}

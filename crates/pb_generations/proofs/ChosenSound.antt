@@ -1,6 +1,6 @@
 -- What was chosen of a table for other observers makes it a sound table, with what is left of its transactions.
 use Rattle.std.proofs.Common.{ℕ, sym, ◌∙◌, ap, subst, List}
-use Rattle.pb_generations.specs.Words.{Cell, Entries, StateOf, data_at, IsVersion}
+use Rattle.pb_generations.specs.Words.{Cell, Entries, IsVersion, data_at, StateOf}
 use Rattle.pb_generations.specs.Chosen.{ChosenAreSound, IsChosenSnapshot}
 use Rattle.pb_generations.proofs.ChosenNumbers.{one_chosen}
 use Rattle.pb_generations.proofs.LeftTransactions.{HaveVersions, left_sound, one_start, version_record}

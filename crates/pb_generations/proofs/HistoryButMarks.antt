@@ -1,14 +1,7 @@
 -- Journals that are the same but for steps of marks have one history, and the same reads, timestamps and transactions.
 use Rattle.std.proofs.Common.{◌≡◌, ℕ, Bool, true, false, not, cond, List, [], ◌∷◌, ◌++◌, refl, sym, ap, subst, ◌∙◌, inl, inr, filter}
 use Rattle.std.proofs.lemmas.List.Elements.{filter-append}
-use Rattle.pb_generations.specs.Words.{Cell, Content, Row, ObserverOf, Answer, Step, StateOf, Entry, Has, TellsOneHandler}
-use Rattle.pb_history.specs.Handled.{Handles}
-use Rattle.pb_history.specs.History.{Member, InHistory, IsSnapshot, NoSnapshot}
-use Rattle.pb_history.specs.RecordsTold.{WroteAt}
-use Rattle.pb_history.specs.RunsTold.{IsAcknowledgedAt}
-use Rattle.pb_history.specs.SnapshotsTold.{TellsSnapshot, TellsSnapshots}
-use Rattle.pb_history.specs.Timestamps.{timestamps, with_timestamp, AreRising, TellsTimestamps}
-use Rattle.pb_history.specs.TransactionsTold.{BeginsOnce, entries_naming, names_start, transaction_by, TellsTransactions}
+use Rattle.pb_generations.specs.Words.{Cell, Content, Row, ObserverOf, StateOf, Answer, Step, Handles, TellsOneHandler, Has, InHistory, IsSnapshot, Member, NoSnapshot, WroteAt, IsAcknowledgedAt, TellsSnapshot, TellsSnapshots, AreRising, TellsTimestamps, timestamps, with_timestamp, BeginsOnce, TellsTransactions, entries_naming, names_start, transaction_by, Entry}
 use Rattle.pb_generations.specs.SameButMarks.{is_of_marks, without_marks, SameButMarks}
 
 -- ---- entries

@@ -1,6 +1,6 @@
 -- One run of steps after another, and what neither changes.
 use Rattle.std.proofs.Common.{◌≡◌, List, [], ◌∷◌, ◌++◌, ap, subst, ◌∙◌}
-use Rattle.pb_generations.specs.Words.{StateOf, Entry, JournalLeads}
+use Rattle.pb_generations.specs.Words.{StateOf, JournalLeads, Entry}
 use Rattle.pb_history.proofs.TransactionAfter.{case_observers}
 use Rattle.pb_generations.proofs.LateStarts.{seats_stay}
 

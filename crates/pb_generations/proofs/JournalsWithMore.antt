@@ -1,10 +1,8 @@
 -- A journal without its steps of marks is one of the table with more observers too.
 use Rattle.std.proofs.Common.{◌≡◌, ℕ, arith, Bool, true, false, not, cond, List, [], ◌∷◌, refl, sym, ap, subst, ◌∙◌}
 use Rattle.std.specs.FinMap as map
-use Rattle.pb_store.specs.Contents.{Marks}
-use Rattle.pb_steps.specs.Steps.{StepCase}
+use Rattle.pb_generations.specs.Words.{ObserverOf, Marks, StateOf, opening, StepCase, TableStep, Answer, Step, IsLegal, JournalLeads, Entry}
 use Rattle.pb_history.proofs.TransactionAfter.{case_observers}
-use Rattle.pb_generations.specs.Words.{ObserverOf, Answer, Step, StateOf, opening, TableStep, Entry, JournalLeads, IsLegal}
 use Rattle.pb_generations.specs.SameButMarks.{is_of_marks, without_marks}
 use Rattle.pb_generations.proofs.LongerLists.{Stay}
 use Rattle.pb_generations.proofs.StepsWithMore.{GoesWithMore, with_more, allowed_more, goes_with_more}

@@ -3,7 +3,7 @@ use Rattle.std.proofs.Common.{◌≡◌, ◌↔◌, ◌⊎◌, ℕ, ◌<◌, ◌
 use Rattle.std.specs.FinMap as map
 use Rattle.std.specs.Ordering.{nat_cmp, eq_by_cmp}
 use Rattle.std.specs.Cmp.{nat_cmp_total}
-use Rattle.pb_generations.specs.Words.{Cell, Content, Revision, Entries, TransactionOf, Transactions, IsVersion, NoVersion, lock_at, write_at, data_at, put_lock, commit_lock, erase_lock}
+use Rattle.pb_generations.specs.Words.{Cell, Content, Revision, Entries, commit_lock, erase_lock, put_lock, IsVersion, NoVersion, data_at, lock_at, write_at, TransactionOf, Transactions}
 use Rattle.pb_history.proofs.Updates.{set2, at_place, set2_there, placed_or_before as placed, left_after_clearing as cleared}
 use Rattle.pb_history.proofs.ViewsAfter.{lock_after_commit, data_after_commit, write_after_commit, lock_after_back, data_after_back, write_after_back, lock_after_put, data_after_put, write_after_put}
 use Rattle.pb_generations.specs.Mirrored.{SameEntries, SameTransactions, IsLatePhase}

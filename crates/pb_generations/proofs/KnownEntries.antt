@@ -3,10 +3,7 @@ use Rattle.std.proofs.Common.{◌≡◌, ℕ, Bool, true, false, cond, Option, S
 use Rattle.std.specs.FinMap as map
 use Rattle.std.specs.Ordering.{eq_by_cmp}
 use Rattle.std.specs.Cmp.{Equal-is}
-use Rattle.pb_store.specs.Slot.{slot_cmp, slot_cmp_total, slot_cmp-IsAntisymmetric}
-use Rattle.pb_store.specs.declared.slot.Slot.{Slot}
-use Rattle.pb_store.specs.declared.slot.Item.{Item}
-use Rattle.pb_generations.specs.Words.{Cell, Content, Entries, Sort, slot_at, put_lock, commit_lock, erase_lock}
+use Rattle.pb_generations.specs.Words.{Cell, Content, Entries, slot_at, slot_cmp, slot_cmp-IsAntisymmetric, slot_cmp_total, Item, Slot, Sort, commit_lock, erase_lock, put_lock}
 use Rattle.pb_generations.specs.LeftOut.{is_known_cell, known_entries}
 
 module _ (n : ℕ) where

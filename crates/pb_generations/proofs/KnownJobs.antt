@@ -1,39 +1,27 @@
 -- Each step of a job names known cells, where its observer is known, and what it was answered.
 use Rattle.std.proofs.Common.{arith, ◌≡◌, ℕ, ◌<◌, true, List, [], ◌∷◌, Option, Some, None, map, slice_get, option_map, refl, sym, ap, subst, ◌∙◌, inl, zero, suc}
 use Rattle.std.proofs.lemmas.Bool.{and_parts}
-use Rattle.pb_base.specs.Batch.{Writes, is_batch}
+use Rattle.pb_generations.specs.Words.{Writes, is_batch, Cell, Row, Ts, ObserverOf, IsMeant, Meant, read_step, StateOf, StepCase, Answer, Declared, Step, Work, Has, JournalLeads, Received, ChangeOf, new_change, told, PlansConverse, PlansEnd, declared_cells, recorded_column, recorded_row, PlanPlace, entries_by, look_step, step_at, Watch, watch_of, Look, RunPlace}
 use Rattle.pb_base.proofs.Logic.{none_some, same_some}
 use Rattle.pb_sound.proofs.RunWrites.{runs_write_batches}
-use Rattle.pb_finished.specs.Finished.{IsMeant, Meant}
-use Rattle.pb_steps.specs.Steps.{StepCase}
-use Rattle.pb_steps.specs.declared.step.Declared.{Declared}
-use Rattle.pb_steps.specs.declared.step.Work.{Work}
 use Rattle.pb_history.proofs.DeclaredCells.{batch_plain, run_plain}
 use Rattle.pb_history.proofs.Updates.{has_right}
-use Rattle.pb_txn.specs.Changes.{ChangeOf, new_change}
+use Rattle.pb_conversations.proofs.Asking.{conversation_unfolds}
 use Rattle.pb_txn.specs.Changes as changes
-use Rattle.pb_txn.specs.Conversations.{told, Converses}
-use Rattle.pb_txn.specs.Forms.{PlansConverse, PlansEnd}
+use Rattle.pb_txn.specs.Conversations.{Converses}
 use Rattle.pb_txn.specs.Places as orders
-use Rattle.pb_txn.specs.Places.{declared_cells}
 use Rattle.pb_txn.specs.Plans as plans
-use Rattle.pb_txn.specs.Words.{recorded_row, recorded_column}
-use Rattle.pb_txn.specs.declared.place.PlanPlace.{PlanPlace}
 use Rattle.pb_txn.proofs.ChangeConversation.{answered_has_begun}
 use Rattle.pb_txn.proofs.PlanTransactions.{keeps_start_and_what}
-use Rattle.pb_notify.specs.Allowed.{entries_by}
-use Rattle.pb_notify.specs.Looks.{look_step}
-use Rattle.pb_notify.specs.Places.{step_at}
-use Rattle.pb_notify.specs.Runs.{Watch, watch_of}
-use Rattle.pb_notify.specs.declared.look.Look.{Look}
-use Rattle.pb_notify.specs.declared.place.RunPlace.{RunPlace}
-use Rattle.pb_steps.specs.Read.{read_step}
 use Rattle.pb_notify.proofs.LookConversation.{InLook, IsIn}
 use Rattle.pb_notify.proofs.RunConversation as conversation
-use Rattle.pb_generations.specs.Words.{Cell, Row, Ts, ObserverOf, Step, Answer, StateOf, Received, Has, JournalLeads}
 use Rattle.pb_generations.specs.LeftOut.{NamesKnown, is_known_cell, are_known_writes}
 use Rattle.pb_generations.specs.KnownSteps.{AreKnownAnswers, RunsNameKnown, ChangesNameKnown}
 use Rattle.pb_generations.proofs.LeftOutDeclarations.{number_is_known, plain_are_known}
+
+-- before its first answer a change begins
+pub first_step : (batch : Writes) (j : ChangeOf) (step : Step) → changes.Converses (new_change batch) [] j → changes.next_of j ≡ Some step → Step.Begin Work.Script ≡ step
+first_step batch j step talk next = same_some (Step.Begin Work.Script) step (ap changes.next_of (sym (conversation_unfolds changes.next_of changes.answered (new_change batch) j [] talk)) ∙ next)
 
 module _ (n : ℕ) where
   -- ---- a look
@@ -58,17 +46,18 @@ module _ (n : ℕ) where
 
   -- ---- a plan
 
-  abbrev AreKnownCells : List Cell → Type 0
-  AreKnownCells cells = (k : ℕ) (x : Cell) → slice_get cells k ≡ Some x → is_known_cell n x ≡ true
+  abbrev pub AreKnownCells : List Cell → Type 0
+  AreKnownCells [] = Unit {0}
+  AreKnownCells (x ∷ xs) = (is_known_cell n x ≡ true) × AreKnownCells xs
 
-  cells_of_writes : (ws : Writes) → are_known_writes n ws ≡ true → AreKnownCells (map (λ w. w.0) ws)
-  cells_of_writes [] known k x is = absurd (none_some x is)
-  cells_of_writes (w ∷ ws) known zero x is = subst (λ (y : Cell). is_known_cell n y ≡ true) (same_some w.0 x is) (and_parts (is_known_cell n w.0) (are_known_writes n ws) known).0
-  cells_of_writes (w ∷ ws) known (suc k) x is = cells_of_writes ws (and_parts (is_known_cell n w.0) (are_known_writes n ws) known).1 k x is
+  pub cells_of_writes : (ws : Writes) → are_known_writes n ws ≡ true → AreKnownCells (map (λ w. w.0) ws)
+  cells_of_writes [] known = tt
+  cells_of_writes (w ∷ ws) known = let parts = and_parts (is_known_cell n w.0) (are_known_writes n ws) known in (parts.0, cells_of_writes ws parts.1)
 
-  one_more_cell : (y : Cell) (cells : List Cell) → is_known_cell n y ≡ true → AreKnownCells cells → AreKnownCells (y ∷ cells)
-  one_more_cell y cells known all zero x is = subst (λ (z : Cell). is_known_cell n z ≡ true) (same_some y x is) known
-  one_more_cell y cells known all (suc k) x is = all k x is
+  cell_at : (cells : List Cell) (k : ℕ) (x : Cell) → AreKnownCells cells → slice_get cells k ≡ Some x → is_known_cell n x ≡ true
+  cell_at [] k x all is = absurd (none_some x is)
+  cell_at (y ∷ cells) zero x all is = subst (λ (z : Cell). is_known_cell n z ≡ true) (same_some y x is) all.0
+  cell_at (y ∷ cells) (suc k) x all is = cell_at cells k x all.1 is
 
   step_of : (f : Cell → Step) (o : Option Cell) (step : Step) → option_map f o ≡ Some step → (x : Cell) × (o ≡ Some x) × (f x ≡ step)
   step_of f None step is = absurd (none_some step is)
@@ -77,7 +66,7 @@ module _ (n : ℕ) where
   named_at : (f : Cell → Step) (cells : List Cell) (k : ℕ) (step : Step) → ((x : Cell) → is_known_cell n x ≡ true → NamesKnown n (f x)) → AreKnownCells cells → option_map f (slice_get cells k) ≡ Some step → NamesKnown n step
   named_at f cells k step named all is =
       let one = step_of f (slice_get cells k) step is in
-      subst (NamesKnown n) one.2 (named one.0 (all k one.0 one.1))
+      subst (NamesKnown n) one.2 (named one.0 (cell_at cells k one.0 all one.1))
 
   known_in_order : (s : ℕ) (what : Declared) (place : PlanPlace) (step : Step) → AreKnownCells (declared_cells what) → NamesKnown n (Step.Declare (record { 0 = s }) what) → orders.step_at s what place ≡ Some step → NamesKnown n step
   known_in_order s what PlanPlace.Declaring step all first is = subst (NamesKnown n) (same_some (Step.Declare (record { 0 = s }) what) step is) first
@@ -98,19 +87,10 @@ module _ (n : ℕ) where
   -- ---- a change
 
   batch_known : (batch : Writes) (said : List Received) (j : ChangeOf) (step : Step) → AreKnownCells (map (λ w. w.0) batch) → changes.Converses (new_change batch) said j → changes.next_of j ≡ Some step → NamesKnown n step
-  batch_known batch [] j step all talk next = subst (NamesKnown n) (same_some (Step.Begin Work.Script) step (ap changes.next_of (sym talk) ∙ next)) tt
+  batch_known batch [] j step all talk next = subst (NamesKnown n) (first_step batch j step talk next) tt
   batch_known batch (r ∷ rest) j step all talk next =
       let b = answered_has_begun batch r rest j talk in
       known_in_plan b.s (Declared.Script batch) b.plan rest step b.said (ap changes.next_of (sym b.q_is) ∙ next) all tt
-
-  -- each step of a conversation
-  abbrev pub AllNameKnown : List Received → Type 0
-  AllNameKnown [] = Unit {0}
-  AllNameKnown (r ∷ rs) = NamesKnown n r.step × AllNameKnown rs
-
-  plan_all_known : (p q : plans.PlanOf) (said : List Received) → AreKnownCells (declared_cells p.what) → NamesKnown n (Step.Declare (record { 0 = p.start }) p.what) → Converses p said q → AllNameKnown said
-  plan_all_known p q [] all first talk = tt
-  plan_all_known p q (r ∷ rs) all first talk = (known_in_order p.start p.what p.place r.step all first talk.0, plan_all_known (plans.answered p r.answer) q rs all first talk.2)
 
   -- ---- a run
 
@@ -125,7 +105,7 @@ module _ (n : ℕ) where
     own_cell r column = number_is_known o n low
 
     run_cells : (f : Meant) → IsMeant f → AreKnownCells (declared_cells (Declared.Run o f))
-    run_cells f meant = one_more_cell _ _ (own_cell (record { 0 = recorded_row f.bytes }) (recorded_column f.bytes)) (cells_of_writes f.writes (plain_are_known n f.writes (run_plain f.writes (runs_write_batches f.judged f.bytes f.start f.talk f.result f.writes meant))))
+    run_cells f meant = (own_cell (record { 0 = recorded_row f.bytes }) (recorded_column f.bytes), cells_of_writes f.writes (plain_are_known n f.writes (run_plain f.writes (runs_write_batches f.judged f.bytes f.start f.talk f.result f.writes meant))))
 
     known_at : (k : ℕ) (place : RunPlace) → conversation.SoFar watch k place said → step_at o row observer.column place ≡ Some step → NamesKnown n step
     known_at k RunPlace.Beginning so next = one (Step.Begin (Work.Run o row)) low next
@@ -161,25 +141,15 @@ declared_batch seat batch old new a b rest s leads is =
 batch_by_now : (seat : ℕ) (batch : Writes) (old new : StateOf) (a b : Received) (rest : List Received) (j : ChangeOf) → changes.Converses (new_change batch) (a ∷ b ∷ rest) j → JournalLeads old (entries_by seat (a ∷ b ∷ rest)) new → is_batch batch ≡ true
 batch_by_now seat batch old new a b rest j talk leads =
     let begun = answered_has_begun batch a (b ∷ rest) j talk in
-    declared_batch seat batch old new a b rest (record { 0 = begun.s }) leads (same_some (Step.Declare (record { 0 = begun.s }) (Declared.Script batch)) b.step begun.said.0)
+    let first = conversation_unfolds plans.next_of plans.answered (plans.fresh begun.s (Declared.Script batch)) begun.plan (b ∷ rest) begun.said in
+    declared_batch seat batch old new a b rest (record { 0 = begun.s }) leads (same_some (Step.Declare (record { 0 = begun.s }) (Declared.Script batch)) b.step first.0)
 
 -- its next step
 pub change_names_known : (n : ℕ) (seat : ℕ) (batch : Writes) (old new : StateOf) (said : List Received) (j : ChangeOf) (step : Step) → changes.Converses (new_change batch) said j → JournalLeads old (entries_by seat said) new
     → changes.next_of j ≡ Some step → NamesKnown n step
-change_names_known n seat batch old new [] j step talk leads next = subst (NamesKnown n) (same_some (Step.Begin Work.Script) step (ap changes.next_of (sym talk) ∙ next)) tt
+change_names_known n seat batch old new [] j step talk leads next = subst (NamesKnown n) (first_step batch j step talk next) tt
 change_names_known n seat batch old new (r ∷ []) j step talk leads next =
     let begun = answered_has_begun batch r [] j talk in
-    subst (NamesKnown n) (same_some (Step.Declare (record { 0 = begun.s }) (Declared.Script batch)) step (ap plans.next_of (sym begun.said) ∙ ap changes.next_of (sym begun.q_is) ∙ next)) tt
+    let nothing = conversation_unfolds plans.next_of plans.answered (plans.fresh begun.s (Declared.Script batch)) begun.plan [] begun.said in
+    subst (NamesKnown n) (same_some (Step.Declare (record { 0 = begun.s }) (Declared.Script batch)) step (ap plans.next_of (sym nothing) ∙ ap changes.next_of (sym begun.q_is) ∙ next)) tt
 change_names_known n seat batch old new (a ∷ b ∷ rest) j step talk leads next = changes_name_known n batch (a ∷ b ∷ rest) j step (batch_by_now seat batch old new a b rest j talk leads) talk next
-
--- and each that it took
-begin_known : (n : ℕ) (batch : Writes) (r : Received) (rest : List Received) (j : ChangeOf) → changes.Converses (new_change batch) (r ∷ rest) j → NamesKnown n r.step
-begin_known n batch r rest j talk = subst (NamesKnown n) (same_some (Step.Begin Work.Script) r.step talk.0) tt
-
-pub change_all_known : (n : ℕ) (seat : ℕ) (batch : Writes) (old new : StateOf) (said : List Received) (j : ChangeOf) → changes.Converses (new_change batch) said j → JournalLeads old (entries_by seat said) new → AllNameKnown n said
-change_all_known n seat batch old new [] j talk leads = tt
-change_all_known n seat batch old new (r ∷ []) j talk leads = (begin_known n batch r [] j talk, tt)
-change_all_known n seat batch old new (a ∷ b ∷ rest) j talk leads =
-    let begun = answered_has_begun batch a (b ∷ rest) j talk in
-    let cells = cells_of_writes n batch (plain_are_known n batch (batch_plain batch (batch_by_now seat batch old new a b rest j talk leads))) in
-    (begin_known n batch a (b ∷ rest) j talk, plan_all_known n (plans.fresh begun.s (Declared.Script batch)) begun.plan (b ∷ rest) cells tt begun.said)

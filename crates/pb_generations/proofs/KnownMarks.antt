@@ -5,15 +5,8 @@ use Rattle.std.proofs.lemmas.Bool.{and_parts, cases_lt}
 use Rattle.std.proofs.lemmas.Option.{none-some, slice_get_within}
 use Rattle.std.specs.FinMap as map
 use Rattle.std.specs.Ordering.{eq_by_cmp}
-use Rattle.pb_base.specs.Batch.{Writes, content_in, primary_in}
-use Rattle.pb_base.specs.Cell.{cell_cmp}
+use Rattle.pb_generations.specs.Words.{Writes, content_in, primary_in, cell_cmp, Cell, Content, Revision, Row, ObserverOf, Entries, Marks, CommitsPrimary, CommitsSecondary, if_locked, commit_lock, AllUpToDate, is_marked, is_observed, with_mark, IsNewestVersion, IsVersion, last_timestamp, lock_at, write_at, StateOf, TransactionOf, StepCase, Answer, Step, IsSoundTable, declared_by, view_of, Entry}
 use Rattle.pb_base.proofs.Logic.{one_value}
-use Rattle.pb_store.specs.Contents.{Marks}
-use Rattle.pb_steps.specs.CommitPrimary.{CommitsPrimary}
-use Rattle.pb_steps.specs.CommitSecondary.{CommitsSecondary}
-use Rattle.pb_steps.specs.Marks.{AllUpToDate, is_marked, is_observed, with_mark}
-use Rattle.pb_steps.specs.Steps.{StepCase}
-use Rattle.pb_history.specs.TableView.{declared_by, view_of}
 use Rattle.pb_history.proofs.Agreement.{Agrees}
 use Rattle.pb_history.proofs.LocksKeepSound.{write_on}
 use Rattle.pb_history.proofs.MarksCover.{acknowledged_by_then, marked_less, marked_now, marks_were, observed_one, up_to_date}
@@ -21,7 +14,6 @@ use Rattle.pb_history.proofs.PhasesKeepSound.{committed_at, stamped_at}
 use Rattle.pb_history.proofs.StepsKeepSound.{phase_by, some_is}
 use Rattle.pb_history.proofs.Updates.{none_if, placed_or_before, same_cell, same_cell_is}
 use Rattle.pb_history.proofs.ViewsAfter.{write_after_back, write_after_commit, write_after_put}
-use Rattle.pb_generations.specs.Words.{Answer, Cell, Content, Entries, Entry, IsNewestVersion, IsSoundTable, IsVersion, ObserverOf, Revision, Row, StateOf, Step, TransactionOf, commit_lock, if_locked, last_timestamp, lock_at, write_at}
 use Rattle.pb_generations.specs.KeptTables.{AreCovered}
 use Rattle.pb_generations.specs.LeftOut.{LacksOthers, are_known_writes, is_known_cell}
 use Rattle.pb_generations.specs.SameButMarks.{is_of_marks}

@@ -1,22 +1,11 @@
 -- The next step of a job names no start but its own, which its begin was answered, so that it is above the clock as it was before.
 use Rattle.std.proofs.Common.{◌≡◌, ℕ, ◌<◌, ◌≤◌, inl, inr, arith, List, [], ◌∷◌, Option, Some, None, sym, ap, subst, ◌∙◌}
 use Rattle.pb_base.proofs.Logic.{none_some, same_some}
-use Rattle.pb_generations.specs.Words.{Cell, Row, Ts, ObserverOf, Step, Answer, StateOf, Entry, Received, Has, IsEntry, JournalLeads}
-use Rattle.pb_steps.specs.Steps.{StepCase}
-use Rattle.pb_steps.specs.declared.step.Work.{Work}
-use Rattle.pb_steps.specs.declared.step.Declared.{Declared}
-use Rattle.pb_txn.specs.Conversations.{told, Converses}
-use Rattle.pb_txn.specs.Forms.{PlansConverse, PlansEnd}
+use Rattle.pb_generations.specs.Words.{Cell, Row, Ts, ObserverOf, StateOf, StepCase, Answer, Declared, Step, Work, Has, IsEntry, JournalLeads, Entry, Received, told, PlansConverse, PlansEnd, PlanPlace, Reaches, look_step, step_at, RunOf, Watch, fresh, next_of, watch_of, Look, RunPlace}
+use Rattle.pb_txn.specs.Conversations.{Converses}
 use Rattle.pb_txn.specs.Places as orders
 use Rattle.pb_txn.specs.Plans as plans
-use Rattle.pb_txn.specs.declared.place.PlanPlace.{PlanPlace}
 use Rattle.pb_txn.proofs.PlanTransactions.{keeps_start_and_what}
-use Rattle.pb_notify.specs.Conversations.{Reaches}
-use Rattle.pb_notify.specs.Looks.{look_step}
-use Rattle.pb_notify.specs.Places.{step_at}
-use Rattle.pb_notify.specs.Runs.{RunOf, Watch, watch_of, fresh, next_of}
-use Rattle.pb_notify.specs.declared.look.Look.{Look}
-use Rattle.pb_notify.specs.declared.place.RunPlace.{RunPlace}
 use Rattle.pb_notify.proofs.RecordedReads.{has_append, in_look, cell_begins, observed_is_recorded, acknowledged_is_recorded, has_read}
 use Rattle.pb_notify.proofs.RunConversation as conversation
 use Rattle.pb_generations.specs.LateSteps.{NamesLate}

@@ -3,17 +3,7 @@ use Rattle.std.proofs.Common.{◌≡◌, ℕ, ◌<◌, ◌≤◌, inl, inr, arit
 use Rattle.std.proofs.lemmas.Bool.{cases_lt, eqb-true}
 use Rattle.std.proofs.lemmas.Option.{none-some}
 use Rattle.std.specs.FinMap as map
-use Rattle.pb_generations.specs.Words.{Revision, Reason, Reasons, first_reason, if_of_seat, own_reasons, reasons_of, no_seat, IsVersion, Step, Answer, StateOf, TransactionOf, step_reason}
-use Rattle.pb_steps.specs.Begin.{is_unknown}
-use Rattle.pb_steps.specs.Reasons.{is_out}
-use Rattle.pb_steps.specs.Read.{read_reasons, read_at_reasons}
-use Rattle.pb_steps.specs.Declare.{declare_reasons}
-use Rattle.pb_steps.specs.Prewrite.{prewrite_reasons}
-use Rattle.pb_steps.specs.Stamp.{unstamped_reasons}
-use Rattle.pb_steps.specs.CommitPrimary.{commit_reasons}
-use Rattle.pb_steps.specs.CommitSecondary.{secondary_reasons}
-use Rattle.pb_steps.specs.Steps.{StepCase}
-use Rattle.pb_history.specs.TransactionsTold.{names_start, transaction_after}
+use Rattle.pb_generations.specs.Words.{Revision, Reason, is_unknown, commit_reasons, secondary_reasons, declare_reasons, prewrite_reasons, read_at_reasons, read_reasons, IsVersion, Reasons, first_reason, if_of_seat, is_out, no_seat, own_reasons, reasons_of, unstamped_reasons, StateOf, TransactionOf, StepCase, step_reason, Answer, Step, names_start, transaction_after}
 use Rattle.pb_history.proofs.Agreement.{got}
 use Rattle.pb_history.proofs.TransactionAfter.{case_tells}
 use Rattle.pb_generations.specs.LateSteps.{IsLateStep}

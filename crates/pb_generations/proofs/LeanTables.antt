@@ -1,8 +1,7 @@
 -- What a table without some of its observers has as the whole one does: what stands on known cells, and the clock.
 use Rattle.std.proofs.Common.{◌≡◌, ℕ, Bool, true, false, List, length, Some, None, slice_get, refl, sym, ap, subst, ◌∙◌, arith}
 use Rattle.std.proofs.lemmas.Option.{slice_get_within}
-use Rattle.pb_steps.specs.Readings.{primary_of}
-use Rattle.pb_generations.specs.Words.{data_of, Cell, Row, Revision, Entries, ObserverOf, Sort, StateOf, IsVersion, NoLock, data_at, lock_at, write_at, IsSoundTable, IsQuiet}
+use Rattle.pb_generations.specs.Words.{Cell, Revision, Row, ObserverOf, Entries, Sort, IsVersion, NoLock, data_at, data_of, lock_at, primary_of, write_at, StateOf, IsQuiet, IsSoundTable}
 use Rattle.pb_generations.specs.LeftOut.{LacksOthers, OthersMayBeLeftOut, is_known_cell, known_entries}
 use Rattle.pb_generations.proofs.KnownEntries.{known_same, unknown_none}
 use Rattle.pb_generations.proofs.LeftOutMirrors.{record_at, version_on, version_back}

@@ -3,15 +3,9 @@ use Rattle.std.proofs.Common.{◌≡◌, ℕ, ◌<◌, Bool, true, nat_lt, ◌&&
 use Rattle.std.specs.List.{list_all}
 use Rattle.std.proofs.lemmas.Bool.{and_parts}
 use Rattle.std.proofs.lemmas.Option.{none-some, slice_get_within}
-use Rattle.pb_base.specs.Batch.{Writes, primary_in, is_data_write, is_unstamped}
-use Rattle.pb_base.specs.Cell.{is_data}
+use Rattle.pb_generations.specs.Words.{Writes, is_data_write, is_unstamped, primary_in, is_data, Cell, ObserverOf, IsKnown, MayDeclare, cells_of, RecordedRead, Declared, Work}
 use Rattle.pb_base.proofs.Logic.{same_some}
-use Rattle.pb_steps.specs.State.{cells_of}
-use Rattle.pb_steps.specs.Declarations.{IsKnown, MayDeclare}
-use Rattle.pb_steps.specs.declared.step.Declared.{Declared}
-use Rattle.pb_steps.specs.declared.step.Work.{Work}
 use Rattle.pb_history.proofs.DeclaredCells.{batch_plain, run_plain}
-use Rattle.pb_generations.specs.Words.{Cell, ObserverOf, RecordedRead}
 use Rattle.pb_generations.specs.LeftOut.{is_known_cell, are_known_writes}
 
 both : (a b : Bool) → a ≡ true → b ≡ true → (a && b) ≡ true

@@ -2,12 +2,8 @@
 use Rattle.std.proofs.Common.{◌≡◌, ℕ, ◌<◌, ◌≤◌, Bool, true, false, List, length, Some, None, refl, sym, ap, subst, ◌∙◌, arith, inl, inr, ◌⊎◌, is_some}
 use Rattle.std.proofs.lemmas.Option.{none-some}
 use Rattle.std.specs.FinMap as map
-use Rattle.pb_base.specs.Cell.{cell_cmp}
-use Rattle.pb_store.specs.Contents.{Marks}
-use Rattle.pb_steps.specs.Readings.{primary_of, start_of}
+use Rattle.pb_generations.specs.Words.{cell_cmp, Cell, Content, Revision, ObserverOf, Entries, Marks, Sort, IsVersion, NoLock, NoVersion, data_at, data_of, lock_at, primary_of, start_of, write_at, StateOf, TransactionOf, Transactions, opening, IsQuiet, OpeningIsSound, SoundHasData, StepsKeepSound, IsSoundTable}
 use Rattle.pb_history.proofs.Updates.{none_if}
-use Rattle.pb_history.specs.Laws.{StepsKeepSound, OpeningIsSound}
-use Rattle.pb_generations.specs.Words.{Cell, Content, Revision, Entries, Sort, StateOf, TransactionOf, Transactions, ObserverOf, IsVersion, NoVersion, NoLock, data_at, data_of, lock_at, write_at, opening, IsQuiet, SoundHasData, IsSoundTable}
 use Rattle.pb_generations.specs.Mirrored.{IsMirroredBy, SameEntries, QuietMirrorsItself}
 use Rattle.pb_generations.specs.Snapshots.{IsSnapshotOf}
 use Rattle.pb_generations.specs.LeftOut.{OthersMayBeLeftOut, MirrorsWithoutOthers, SnapshotsLeaveOut, SnapshotsServeWithoutOthers, is_known_cell, known_entries, without_others}

@@ -2,17 +2,7 @@
 use Rattle.std.proofs.Common.{◌≡◌, ℕ, ◌<◌, Bool, true, false, not, nat_lt, ◌==◌, ◌&&◌, ◌++◌, arith, List, [], ◌∷◌, length, Option, slice_get, refl, sym, ap, subst, ◌∙◌, inl, inr}
 use Rattle.std.proofs.lemmas.Bool.{eqb-true}
 use Rattle.std.proofs.lemmas.Option.{slice_get_cases, slice_get_within}
-use Rattle.pb_store.specs.Contents.{Marks}
-use Rattle.pb_verify.specs.Observers.{column_or_zero}
-use Rattle.pb_finished.specs.Finished.{Meant}
-use Rattle.pb_steps.specs.Begin.{is_unknown}
-use Rattle.pb_steps.specs.Declare.{declare_reasons}
-use Rattle.pb_steps.specs.Declarations.{is_its, is_run_of, is_run_by}
-use Rattle.pb_steps.specs.Phases.{is_reading}
-use Rattle.pb_steps.specs.Reasons.{is_out}
-use Rattle.pb_steps.specs.declared.step.Declared.{Declared}
-use Rattle.pb_steps.specs.declared.step.Work.{Work}
-use Rattle.pb_generations.specs.Words.{Cell, Row, Reason, ObserverOf, RecordedRead, Step, StateOf, TransactionOf, Reasons, first_reason, own_reasons, no_seat, step_reason}
+use Rattle.pb_generations.specs.Words.{Cell, Row, Reason, ObserverOf, column_or_zero, Meant, Marks, is_unknown, is_its, is_run_by, is_run_of, declare_reasons, is_reading, Reasons, first_reason, is_out, no_seat, own_reasons, StateOf, TransactionOf, step_reason, RecordedRead, Declared, Step, Work}
 use Rattle.pb_generations.specs.LeftOut.{NamesKnown, SameRefusals, without_others}
 use Rattle.pb_generations.proofs.LongerLists.{stay_in_front}
 

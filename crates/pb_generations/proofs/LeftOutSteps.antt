@@ -3,19 +3,9 @@ use Rattle.std.proofs.Common.{◌≡◌, ℕ, ◌<◌, Bool, true, false, List, 
 use Rattle.std.specs.FinMap as map
 use Rattle.std.specs.Ordering.{nat_cmp, eq_by_cmp}
 use Rattle.std.specs.Cmp.{nat_cmp_total}
-use Rattle.pb_base.specs.Cell.{cell_cmp}
-use Rattle.pb_store.specs.Contents.{Marks}
-use Rattle.pb_steps.specs.Clear.{NoWriteOf}
-use Rattle.pb_steps.specs.CommitSecondary.{CommitsSecondary}
-use Rattle.pb_steps.specs.Marks.{with_mark}
-use Rattle.pb_steps.specs.Read.{ReadsFound, ReadsAbsent, ReadsLocked, read_step, with_read}
-use Rattle.pb_steps.specs.Readings.{IsLockOn, NoLockUpTo, SomeLock, SomeWriteFrom, primary_of, start_of}
-use Rattle.pb_steps.specs.Reasons.{IsOwn}
-use Rattle.pb_steps.specs.State.{with_transaction, new_transaction}
-use Rattle.pb_steps.specs.Steps.{StepCase}
+use Rattle.pb_generations.specs.Words.{cell_cmp, Cell, Revision, Ts, ObserverOf, Entries, Marks, Sort, NoWriteOf, CommitsSecondary, if_locked, commit_lock, commits, erase_lock, rolls_back, with_mark, put_lock, ReadsAbsent, ReadsFound, ReadsLocked, read_step, with_read, IsLockOn, IsVersion, NoLock, NoLockUpTo, NoVersion, SomeLock, SomeWriteFrom, data_at, data_of, lock_at, primary_of, start_of, write_at, read_up_to, IsOwn, StateOf, TransactionOf, Transactions, new_transaction, with_transaction, StepCase, TableStep, Phase, Answer, Step}
 use Rattle.pb_history.proofs.Updates.{placed_or_before, left_after_clearing}
 use Rattle.pb_history.proofs.ViewsAfter.{lock_after_commit, lock_after_back, lock_after_put}
-use Rattle.pb_generations.specs.Words.{Cell, Revision, Sort, Ts, Answer, Step, StateOf, TransactionOf, Transactions, ObserverOf, Entries, Phase, TableStep, data_at, data_of, lock_at, write_at, IsVersion, NoVersion, NoLock, put_lock, commit_lock, commits, erase_lock, rolls_back, if_locked, read_up_to}
 use Rattle.pb_generations.specs.LateSteps.{NamesLate}
 use Rattle.pb_generations.specs.SameButMarks.{is_of_marks}
 use Rattle.pb_generations.specs.LeftOut.{LacksOthers, NamesKnown, OthersAreNeverMissed, MarksMissNothing, OthersAreNeverNamed, AnswersKnown, are_known_writes, is_known_cell, known_entries, without_others}

@@ -3,15 +3,12 @@ use Rattle.std.proofs.Common.{◌≡◌, ℕ, ◌<◌, ◌≤◌, inl, inr, refl
 use Rattle.std.proofs.lemmas.Bool.{cases_lt}
 use Rattle.std.proofs.lemmas.Option.{none-some}
 use Rattle.std.specs.FinMap as map
-use Rattle.pb_base.specs.Batch.{content_in}
+use Rattle.pb_generations.specs.Words.{content_in, Cell, Content, Revision, Entries, IsVersion, data_at, lock_at, write_at, StateOf, TransactionOf, Transactions, is_in, Phase, RecordedRead, Has, IsCommittedAt, IsSoundTable, TableView, declared_by, prewritten_by, view_of, IsSnapshotView}
 use Rattle.pb_base.proofs.Logic.{one_value, same_some}
-use Rattle.pb_generations.specs.Words.{Cell, Content, Revision, Entries, Phase, RecordedRead, StateOf, TransactionOf, Transactions, is_in, data_at, lock_at, write_at, IsVersion, Has, TableView, IsSoundTable, IsCommittedAt}
-use Rattle.pb_history.specs.TableView.{view_of, declared_by, prewritten_by}
 use Rattle.pb_history.proofs.Agreement.{ts}
 use Rattle.pb_history.proofs.HistoryTold.{same_stamp}
 use Rattle.pb_generations.specs.Mirrored.{carried}
 use Rattle.pb_generations.specs.Snapshots.{IsSnapshotOf, IsLeftOf, AreLeft, AreEnded, LeftAreSound}
-use Rattle.pb_state.specs.SnapshotViews.{IsSnapshotView}
 use Rattle.pb_state.proofs.GotParts.{first_content, got_content, got_phase, got_prewritten, got_primary, got_read, value_there}
 use Rattle.pb_state.proofs.SnapshotViews.{snapshot_sound}
 

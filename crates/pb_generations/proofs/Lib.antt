@@ -9,7 +9,6 @@ pub mod ChosenAcknowledgments
 pub mod NewestWrites
 pub mod SeatEntries
 pub mod LateNames
-pub mod KeptRuns
 pub mod TimelyChanges
 pub mod LongerLists
 pub mod StepsWithMore
@@ -32,5 +31,6 @@ pub mod LeanTables
 pub mod LeftOutMirrors
 pub mod KnownMarks
 pub mod KnownJobs
+pub mod KeptJobs
 pub mod ChosenNumbers
 pub mod ChosenSnapshots

@@ -1,15 +1,7 @@
 -- What is known of the observers of a table holds where there are more of them.
 use Rattle.std.proofs.Common.{◌≡◌, ℕ, ◌<◌, Bool, true, false, not, nat_lt, ◌==◌, ◌&&◌, ◌++◌, arith, List, [], ◌∷◌, length, Option, Some, None, slice_get, refl, sym, ap, subst, ◌∙◌, inl, inr, ◌⊎◌, zero, suc}
 use Rattle.std.proofs.lemmas.Option.{none-some, slice_get_within, slice_get_cases}
-use Rattle.pb_generations.specs.Words.{Cell, Content, Row, ObserverOf, RecordedRead}
-use Rattle.pb_verify.specs.Observers.{column_or_zero, observed_cell, acknowledgment}
-use Rattle.pb_finished.specs.Finished.{Meant}
-use Rattle.pb_helpers.specs.OldRecord.{record_by, tells_old}
-use Rattle.pb_steps.specs.Begin.{is_unknown}
-use Rattle.pb_steps.specs.State.{cells_of}
-use Rattle.pb_steps.specs.Declarations.{MayDeclare, WasSeen, is_its, is_run_of, is_run_by}
-use Rattle.pb_steps.specs.declared.step.Declared.{Declared}
-use Rattle.pb_steps.specs.declared.step.Work.{Work}
+use Rattle.pb_generations.specs.Words.{Cell, Content, Row, record_by, tells_old, ObserverOf, acknowledgment, column_or_zero, observed_cell, Meant, is_unknown, MayDeclare, WasSeen, is_its, is_run_by, is_run_of, cells_of, RecordedRead, Declared, Work}
 
 -- each observer of the first list stands at its place in the second
 abbrev pub Stay : List ObserverOf → List ObserverOf → Type 0

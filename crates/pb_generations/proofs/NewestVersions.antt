@@ -1,8 +1,7 @@
 -- Up to a timestamp, a cell of a table whose records have their data has a newest version or none.
 use Rattle.std.proofs.Common.{◌≡◌, ◌⊎◌, ℕ, zero, suc, ◌<◌, ◌≤◌, inl, inr, refl, ◌∙◌, ap, arith, true, Option, Some, None, is_some}
 use Rattle.std.proofs.lemmas.Bool.{cases_lt}
-use Rattle.pb_generations.specs.Words.{Cell, Content, Revision, Entries, IsVersion, NoVersion, write_at, data_at}
-use Rattle.pb_history.specs.Sound.{HasData}
+use Rattle.pb_generations.specs.Words.{Cell, Content, Revision, Entries, IsVersion, NoVersion, data_at, write_at, HasData}
 
 value_in : (o : Option Content) → is_some o ≡ true → (k : Content) × (o ≡ Some k)
 value_in None is = absurd (grind (arith, is))

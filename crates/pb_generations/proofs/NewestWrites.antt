@@ -3,9 +3,7 @@
 use Rattle.std.proofs.Common.{◌≡◌, ℕ, ◌<◌, ◌≤◌, inl, inr, arith, List, Option, Some, None, sym, ap, ◌∙◌}
 use Rattle.std.proofs.lemmas.Bool.{cases_lt}
 use Rattle.std.proofs.lemmas.Option.{none-some}
-use Rattle.pb_generations.specs.Words.{Cell, Content, Revision, IsNewestVersion, NoLock, last_timestamp, write_at, StateOf, Entry, IsSoundTable, Entries, data_at}
-use Rattle.pb_history.specs.History.{Member, InHistory, WritesTo}
-use Rattle.pb_history.specs.TableView.{view_of}
+use Rattle.pb_generations.specs.Words.{Cell, Content, Revision, Entries, IsNewestVersion, NoLock, data_at, last_timestamp, write_at, StateOf, InHistory, Member, WritesTo, IsSoundTable, view_of, Entry}
 use Rattle.pb_history.proofs.Agreement.{Agrees}
 use Rattle.pb_history.proofs.SnapshotsTold.{phase_in_view, content_in_view, stands_at, written_by}
 use Rattle.pb_generations.specs.KeptTables.{IsNewestWrite, HasWritesAbove}

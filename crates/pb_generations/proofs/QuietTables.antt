@@ -2,7 +2,7 @@
 use Rattle.std.proofs.Common.{◌≡◌, ◌≢◌, ◌^◌, ℕ, ◌<◌, ◌≤◌, inl, inr, arith, refl, sym, ◌∙◌, Option, Some, None}
 use Rattle.std.proofs.lemmas.Bool.{cases_lt}
 use Rattle.std.proofs.lemmas.Option.{none-some}
-use Rattle.pb_generations.specs.Words.{Cell, Phase, StateOf, phase_in, lock_at, write_at, NoLock, IsQuiet, IsSoundTable}
+use Rattle.pb_generations.specs.Words.{Cell, NoLock, lock_at, write_at, StateOf, phase_in, Phase, IsQuiet, IsSoundTable}
 use Rattle.pb_history.proofs.Updates.{none_if}
 
 begun_by : (clock s : ℕ) (o : Option Phase) → ((h : Phase) → o ≡ Some h → s ≤ clock) → o ≢ None → s ≤ clock

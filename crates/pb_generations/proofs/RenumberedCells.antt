@@ -4,15 +4,9 @@ use Rattle.std.proofs.Common.{◌≡◌, ℕ, Bool, true, false, cond, not, ◌&
 use Rattle.std.specs.List.{list_all}
 use Rattle.std.specs.Ordering.{eq_by_cmp}
 use Rattle.std.proofs.lemmas.Bool.{and_parts}
-use Rattle.pb_base.specs.Cell.{cell_cmp, column_of, is_data, row_of}
-use Rattle.pb_base.specs.Batch.{Writes, content_in, is_data_write, primary_in}
+use Rattle.pb_generations.specs.Words.{Writes, content_in, is_data_write, primary_in, cell_cmp, column_of, is_data, row_of, Cell, Content, Reason, secondary_reasons, is_committed, is_declared, is_before_primary, is_early, prewrite_reasons, is_whole, unstamped_reasons, TransactionOf, is_in}
 use Rattle.pb_base.proofs.SameCells.{cell_is, same_cells}
-use Rattle.pb_steps.specs.CommitSecondary.{secondary_reasons}
-use Rattle.pb_steps.specs.Prewrite.{is_before_primary, is_early, prewrite_reasons}
-use Rattle.pb_steps.specs.Phases.{is_committed, is_declared}
-use Rattle.pb_steps.specs.Stamp.{is_whole, unstamped_reasons}
 use Rattle.pb_history.proofs.Updates.{same_cell, same_cell_is, same_cell_itself, at_place}
-use Rattle.pb_generations.specs.Words.{Cell, Content, Reason, TransactionOf, is_in}
 use Rattle.pb_generations.specs.Renumbered.{IsOneToOne, renumbered_cell, renumbered_transaction, renumbered_writes}
 
 same_truth : (a b : Bool) → (a ≡ true → b ≡ true) → (b ≡ true → a ≡ true) → a ≡ b

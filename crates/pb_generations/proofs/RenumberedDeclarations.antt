@@ -1,19 +1,9 @@
 -- What a transaction may declare, it may declare under other numbers of the observers too.
 use Rattle.std.proofs.Common.{◌≡◌, ℕ, Bool, true, not, nat_lt, ◌<◌, arith, false, length, List, [], ◌∷◌, Option, Some, None, slice_get, refl, sym, ap, subst, ◌∙◌, inl, inr, map}
 use Rattle.std.proofs.lemmas.Option.{slice_get_within, slice_get_cases}
-use Rattle.pb_helpers.specs.OldRecord.{record_by, tells_old}
-use Rattle.pb_verify.specs.Observers.{column_or_zero, observed_cell, acknowledgment}
-use Rattle.pb_steps.specs.Begin.{is_unknown}
-use Rattle.pb_steps.specs.Declarations.{AreReplies, IsKnown, IsReadOf, MayDeclare, WasOld, WasSeen, is_its, old_at}
-use Rattle.pb_steps.specs.Reads.{asked_cell, value_in, version_in}
-use Rattle.pb_steps.specs.State.{cells_of}
-use Rattle.pb_steps.specs.declared.seen.Seen.{Seen}
-use Rattle.pb_steps.specs.declared.step.Declared.{Declared}
-use Rattle.pb_steps.specs.declared.step.Work.{Work}
-use Rattle.pb_history.specs.Words.{Reply, Talk}
+use Rattle.pb_generations.specs.Words.{Cell, Content, Row, Ts, record_by, tells_old, ObserverOf, acknowledgment, column_or_zero, observed_cell, is_unknown, AreReplies, IsKnown, IsReadOf, MayDeclare, WasOld, WasSeen, is_its, old_at, acknowledged_in, asked_cell, value_in, version_in, cells_of, RecordedRead, Seen, Answer, Declared, Work, Reply, Talk}
 use Rattle.pb_history.proofs.DeclaredCells.{batch_plain, run_plain}
 use Rattle.pb_notify.proofs.ItsRun.{its_run}
-use Rattle.pb_generations.specs.Words.{Cell, Content, Row, Ts, Answer, ObserverOf, RecordedRead, acknowledged_in}
 use Rattle.pb_generations.specs.Renumbered.{AreNumberedBy, renumbered_answer, renumbered_cell, renumbered_declaration, renumbered_read, renumbered_work, renumbered_writes}
 use Rattle.pb_generations.proofs.RenumberedCells.{plain_stay}
 

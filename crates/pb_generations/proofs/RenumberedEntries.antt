@@ -4,11 +4,9 @@ use Rattle.std.proofs.lemmas.Option.{none-some}
 use Rattle.std.specs.FinMap as map
 use Rattle.std.specs.Cmp.{nat_cmp_total}
 use Rattle.std.specs.Ordering.{nat_cmp, eq_by_cmp}
-use Rattle.pb_store.specs.Slot.{slot_cmp}
-use Rattle.pb_steps.specs.Readings.{primary_of, start_of}
+use Rattle.pb_generations.specs.Words.{Cell, Content, Entries, slot_at, slot_cmp, Sort, commit_lock, erase_lock, put_lock, data_at, data_of, lock_at, primary_of, start_of, write_at, TransactionOf, Transactions}
 use Rattle.pb_history.proofs.Updates.{set2, at_place, placed_or_before, left_after_clearing}
 use Rattle.pb_history.proofs.ViewsAfter.{lock_after_commit, data_after_commit, write_after_commit, lock_after_back, data_after_back, write_after_back, lock_after_put, data_after_put, write_after_put}
-use Rattle.pb_generations.specs.Words.{Cell, Content, Entries, Sort, TransactionOf, Transactions, slot_at, data_at, data_of, lock_at, write_at, put_lock, commit_lock, erase_lock}
 use Rattle.pb_generations.specs.Renumbered.{IsOneToOne, EntriesAreRenumbered, TransactionsAreRenumbered, renumbered_cell, renumbered_transaction}
 use Rattle.pb_generations.proofs.RenumberedCells.{place_renumbered}
 

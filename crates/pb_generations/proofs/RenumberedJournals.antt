@@ -2,9 +2,8 @@
 use Rattle.std.proofs.Common.{◌≡◌, ℕ, arith, Bool, true, false, not, cond, List, [], ◌∷◌, refl, sym, ap, subst, ◌∙◌, option_map}
 use Rattle.std.specs.FinMap as map
 use Rattle.std.specs.Ordering.{nat_cmp}
-use Rattle.pb_store.specs.Contents.{Marks}
+use Rattle.pb_generations.specs.Words.{ObserverOf, Entries, Marks, StateOf, Transactions, opening, TableStep, Step, IsLegal, JournalLeads, Entry}
 use Rattle.pb_history.proofs.TransactionAfter.{case_observers}
-use Rattle.pb_generations.specs.Words.{ObserverOf, Entries, Step, StateOf, Transactions, opening, TableStep, Entry, JournalLeads, IsLegal}
 use Rattle.pb_generations.specs.Renumbered.{AreNumberedBy, IsOneToOne, IsRenumbered, TransactionsAreRenumbered, renumbered_entry, renumbered_journal, renumbered_step, renumbered_transaction}
 use Rattle.pb_generations.specs.SameButMarks.{is_of_marks, without_marks, IsLegalButMarks}
 use Rattle.pb_generations.proofs.HistoryButMarks.{without_twice}

@@ -1,19 +1,9 @@
 -- A step that a table takes is not refused by one that has the observers under other numbers.
 use Rattle.std.proofs.Common.{◌≡◌, ℕ, ◌<◌, Bool, true, false, cond, not, nat_lt, ◌==◌, arith, List, [], ◌∷◌, Option, Some, None, refl, ap, ◌∙◌, option_map}
 use Rattle.std.specs.FinMap as map
-use Rattle.pb_store.specs.Contents.{Marks}
-use Rattle.pb_steps.specs.Begin.{is_unknown}
-use Rattle.pb_steps.specs.CommitPrimary.{commit_reasons}
-use Rattle.pb_steps.specs.CommitSecondary.{secondary_reasons}
-use Rattle.pb_steps.specs.Prewrite.{prewrite_reasons}
-use Rattle.pb_steps.specs.Read.{read_reasons, read_at_reasons}
-use Rattle.pb_steps.specs.Reasons.{IsOwn, is_out, own_transaction}
-use Rattle.pb_steps.specs.Stamp.{unstamped_reasons}
-use Rattle.pb_steps.specs.declared.step.Declared.{Declared}
-use Rattle.pb_steps.specs.declared.step.Work.{Work}
+use Rattle.pb_generations.specs.Words.{Ts, Reason, ObserverOf, Entries, Marks, is_unknown, commit_reasons, secondary_reasons, prewrite_reasons, read_at_reasons, read_reasons, IsOwn, Reasons, first_reason, if_of_seat, is_out, no_seat, own_reasons, own_transaction, reasons_of, unstamped_reasons, StateOf, TransactionOf, Transactions, TableStep, step_reason, Answer, Declared, Step, Work}
 use Rattle.pb_history.proofs.Updates.{none_if}
 use Rattle.pb_notify.proofs.OwnSteps.{declares_in_time}
-use Rattle.pb_generations.specs.Words.{Entries, Ts, Reason, Reasons, Answer, Step, StateOf, TransactionOf, Transactions, ObserverOf, first_reason, if_of_seat, own_reasons, reasons_of, no_seat, step_reason, TableStep}
 use Rattle.pb_generations.specs.Renumbered.{AreNumberedBy, IsOneToOne, TransactionsAreRenumbered, renumbered_step, renumbered_transaction, renumbered_work}
 use Rattle.pb_generations.proofs.LateStarts.{step_seated}
 use Rattle.pb_generations.proofs.RenumberedCells.{prewrite_reasons_renumbered, secondary_reasons_renumbered, unstamped_reasons_renumbered}

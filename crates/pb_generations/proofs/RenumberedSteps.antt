@@ -4,17 +4,7 @@ use Rattle.std.proofs.Common.{◌≡◌, ℕ, Bool, true, false, List, [], ◌�
 use mathlib.Core.List.{map-append}
 use Rattle.std.specs.FinMap as finite
 use Rattle.std.specs.Ordering.{eq_by_cmp}
-use Rattle.pb_base.specs.Cell.{cell_cmp}
-use Rattle.pb_store.specs.Contents.{Marks}
-use Rattle.pb_steps.specs.CommitSecondary.{CommitsSecondary}
-use Rattle.pb_steps.specs.Marks.{with_mark}
-use Rattle.pb_steps.specs.Read.{ReadsFound, ReadsAbsent, ReadsLocked, read_step, with_read}
-use Rattle.pb_steps.specs.Readings.{IsLockOn, NoLockUpTo, SomeLock, SomeWriteFrom}
-use Rattle.pb_steps.specs.Clear.{NoWriteOf}
-use Rattle.pb_steps.specs.Reasons.{IsOwn}
-use Rattle.pb_steps.specs.State.{new_transaction}
-use Rattle.pb_steps.specs.Steps.{StepCase}
-use Rattle.pb_generations.specs.Words.{Cell, Revision, Ts, Answer, Step, StateOf, TransactionOf, Transactions, ObserverOf, Entries, Phase, RecordedRead, lock_at, write_at, IsVersion, NoVersion, NoLock, put_lock, commit_lock, erase_lock, if_locked, read_up_to}
+use Rattle.pb_generations.specs.Words.{cell_cmp, Cell, Revision, Ts, ObserverOf, Entries, Marks, NoWriteOf, CommitsSecondary, if_locked, commit_lock, erase_lock, with_mark, put_lock, ReadsAbsent, ReadsFound, ReadsLocked, read_step, with_read, IsLockOn, IsVersion, NoLock, NoLockUpTo, NoVersion, SomeLock, SomeWriteFrom, lock_at, write_at, read_up_to, IsOwn, StateOf, TransactionOf, Transactions, new_transaction, StepCase, Phase, RecordedRead, Answer, Step}
 use Rattle.pb_generations.specs.SameButMarks.{is_of_marks}
 use Rattle.pb_generations.specs.Renumbered.{AreNumberedBy, IsOneToOne, TransactionsAreRenumbered, renumbered_answer, renumbered_cell, renumbered_read, renumbered_step, renumbered_transaction, renumbered_work}
 use Rattle.pb_generations.proofs.RenumberedCells.{tie_renumbered, content_renumbered, primary_renumbered, whole_renumbered, early_renumbered, in_renumbered}

@@ -1,7 +1,6 @@
 -- The journal of a seat's conversation.
 use Rattle.std.proofs.Common.{◌≡◌, ℕ, inl, inr, List, [], ◌∷◌, ◌++◌, refl, ap}
-use Rattle.pb_generations.specs.Words.{Entry, Received, Has, IsEntry}
-use Rattle.pb_notify.specs.Allowed.{entries_by}
+use Rattle.pb_generations.specs.Words.{Has, IsEntry, Entry, Received, entries_by}
 
 abbrev pub entry : ℕ → Received → Entry
 entry seat r = record { seat = seat; step = r.step; answer = r.answer }

@@ -2,12 +2,9 @@
 use Rattle.std.proofs.Common.{◌≡◌, ℕ, ◌<◌, ◌≤◌, inl, inr, sym, ◌∙◌, ap, subst, arith, Bool, true, false, List, [], ◌∷◌, Some, None, is_some}
 use Rattle.std.proofs.lemmas.Option.{none-some}
 use Rattle.std.specs.FinMap as map
-use Rattle.pb_generations.specs.Words.{Cell, Content, Revision, Entries, slot_at, Sort, Step, Answer, StateOf, Transactions, opening, IsVersion, data_of, data_at, lock_at, write_at, ObserverOf, TransactionOf, TableStep, commits, rolls_back, if_locked, Entry, JournalLeads, SoundHasData, IsSoundTable}
-use Rattle.pb_store.specs.Slot.{slot_cmp}
-use Rattle.pb_history.specs.Laws.{StepsKeepSound}
+use Rattle.pb_generations.specs.Words.{Cell, Content, Revision, ObserverOf, Entries, slot_at, slot_cmp, Sort, if_locked, commits, rolls_back, IsVersion, data_at, data_of, lock_at, write_at, StateOf, TransactionOf, Transactions, opening, TableStep, Answer, Step, JournalLeads, SoundHasData, StepsKeepSound, IsSoundTable, KeepsData, Entry}
 use Rattle.pb_history.proofs.Updates.{placed_or_before as placed, left_after_clearing as cleared, none_if}
 use Rattle.pb_history.proofs.ViewsAfter.{data_after_commit, data_after_back, data_after_put}
-use Rattle.pb_history.specs.Sound.{KeepsData}
 use Rattle.pb_generations.specs.Mirrored.{IsMirroredBy}
 use Rattle.pb_generations.specs.Snapshots.{IsSnapshotOf}
 use Rattle.pb_generations.proofs.Kept.{same_there}

@@ -1,20 +1,7 @@
 -- A step that isn't of marks is one of the table with more observers and other marks too, with the same answer.
 use Rattle.std.proofs.Common.{◌≡◌, ℕ, Bool, true, false, not, List, [], ◌∷◌, Option, Some, None, refl, sym, ap, ◌∙◌, is_some}
 use Rattle.std.proofs.lemmas.Option.{none-some}
-use Rattle.pb_store.specs.Contents.{Marks}
-use Rattle.pb_generations.specs.Words.{Cell, Ts, Reason, Reasons, Answer, Step, StateOf, TransactionOf, ObserverOf, Phase, Revision, first_reason, reasons_of, no_seat, if_locked, lock_at, step_reason}
-use Rattle.pb_steps.specs.State.{with_transaction}
-use Rattle.pb_steps.specs.Begin.{is_unknown}
-use Rattle.pb_steps.specs.Declare.{declare_reasons}
-use Rattle.pb_steps.specs.Declarations.{is_its}
-use Rattle.pb_steps.specs.Read.{ReadsFound, ReadsAbsent, ReadsLocked, read_step}
-use Rattle.pb_steps.specs.CommitSecondary.{CommitsSecondary}
-use Rattle.pb_steps.specs.Marks.{with_mark}
-use Rattle.pb_steps.specs.Phases.{is_reading}
-use Rattle.pb_steps.specs.Reasons.{IsOwn, is_out}
-use Rattle.pb_steps.specs.Steps.{StepCase}
-use Rattle.pb_steps.specs.declared.step.Declared.{Declared}
-use Rattle.pb_steps.specs.declared.step.Work.{Work}
+use Rattle.pb_generations.specs.Words.{Cell, Revision, Ts, Reason, ObserverOf, Marks, is_unknown, CommitsSecondary, if_locked, is_its, declare_reasons, with_mark, is_reading, ReadsAbsent, ReadsFound, ReadsLocked, read_step, lock_at, IsOwn, Reasons, first_reason, is_out, no_seat, reasons_of, StateOf, TransactionOf, with_transaction, StepCase, step_reason, Phase, Answer, Declared, Step, Work}
 use Rattle.pb_generations.specs.SameButMarks.{is_of_marks}
 use Rattle.pb_generations.proofs.LongerLists.{Stay, known_stays, its_stays, may_stays, cells_stay}
 

@@ -5,27 +5,15 @@ use Rattle.std.proofs.lemmas.Bool.{eq-eqb, or_left, or_right}
 use Rattle.std.proofs.lemmas.List.Elements.{filter-append}
 use Rattle.std.specs.FinMap as finite
 use Rattle.std.specs.List.{list_any}
-use Rattle.pb_base.specs.Batch.{Writes}
+use Rattle.pb_generations.specs.Words.{Writes, Ts, Reason, ObserverOf, IsOwn, StateOf, TransactionOf, new_transaction, step_reason, Answer, Declared, Step, Work, Has, TransactionsAreTold, BeginsOnce, TellsTransactions, entries_naming, is_begin, names_start, transaction_by, Entry, Received, IsTimely, IsWorkInRange, PlansAreAllowed, ChangeOf, Converses, new_change, told, PlanOf, PlanPlace, entries_by}
 use Rattle.pb_base.proofs.Logic.{same_some}
-use Rattle.pb_generations.specs.Words.{Reason, Ts, ObserverOf, Step, Answer, StateOf, TransactionOf, step_reason, Entry, Received, Has}
-use Rattle.pb_steps.specs.Reasons.{IsOwn}
-use Rattle.pb_steps.specs.State.{new_transaction}
-use Rattle.pb_steps.specs.declared.step.Work.{Work}
-use Rattle.pb_steps.specs.declared.step.Declared.{Declared}
-use Rattle.pb_history.specs.Laws.{TransactionsAreTold}
-use Rattle.pb_history.specs.TransactionsTold.{TellsTransactions, BeginsOnce, entries_naming, names_start, transaction_by, is_begin}
-use Rattle.pb_txn.specs.Allowed.{PlansAreAllowed, IsTimely, IsWorkInRange}
-use Rattle.pb_txn.specs.Changes.{ChangeOf, Converses, new_change}
 use Rattle.pb_txn.specs.Changes as changes
-use Rattle.pb_txn.specs.Conversations.{told}
 use Rattle.pb_txn.specs.Conversations as conversations
 use Rattle.pb_txn.specs.Places as places
-use Rattle.pb_txn.specs.Plans.{PlanOf, fresh}
+use Rattle.pb_txn.specs.Plans.{fresh}
 use Rattle.pb_txn.specs.Plans as plans
-use Rattle.pb_txn.specs.declared.place.PlanPlace.{PlanPlace}
 use Rattle.pb_txn.proofs.ChangeConversation.{answered_has_begun}
 use Rattle.pb_txn.proofs.PlanTransactions.{keeps_start_and_what}
-use Rattle.pb_notify.specs.Allowed.{entries_by}
 use Rattle.pb_notify.proofs.OwnSteps.{declares_in_time, goes_in_time, no_transaction}
 use Rattle.pb_notify.proofs.PlanEntries.{has_said}
 use Rattle.pb_notify.proofs.PlanSteps.{declaring_said_nothing, plan_step, plan_keeps}
@@ -33,6 +21,7 @@ use Rattle.pb_notify.proofs.RecordedReads.{after, after_is}
 use Rattle.pb_generations.specs.LateSteps.{NamesLate}
 use Rattle.pb_generations.specs.SameButMarks.{IsLegalButMarks}
 use Rattle.pb_generations.proofs.HistoryButMarks.{same_naming, same_transactions}
+use Rattle.pb_generations.proofs.KnownJobs.{first_step}
 use Rattle.pb_generations.proofs.LateNames.{late_in_plan}
 use Rattle.pb_generations.proofs.SeatEntries.{by_append}
 
@@ -64,10 +53,6 @@ naming_is state s before rest tells =
     parts ∙ ap (λ l. l ++ b ∷ entries_naming s.0 (entries_by 0 rest)) first ∙ sym (begin_first s rest)
 
 -- ---- the step that is refused
-
--- before its first answer a change begins
-first_step : (batch : Writes) (job : ChangeOf) (step : Step) → Converses (new_change batch) [] job → changes.next_of job ≡ Some step → Step.Begin Work.Script ≡ step
-first_step batch job step talk next = same_some (Step.Begin Work.Script) step (ap changes.next_of (sym talk) ∙ next)
 
 module _ (allowed : PlansAreAllowed) (told_by : TransactionsAreTold) (clock : ℕ) (state : StateOf) (step : Step) (why : Reason) (refused : step_reason state 0 step ≡ Some why) where
   begin_in_time : 0 < state.seats → Step.Begin Work.Script ≡ step → why ≡ Reason.OutOfTimestamps

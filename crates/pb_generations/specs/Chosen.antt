@@ -2,7 +2,7 @@
 -- what they have acknowledged, under their new numbers. The acknowledgments of those that go aren't kept, so that one which
 -- comes back later is a new one.
 use Rattle.std.specs.Prelude.{◌≡◌, ℕ, ◌+◌, ◌==◌, cond, suc, zero, List, [], ◌∷◌, length, map as map_list, Option, Some, None, option_map, slice_get}
-use Rattle.pb_generations.specs.Words.{Cell, Content, Revision, Entries, data_at, lock_at, write_at, IsVersion, ObserverOf, Received, StateOf, Transactions, IsSoundTable}
+use Rattle.pb_generations.specs.Words.{Cell, Content, Revision, ObserverOf, Entries, IsVersion, data_at, lock_at, write_at, StateOf, Transactions, IsSoundTable, Received}
 use Rattle.pb_generations.specs.Mirrored.{carried}
 use Rattle.pb_generations.specs.Renumbered.{renumbered_answer, renumbered_step}
 use Rattle.pb_generations.specs.Snapshots.{AreEnded, AreLeft}

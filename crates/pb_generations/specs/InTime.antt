@@ -1,13 +1,8 @@
 -- The steps of a table of one seat that is kept over generations come in their time: each step of a run of an observer, of a
 -- change, and each that asks for the next mark, is refused only where no timestamp is left.
 use Rattle.std.specs.Prelude.{◌≡◌, ℕ, ◌<◌, ◌^◌, List, Option, Some, slice_get}
-use Rattle.pb_base.specs.Batch.{Writes}
-use Rattle.pb_generations.specs.Words.{Cell, Row, Reason, ObserverOf, Entries, Step, StateOf, Transactions, step_reason, Entry, Received, JournalLeads}
-use Rattle.pb_txn.specs.Changes.{ChangeOf, Converses, new_change}
+use Rattle.pb_generations.specs.Words.{Writes, Cell, Row, Reason, ObserverOf, Entries, StateOf, Transactions, step_reason, Step, JournalLeads, Entry, Received, ChangeOf, Converses, new_change, entries_by, Reaches, RunOf, fresh, next_of, watch_of}
 use Rattle.pb_txn.specs.Changes as changes
-use Rattle.pb_notify.specs.Allowed.{entries_by}
-use Rattle.pb_notify.specs.Conversations.{Reaches}
-use Rattle.pb_notify.specs.Runs.{RunOf, watch_of, fresh, next_of}
 use Rattle.pb_generations.specs.KeptTables.{IsKeptTable}
 use Rattle.pb_generations.specs.LateSteps.{NamesLate}
 use Rattle.pb_generations.specs.Mirrored.{IsMirroredBy, carried}

@@ -2,24 +2,8 @@
 -- snapshot of itself, also with another list of observers. What holds of one table's legal journal holds of the journal of all its
 -- generations.
 use Rattle.std.specs.Prelude.{◌≡◌, ℕ, ◌<◌, ◌≤◌, true, false, List, [], ◌∷◌, ◌++◌, length, Option, Some, None, slice_get}
-use Rattle.pb_store.specs.Contents.{Marks}
-use Rattle.pb_steps.specs.Marks.{is_marked}
-use Rattle.pb_generations.specs.Words.{Cell, Content, Row, Ts, Revision, Entries, data_at, write_at, Step, Answer, StateOf, Transactions, opening, acknowledged_in, IsNewestVersion, NoLock, last_timestamp, TableStep, ObserverOf, Entry, Received, Has, IsEntry, JournalLeads, IsQuiet, TellsOneHandler}
-use Rattle.pb_history.specs.Handled.{Handles}
-use Rattle.pb_history.specs.History.{InHistory, IsSnapshot, Member, NoSnapshot, WritesTo}
-use Rattle.pb_history.specs.RecordsTold.{WroteAt}
-use Rattle.pb_history.specs.SnapshotsTold.{TellsSnapshots}
-use Rattle.pb_history.specs.Timestamps.{TellsTimestamps}
-use Rattle.pb_base.specs.Batch.{Writes}
-use Rattle.pb_txn.specs.Changes.{ChangeOf, IsWholeChange, new_change}
+use Rattle.pb_generations.specs.Words.{Writes, Cell, Content, Revision, Row, Ts, ObserverOf, Entries, Marks, is_marked, IsNewestVersion, NoLock, data_at, last_timestamp, write_at, acknowledged_in, StateOf, Transactions, opening, TableStep, Answer, Step, Handles, IsQuiet, TellsOneHandler, Has, InHistory, IsEntry, IsSnapshot, Member, NoSnapshot, WritesTo, JournalLeads, WroteAt, TellsSnapshots, TellsTimestamps, Entry, Received, HasMoreObservers, ChangeOf, IsWholeChange, new_change, told, Outcome, entries_by, Reaches, IsHeld, RunOf, fresh, next_of, watch_of}
 use Rattle.pb_txn.specs.Changes as changes
-use Rattle.pb_txn.specs.Conversations.{told}
-use Rattle.pb_txn.specs.declared.place.Outcome.{Outcome}
-use Rattle.pb_notify.specs.Allowed.{entries_by}
-use Rattle.pb_notify.specs.Conversations.{Reaches}
-use Rattle.pb_notify.specs.Forms.{IsHeld}
-use Rattle.pb_notify.specs.Runs.{RunOf, watch_of, fresh, next_of}
-use Rattle.pb_state.specs.MoreObservers.{HasMoreObservers}
 use Rattle.pb_generations.specs.Chosen.{AreChosen, IsChosenSnapshot, chosen_state, new_number}
 use Rattle.pb_generations.specs.LeftOut.{AnswersKnown, LacksOthers, NamesKnown, is_known_cell}
 use Rattle.pb_generations.specs.Mirrored.{IsMirroredBy, carried}

@@ -1,12 +1,8 @@
 -- What a run of a known observer asks names known cells alone, and so does a change. Each cell that it looks at is a data cell or
 -- its own acknowledgment, and each other one is the primary of a lock that it was answered.
 use Rattle.std.specs.Prelude.{◌≡◌, ℕ, ◌<◌, true, List, Some}
-use Rattle.pb_base.specs.Batch.{Writes, is_batch}
-use Rattle.pb_generations.specs.Words.{Row, ObserverOf, Step, Received, Has}
-use Rattle.pb_txn.specs.Changes.{ChangeOf, new_change}
+use Rattle.pb_generations.specs.Words.{Writes, is_batch, Row, ObserverOf, Step, Has, Received, ChangeOf, new_change, Reaches, RunOf, fresh, next_of, watch_of}
 use Rattle.pb_txn.specs.Changes as changes
-use Rattle.pb_notify.specs.Conversations.{Reaches}
-use Rattle.pb_notify.specs.Runs.{RunOf, watch_of, fresh, next_of}
 use Rattle.pb_generations.specs.LeftOut.{AnswersKnown, NamesKnown}
 
 -- each primary that was answered is known

@@ -1,7 +1,7 @@
 -- The later steps of a table that was carried over: each is one of the whole table, with the same answer. So its past, with what
 -- came later, is one legal journal, of which all laws of journals hold as they stand.
 use Rattle.std.specs.Prelude.{◌≡◌, ℕ, ◌<◌, ◌≤◌, ◌↔◌, List, [], ◌∷◌, ◌++◌}
-use Rattle.pb_generations.specs.Words.{Cell, Revision, ObserverOf, Entries, Step, Answer, StateOf, Transactions, IsVersion, TableStep, Entry, JournalLeads, IsLegal}
+use Rattle.pb_generations.specs.Words.{Cell, Revision, ObserverOf, Entries, IsVersion, StateOf, Transactions, TableStep, Answer, Step, IsLegal, JournalLeads, Entry}
 use Rattle.pb_generations.specs.Mirrored.{IsMirroredBy, carried}
 use Rattle.pb_generations.specs.SameButMarks.{IsLegalButMarks}
 

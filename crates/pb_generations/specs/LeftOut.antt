@@ -4,11 +4,7 @@
 use Rattle.std.specs.Prelude.{◌≡◌, ℕ, ◌<◌, Bool, true, false, nat_lt, List, ◌++◌, length, Some, None}
 use Rattle.std.specs.List.{list_all}
 use Rattle.std.specs.FinMap as map
-use Rattle.pb_base.specs.Batch.{Writes}
-use Rattle.pb_store.specs.Contents.{Marks}
-use Rattle.pb_steps.specs.declared.step.Declared.{Declared}
-use Rattle.pb_steps.specs.declared.step.Work.{Work}
-use Rattle.pb_generations.specs.Words.{Cell, Entries, lock_at, NoLock, last_timestamp, ObserverOf, Step, Answer, StateOf, TransactionOf, Transactions, TableStep, step_reason, Entry, IsLegal, IsSoundTable}
+use Rattle.pb_generations.specs.Words.{Writes, Cell, ObserverOf, Entries, Marks, NoLock, last_timestamp, lock_at, StateOf, TransactionOf, Transactions, TableStep, step_reason, Answer, Declared, Step, Work, IsLegal, IsSoundTable, Entry}
 use Rattle.pb_generations.specs.LateSteps.{NamesLate}
 use Rattle.pb_generations.specs.Mirrored.{IsMirroredBy}
 use Rattle.pb_generations.specs.SameButMarks.{is_of_marks}

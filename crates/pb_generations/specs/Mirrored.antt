@@ -2,7 +2,7 @@
 -- version at a timestamp c, all that is later, and the locks. What is older may be dropped.
 use Rattle.std.specs.Prelude.{◌≡◌, ◌≢◌, ℕ, ◌<◌, ◌≤◌, ◌⊎◌, ◌↔◌, Some}
 use Rattle.std.specs.FinMap as map
-use Rattle.pb_generations.specs.Words.{Cell, Revision, Entries, slot_at, Sort, Phase, StateOf, TransactionOf, Transactions, data_at, lock_at, write_at, IsVersion, NoVersion, last_timestamp, IsQuiet, IsSoundTable}
+use Rattle.pb_generations.specs.Words.{Cell, Revision, Entries, slot_at, Sort, IsVersion, NoVersion, data_at, last_timestamp, lock_at, write_at, StateOf, TransactionOf, Transactions, Phase, IsQuiet, IsSoundTable}
 
 -- of x, the version with the greatest commit at most c is the same in both, or there is none in both
 pub record SameVersion (c : ℕ) (whole kept : Entries) (x : Cell) : Type 0 where

@@ -3,10 +3,7 @@
 -- the new numbers takes the same steps, with the same answers.
 use Rattle.std.specs.Prelude.{◌≡◌, ℕ, List, map as map_list, Some, option_map, slice_get}
 use Rattle.std.specs.FinMap as map
-use Rattle.pb_generations.specs.Words.{Cell, Content, Entries, data_at, lock_at, write_at, RecordedRead, Step, Answer, StateOf, TransactionOf, Transactions, ObserverOf, Entry, IsLegal, IsQuiet}
-use Rattle.pb_base.specs.Batch.{Writes}
-use Rattle.pb_steps.specs.declared.step.Declared.{Declared}
-use Rattle.pb_steps.specs.declared.step.Work.{Work}
+use Rattle.pb_generations.specs.Words.{Writes, Cell, Content, ObserverOf, Entries, data_at, lock_at, write_at, StateOf, TransactionOf, Transactions, RecordedRead, Answer, Declared, Step, Work, IsQuiet, IsLegal, Entry}
 use Rattle.pb_generations.specs.SameButMarks.{IsLegalButMarks}
 
 -- no two numbers become one

@@ -2,7 +2,7 @@
 -- depend on its marks. So where its observers change, its journal, renumbered and but for those steps, is one of a table that was
 -- opened with another list.
 use Rattle.std.specs.Prelude.{◌≡◌, ℕ, Bool, true, false, not, List, filter}
-use Rattle.pb_generations.specs.Words.{ObserverOf, Step, StateOf, Entry, IsLegal}
+use Rattle.pb_generations.specs.Words.{ObserverOf, StateOf, Step, IsLegal, Entry}
 
 -- it looks for a mark, or takes one off
 abbrev pub is_of_marks : Step → Bool

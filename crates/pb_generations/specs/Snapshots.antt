@@ -1,8 +1,7 @@
 -- A snapshot of a quiet table: of each cell the newest version, acknowledgments too, and nothing else.
 use Rattle.std.specs.Prelude.{◌≡◌, ◌↔◌, ℕ, ◌<◌, ◌≤◌, List, [], Some, None, is_some}
 use Rattle.std.specs.FinMap as map
-use Rattle.pb_generations.specs.Words.{Cell, Content, Revision, Ts, Entries, Phase, StateOf, TransactionOf, Transactions, is_in, data_at, lock_at, write_at, IsVersion, last_timestamp, ObserverOf, Entry, IsLegal, IsQuiet, IsSoundTable}
-use Rattle.pb_base.specs.Batch.{content_in}
+use Rattle.pb_generations.specs.Words.{content_in, Cell, Content, Revision, Ts, ObserverOf, Entries, IsVersion, data_at, last_timestamp, lock_at, write_at, StateOf, TransactionOf, Transactions, is_in, Phase, IsQuiet, IsLegal, IsSoundTable, Entry}
 use Rattle.pb_generations.specs.Mirrored.{IsMirroredBy, carried}
 
 -- each had begun by then, and is of no seat that the table has, so that no step names it

@@ -1,5 +1,5 @@
 use Rattle.std.proofs.Common.{◌≡◌, ℕ, List, [], ◌∷◌, ◌++◌, refl, sym, subst}
-use Rattle.pb_generations.specs.Words.{Entries, StateOf, Transactions, Entry, JournalLeads}
+use Rattle.pb_generations.specs.Words.{Entries, StateOf, Transactions, JournalLeads, Entry}
 use Rattle.pb_generations.specs.Mirrored.{IsMirroredBy, carried}
 use Rattle.pb_generations.specs.LateSteps.{AreLateSteps, StepsCarryOver}
 use Rattle.pb_generations.proofs.JoinedJournals.{joined_leads}

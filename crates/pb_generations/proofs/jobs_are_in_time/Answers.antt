@@ -1,20 +1,8 @@
 use Rattle.std.proofs.Common.{◌≡◌, ℕ, ◌<◌, ◌≤◌, ◌^◌, Bool, true, false, not, cond, filter, arith, List, [], ◌∷◌, ◌++◌, length, Option, Some, slice_get, refl, sym, ap, subst, ◌∙◌}
 use Rattle.std.proofs.lemmas.List.Elements.{filter-append}
 use Rattle.std.proofs.lemmas.Option.{slice_get_within}
-use Rattle.pb_base.specs.Batch.{Writes}
-use Rattle.pb_generations.specs.Words.{Cell, Row, Ts, Reason, ObserverOf, Step, Answer, StateOf, opening, step_reason, Entry, Received, Has, JournalLeads}
-use Rattle.pb_steps.specs.declared.step.Work.{Work}
-use Rattle.pb_history.specs.Laws.{TransactionsAreTold}
-use Rattle.pb_history.specs.Places.{entries_of}
-use Rattle.pb_history.specs.TransactionsTold.{entries_naming}
-use Rattle.pb_txn.specs.Allowed.{PlansAreAllowed}
-use Rattle.pb_txn.specs.Changes.{ChangeOf, Converses, new_change}
+use Rattle.pb_generations.specs.Words.{Writes, Cell, Row, Ts, Reason, ObserverOf, StateOf, opening, step_reason, Answer, Step, Work, Has, JournalLeads, TransactionsAreTold, entries_of, entries_naming, Entry, Received, PlansAreAllowed, ChangeOf, Converses, new_change, told, PlansConverse, PlansEnd, HasRun, JobsAreAllowed, RunsAreKept, entries_by, Reaches, RunOf, fresh, next_of, watch_of}
 use Rattle.pb_txn.specs.Changes as changes
-use Rattle.pb_txn.specs.Conversations.{told}
-use Rattle.pb_txn.specs.Forms.{PlansConverse, PlansEnd}
-use Rattle.pb_notify.specs.Allowed.{entries_by, HasRun, RunsAreKept, JobsAreAllowed}
-use Rattle.pb_notify.specs.Conversations.{Reaches}
-use Rattle.pb_notify.specs.Runs.{RunOf, watch_of, fresh, next_of}
 use Rattle.pb_notify.proofs.OwnSteps.{no_transaction}
 use Rattle.pb_generations.specs.LateSteps.{NamesLate}
 use Rattle.pb_generations.specs.KeptTables.{IsKeptTable, StandsForAll, KeptTablesAreWhole, KeptAnswersAreKnown, RunsAskSteps, ChangesKeepTables}
@@ -25,7 +13,7 @@ use Rattle.pb_generations.specs.SameButMarks.{is_of_marks, without_marks, IsLega
 use Rattle.pb_generations.proofs.HistoryButMarks.{has_passed, naming_others}
 use Rattle.pb_generations.proofs.JournalsWithMore.{legal_with_more}
 use Rattle.pb_generations.proofs.JoinedJournals.{journal_seats}
-use Rattle.pb_generations.proofs.KeptRuns.{kept_run}
+use Rattle.pb_generations.proofs.KeptJobs.{kept_run}
 use Rattle.pb_generations.proofs.KnownJobs.{change_names_known}
 use Rattle.pb_generations.proofs.LateNames.{begun_later, late_in_run}
 use Rattle.pb_generations.proofs.LongerLists.{stay_in_front}
@@ -106,7 +94,7 @@ module _ (wholes : KeptTablesAreWhole) (over : RefusalsCarryOver) (alike : SameR
         → slice_get observers o ≡ Some observer → row.0 < 2 ^ 64 → observer.column < 2 ^ 64 → Reaches (fresh (watch_of o observer row)) said job → next_of job ≡ Some step → step_reason new 0 step ≡ Some why → why ≡ Reason.OutOfTimestamps
     run_in_time asks names answers allowed runs pt pe o observer row job step why there row_fits column_fits reaches next refused =
         let journal = entries_by 0 (before ++ said) in
-        let run = kept_run asks names answers observers gone 1 clock c (entries_by 0 before) old kept 0 o observer row there said job new reaches leads in
+        let run = kept_run answers observers gone 1 clock c (entries_by 0 before) old kept 0 asks names o observer row there said job new reaches leads in
         let led = on run.0 in
         let w = stands journal new led in
         let named = late_in_run pt pe observers o observer row said job c step (late (Work.Run o row)) reaches next in

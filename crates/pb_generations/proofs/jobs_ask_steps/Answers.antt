@@ -1,21 +1,9 @@
 use Rattle.std.proofs.Common.{◌≡◌, ℕ, ◌<◌, Bool, arith, List, ◌++◌, Some, None, slice_get, refl, sym, ap, subst, ◌∙◌, Option}
 use Rattle.pb_base.proofs.Logic.{none_some, same_some}
-use Rattle.pb_generations.specs.Words.{Cell, Row, Ts, ObserverOf, Step, Entry, Received, Has, IsEntry}
-use Rattle.pb_txn.specs.Forms.{PlansConverse, PlansEnd}
-use Rattle.pb_txn.specs.Conversations.{told}
+use Rattle.pb_generations.specs.Words.{Cell, Row, Ts, ObserverOf, old_at, Seen, Step, Work, Has, IsEntry, Entry, Received, told, PlansConverse, PlansEnd, PlanPlace, IsAcknowledged, look_step, step_at, Watch, watch_of, Look, RunPlace}
 use Rattle.pb_txn.specs.Plans as plans
 use Rattle.pb_txn.specs.Places as orders
 use Rattle.pb_txn.specs.Changes as changes
-use Rattle.pb_txn.specs.declared.place.PlanPlace.{PlanPlace}
-use Rattle.pb_steps.specs.Declarations.{old_at}
-use Rattle.pb_steps.specs.declared.step.Work.{Work}
-use Rattle.pb_steps.specs.declared.seen.Seen.{Seen}
-use Rattle.pb_notify.specs.declared.look.Look.{Look}
-use Rattle.pb_notify.specs.declared.place.RunPlace.{RunPlace}
-use Rattle.pb_notify.specs.Forms.{IsAcknowledged}
-use Rattle.pb_notify.specs.Looks.{look_step}
-use Rattle.pb_notify.specs.Places.{step_at}
-use Rattle.pb_notify.specs.Runs.{Watch, watch_of}
 use Rattle.pb_notify.proofs.RunConversation as conversation
 use Rattle.pb_history.proofs.Updates.{has_last, has_before}
 use Rattle.pb_generations.specs.KeptTables.{IsStepOfJob, ReadsAcknowledged, RunsAskSteps, ChangesAskSteps}

@@ -1,20 +1,10 @@
 use Rattle.std.proofs.Common.{◌≡◌, ℕ, true, List, [], ◌∷◌, ◌++◌, length, map, refl, sym, ap, subst, ◌∙◌, append_assoc, append-nil}
-use Rattle.std.proofs.lemmas.Bool.{and_parts}
-use Rattle.pb_base.specs.Batch.{Writes}
+use Rattle.pb_generations.specs.Words.{Writes, Cell, Ts, ObserverOf, StateOf, Answer, Declared, Step, Work, JournalLeads, Entry, Received, IsWholeChange, told, AreCleared, IsWhole, committed, conflicted_first, conflicted_later, lost, prewrites, Outcome, entries_by}
 use Rattle.pb_history.proofs.DeclaredCells.{batch_plain}
-use Rattle.pb_steps.specs.declared.step.Declared.{Declared}
-use Rattle.pb_steps.specs.declared.step.Work.{Work}
-use Rattle.pb_txn.specs.Changes.{ChangeOf, IsWholeChange, new_change}
-use Rattle.pb_txn.specs.Changes as changes
-use Rattle.pb_txn.specs.Conversations.{told}
-use Rattle.pb_txn.specs.Forms.{IsWhole, committed, conflicted_first, conflicted_later, lost, prewrites, secondaries, AreCleared}
-use Rattle.pb_txn.specs.declared.place.Outcome.{Outcome}
-use Rattle.pb_notify.specs.Allowed.{entries_by}
-use Rattle.pb_generations.specs.Words.{Cell, Ts, ObserverOf, Step, Answer, StateOf, Entry, Received, JournalLeads}
-use Rattle.pb_generations.specs.KeptTables.{IsKeptTable, stepped, IsStepOfJob, ChangesAskSteps}
-use Rattle.pb_generations.specs.LeftOut.{NamesKnown, is_known_cell, are_known_writes}
-use Rattle.pb_generations.proofs.KeptRuns.{kept_run}
-use Rattle.pb_generations.proofs.KnownJobs.{AllNameKnown, change_all_known, declared_batch}
+use Rattle.pb_generations.specs.KeptTables.{IsKeptTable, stepped, IsStepOfJob}
+use Rattle.pb_generations.specs.LeftOut.{NamesKnown, is_known_cell}
+use Rattle.pb_generations.proofs.KeptJobs.{kept_run, kept_change}
+use Rattle.pb_generations.proofs.KnownJobs.{AreKnownCells, cells_of_writes, declared_batch}
 use Rattle.pb_generations.proofs.LeftOutDeclarations.{plain_are_known}
 use Rattle.pb_generations.proofs.SeatEntries.{entry}
 use Rattle.pb_generations.proofs.jobs_keep_tables.Goals as goal
@@ -34,21 +24,10 @@ module _ (observers : List ObserverOf) where
       let rest = of_asked gone seats clock c seat (journal ++ entry seat r ∷ []) leads.0 new said first are.2 leads.2 in
       subst (λ (l : List Entry). IsKeptTable observers gone seats clock c l new) (append_assoc journal (entry seat r ∷ []) (entries_by seat said)) rest
 
-  -- ---- a change, as far as it went
-
-  change_asked : ChangesAskSteps → (j k : ChangeOf) (said : List Received) → changes.Converses j said k → AllNameKnown (length observers) said → AreAsked said
-  change_asked asks j k [] talk known = tt
-  change_asked asks j k (r ∷ said) talk known = (λ journal. asks observers journal j r.step talk.0, known.0, change_asked asks (changes.answered j r.answer) k said talk.2 known.1)
-
   -- ---- a whole change
 
   abbrev AreKnown : List Cell → Type 0
-  AreKnown [] = Unit {0}
-  AreKnown (x ∷ xs) = (is_known_cell (length observers) x ≡ true) × AreKnown xs
-
-  known_writes : (ws : Writes) → are_known_writes (length observers) ws ≡ true → AreKnown (map (λ w. w.0) ws)
-  known_writes [] known = tt
-  known_writes (w ∷ ws) known = let parts = and_parts (is_known_cell (length observers) w.0) (are_known_writes (length observers) ws) known in (parts.0, known_writes ws parts.1)
+  AreKnown cells = AreKnownCells (length observers) cells
 
   known_parts : (xs ys : List Cell) → AreKnown (xs ++ ys) → AreKnown xs × AreKnown ys
   known_parts [] ys known = (tt, known)
@@ -58,13 +37,13 @@ module _ (observers : List ObserverOf) where
   asked_append [] b are rest = rest
   asked_append (r ∷ a) b are rest = (are.0, are.1, asked_append a b are.2 rest)
 
-  asked_prewrites : (s : Ts) (xs : List Cell) → AreKnown xs → AreAsked (prewrites s xs)
-  asked_prewrites s [] known = tt
-  asked_prewrites s (x ∷ xs) known = (λ journal. tt, known.0, asked_prewrites s xs known.1)
+  asked_each : (f : Cell → Step) → ((journal : List Entry) (x : Cell) → IsStepOfJob observers journal (f x)) → ((x : Cell) → is_known_cell (length observers) x ≡ true → NamesKnown (length observers) (f x))
+      → (xs : List Cell) → AreKnown xs → AreAsked (map (λ x. told (f x) Answer.Done) xs)
+  asked_each f asked names [] known = tt
+  asked_each f asked names (x ∷ xs) known = (λ journal. asked journal x, names x known.0, asked_each f asked names xs known.1)
 
-  asked_secondaries : (s : Ts) (xs : List Cell) → AreKnown xs → AreAsked (secondaries s xs)
-  asked_secondaries s [] known = tt
-  asked_secondaries s (x ∷ xs) known = (λ journal. tt, known.0, asked_secondaries s xs known.1)
+  asked_prewrites : (s : Ts) (xs : List Cell) → AreKnown xs → AreAsked (prewrites s xs)
+  asked_prewrites s = asked_each (λ x. Step.Prewrite s x) (λ journal x. tt) (λ x known. known)
 
   asked_cleared : (xs : List Cell) (rs : List Received) → AreKnown xs → AreCleared xs rs → AreAsked rs
   asked_cleared [] rs known is = subst AreAsked (sym is) tt
@@ -74,7 +53,7 @@ module _ (observers : List ObserverOf) where
   module _ (s : Ts) (batch : Writes) where
     asked_whole : (cells : List Cell) (said : List Received) (o : Outcome) → AreKnown cells → IsWhole s (Declared.Script batch) cells said o → AreAsked said
     asked_whole cells said o known (committed x others c) =
-        (λ journal. tt, tt, asked_append (prewrites s (x ∷ others)) _ (asked_prewrites s (x ∷ others) known) (λ journal. tt, tt, (λ journal. tt, tt, asked_secondaries s others known.1)))
+        (λ journal. tt, tt, asked_append (prewrites s (x ∷ others)) _ (asked_prewrites s (x ∷ others) known) (λ journal. tt, tt, (λ journal. tt, tt, asked_each (λ x. Step.CommitSecondary s x) (λ journal x. tt) (λ x known. known) others known.1)))
     asked_whole cells said o known (conflicted_first x after) = (λ journal. tt, tt, (λ journal. tt, known.0, tt))
     asked_whole cells said o known (conflicted_later x y before after a cs can cleared) =
         let parts = known_parts before (y ∷ after) known.1 in
@@ -96,17 +75,16 @@ whole_asked observers seat batch start said o old new whole leads =
     let first = begins_with start (Declared.Script batch) _ whole.rest o whole.whole in
     let took = subst (λ (l : List Received). JournalLeads old (entries_by seat l) new) (whole.said_is ∙ ap (λ (l : List Received). begin ∷ l) first.1) leads in
     let is = declared_batch seat batch old new begin (told (Step.Declare start (Declared.Script batch)) Answer.Done) first.0 start took refl in
-    let cells = known_writes observers batch (plain_are_known (length observers) batch (batch_plain batch is)) in
+    let cells = cells_of_writes (length observers) batch (plain_are_known (length observers) batch (batch_plain batch is)) in
     subst (AreAsked observers) (sym whole.said_is) (λ journal. tt, tt, asked_whole observers start batch _ whole.rest o cells whole.whole)
 
 pub returns-clause-runs : goal.returns-clause-runs
 returns-clause-runs c observers gone seats clock g journal old new kept seat o observer row said k there reaches leads =
-    (kept_run c.jobs_ask_steps.ensures.runs c.jobs_name_known_cells.ensures.runs c.kept_tables_are_whole.ensures.answers observers gone seats clock g journal old kept seat o observer row there said k new reaches leads).0
+    (kept_run c.kept_tables_are_whole.ensures.answers observers gone seats clock g journal old kept seat c.jobs_ask_steps.ensures.runs c.jobs_name_known_cells.ensures.runs o observer row there said k new reaches leads).0
 
 pub returns-clause-changes : goal.returns-clause-changes
 returns-clause-changes c observers gone seats clock g journal old new kept seat batch said k talk leads =
-    let known = change_all_known (length observers) seat batch old new said k talk leads in
-    of_asked observers gone seats clock g seat journal old new said kept (change_asked observers c.jobs_ask_steps.ensures.changes (new_change batch) k said talk known) leads
+    (kept_change c.kept_tables_are_whole.ensures.answers observers gone seats clock g journal old kept seat c.jobs_ask_steps.ensures.changes batch said k new talk leads).0
 
 pub returns-clause-whole : goal.returns-clause-whole
 returns-clause-whole c observers gone seats clock g journal old new kept seat batch start said o whole leads =

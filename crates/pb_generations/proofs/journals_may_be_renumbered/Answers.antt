@@ -1,7 +1,7 @@
 use Rattle.std.proofs.Common.{ℕ, sym, ap, ◌∙◌, option_map}
 use Rattle.pb_history.proofs.Updates.{none_if}
 use Rattle.pb_base.proofs.Logic.{none_some}
-use Rattle.pb_generations.specs.Words.{Cell, StateOf, IsQuiet, NoLock, lock_at}
+use Rattle.pb_generations.specs.Words.{Cell, NoLock, lock_at, StateOf, IsQuiet}
 use Rattle.pb_generations.specs.Renumbered.{IsRenumbered, renumbered_cell}
 use Rattle.pb_generations.proofs.RenumberedJournals.{legal_renumbered}
 use Rattle.pb_generations.proofs.journals_may_be_renumbered.Goals as goal

@@ -3,17 +3,13 @@ use Rattle.std.proofs.lemmas.List.Elements.{filter-append}
 use Rattle.std.proofs.lemmas.Option.{none-some}
 use Rattle.std.specs.FinMap as map
 use Rattle.std.specs.Ordering.{nat_cmp}
-use Rattle.pb_generations.specs.Words.{Cell, Row, Revision, ObserverOf, IsVersion, Entries, slot_at, Sort, last_timestamp, lock_at, write_at, Step, Answer, StateOf, Transactions, opening, TableStep, Entry, IsLegal, IsQuiet, SoundHasData, IsSoundTable}
-use Rattle.pb_store.specs.Slot.{slot_cmp}
-use Rattle.pb_base.specs.Cell.{cell_cmp}
-use Rattle.pb_steps.specs.Readings.{primary_of, start_of}
+use Rattle.pb_generations.specs.Words.{cell_cmp, Cell, Revision, Row, ObserverOf, Entries, slot_at, slot_cmp, Sort, IsVersion, last_timestamp, lock_at, primary_of, start_of, write_at, StateOf, Transactions, opening, TableStep, Answer, Step, IsQuiet, IsLegal, SoundHasData, IsSoundTable, Entry, HasMoreObservers}
 use Rattle.pb_history.proofs.Agreement.{Agrees}
 use Rattle.pb_history.proofs.JournalParts.{one_more}
 use Rattle.pb_history.proofs.JournalsAreSound.{legal_sound}
 use Rattle.pb_history.proofs.StepsAgree.{legal_agrees}
 use Rattle.pb_history.proofs.TransactionAfter.{case_observers}
 use Rattle.pb_history.proofs.Updates.{none_if}
-use Rattle.pb_state.specs.MoreObservers.{HasMoreObservers}
 use Rattle.pb_generations.specs.Chosen.{AreChosen, IsChosenSnapshot, chosen_state, new_number}
 use Rattle.pb_generations.specs.KeptTables.{IsKeptTable, opened, stepped, anew, chosen, AreCovered, IsStepOfJob, ReadsAcknowledged, StandsForAll}
 use Rattle.pb_generations.specs.LateSteps.{Carries, IsLateStep, NamesLate, StepsCarryOver}

@@ -3,8 +3,7 @@ use Rattle.std.proofs.lemmas.Option.{none-some}
 use Rattle.std.specs.FinMap as map
 use Rattle.std.specs.Ordering.{nat_cmp, eq_by_cmp}
 use Rattle.std.specs.Cmp.{nat_cmp_total, unsigned_tied}
-use Rattle.pb_generations.specs.Words.{Cell, Revision, Sort, Entries, slot_at, StateOf, TransactionOf, Transactions, IsVersion, NoVersion, lock_at, write_at, data_at, data_of, SoundHasData}
-use Rattle.pb_steps.specs.Readings.{primary_of, start_of}
+use Rattle.pb_generations.specs.Words.{Cell, Revision, Entries, slot_at, Sort, IsVersion, NoVersion, data_at, data_of, lock_at, primary_of, start_of, write_at, StateOf, TransactionOf, Transactions, SoundHasData}
 use Rattle.pb_history.proofs.Updates.{set2, set2_there, set2_none, left_after_clearing as cleared, at_or_apart as decide}
 use Rattle.pb_history.proofs.ViewsAfter.{remove_same, remove_other}
 use Rattle.pb_generations.specs.Mirrored.{IsMirroredBy, OldMayBeDropped, QuietMirrorsItself, QuietCarriesOver}

@@ -1,9 +1,5 @@
 use Rattle.std.proofs.Common.{◌≡◌, ℕ, ◌≤◌, true, List, ◌++◌, length, Option, Some, None, slice_get, arith, refl, sym, ap, subst, ◌∙◌}
-use Rattle.pb_generations.specs.Words.{Cell, Content, Row, Revision, IsNewestVersion, NoLock, last_timestamp, Entries, ObserverOf, StateOf, Entry, IsLegal, IsQuiet, IsSoundTable, TellsOneHandler}
-use Rattle.pb_history.specs.Handled.{Handles}
-use Rattle.pb_history.specs.History.{Member, InHistory, WritesTo}
-use Rattle.pb_history.specs.SnapshotsTold.{TellsSnapshot, TellsSnapshots}
-use Rattle.pb_history.specs.Timestamps.{AreRising, TellsTimestamps, timestamps}
+use Rattle.pb_generations.specs.Words.{Cell, Content, Revision, Row, ObserverOf, Entries, IsNewestVersion, NoLock, last_timestamp, StateOf, Handles, IsQuiet, TellsOneHandler, InHistory, Member, WritesTo, IsLegal, TellsSnapshot, TellsSnapshots, IsSoundTable, AreRising, TellsTimestamps, timestamps, Entry}
 use Rattle.pb_history.proofs.Agreement.{Agrees}
 use Rattle.pb_history.proofs.ChangesHandled.{handled_by_then, stands_unlocked}
 use Rattle.pb_history.proofs.JournalsAreSound.{legal_sound}

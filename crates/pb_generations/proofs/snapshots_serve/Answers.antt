@@ -1,5 +1,4 @@
-use Rattle.pb_generations.specs.Words.{SoundHasData, opening}
-use Rattle.pb_history.specs.Laws.{StepsKeepSound, OpeningIsSound}
+use Rattle.pb_generations.specs.Words.{opening, OpeningIsSound, SoundHasData, StepsKeepSound}
 use Rattle.pb_generations.specs.Mirrored.{QuietMirrorsItself}
 use Rattle.pb_generations.specs.Snapshots.{SnapshotsServe}
 use Rattle.pb_generations.proofs.QuietTables.{no_lock_at, no_record_above}

@@ -2,19 +2,7 @@ use Rattle.std.proofs.Common.{if◌then◌else◌, ◌≡◌, ◌⊎◌, ℕ, �
 use Rattle.std.proofs.lemmas.Bool.{cases_lt}
 use Rattle.std.proofs.lemmas.Option.{none-some}
 use Rattle.std.specs.FinMap as map
-use Rattle.pb_generations.specs.Words.{Cell, Revision, Row, Ts, Reason, Entries, Phase, Answer, Step, StateOf, TransactionOf, Transactions, read_up_to, IsVersion, NoVersion, IsNewestVersion, NoLock, lock_at, write_at, last_timestamp, Reasons, reasons_of, first_reason, if_of_seat, own_reasons, no_seat, put_lock, if_locked, commits, commit_lock, rolls_back, erase_lock, TableStep, step_reason}
-use Rattle.pb_steps.specs.State.{with_transaction, new_transaction, cells_of}
-use Rattle.pb_steps.specs.Readings.{NoLockUpTo, IsLockOn, SomeLock, SomeWriteFrom}
-use Rattle.pb_steps.specs.Reasons.{IsOwn, is_out}
-use Rattle.pb_steps.specs.Read.{ReadsFound, ReadsAbsent, ReadsLocked, with_read, read_step, read_reasons, read_at_reasons}
-use Rattle.pb_steps.specs.Declare.{declare_reasons}
-use Rattle.pb_steps.specs.Prewrite.{prewrite_reasons}
-use Rattle.pb_steps.specs.Stamp.{unstamped_reasons}
-use Rattle.pb_steps.specs.CommitPrimary.{commit_reasons}
-use Rattle.pb_steps.specs.CommitSecondary.{CommitsSecondary, secondary_reasons}
-use Rattle.pb_steps.specs.Clear.{NoWriteOf}
-use Rattle.pb_steps.specs.Marks.{SomeBehind, AllUpToDate, IsUpToDate}
-use Rattle.pb_steps.specs.Steps.{StepCase}
+use Rattle.pb_generations.specs.Words.{Cell, Revision, Row, Ts, Reason, Entries, NoWriteOf, commit_reasons, CommitsSecondary, if_locked, secondary_reasons, commit_lock, commits, erase_lock, rolls_back, declare_reasons, AllUpToDate, IsUpToDate, SomeBehind, prewrite_reasons, put_lock, ReadsAbsent, ReadsFound, ReadsLocked, read_at_reasons, read_reasons, read_step, with_read, IsLockOn, IsNewestVersion, IsVersion, NoLock, NoLockUpTo, NoVersion, SomeLock, SomeWriteFrom, last_timestamp, lock_at, write_at, read_up_to, IsOwn, Reasons, first_reason, if_of_seat, is_out, no_seat, own_reasons, reasons_of, unstamped_reasons, StateOf, TransactionOf, Transactions, cells_of, new_transaction, with_transaction, StepCase, TableStep, step_reason, Phase, Answer, Step}
 use Rattle.pb_generations.specs.Mirrored.{IsMirroredBy, IsLatePhase, carried}
 use Rattle.pb_generations.specs.LateSteps.{IsLateStep, Carries}
 use Rattle.pb_generations.proofs.VersionsAbove.{whole_version, whole_none}
