@@ -1,47 +1,14 @@
 -- A transaction that is alone on a table without locks commits, and leaves none.
 use Rattle.std.proofs.Common.{arith, ◌≡◌, ℕ, ◌<◌, ◌⊎◌, Bool, true, false, cond, inl, inr, List, [], ◌∷◌, ◌++◌, Option, Some, None, refl, sym, ap, subst, ◌∙◌, is_some, option_map, ◌==◌}
-use Rattle.std.proofs.lemmas.Bool.{eq-eqb, false_from_ne_true}
-use Rattle.pb_base.specs.Batch.{Writes, content_in, primary_in}
-use Rattle.pb_base.specs.declared.cell.Cell.{Cell}
-use Rattle.pb_base.specs.declared.content.Content.{Content}
-use Rattle.pb_base.specs.declared.names.Ts.{Ts}
-use Rattle.pb_store.specs.Contents.{Entries}
-use Rattle.pb_steps.specs.Phases.{is_reading}
-use Rattle.pb_steps.specs.Readings.{lock_at, write_at}
-use Rattle.pb_steps.specs.Commits.{commit_lock}
-use Rattle.pb_steps.specs.Prewrite.{Prewrites, Conflicts, put_lock, is_early}
-use Rattle.pb_steps.specs.Declare.{Declares}
-use Rattle.pb_steps.specs.Stamp.{Stamps}
-use Rattle.pb_steps.specs.CommitPrimary.{CommitsPrimary, Loses}
-use Rattle.pb_steps.specs.CommitSecondary.{CommitsSecondary, if_locked}
-use Rattle.pb_steps.specs.Reasons.{IsOwn}
-use Rattle.pb_steps.specs.State.{StateOf, TransactionOf, cells_of, is_in}
-use Rattle.pb_steps.specs.Steps.{StepCase, step_reason}
-use Rattle.pb_steps.specs.declared.phase.Phase.{Phase}
-use Rattle.pb_steps.specs.declared.step.Step.{Step}
-use Rattle.pb_steps.specs.declared.step.Answer.{Answer}
-use Rattle.pb_steps.specs.declared.step.Declared.{Declared}
-use Rattle.pb_history.specs.History.{Has}
-use Rattle.pb_history.specs.Sound.{IsSoundTable}
-use Rattle.pb_history.specs.TableView.{prewritten_by, declared_by}
-use Rattle.pb_history.specs.TransactionsTold.{names_start, transaction_after}
+use Rattle.std.proofs.lemmas.Bool.{eq-eqb, false_from_ne_true, true≢false}
+use Rattle.pb_keeper.specs.Words.{Writes, content_in, primary_in, Cell, Content, Ts, Entries, is_reading, lock_at, write_at, commit_lock, Prewrites, Conflicts, put_lock, is_early, Declares, Stamps, CommitsPrimary, Loses, CommitsSecondary, if_locked, IsOwn, StateOf, TransactionOf, cells_of, is_in, StepCase, step_reason, Phase, Step, Answer, Declared, Has, IsSoundTable, prewritten_by, declared_by, names_start, transaction_after}
+use Rattle.pb_base.proofs.Logic.{none_some}
+use Rattle.pb_history.proofs.StepsKeepSound.{some_is}
 use Rattle.pb_history.proofs.Agreement.{got}
 use Rattle.pb_history.proofs.TransactionAfter.{case_tells}
 use Rattle.pb_history.proofs.Updates.{same_cell, same_cell_is, same_cell_itself, at_place, set2, set2_here, placed_or_before, left_after_clearing, has_front, has_last, has_more}
 use Rattle.pb_history.proofs.ViewsAfter.{lock_after_put, write_after_put, lock_after_commit}
 use Rattle.pb_keeper.specs.Stops.{IsUnlocked}
-
--- ---- logic
-
-none_some : {A : Type 0} (x : A) → ◌≡◌ {A = Option A} None (Some x) → ⊥
-none_some x e = cc
-
-pub true_false : ◌≡◌ {A = Bool} true false → ⊥
-true_false e = cc
-
-is_some_some : {A : Type 0} (o : Option A) → is_some o ≡ true → (x : A) × (o ≡ Some x)
-is_some_some None e = cc
-is_some_some (Some x) e = (x, refl)
 
 either_some : {A : Type 0} (b : Bool) (x : A) (o : Option A) → is_some o ≡ true → is_some (cond b (Some x) o) ≡ true
 either_some true x o e = refl
@@ -158,13 +125,13 @@ module _ (start : Ts) (m n : StateOf) where
   pub meets_nothing : (done : List Cell) (x : Cell) → IsAlone s done m → step_reason m 0 (Step.Prewrite start x) ≡ None → Conflicts m 0 s x n → ⊥
   meets_nothing done x a allowed d = elim d.why [
     | inl l ↦
-        let some = is_some_some (lock_at m.entries x l.0) l.2 in
+        let some = some_is (lock_at m.entries x l.0) l.2 in
         let own : l.0 ≡ s = a.only x l.0 some.0 some.1 in
         let had = (a.sound.lock_prewritten x l.0 some.0 some.1).0 in
         let in_it : is_in d.t.prewritten x ≡ true = sym (ap (λ o. is_in (prewritten_by o) x) d.own.there) ∙ subst (λ u. is_in (prewritten_by (got m u)) x ≡ true) own had in
-        true_false (sym in_it ∙ asked_once x d.t d.own allowed)
+        true≢false (sym in_it ∙ asked_once x d.t d.own allowed)
     | inr w ↦
-        let some = is_some_some (write_at m.entries x w.0) w.3 in
+        let some = some_is (write_at m.entries x w.0) w.3 in
         let low = a.below x w.0 some.0 some.1 in
         let high = w.1 in
         omega (arith, low, high)
@@ -190,7 +157,7 @@ module _ (start : Ts) (m n : StateOf) where
       let content = primary_content d.t.declared d.primary d.primary_is in
       let phase : option_map (λ (z : TransactionOf). z.phase) (got m s) ≡ Some (Phase.Stamped (record { 0 = d.c })) = ap (option_map (λ (z : TransactionOf). z.phase)) d.own.there ∙ ap Some d.stamped in
       let had = a.sound.all_prewritten s d.c d.primary content.0 phase (ap (λ o. content_in (declared_by o) d.primary) d.own.there ∙ content.1) in
-      true_false (sym (a.locked d.primary (a.prewritten d.primary had)) ∙ d.unlocked)
+      true≢false (sym (a.locked d.primary (a.prewritten d.primary had)) ∙ d.unlocked)
 
   pub committed_alone : (x : Cell) (others : List Cell) → IsAlone s (x ∷ others) m → CommitsPrimary m 0 s n → AreLeft s others n
   committed_alone x others a d y u p e =
@@ -217,5 +184,5 @@ module _ (start : Ts) (m n : StateOf) where
     | false ↦ λ gone is.
         let was : lock_at m.entries y u ≡ Some p = sym (ap (λ (z : StateOf). lock_at z.entries y u) is) ∙ e in
         let h = a y u p was in
-        (h.0, elim h.1 [ inl q ↦ absurd (true_false (sym (ap is_some (λ i. lock_at m.entries (q i) (sym h.0 i)) ∙ ap is_some was) ∙ gone)) | inr k ↦ k ])
+        (h.0, elim h.1 [ inl q ↦ absurd (true≢false (sym (ap is_some (λ i. lock_at m.entries (q i) (sym h.0 i)) ∙ ap is_some was) ∙ gone)) | inr k ↦ k ])
   ] refl d.new_is

@@ -3,17 +3,13 @@ use Rattle.std.proofs.Common.{arith, ◌≡◌, ◌<◌, ◌==◌, ◌+◌, ◌�
 use Rattle.std.specs.List.{list_any}
 use Rattle.std.proofs.lemmas.Bool.{eq-eqb, eqb-true, or_parts}
 use Rattle.std.proofs.lemmas.List.{length-append}
+use Rattle.pb_keeper.specs.Words.{ObserverOf, AreChosen}
+use Rattle.pb_state.proofs.Taking.{take_with_next}
+use Rattle.pb_generations.proofs.LongerLists.{stay_in_front}
 use Rattle.pb_base.proofs.Logic.{or_cases, not_both, same_some}
-use Rattle.pb_verify.specs.Observers.{ObserverOf}
-use Rattle.pb_generations.specs.Chosen.{AreChosen}
 use Rattle.pb_keeper.specs.Choosing.{IsOneOf, IsSplit, WhyNotChosen, known_one, nothing, one_twice, other_one}
 
 -- ---- one at the end
-
-got_more : {A : Type 0} (xs : List A) (x : A) (n : ℕ) (y : A) → slice_get xs n ≡ Some y → slice_get (xs ++ x ∷ []) n ≡ Some y
-got_more [] x n y is = absurd cc
-got_more (z ∷ xs) x zero y is = is
-got_more (z ∷ xs) x (suc n) y is = got_more xs x n y is
 
 got_last : {A : Type 0} (xs : List A) (x : A) → slice_get (xs ++ x ∷ []) (length xs) ≡ Some x
 got_last [] x = refl
@@ -27,11 +23,6 @@ got_either (z ∷ xs) x (suc n) y is = elim (got_either xs x n y is) [
   | inl h ↦ inl h
   | inr p ↦ inr (ap suc p.0, p.1)
 ]
-
-take_one : {A : Type 0} (xs : List A) (i : ℕ) (x : A) → slice_get xs i ≡ Some x → take (suc i) xs ≡ take i xs ++ x ∷ []
-take_one [] i x is = absurd cc
-take_one (y ∷ xs) zero x is = ap (λ z. z ∷ []) (same_some y x is)
-take_one (y ∷ xs) (suc i) x is = ap (λ l. y ∷ l) (take_one xs i x is)
 
 taken_at : {A : Type 0} (xs : List A) (i n : ℕ) (x : A) → slice_get (take i xs) n ≡ Some x → (n < i) × (slice_get xs n ≡ Some x)
 taken_at [] zero n x is = absurd cc
@@ -71,7 +62,7 @@ module _ (places : List ℕ) (old new : List ObserverOf) (i p : ℕ) (o : Observ
   with_one none = record {
     as_many = let same = so.as_many in omega (arith, length-append front (o ∷ []), length-append places (p ∷ []), same);
     each = λ n q is. elim (got_either places p n q is) [
-      | inl h ↦ let e = so.each n q h in (e.0, e.1, got_more front o n e.0 e.2)
+      | inl h ↦ let e = so.each n q h in (e.0, e.1, stay_in_front front (o ∷ []) n e.0 e.2)
       | inr e ↦ (o, subst (λ r. slice_get old r ≡ Some o) e.1 there, subst (λ k. slice_get (front ++ o ∷ []) k ≡ Some o) (so.as_many ∙ sym e.0) (got_last front o))
     ];
     apart = λ m n q x y. elim (got_either places p m q x) [
@@ -88,9 +79,7 @@ module _ (places : List ℕ) (old new : List ObserverOf) (i p : ℕ) (o : Observ
 
   -- one more is chosen
   pub one_more : list_any (λ q. q == p) places ≡ false → AreChosen (places ++ p ∷ []) old (take (i + 1) new)
-  one_more none =
-      let next : suc i ≡ i + 1 = omega arith in
-      subst (λ l. AreChosen (places ++ p ∷ []) old l) (sym (take_one new i o here) ∙ ap (λ k. take k new) next) (with_one none)
+  one_more none = subst (λ l. AreChosen (places ++ p ∷ []) old l) (sym (take_with_next new i o here)) (with_one none)
 
 -- ---- two lists
 

@@ -1,21 +1,11 @@
 -- A run commits one transaction if it ended so, and else none.
 use Rattle.std.proofs.Common.{arith, ◌≡◌, ℕ, ◌+◌, true, false, cond, List, [], ◌∷◌, ◌++◌, Option, None, refl, ap, ◌∙◌, zero-add}
 use Rattle.std.proofs.lemmas.List.Sums.{sum_by-append, sum_by-cons}
-use Rattle.pb_base.specs.declared.cell.Cell.{Cell}
-use Rattle.pb_base.specs.declared.names.Ts.{Ts}
-use Rattle.pb_finished.specs.Finished.{Meant}
-use Rattle.pb_steps.specs.declared.step.Step.{Step}
-use Rattle.pb_steps.specs.declared.step.Answer.{Answer}
-use Rattle.pb_steps.specs.declared.step.Declared.{Declared}
-use Rattle.pb_history.specs.declared.entry.Received.{Received}
-use Rattle.pb_txn.specs.Conversations.{told}
-use Rattle.pb_txn.specs.Forms.{IsWhole, committed, conflicted_first, conflicted_later, lost, prewrites, secondaries, AreCleared}
-use Rattle.pb_txn.specs.declared.place.Outcome.{Outcome}
-use Rattle.pb_notify.specs.Forms.{its_begin, IsRunConversation, absent, clean, ran, conflicted, lost as lost_run, blocked}
-use Rattle.pb_notify.specs.Runs.{Watch}
-use Rattle.pb_notify.specs.declared.need.JobEnd.{JobEnd}
+use Rattle.pb_keeper.specs.Words.{Cell, Ts, Meant, Step, Answer, Declared, Received, told, IsWhole, committed, conflicted_first, conflicted_later, lost, prewrites, secondaries, AreCleared, Outcome, its_begin, IsRunConversation, absent, clean, ran, conflicted, blocked, Watch, JobEnd}
+use Rattle.pb_notify.specs.Forms.{lost as lost_run}
 use Rattle.pb_keeper.specs.Counts.{is_primary_commit, commit_count, commits_of_end, RunsCommitOnce}
-use Rattle.pb_keeper.proofs.Wholes.{is_plain, ArePlain, IsPlainFrom, from_more, read_plain, rounds_from, looked_from, begin_from, acknowledged_from, asked_from, base_from}
+use Rattle.pb_keeper.proofs.EachStep.{each_cleared}
+use Rattle.pb_keeper.proofs.Wholes.{is_plain, IsPlain, ArePlain, IsPlainFrom, from_more, read_plain, rounds_from, looked_from, begin_from, acknowledged_from, asked_from, base_from}
 
 -- ---- lists
 
@@ -48,10 +38,8 @@ from_count s said f = ap commit_count f.said_is ∙ (not_counted (told (Step.Beg
 
 -- ---- a transaction
 
-cleared_plain : (xs : List Cell) (rs : List Received) → AreCleared xs rs → commit_count rs ≡ 0
-cleared_plain [] rs c = ap commit_count c
-cleared_plain (x ∷ xs) [] c = absurd c
-cleared_plain (x ∷ xs) (r ∷ rs) c = not_counted r rs (plain_commits_not r.step r.answer (ap is_plain c.0)) ∙ cleared_plain xs rs c.2
+cleared_count : (xs : List Cell) (rs : List Received) → AreCleared xs rs → commit_count rs ≡ 0
+cleared_count xs rs c = plain_count rs (each_cleared IsPlain (λ x r e. ap is_plain e) xs rs c)
 
 module _ (s : Ts) where
   prewrites_count : (xs : List Cell) (rest : List Received) → commit_count (prewrites s xs ++ rest) ≡ commit_count rest
@@ -78,10 +66,10 @@ whole_count s what cells said o (committed x others c) =
 whole_count s what cells said o (conflicted_first x after) = refl
 whole_count s what cells said o (conflicted_later x y before after z cs can are) =
     begun_count s what (x ∷ before) (told (Step.Prewrite s y) Answer.Conflict ∷ told (Step.Settle x) z ∷ cs)
-    ∙ (not_counted (told (Step.Prewrite s y) Answer.Conflict) (told (Step.Settle x) z ∷ cs) refl ∙ (not_counted (told (Step.Settle x) z) cs refl ∙ cleared_plain before cs are))
+    ∙ (not_counted (told (Step.Prewrite s y) Answer.Conflict) (told (Step.Settle x) z ∷ cs) refl ∙ (not_counted (told (Step.Settle x) z) cs refl ∙ cleared_count before cs are))
 whole_count s what cells said o (lost x others c cs are) =
     begun_count s what (x ∷ others) (told (Step.Stamp s) (Answer.At c) ∷ told (Step.CommitPrimary s) Answer.Lost ∷ cs)
-    ∙ (not_counted (told (Step.Stamp s) (Answer.At c)) (told (Step.CommitPrimary s) Answer.Lost ∷ cs) refl ∙ (not_counted (told (Step.CommitPrimary s) Answer.Lost) cs refl ∙ cleared_plain others cs are))
+    ∙ (not_counted (told (Step.Stamp s) (Answer.At c)) (told (Step.CommitPrimary s) Answer.Lost ∷ cs) refl ∙ (not_counted (told (Step.CommitPrimary s) Answer.Lost) cs refl ∙ cleared_count others cs are))
 
 -- ---- a run
 

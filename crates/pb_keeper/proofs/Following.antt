@@ -1,47 +1,22 @@
 -- Committed transactions of a table with one seat follow one another: none began before an earlier one was committed.
-use Rattle.std.proofs.Common.{arith, ◌≡◌, ℕ, ◌<◌, ◌≤◌, ◌==◌, ◌⊎◌, inl, inr, Bool, true, false, cond, suc, List, [], ◌∷◌, ◌++◌, Option, Some, None, option_map, refl, sym, ap, subst, ◌∙◌}
+use Rattle.std.proofs.Common.{arith, ◌≡◌, ℕ, ◌<◌, ◌≤◌, ◌==◌, ◌⊎◌, inl, inr, Bool, true, false, cond, suc, List, [], ◌∷◌, ◌++◌, Option, Some, None, is_some, option_map, refl, sym, ap, subst, ◌∙◌}
 use Rattle.std.specs.FinMap as finite
 use Rattle.std.specs.Ordering.{nat_cmp}
 use Rattle.std.specs.Cmp.{unsigned_tied, nat_cmp_total}
 use Rattle.std.proofs.lemmas.Bool.{eqb-true, eq-eqb}
-use Rattle.pb_base.specs.Batch.{Writes}
-use Rattle.pb_base.specs.declared.cell.Cell.{Cell}
-use Rattle.pb_base.specs.declared.names.Ts.{Ts}
-use Rattle.pb_finished.specs.Finished.{Meant}
-use Rattle.pb_verify.specs.Observers.{ObserverOf}
-use Rattle.pb_steps.specs.Begin.{Begins}
-use Rattle.pb_steps.specs.Read.{read_step}
-use Rattle.pb_steps.specs.Readings.{write_at}
-use Rattle.pb_steps.specs.State.{StateOf, TransactionOf, phase_in, new_transaction}
-use Rattle.pb_steps.specs.Steps.{StepCase}
-use Rattle.pb_steps.specs.declared.phase.Phase.{Phase}
-use Rattle.pb_steps.specs.declared.step.Step.{Step}
-use Rattle.pb_steps.specs.declared.step.Answer.{Answer}
-use Rattle.pb_steps.specs.declared.step.Work.{Work}
-use Rattle.pb_steps.specs.declared.step.Declared.{Declared}
-use Rattle.pb_history.specs.Journals.{JournalLeads}
-use Rattle.pb_history.specs.Laws.{StepsKeepSound, OpeningIsSound}
-use Rattle.pb_history.specs.Sound.{IsSoundTable, IsCommittedAt}
-use Rattle.pb_history.specs.TableView.{view_of}
-use Rattle.pb_history.specs.declared.entry.Received.{Received}
-use Rattle.pb_history.specs.TransactionsTold.{names_start, committed_phase, transaction_after}
+use Rattle.pb_passes.proofs.Drains.{HoldsOfRuns, of_drain}
+use Rattle.pb_keeper.specs.Words.{Writes, Ts, Meant, ObserverOf, Begins, read_step, write_at, StateOf, TransactionOf, phase_in, new_transaction, StepCase, Phase, Step, Answer, Work, JournalLeads, StepsKeepSound, OpeningIsSound, IsSoundTable, IsCommittedAt, view_of, Received, names_start, committed_phase, transaction_after, told, Outcome, entries_by, its_begin, IsRunConversation, absent, clean, ran, conflicted, blocked, Watch, JobEnd, ChosenAreSound, LeftAreSound}
+use Rattle.pb_notify.specs.Forms.{lost as lost_run}
 use Rattle.pb_history.proofs.Agreement.{got}
+use Rattle.pb_history.proofs.StepsKeepSound.{some_is}
 use Rattle.pb_history.proofs.TransactionAfter.{told_after, case_tells}
-use Rattle.pb_txn.specs.Conversations.{told}
-use Rattle.pb_txn.specs.Forms.{IsWhole, AreCleared, committed, conflicted_first, conflicted_later, lost, prewrites, secondaries}
-use Rattle.pb_txn.specs.declared.place.Outcome.{Outcome}
-use Rattle.pb_notify.specs.Allowed.{entries_by}
-use Rattle.pb_notify.specs.Forms.{its_begin, IsRunConversation, absent, clean, ran, conflicted, lost as lost_run, blocked}
-use Rattle.pb_notify.specs.Runs.{Watch}
-use Rattle.pb_notify.specs.declared.need.JobEnd.{JobEnd}
-use Rattle.pb_generations.specs.Chosen.{ChosenAreSound}
-use Rattle.pb_generations.specs.Snapshots.{LeftAreSound}
 use Rattle.pb_keeper.specs.Leads.{IsEndedChange}
 use Rattle.pb_keeper.specs.Keeps.{IsFirstTable, IsAnew, IsChosenOf, opened, anew, changed, KeepsFrom, KeptFollowOneAnother}
 use Rattle.pb_keeper.specs.Stats.{KeptTable}
-use Rattle.pb_keeper.proofs.EachPart.{HoldsOfParts, of_all, of_drain}
+use Rattle.pb_keeper.proofs.EachStep.{is_step_within, AreWithin, IsWithin, each_as, each_on, whole_within}
+use Rattle.pb_keeper.proofs.EachPart.{of_all}
 use Rattle.pb_keeper.proofs.Resting.{first_sound, from_sound, marked_sound}
-use Rattle.pb_keeper.proofs.Wholes.{is_plain, ArePlain, IsPlainFrom, looked_from, rounds_from, base_from, begin_from, acknowledged_from, asked_from, read_plain, leads_parts, stays_sound}
+use Rattle.pb_keeper.proofs.Wholes.{is_plain, IsPlain, ArePlain, IsPlainFrom, looked_from, rounds_from, base_from, begin_from, acknowledged_from, asked_from, read_plain, Preserves, preserves_adds}
 
 -- ---- steps
 
@@ -50,17 +25,6 @@ abbrev is_phase_at : ℕ → Option Phase → Bool
 is_phase_at c (Some (Phase.Stamped d)) = d.0 == c
 is_phase_at c (Some (Phase.Committed d)) = d.0 == c
 is_phase_at c _ = false
-
--- there is one
-abbrev has_phase : Option Phase → Bool
-has_phase (Some h) = true
-has_phase None = false
-
--- the step begins no transaction, and stamps none but this
-abbrev pub is_step_within : ℕ → Step → Bool
-is_step_within s (Step.Begin work) = false
-is_step_within s (Step.Stamp u) = u.0 == s
-is_step_within s _ = true
 
 -- it begins and stamps none
 abbrev stamps_none : Step → Bool
@@ -75,7 +39,7 @@ within_any s step p = grind arith
 
 -- the transaction is there
 abbrev has_transaction : Option TransactionOf → Bool
-has_transaction o = has_phase (option_map (λ (t : TransactionOf). t.phase) o)
+has_transaction o = is_some (option_map (λ (t : TransactionOf). t.phase) o)
 
 -- it has this commit
 abbrev has_this_commit : ℕ → Option TransactionOf → Bool
@@ -149,10 +113,6 @@ plain_follow old new step answer p m follow = λ a c u stamped there low.
 has_stamp : (o : Option Phase) (c : ℕ) → is_phase_at c o ≡ true → (o ≡ Some (Phase.Stamped (record { 0 = c }))) ⊎ (o ≡ Some (Phase.Committed (record { 0 = c })))
 has_stamp o c e = grind arith
 
-some_phase : (o : Option Phase) → has_phase o ≡ true → (h : Phase) × (o ≡ Some h)
-some_phase None e = absurd cc
-some_phase (Some h) e = (h, refl)
-
 some_transaction : (o : Option TransactionOf) → has_transaction o ≡ true → (t : TransactionOf) × (o ≡ Some t)
 some_transaction None e = absurd cc
 some_transaction (Some t) e = (t, refl)
@@ -186,18 +146,9 @@ begin_step old new work s sound b follow = (
     commit_low a c e = (sound.stamped a c (has_stamp (phase_in old a) c e)).1
 
     start_low : (u : ℕ) → has_transaction (got old u) ≡ true → u ≤ old.clock
-    start_low u e = let h = some_phase (phase_in old u) e in sound.begun u h.0 h.1
+    start_low u e = let h = some_is (phase_in old u) e in sound.begun u h.0 h.1
 
 -- ---- conversations
-
--- all of it is within a transaction
-abbrev pub AreWithin : ℕ → List Received → Type 0
-AreWithin s [] = Unit {0}
-AreWithin s (r ∷ rs) = (is_step_within s r.step ≡ true) × AreWithin s rs
-
-within_on : (s : ℕ) (a b : List Received) → AreWithin s a → AreWithin s b → AreWithin s (a ++ b)
-within_on s [] b p q = q
-within_on s (r ∷ a) b p q = (p.0, within_on s a b p.1 q)
 
 -- it is that of one transaction
 pub record IsOfOne (said : List Received) : Type 0 where
@@ -208,42 +159,15 @@ pub record IsOfOne (said : List Received) : Type 0 where
   pub within : AreWithin s.0 rest
 
 one_more : (said more : List Received) (o : IsOfOne said) → AreWithin o.s.0 more → IsOfOne (said ++ more)
-one_more said more o w = record { s = o.s; work = o.work; rest = o.rest ++ more; said_is = ap (λ l. l ++ more) o.said_is; within = within_on o.s.0 o.rest more o.within w }
+one_more said more o w = record { s = o.s; work = o.work; rest = o.rest ++ more; said_is = ap (λ l. l ++ more) o.said_is; within = each_on (IsWithin o.s.0) o.rest more o.within w }
+
+plain_is : (s : ℕ) (step : Step) → is_plain step ≡ true → is_step_within s step ≡ true
+plain_is s step p = grind arith
 
 plain_within : (s : ℕ) (said : List Received) → ArePlain said → AreWithin s said
-plain_within s [] p = tt
-plain_within s (r ∷ said) p = (plain_is s r.step p.0, plain_within s said p.1)
-  where
-    plain_is : (s : ℕ) (step : Step) → is_plain step ≡ true → is_step_within s step ≡ true
-    plain_is s step p = grind arith
+plain_within s said p = each_as IsPlain (IsWithin s) (λ r is. plain_is s r.step is) said p
 
--- a transaction's own conversation
 module _ (s : Ts) where
-  itself : (s.0 == s.0) ≡ true
-  itself = eq-eqb s.0 s.0 refl
-
-  prewrites_within : (xs : List Cell) → AreWithin s.0 (prewrites s xs)
-  prewrites_within [] = tt
-  prewrites_within (x ∷ xs) = (refl, prewrites_within xs)
-
-  secondaries_within : (xs : List Cell) → AreWithin s.0 (secondaries s xs)
-  secondaries_within [] = tt
-  secondaries_within (x ∷ xs) = (refl, secondaries_within xs)
-
-  cleared_within : (xs : List Cell) (rs : List Received) → AreCleared xs rs → AreWithin s.0 rs
-  cleared_within [] rs is = subst (AreWithin s.0) (sym is) tt
-  cleared_within (x ∷ xs) [] is = absurd is
-  cleared_within (x ∷ xs) (r ∷ rs) is = (ap (is_step_within s.0) is.0, cleared_within xs rs is.2)
-
-  whole_within : (what : Declared) (cells : List Cell) (said : List Received) (o : Outcome) → IsWhole s what cells said o → AreWithin s.0 said
-  whole_within what cells said o (committed x others c) =
-      (refl, within_on s.0 (prewrites s (x ∷ others)) (told (Step.Stamp s) (Answer.At c) ∷ told (Step.CommitPrimary s) Answer.Committed ∷ secondaries s others) (prewrites_within (x ∷ others)) (itself, (refl, secondaries_within others)))
-  whole_within what cells said o (conflicted_first x after) = (refl, (refl, tt))
-  whole_within what cells said o (conflicted_later x y before after z cs can are) =
-      (refl, within_on s.0 (prewrites s (x ∷ before)) (told (Step.Prewrite s y) Answer.Conflict ∷ told (Step.Settle x) z ∷ cs) (prewrites_within (x ∷ before)) (refl, (refl, cleared_within before cs are)))
-  whole_within what cells said o (lost x others c cs are) =
-      (refl, within_on s.0 (prewrites s (x ∷ others)) (told (Step.Stamp s) (Answer.At c) ∷ told (Step.CommitPrimary s) Answer.Lost ∷ cs) (prewrites_within (x ∷ others)) (itself, (refl, cleared_within others cs are)))
-
   planned : (before plan : List Received) → IsPlainFrom s before → AreWithin s.0 plan → IsOfOne (before ++ plan)
   planned before plan f w = one_more before plan (record { s = s; work = f.work; rest = f.rest; said_is = f.said_is; within = plain_within s.0 f.rest f.plain }) w
 
@@ -262,7 +186,7 @@ change_is_of_one batch o said is = record { s = is.0; work = Work.Script; rest =
 
 -- after which transactions follow one another where they did before
 abbrev KeepsFollowing : List Received → Type 0
-KeepsFollowing said = (m n : StateOf) → IsSoundTable m → Follow m → JournalLeads m (entries_by 0 said) n → Follow n
+KeepsFollowing said = Preserves Follow said
 
 within_walk : (s : ℕ) (said : List Received) (m n : StateOf) → AreWithin s said → Follow m → IsLast s m → JournalLeads m (entries_by 0 said) n → Follow n
 within_walk s [] m n w follow last r = subst Follow (sym r) follow
@@ -277,15 +201,11 @@ one_keeps said o m n sound follow g =
     within_walk o.s.0 o.rest r.0 n o.within begun.0 begun.1 r.2
 
 module _ (keeps : StepsKeepSound) (observers : List ObserverOf) where
-  parts_follow : HoldsOfParts observers KeepsFollowing
+  parts_follow : HoldsOfRuns observers KeepsFollowing
   parts_follow = record {
-    nothing = λ m n sound follow r. subst Follow (sym r) follow;
-    on = λ a b p q m n sound follow r.
-        let parts = leads_parts m n a b r in
-        q parts.0 n (stays_sound keeps m parts.0 a sound parts.1) (p m parts.0 sound follow parts.1) parts.2;
+    adds = preserves_adds keeps Follow;
     mark = λ after a m n sound follow r. subst Follow (sym r.2) (plain_follow m r.0 (Step.NextMark after) a refl r.1.taken follow);
     run = λ i x said is. one_keeps said (run_is_of_one _ said is.end is.run is.talk);
-    change = λ batch o said is. one_keeps said (change_is_of_one batch o said is);
   }
 
 -- ---- generations
@@ -305,12 +225,12 @@ left_follow old new from follow s c u stamped there low = follow s c u (stays s 
         ap (is_phase_at c) (k.2 ∙ ap Some (sym k.1)) ∙ ap (has_this_commit c) (sym t.1) ∙ e
 
     stays_there : (s : ℕ) → has_transaction (got new s) ≡ true → has_transaction (got old s) ≡ true
-    stays_there s e = let t = some_transaction (got new s) e in ap has_phase (from s t.0 t.1).2
+    stays_there s e = let t = some_transaction (got new s) e in ap is_some (from s t.0 t.1).2
 
 module _ (keeps : StepsKeepSound) (opens : OpeningIsSound) (left : LeftAreSound) (chosen : ChosenAreSound) where
   from_follow : (past changes : List Writes) (first table : KeptTable) → IsFirstTable past first → Follow first.state → KeepsFrom first changes table → Follow table.state
   from_follow past changes first table began follow k =
-      of_all first.state.observers (parts_follow keeps first.state.observers) changes k.said k.form.form first.state table.state (first_sound keeps opens left chosen past first began) follow k.leads
+      of_all first.state.observers (parts_follow keeps first.state.observers) (λ batch o said is. one_keeps said (change_is_of_one batch o said is)) changes k.said k.form.form first.state table.state (first_sound keeps opens left chosen past first began) follow k.leads
 
   first_follow : (past : List Writes) (first : KeptTable) → IsFirstTable past first → Follow first.state
   first_follow past first (opened observers) = λ s c u stamped there low. absurd (let no : false ≡ true = ap has_transaction (sym (finite.get-empty nat_cmp u)) ∙ there in cc)
@@ -341,7 +261,7 @@ module _ (keeps : StepsKeepSound) (opens : OpeningIsSound) (left : LeftAreSound)
 
   pub kept_follow : KeptFollowOneAnother
   kept_follow first changes table k s c u d earlier later low =
-      from_follow k.past changes first table k.began (first_follow k.past first k.began) k.leads s c u (at_commit (phase_in table.state s) c earlier) (ap has_phase later) low
+      from_follow k.past changes first table k.began (first_follow k.past first k.began) k.leads s c u (at_commit (phase_in table.state s) c earlier) (ap is_some later) low
     where
       at_commit : (o : Option Phase) (c : ℕ) → o ≡ Some (Phase.Committed (record { 0 = c })) → is_phase_at c o ≡ true
       at_commit o c e = ap (is_phase_at c) e ∙ eq-eqb c c refl

@@ -1,41 +1,17 @@
 -- Each step of the only seat comes in its time: it is refused only where no timestamp is left.
 use Rattle.std.proofs.Common.{◌≡◌, ◌≢◌, ℕ, ◌<◌, ◌^◌, Bool, true, false, cond, List, [], ◌∷◌, Option, Some, None, refl, sym, ap, subst, ◌∙◌, slice_get}
 use Rattle.std.proofs.lemmas.Bool.{eqb-true}
-use Rattle.pb_base.specs.Batch.{Writes}
-use Rattle.pb_base.proofs.Logic.{one_value}
-use Rattle.pb_base.specs.Cell.{row_of, column_of}
-use Rattle.pb_base.specs.declared.cell.Cell.{Cell}
-use Rattle.pb_base.specs.declared.refusal.Reason.{Reason}
-use Rattle.pb_verify.specs.Observers.{ObserverOf}
-use Rattle.pb_steps.specs.Readings.{last_timestamp}
-use Rattle.pb_steps.specs.Begin.{is_unknown}
-use Rattle.pb_steps.specs.Read.{read_reasons, read_at_reasons}
-use Rattle.pb_steps.specs.Declare.{declare_reasons}
-use Rattle.pb_steps.specs.Prewrite.{prewrite_reasons}
-use Rattle.pb_steps.specs.Stamp.{unstamped_reasons}
-use Rattle.pb_steps.specs.CommitPrimary.{commit_reasons}
-use Rattle.pb_steps.specs.CommitSecondary.{secondary_reasons}
-use Rattle.pb_steps.specs.Reasons.{Reasons, first_reason, is_out, no_seat, own_transaction, reasons_of, seat_reasons}
-use Rattle.pb_steps.specs.State.{StateOf, TransactionOf}
-use Rattle.pb_steps.specs.Steps.{step_reason}
-use Rattle.pb_steps.specs.declared.step.Step.{Step}
-use Rattle.pb_txn.specs.Changes.{ChangeOf, next_of as change_next}
-use Rattle.pb_notify.specs.Allowed.{entries_by}
-use Rattle.pb_notify.specs.Runs.{RunOf, next_of}
-use Rattle.pb_notify.specs.Conversations.{Reaches}
-use Rattle.pb_passes.specs.Passes.{HasColumn, IsJobOn}
-use Rattle.pb_generations.specs.InTime.{ChangesAreInTime, MarksAreInTime, RunsAreInTime}
+use Rattle.pb_keeper.specs.Words.{Writes, row_of, column_of, Cell, Reason, ObserverOf, last_timestamp, is_unknown, read_reasons, read_at_reasons, declare_reasons, prewrite_reasons, unstamped_reasons, commit_reasons, secondary_reasons, Reasons, first_reason, is_out, no_seat, own_transaction, reasons_of, seat_reasons, StateOf, TransactionOf, step_reason, Step, ChangeOf, entries_by, RunOf, next_of, Reaches, HasColumn, IsJobOn, ChangesAreInTime, MarksAreInTime, RunsAreInTime}
+use Rattle.pb_txn.specs.Changes.{next_of as change_next}
+use Rattle.pb_base.proofs.Logic.{one_value, same_some}
 use Rattle.pb_keeper.specs.Stats.{RanSoFar}
 use Rattle.pb_keeper.specs.declared.stats.ObserverStats.{ObserverStats}
 use Rattle.pb_keeper.specs.declared.change.Stopped.{Stopped}
 use Rattle.pb_keeper.specs.Stops.{WasKept, IsLeftFor, IsStop, IsKnownJob}
 use Rattle.pb_keeper.proofs.KeptTables.{kept_observers}
-use Rattle.pb_keeper.proofs.Pushes.{ChangedSoFar}
+use Rattle.pb_keeper.proofs.Reaching.{ChangedSoFar}
 
 -- ---- no timestamp is left
-
-same_reason : (a b : Reason) → Some a ≡ Some b → a ≡ b
-same_reason a b e = cc
 
 -- none of these reasons is that no timestamp is left
 abbrev AreOthers : Reasons → Type 0
@@ -45,7 +21,7 @@ AreOthers (r ∷ rs) = (r.0 ≢ Reason.OutOfTimestamps) × AreOthers rs
 others_not : (rs : Reasons) → AreOthers rs → first_reason rs ≡ Some Reason.OutOfTimestamps → ⊥
 others_not [] o e = cc
 others_not (r ∷ rs) o e = elim r.1 as (λ b. cond b (Some r.0) (first_reason rs) ≡ Some Reason.OutOfTimestamps → ⊥) [
-  | true ↦ λ h. o.0 (same_reason r.0 Reason.OutOfTimestamps h)
+  | true ↦ λ h. o.0 (same_some r.0 Reason.OutOfTimestamps h)
   | false ↦ λ h. others_not rs o.1 h
 ] e
 
@@ -73,19 +49,12 @@ out_is_last state seat (Step.Clear x) e = absurd (others_not (seat_reasons state
 out_is_last state seat (Step.NextMark x) e = absurd (others_not (seat_reasons state seat) ((λ q. cc), tt) e)
 out_is_last state seat (Step.Sweep x) e = absurd (others_not (seat_reasons state seat) ((λ q. cc), tt) e)
 
--- why it was refused, and the clock
-abbrev pub IsOutAt : Reason → StateOf → Type 0
-IsOutAt why state = (why ≡ Reason.OutOfTimestamps) × (state.clock ≡ last_timestamp)
-
-at_last : (state : StateOf) (step : Step) (why : Reason) → step_reason state 0 step ≡ Some why → why ≡ Reason.OutOfTimestamps → IsOutAt why state
-at_last state step why e is = (is, out_is_last state 0 step (subst (λ w. step_reason state 0 step ≡ Some w) is e))
-
 -- ---- so it stops for nothing else
 
 -- a step that was refused has changed nothing
 stops_by : (state new : StateOf) (step : Step) (e : Stopped) → new ≡ state → IsLeftFor state step e → ((why : Reason) → step_reason state 0 step ≡ Some why → why ≡ Reason.OutOfTimestamps) → IsStop e new
 stops_by state new step (Stopped.NoMemory n) same is out = tt
-stops_by state new step (Stopped.Refused why) same is out = subst (IsOutAt why) (sym same) (at_last state step why is (out why is))
+stops_by state new step (Stopped.Refused why) same is out = subst (IsStop (Stopped.Refused why)) (sym same) (out why is, out_is_last state 0 step (subst (λ w. step_reason state 0 step ≡ Some w) (out why is) is))
 stops_by state new step Stopped.Conflict same is out = absurd is
 
 pub mark_stops : MarksAreInTime → (state new : StateOf) (x : Option Cell) (e : Stopped) → WasKept state → new ≡ state → IsLeftFor state (Step.NextMark x) e → IsStop e new

@@ -2,33 +2,20 @@
 use Rattle.std.proofs.Common.{arith, ◌≡◌, ℕ, ◌<◌, List, [], ◌∷◌, ◌++◌, ◌+◌, length, slice_index_or, Some, slice_get, refl, sym, ap, subst, ◌∙◌}
 use Rattle.std.proofs.lemmas.List.{append_assoc, append-nil, length-append, length-map, length-replicate}
 use Rattle.std.proofs.lemmas.Option.{slice_get_within}
-use Rattle.pb_base.specs.Batch.{Writes}
-use Rattle.pb_base.specs.declared.names.Ts.{Ts}
-use Rattle.pb_verify.specs.Observers.{ObserverOf}
-use Rattle.pb_steps.specs.Readings.{last_timestamp}
-use Rattle.pb_steps.specs.State.{StateOf}
-use Rattle.pb_history.specs.Handled.{IsQuiet}
-use Rattle.pb_history.specs.Laws.{StepsKeepSound, OpeningIsSound}
-use Rattle.pb_history.specs.Sound.{IsSoundTable}
-use Rattle.pb_history.specs.declared.entry.Received.{Received}
-use Rattle.pb_notify.specs.Allowed.{entries_by}
-use Rattle.pb_passes.specs.Passes.{IsDrain}
-use Rattle.pb_state.specs.MoreObservers.{HasMoreObservers}
-use Rattle.pb_generations.specs.Chosen.{AreChosen, ChosenAreSound, new_number, renumbered_said}
-use Rattle.pb_generations.specs.KeptTables.{IsKeptTable, opened as opened_kept, anew as anew_kept, chosen as chosen_kept, RunsKeepTables, WholeChangesKeepTables, MarksKeepTables}
-use Rattle.pb_generations.specs.Snapshots.{LeftAreSound}
+use Rattle.pb_passes.proofs.Drains.{of_drain}
+use Rattle.pb_keeper.specs.Words.{Writes, Ts, ObserverOf, last_timestamp, StateOf, IsQuiet, StepsKeepSound, OpeningIsSound, IsSoundTable, Received, entries_by, IsDrain, HasMoreObservers, AreChosen, ChosenAreSound, new_number, renumbered_said, IsKeptTable, opened as opened_kept, anew as anew_kept, chosen as chosen_kept, RunsKeepTables, WholeChangesKeepTables, MarksKeepTables, LeftAreSound, no_part, one_part}
 use Rattle.pb_generations.proofs.ChosenNumbers.{said_renumbered}
 use Rattle.pb_keeper.specs.Leads.{SaidLeads}
 use Rattle.pb_keeper.specs.Made.{IsMade}
-use Rattle.pb_keeper.specs.Keeps.{none, one_more, AreMade, AreMadeInAll, nothing_made, change_made, observers_changed, total_in, CatchesUp, IsChosenOf, Keeps, KeepsFrom, IsFirstTable, opened, anew, changed, BeginningKeepsNone, IsWholeTable, KeptIsWhole}
+use Rattle.pb_keeper.specs.Keeps.{AreMade, AreMadeInAll, nothing_made, change_made, observers_changed, total_in, CatchesUp, IsChosenOf, Keeps, KeepsFrom, IsFirstTable, opened, anew, changed, BeginningKeepsNone, IsWholeTable, KeptIsWhole}
 use Rattle.pb_keeper.specs.Stats.{no_runs, sum_of, AreKeptStats, AreStatsOf, Counted, KeptTable, chosen_stats, first_stats, kept_table}
 use Rattle.pb_keeper.specs.Stops.{WasKept}
 use Rattle.pb_keeper.specs.declared.stats.ObserverStats.{ObserverStats}
-use Rattle.pb_keeper.proofs.EachPart.{of_all, of_drain}
+use Rattle.pb_keeper.proofs.EachPart.{of_all}
 use Rattle.pb_keeper.proofs.CatchingUp.{kept_with_none, none_counted, none_of_any}
-use Rattle.pb_keeper.proofs.KeptTables.{parts_leave}
+use Rattle.pb_keeper.proofs.KeptTables.{change_leaves, parts_leave}
 use Rattle.pb_keeper.proofs.Leading.{leads_none, leads_on, leads_observers}
-use Rattle.pb_keeper.proofs.NoConflicts.{changes_count_none, drain_counts_none}
+use Rattle.pb_keeper.proofs.NoConflicts.{counts_none, parts_meet_none, change_meets_none}
 use Rattle.pb_keeper.proofs.Parting.{made_begins, stats_parted, stats_of_none}
 use Rattle.pb_keeper.proofs.Resting.{first_sound, first_free, from_sound, marked_free, marked_sound}
 use Rattle.pb_keeper.proofs.Statistics.{counted_none, counted_on, plus_assoc, plus_none}
@@ -42,12 +29,12 @@ kept_on first changes batch commit old new k h =
     record {
       past = k.past;
       began = k.began;
-      leads = leads_on first.state old.state new.state k.leads (subst (λ (l : List ObserverOf). SaidLeads (Counted l old.stats new.stats (IsMade l batch commit)) old.state new.state) same h)
-          (λ said more. counted_on observers first.stats old.stats new.stats (AreMade observers changes) (IsMade observers batch commit) (AreMade observers (changes ++ batch ∷ [])) said more (λ p q. one_more changes said more batch commit p q));
+      leads = leads_on k.leads (subst (λ (l : List ObserverOf). SaidLeads (Counted l old.stats new.stats (IsMade l batch commit)) old.state new.state) same h)
+          (λ said more x y. counted_on x y (λ p q. one_part changes (changes ++ batch ∷ []) said more p (record { batch = batch; commit = commit; now_is = refl; made = q })));
     }
 
 pub beginning_keeps_none : BeginningKeepsNone
-beginning_keeps_none past first began = record { past = past; began = began; leads = leads_none first.state (counted_none first.state.observers first.stats (AreMade first.state.observers []) [] tt none) }
+beginning_keeps_none past first began = record { past = past; began = began; leads = leads_none first.state (counted_none tt no_part) }
 
 -- it got more observers, and a drain led on
 abbrev pub caught : (more : List ObserverOf) (old : KeptTable) (marked new : StateOf) (begun stats : List ObserverStats) → HasMoreObservers more old.state marked → begun ≡ old.stats ++ first_stats more
@@ -59,16 +46,16 @@ caught more old marked new begun stats has are g = record { marked = kept_table 
 -- a generation's changes are made after those of the generations before
 made_on : (observers gone : List ObserverOf) (past changes : List Writes) (said more : List Received) (total did : ℕ → ObserverStats) → AreMadeInAll observers gone past said total → AreMade observers changes more → AreStatsOf observers more did
     → AreMadeInAll observers gone (past ++ changes) (said ++ more) (λ o. sum_of (total o) (did o))
-made_on observers gone past changes said more total did a none are =
+made_on observers gone past changes said more total did a no_part are =
     subst (λ (t : ℕ → ObserverStats). AreMadeInAll observers gone (past ++ []) (said ++ []) t) (sym (λ i o. plus_none (total o) i) ∙ (λ i o. sum_of (total o) (sym (stats_of_none observers [] did are refl) i o)))
     (subst (λ cs. AreMadeInAll observers gone cs (said ++ []) total) (sym (append-nil past)) (subst (λ l. AreMadeInAll observers gone past l total) (sym (append-nil said)) a))
-made_on observers gone past changes said more total did a (one_more cs before last batch commit b is) are =
-    let p = stats_parted observers (before ++ last) did are before last refl (made_begins observers batch commit last is) in
-    subst (λ (t : ℕ → ObserverStats). AreMadeInAll observers gone (past ++ (cs ++ batch ∷ [])) (said ++ (before ++ last)) t)
+made_on observers gone past changes said more total did a (one_part cs now before last b next) are =
+    let p = stats_parted observers (before ++ last) did are before last refl (made_begins observers next.batch next.commit last next.made) in
+    subst (λ (t : ℕ → ObserverStats). AreMadeInAll observers gone (past ++ now) (said ++ (before ++ last)) t)
     ((λ i o. plus_assoc (total o) (p.earlier o) (p.later o) i) ∙ (λ i o. sum_of (total o) (sym p.total_is i o)))
-    (subst (λ l. AreMadeInAll observers gone (past ++ (cs ++ batch ∷ [])) l (λ o. sum_of (sum_of (total o) (p.earlier o)) (p.later o))) (append_assoc said before last)
-    (subst (λ l. AreMadeInAll observers gone l ((said ++ before) ++ last) (λ o. sum_of (sum_of (total o) (p.earlier o)) (p.later o))) (append_assoc past cs (batch ∷ []))
-    (change_made observers gone (past ++ cs) (said ++ before) last (λ o. sum_of (total o) (p.earlier o)) p.later batch commit (made_on observers gone past cs said before total p.earlier a b p.first) is p.last)))
+    (subst (λ l. AreMadeInAll observers gone (past ++ now) l (λ o. sum_of (sum_of (total o) (p.earlier o)) (p.later o))) (append_assoc said before last)
+    (subst (λ l. AreMadeInAll observers gone l ((said ++ before) ++ last) (λ o. sum_of (sum_of (total o) (p.earlier o)) (p.later o))) (append_assoc past cs (next.batch ∷ []) ∙ ap (λ l. past ++ l) (sym next.now_is))
+    (change_made observers gone (past ++ cs) (said ++ before) last (λ o. sum_of (total o) (p.earlier o)) p.later next.batch next.commit (made_on observers gone past cs said before total p.earlier a b p.first) next.made p.last)))
 
 -- so many stats are kept as there are observers that stay, and others
 as_many_chosen : (places : List ℕ) (front more : List ObserverOf) (old between : KeptTable) (marked : List ObserverStats) → IsChosenOf places front old between → marked ≡ between.stats ++ first_stats more → length marked ≡ length (front ++ more)
@@ -91,9 +78,10 @@ module _ (keeps : StepsKeepSound) (opens : OpeningIsSound) (left : LeftAreSound)
       total = λ o. sum_of (w.total o) (g.form.total o);
       made = made_on observers w.gone past changes w.said g.said w.total g.form.total w.made g.form.form g.form.did;
       c = w.c;
-      kept = of_all observers (parts_leave observers runs whole marks) changes g.said g.form.form w.gone w.c w.said first.state table.state w.kept g.leads;
+      kept = of_all observers (parts_leave observers runs marks) (change_leaves observers whole) changes g.said g.form.form w.gone w.c w.said first.state table.state w.kept g.leads;
       clean = λ o.
-          let later = changes_count_none keeps observers changes g.said g.form.total first.state table.state g.form.form g.form.did (first_sound keeps opens left chosen past first began) (first_free keeps opens left chosen past first began) g.leads o in
+          let met = (of_all observers (parts_meet_none keeps observers) (change_meets_none keeps observers) changes g.said g.form.form).1 first.state table.state (first_sound keeps opens left chosen past first began) (first_free keeps opens left chosen past first began) g.leads in
+          let later = counts_none observers g.said g.form.total g.form.did met o in
           omega (arith, w.clean o, later);
       as_many = g.form.as_many ∙ w.as_many;
       are = g.form.grows w.total w.are;
@@ -110,9 +98,6 @@ module _ (keeps : StepsKeepSound) (opens : OpeningIsSound) (left : LeftAreSound)
       (chosen_kept observers gone 1 0 c (entries_by 0 said) old.state places front more between.state.entries between.state.transactions marked k quiet room
       (subst (λ l. AreChosen places l front) same is.are) is.snapshot ended (subst (λ (z : StateOf). HasMoreObservers more z marked) is.is has))
 
-  room_at_first : 0 < last_timestamp
-  room_at_first = grind arith
-
   first_whole : (past : List Writes) (first : KeptTable) → IsFirstTable past first → IsWholeTable first.state.observers past first
   first_whole past first (opened observers) = record {
     gone = [];
@@ -120,7 +105,7 @@ module _ (keeps : StepsKeepSound) (opens : OpeningIsSound) (left : LeftAreSound)
     total = λ o. no_runs;
     made = nothing_made observers;
     c = 0;
-    kept = opened_kept observers 1 0 room_at_first;
+    kept = opened_kept observers 1 0 (grind arith);
     clean = λ o. refl;
     as_many = length-replicate (length observers) no_runs;
     are = λ o lt. none_counted (length observers) o;
@@ -172,12 +157,13 @@ module _ (keeps : StepsKeepSound) (opens : OpeningIsSound) (left : LeftAreSound)
             total = λ o. sum_of (total_in places w.total o) (drain.form.total o);
             made = observers_changed start.state.observers w.gone front more places (before ++ changes) w.said drain.said w.total drain.form.total w.made (subst (λ l. AreChosen places l front) was is.are) drain.form.form drain.form.did;
             c = old.state.clock;
-            kept = of_drain observers (parts_leave observers runs whole marks) drain.said drain.form.form (start.state.observers ++ w.gone) old.state.clock said up.marked.state first.state
+            kept = of_drain observers (parts_leave observers runs marks) drain.said drain.form.form (start.state.observers ++ w.gone) old.state.clock said up.marked.state first.state
                 (kept_chosen start.state.observers w.gone w.c w.said old between up.marked.state places front more w.kept was (from_sound keeps opens left chosen before changes start old began k) quiet room is up.observed) drain.leads;
             clean = λ o.
                 let earlier = none_of_any w.total w.clean (slice_get places o) in
-                let later = drain_counts_none keeps observers drain.said drain.form.total up.marked.state first.state drain.form.form drain.form.did
-                (marked_sound keeps opens left chosen before changes start old between new places front more began k is up) (marked_free keeps opens left chosen old between new places front more is up) drain.leads o in
+                let met = (of_drain observers (parts_meet_none keeps observers) drain.said drain.form.form).1 up.marked.state first.state
+                (marked_sound keeps opens left chosen before changes start old between new places front more began k is up) (marked_free keeps opens left chosen old between new places front more is up) drain.leads in
+                let later = counts_none observers drain.said drain.form.total drain.form.did met o in
                 omega (arith, earlier, later);
             as_many = drain.form.as_many ∙ as_many_chosen places front more old between up.marked.stats is up.stats_are;
             are = drain.form.grows (total_in places w.total) (subst (AreKeptStats (total_in places w.total)) (sym stats) (λ o lt. kept_with_none w.total old.stats w.are (length more) places within o));

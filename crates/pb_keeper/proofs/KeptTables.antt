@@ -1,35 +1,21 @@
 -- What the only seat says while it makes changes leaves a table that is kept over generations one that is.
 use Rattle.std.proofs.Common.{◌≡◌, ℕ, List, [], ◌∷◌, ◌++◌, Option, refl, sym, ap, subst, ◌∙◌}
 use Rattle.std.proofs.lemmas.List.{append_assoc, append-nil}
-use Rattle.pb_base.specs.Batch.{Writes}
-use Rattle.pb_base.specs.Cell.{row_of}
-use Rattle.pb_base.specs.declared.cell.Cell.{Cell}
-use Rattle.pb_verify.specs.Observers.{ObserverOf}
-use Rattle.pb_steps.specs.State.{StateOf}
-use Rattle.pb_steps.specs.declared.step.Step.{Step}
-use Rattle.pb_steps.specs.declared.step.Answer.{Answer}
-use Rattle.pb_history.specs.Journals.{JournalLeads}
-use Rattle.pb_history.specs.declared.entry.Entry.{Entry}
-use Rattle.pb_history.specs.declared.entry.Received.{Received}
-use Rattle.pb_txn.specs.Conversations.{told}
-use Rattle.pb_txn.specs.declared.place.Outcome.{Outcome}
-use Rattle.pb_notify.specs.Allowed.{entries_by}
-use Rattle.pb_passes.specs.Passes.{IsRun}
-use Rattle.pb_generations.specs.KeptTables.{IsKeptTable, opened, stepped, anew, chosen, RunsKeepTables, WholeChangesKeepTables, MarksKeepTables}
+use Rattle.pb_passes.proofs.Drains.{HoldsOfRuns}
+use Rattle.pb_keeper.specs.Words.{Writes, row_of, Cell, ObserverOf, StateOf, Step, Answer, JournalLeads, Entry, Received, told, Outcome, entries_by, IsKeptTable, opened, stepped, anew, chosen, RunsKeepTables, WholeChangesKeepTables, MarksKeepTables, AreParts}
+use Rattle.pb_history.proofs.TransactionAfter.{case_observers}
+use Rattle.pb_generations.proofs.SeatEntries.{by_append}
 use Rattle.pb_keeper.specs.Leads.{SaidLeads, IsEndedChange}
-use Rattle.pb_keeper.specs.Counts.{CountsCommits}
-use Rattle.pb_keeper.specs.Stats.{Counted}
 use Rattle.pb_keeper.specs.Stops.{WasKept}
 use Rattle.pb_keeper.specs.declared.stats.ObserverStats.{ObserverStats}
-use Rattle.pb_keeper.proofs.EachPart.{HoldsOfParts}
-use Rattle.pb_keeper.proofs.Leading.{case_observers, entries_on}
+use Rattle.pb_conversations.proofs.Joining.{Adds, of_parts}
 use Rattle.pb_keeper.proofs.PassAlong.{Led}
 use Rattle.pb_keeper.proofs.Wholes.{leads_parts}
 
 -- its observers are those that it is kept with
 pub kept_observers : (observers gone : List ObserverOf) (seats clock c : ℕ) (journal : List Entry) (now : StateOf) → IsKeptTable observers gone seats clock c journal now → now.observers ≡ observers
 kept_observers observers gone seats clock c journal now (opened l n t room) = refl
-kept_observers observers gone seats clock c journal now (stepped l h n t d g before e new k job known step) = case_observers before e.seat now e.step e.answer step.taken ∙ kept_observers l h n t d g before k
+kept_observers observers gone seats clock c journal now (stepped l h n t d g before e new k job known step) = case_observers before e.seat now 0 e.step e.answer step.taken ∙ kept_observers l h n t d g before k
 kept_observers observers gone seats clock c journal now (anew l h n t d g old f ts k quiet room snapshot ended) = kept_observers l h n t d g old k
 kept_observers observers gone seats clock c journal now (chosen l h n t d g old places front added f ts new k quiet room are snapshot ended has) = ap (λ (z : StateOf). z.observers) has.is
 
@@ -40,18 +26,18 @@ LeavesKept observers said =
     → IsKeptTable observers gone 1 0 c (entries_by 0 (before ++ said)) n
 
 module _ (observers : List ObserverOf) where
-  nothing_leaves : LeavesKept observers []
-  nothing_leaves gone c before m n k r =
-      subst (λ (l : List Received). IsKeptTable observers gone 1 0 c (entries_by 0 l) n) (sym (append-nil before)) (subst (λ (s : StateOf). IsKeptTable observers gone 1 0 c (entries_by 0 before) s) (sym r) k)
-
-  leaves_on : (a b : List Received) → LeavesKept observers a → LeavesKept observers b → LeavesKept observers (a ++ b)
-  leaves_on a b p q gone c before m n k r =
-      let parts = leads_parts m n a b r in
-      subst (λ (l : List Received). IsKeptTable observers gone 1 0 c (entries_by 0 l) n) (append_assoc before a b) (q gone c (before ++ a) parts.0 n (p gone c before m parts.0 k parts.1) parts.2)
+  leaves_add : Adds (LeavesKept observers)
+  leaves_add = record {
+    nothing = λ gone c before m n k r.
+        subst (λ (l : List Received). IsKeptTable observers gone 1 0 c (entries_by 0 l) n) (sym (append-nil before)) (subst (λ (s : StateOf). IsKeptTable observers gone 1 0 c (entries_by 0 before) s) (sym r) k);
+    both = λ a b p q gone c before m n k r.
+        let parts = leads_parts m n a b r in
+        subst (λ (l : List Received). IsKeptTable observers gone 1 0 c (entries_by 0 l) n) (append_assoc before a b) (q gone c (before ++ a) parts.0 n (p gone c before m parts.0 k parts.1) parts.2);
+  }
 
   -- one journal after another is that of both conversations
   as_one : (gone : List ObserverOf) (c : ℕ) (before said : List Received) (n : StateOf) → IsKeptTable observers gone 1 0 c (entries_by 0 before ++ entries_by 0 said) n → IsKeptTable observers gone 1 0 c (entries_by 0 (before ++ said)) n
-  as_one gone c before said n k = subst (λ (es : List Entry). IsKeptTable observers gone 1 0 c es n) (sym (entries_on before said)) k
+  as_one gone c before said n k = subst (λ (es : List Entry). IsKeptTable observers gone 1 0 c es n) (sym (by_append 0 before said)) k
 
   pub mark_leaves : MarksKeepTables → (after : Option Cell) (a : Answer) → LeavesKept observers (told (Step.NextMark after) a ∷ [])
   mark_leaves marks after a gone c before m n k r = let said = told (Step.NextMark after) a ∷ [] in as_one gone c before said n (marks observers gone 1 0 c (entries_by 0 before) m n k 0 after a said refl r)
@@ -59,11 +45,12 @@ module _ (observers : List ObserverOf) where
   pub change_leaves : WholeChangesKeepTables → (batch : Writes) (o : Outcome) (said : List Received) → IsEndedChange batch o said → LeavesKept observers said
   change_leaves whole batch o said is gone c before m n k r = as_one gone c before said n (whole observers gone 1 0 c (entries_by 0 before) m n k 0 batch is.0 said o is.1 r)
 
-  run_leaves : RunsKeepTables → (i : ℕ) (x : Cell) (said : List Received) → IsRun observers i x said → LeavesKept observers said
-  run_leaves runs i x said is gone c before m n k r = as_one gone c before said n (runs observers gone 1 0 c (entries_by 0 before) m n k 0 i is.o (row_of x) said is.job is.observer.there is.reaches r)
-
-  pub parts_leave : RunsKeepTables → WholeChangesKeepTables → MarksKeepTables → HoldsOfParts observers (LeavesKept observers)
-  parts_leave runs whole marks = record { nothing = nothing_leaves; on = leaves_on; mark = mark_leaves marks; run = run_leaves runs; change = change_leaves whole }
+  pub parts_leave : RunsKeepTables → MarksKeepTables → HoldsOfRuns observers (LeavesKept observers)
+  parts_leave runs marks = record {
+    adds = leaves_add;
+    mark = mark_leaves marks;
+    run = λ i x said is gone c before m n k r. as_one gone c before said n (runs observers gone 1 0 c (entries_by 0 before) m n k 0 i is.o (row_of x) said is.job is.observer.there is.reaches r);
+  }
 
 -- so the table is kept after such a conversation
 pub kept_after : {P : List Received → Type 0} (a b : StateOf) → WasKept a → ((said : List Received) → P said → LeavesKept a.observers said) → SaidLeads P a b → WasKept b
@@ -75,6 +62,7 @@ kept_after a b k leaves g = record {
   kept = subst (λ (l : List ObserverOf). LeavesKept l g.said) (kept_observers k.observers k.gone 1 0 k.c (entries_by 0 k.said) a k.kept) (leaves g.said g.form) k.gone k.c k.said a b k.kept g.leads;
 }
 
--- and after one whose runs are counted
-pub kept_while : (P : List Received → Type 0) (s t : List ObserverStats) (m : ℕ) (a b : StateOf) → WasKept a → ((said : List Received) → P said → LeavesKept a.observers said) → Led a.observers s t P m a b → WasKept b
-kept_while P s t m a b k leaves g = kept_after {P = Counted a.observers s t (CountsCommits P m)} a b k (λ said f. leaves said f.form.form) g
+-- and after parts whose runs are counted
+pub kept_while : {S : Type 0} {Part : S → S → List Received → Type 0} {p q : S} {s t : List ObserverStats} {m : ℕ} {a b : StateOf} → WasKept a → ((x y : S) (said : List Received) → Part x y said → LeavesKept a.observers said)
+    → Led a.observers s t (AreParts Part p q) m a b → WasKept b
+kept_while {p = p} {q = q} {a = a} {b = b} k leaves g = kept_after a b k (λ said f. of_parts (leaves_add a.observers) leaves p q said f.form.form) g

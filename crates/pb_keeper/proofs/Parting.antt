@@ -2,15 +2,12 @@
 -- begins another.
 use Rattle.std.proofs.Common.{arith, ◌≡◌, ℕ, ◌⊎◌, inl, inr, Bool, true, false, List, [], ◌∷◌, ◌++◌, refl, sym, ap, subst, ◌∙◌}
 use Rattle.std.proofs.lemmas.List.{append-nil}
-use Rattle.pb_base.specs.Batch.{Writes}
-use Rattle.pb_base.specs.declared.names.Ts.{Ts}
-use Rattle.pb_verify.specs.Observers.{ObserverOf}
-use Rattle.pb_steps.specs.declared.step.Step.{Step}
-use Rattle.pb_history.specs.declared.entry.Received.{Received}
+use Rattle.pb_keeper.specs.Words.{Writes, Ts, ObserverOf, Step, Answer, Received, told}
 use Rattle.pb_keeper.specs.Made.{IsMade}
 use Rattle.pb_keeper.specs.Stats.{no_runs, sum_of, only_at, AreStatsOf, nothing_said, other_step, one_run}
 use Rattle.pb_keeper.specs.declared.stats.ObserverStats.{ObserverStats}
-use Rattle.pb_keeper.proofs.Following.{is_step_within, AreWithin, run_is_of_one}
+use Rattle.pb_keeper.proofs.EachStep.{is_step_within, AreWithin}
+use Rattle.pb_keeper.proofs.Following.{run_is_of_one}
 use Rattle.pb_keeper.proofs.Statistics.{plus_assoc, plus_none}
 
 -- ---- lists
@@ -18,34 +15,17 @@ use Rattle.pb_keeper.proofs.Statistics.{plus_assoc, plus_none}
 same_tail : {A : Type 0} (x y : A) (xs ys : List A) → x ∷ xs ≡ y ∷ ys → (x ≡ y) × (xs ≡ ys)
 same_tail x y xs ys e = (cc, cc)
 
-never_none : {A : Type 0} (x : A) (xs : List A) → ◌≡◌ {A = List A} (x ∷ xs) [] → ⊥
-never_none x xs e = cc
-
 last_none : {A : Type 0} (xs ys : List A) → ◌≡◌ {A = List A} (xs ++ ys) [] → ys ≡ []
 last_none [] ys e = e
-last_none (x ∷ xs) ys e = absurd (never_none x (xs ++ ys) e)
+last_none (x ∷ xs) ys e = absurd cc
 
--- the second of two other parts has all of the second of two parts
-record ReachesBack {A : Type 0} (xs ys a b : List A) : Type 0 where
-  pub middle : List A
-  pub first : xs ≡ a ++ middle
-  pub last : b ≡ middle ++ ys
-
--- or the second of the two parts has more than that
-record ReachesOn {A : Type 0} (xs ys a b : List A) : Type 0 where
-  pub head : A
-  pub middle : List A
-  pub last : ys ≡ head ∷ (middle ++ b)
-
-overlap : {A : Type 0} (xs ys a b : List A) → xs ++ ys ≡ a ++ b → ReachesBack xs ys a b ⊎ ReachesOn xs ys a b
-overlap xs ys [] b e = inl (record { middle = xs; first = refl; last = sym e })
-overlap [] ys (z ∷ a) b e = inr (record { head = z; middle = a; last = e })
+-- the second of two other parts has all of the second of two parts, or that has more
+overlap : {A : Type 0} (xs ys a b : List A) → xs ++ ys ≡ a ++ b → ((middle : List A) × (xs ≡ a ++ middle) × (b ≡ middle ++ ys)) ⊎ ((x : A) × (middle : List A) × (ys ≡ x ∷ (middle ++ b)))
+overlap xs ys [] b e = inl (xs, refl, sym e)
+overlap [] ys (z ∷ a) b e = inr (z, a, e)
 overlap (x ∷ xs) ys (z ∷ a) b e =
     let same = same_tail x z (xs ++ ys) (a ++ b) e in
-    elim (overlap xs ys a b same.1) [
-      | inl h ↦ inl (record { middle = h.middle; first = λ i. same.0 i ∷ h.first i; last = h.last })
-      | inr h ↦ inr (record { head = h.head; middle = h.middle; last = h.last })
-    ]
+    elim (overlap xs ys a b same.1) [ inl h ↦ inl (h.0, (λ i. same.0 i ∷ h.1 i), h.2) | inr h ↦ inr h ]
 
 -- ---- where a transaction begins
 
@@ -89,10 +69,10 @@ module _ (observers : List ObserverOf) where
   -- of no conversation nothing is counted
   pub stats_of_none : (said : List Received) (total : ℕ → ObserverStats) → AreStatsOf observers said total → said ≡ [] → total ≡ (λ o. no_runs)
   stats_of_none said total nothing_said e = refl
-  stats_of_none said total (other_step before was r are isnt) e = absurd (never_none r [] (last_none before (r ∷ []) e))
+  stats_of_none said total (other_step before was r are isnt) e = absurd (let no : ◌≡◌ {A = List Received} (r ∷ []) [] = last_none before (r ∷ []) e in cc)
   stats_of_none said total (one_run before more was n x first end did are job ran) e =
       let one = run_is_of_one ran.whole.o more end ran.whole.run ran.whole.talk in
-      absurd (never_none _ one.rest (sym one.said_is ∙ last_none before more e))
+      absurd (let no : told (Step.Begin one.work) (Answer.At one.s) ∷ one.rest ≡ [] = sym one.said_is ∙ last_none before more e in cc)
 
   all_first : (said : List Received) (total : ℕ → ObserverStats) → AreStatsOf observers said total → (a b : List Received) → said ≡ a ++ b → b ≡ [] → AreParted observers a b total
   all_first said total are a b e none = record {
@@ -107,29 +87,29 @@ module _ (observers : List ObserverOf) where
   stats_parted said total nothing_said a b e begins = all_first [] (λ o. no_runs) nothing_said a b e (last_none a b (sym e))
   stats_parted said total (other_step before was r are isnt) a b e begins = elim (overlap before (r ∷ []) a b e) [
     | inl h ↦ (
-        let p = stats_parted before was are a h.middle h.first (begins_first h.middle (r ∷ []) b h.last begins) in
+        let p = stats_parted before was are a h.0 h.1 (begins_first h.0 (r ∷ []) b h.2 begins) in
         record {
           earlier = p.earlier;
           later = p.later;
           first = p.first;
-          last = subst (λ l. AreStatsOf observers l p.later) (sym h.last) (other_step h.middle p.later r p.last isnt);
+          last = subst (λ l. AreStatsOf observers l p.later) (sym h.2) (other_step h.0 p.later r p.last isnt);
           total_is = p.total_is;
         })
-    | inr h ↦ all_first (before ++ r ∷ []) was (other_step before was r are isnt) a b e (last_none h.middle b (sym (same_tail r h.head [] (h.middle ++ b) h.last).1))
+    | inr h ↦ all_first (before ++ r ∷ []) was (other_step before was r are isnt) a b e (last_none h.1 b (sym (same_tail r h.0 [] (h.1 ++ b) h.2).1))
   ]
   stats_parted said total (one_run before more was n x first end did are job ran) a b e begins = elim (overlap before more a b e) [
     | inl h ↦ (
-        let p = stats_parted before was are a h.middle h.first (begins_first h.middle more b h.last begins) in
+        let p = stats_parted before was are a h.0 h.1 (begins_first h.0 more b h.2 begins) in
         record {
           earlier = p.earlier;
           later = λ o. sum_of (p.later o) (only_at n did o);
           first = p.first;
-          last = subst (λ l. AreStatsOf observers l (λ o. sum_of (p.later o) (only_at n did o))) (sym h.last) (one_run h.middle more p.later n x first end did p.last job ran);
+          last = subst (λ l. AreStatsOf observers l (λ o. sum_of (p.later o) (only_at n did o))) (sym h.2) (one_run h.0 more p.later n x first end did p.last job ran);
           total_is = (λ i o. sum_of (p.total_is i o) (only_at n did o)) ∙ (λ i o. plus_assoc (p.earlier o) (p.later o) (only_at n did o) i);
         })
     | inr h ↦ (
         let one = run_is_of_one ran.whole.o more end ran.whole.run ran.whole.talk in
-        let rest = (same_tail _ h.head one.rest (h.middle ++ b) (sym one.said_is ∙ h.last)).1 in
+        let rest = (same_tail _ h.0 one.rest (h.1 ++ b) (sym one.said_is ∙ h.2)).1 in
         all_first (before ++ more) (λ o. sum_of (was o) (only_at n did o)) (one_run before more was n x first end did are job ran) a b e
-        (none_after one.s.0 h.middle b (subst (AreWithin one.s.0) rest one.within) begins))
+        (none_after one.s.0 h.1 b (subst (AreWithin one.s.0) rest one.within) begins))
   ]

@@ -1,65 +1,31 @@
 -- Changes with their drains leave no lock.
-use Rattle.std.proofs.Common.{arith, ℕ, ◌<◌, ◌^◌, List, [], ◌∷◌, ◌++◌, Option, refl, sym, ap, subst, ◌∙◌}
+use Rattle.std.proofs.Common.{arith, ℕ, List, [], ◌∷◌, refl, sym, ap, subst, ◌∙◌}
 use Rattle.std.specs.FinMap as finite
-use Rattle.pb_base.specs.Batch.{Writes}
-use Rattle.pb_base.specs.declared.cell.Cell.{Cell}
-use Rattle.pb_store.specs.Slot.{slot_cmp}
-use Rattle.pb_store.specs.Contents.{slot_at}
-use Rattle.pb_store.specs.declared.slot.Sort.{Sort}
-use Rattle.pb_steps.specs.Readings.{lock_at, primary_of}
-use Rattle.pb_steps.specs.State.{StateOf, opening}
-use Rattle.pb_steps.specs.declared.step.Step.{Step}
-use Rattle.pb_steps.specs.declared.step.Answer.{Answer}
-use Rattle.pb_verify.specs.Observers.{ObserverOf}
-use Rattle.pb_history.specs.Journals.{JournalLeads}
-use Rattle.pb_history.specs.Laws.{StepsKeepSound, OpeningIsSound}
-use Rattle.pb_history.specs.Sound.{IsSoundTable}
-use Rattle.pb_history.specs.declared.entry.Received.{Received}
-use Rattle.pb_txn.specs.Conversations.{told}
-use Rattle.pb_notify.specs.Allowed.{entries_by}
-use Rattle.pb_passes.specs.Passes.{IsRun}
-use Rattle.pb_state.specs.MoreObservers.{HasMoreObservers}
-use Rattle.pb_generations.specs.Chosen.{ChosenAreSound}
-use Rattle.pb_generations.specs.Snapshots.{LeftAreSound}
+use Rattle.pb_passes.proofs.Drains.{HoldsOfRuns, of_drain}
+use Rattle.pb_keeper.specs.Words.{Writes, slot_cmp, slot_at, Sort, lock_at, primary_of, StateOf, opening, Step, ObserverOf, StepsKeepSound, OpeningIsSound, IsSoundTable, Received, told, HasMoreObservers, ChosenAreSound, LeftAreSound, Outcome}
+use Rattle.pb_keeper.specs.Leads.{IsEndedChange}
 use Rattle.pb_keeper.specs.Stats.{KeptTable}
 use Rattle.pb_keeper.specs.Stops.{IsUnlocked}
 use Rattle.pb_keeper.specs.Keeps.{CatchesUp, IsChosenOf, IsFirstTable, opened, anew, changed, Keeps, KeepsFrom, KeptIsUnlocked}
-use Rattle.pb_keeper.proofs.EachPart.{HoldsOfParts, of_all, of_drain}
-use Rattle.pb_keeper.proofs.Wholes.{leads_parts, stays_sound, plain_walk, run_rests, change_commits, free_after}
+use Rattle.pb_keeper.proofs.EachPart.{of_all}
+use Rattle.pb_keeper.proofs.Wholes.{Preserves, preserves_adds, stays_sound, plain_walk, run_rests, change_commits, free_after}
 
 -- a conversation that leaves no lock where there was none
 abbrev pub Rests : List Received → Type 0
-Rests said = (m n : StateOf) → IsSoundTable m → IsUnlocked m → JournalLeads m (entries_by 0 said) n → IsUnlocked n
+Rests said = Preserves IsUnlocked said
 
 module _ (keeps : StepsKeepSound) where
-  rests_none : Rests []
-  rests_none m n sound free r = subst IsUnlocked (sym r) free
+  pub parts_rest : (observers : List ObserverOf) → HoldsOfRuns observers Rests
+  parts_rest observers = record {
+    adds = preserves_adds keeps IsUnlocked;
+    mark = λ after a m n sound free r. free_after m n free (plain_walk m n (told (Step.NextMark after) a ∷ []) free (refl, tt) r).0;
+    run = λ i x said is m n sound free r. (run_rests keeps _ said is.end is.run m n is.talk sound free r).1;
+  }
 
-  rests_on : (a b : List Received) → Rests a → Rests b → Rests (a ++ b)
-  rests_on a b p q m n sound free r =
-      let parts = leads_parts m n a b r in
-      q parts.0 n (stays_sound keeps m parts.0 a sound parts.1) (p m parts.0 sound free parts.1) parts.2
-
-  mark_rests : (after : Option Cell) (a : Answer) → Rests (told (Step.NextMark after) a ∷ [])
-  mark_rests after a m n sound free r = free_after m n (told (Step.NextMark after) a ∷ []) free (plain_walk m n (told (Step.NextMark after) a ∷ []) free (refl, tt) r).0
-
-  module _ (observers : List ObserverOf) where
-    one_rests : (i : ℕ) (x : Cell) (said : List Received) → IsRun observers i x said → Rests said
-    one_rests i x said is m n sound free r = (run_rests keeps _ said is.end is.run m n is.talk sound free r).1
-
-    pub parts_rest : HoldsOfParts observers Rests
-    parts_rest = record {
-      nothing = rests_none;
-      on = rests_on;
-      mark = mark_rests;
-      run = one_rests;
-      change = λ batch o said is m n sound free r. (change_commits keeps batch o m n sound free (record { said = said; form = is; leads = r })).1;
-    }
+  pub change_rests : (batch : Writes) (o : Outcome) (said : List Received) → IsEndedChange batch o said → Rests said
+  change_rests batch o said is m n sound free r = (change_commits keeps batch o m n sound free (record { said = said; form = is; leads = r })).1
 
 -- ---- generations
-
-small : 0 < 2 ^ 64
-small = grind arith
 
 opening_free : (observers : List ObserverOf) → IsUnlocked (opening observers 1 0)
 opening_free observers x u = ap primary_of (finite.get-empty slot_cmp (slot_at x Sort.Lock u))
@@ -78,7 +44,7 @@ module _ (keeps : StepsKeepSound) (opens : OpeningIsSound) (left : LeftAreSound)
 
   -- as a generation begins, a table is sound
   pub first_sound : (past : List Writes) (first : KeptTable) → IsFirstTable past first → IsSoundTable first.state
-  first_sound past first (opened observers) = opens observers 1 0 small
+  first_sound past first (opened observers) = opens observers 1 0 (grind arith)
   first_sound past first (anew before changes start old new began leads quiet room is stats) =
       subst IsSoundTable (sym is.is) (left old.state first.state.entries first.state.transactions (stays_sound keeps start.state old.state leads.said (first_sound before start began) leads.leads) is.snapshot is.left).0
   first_sound past first (changed before changes start old between new places front more began leads quiet room is up) =
@@ -90,12 +56,9 @@ module _ (keeps : StepsKeepSound) (opens : OpeningIsSound) (left : LeftAreSound)
   from_sound past changes first table began k = stays_sound keeps first.state table.state k.said (first_sound past first began) k.leads
 
   -- and so it is where it got other observers
-  pub between_sound : (past changes : List Writes) (first old between : KeptTable) (places : List ℕ) (front : List ObserverOf) → IsFirstTable past first → KeepsFrom first changes old → IsChosenOf places front old between → IsSoundTable between.state
-  between_sound past changes first old between places front began k is = chosen_sound places front old between is (from_sound past changes first old began k)
-
   pub marked_sound : (past changes : List Writes) (first old between new : KeptTable) (places : List ℕ) (front more : List ObserverOf) → IsFirstTable past first → KeepsFrom first changes old → IsChosenOf places front old between
       → (up : CatchesUp more between new) → IsSoundTable up.marked.state
-  marked_sound past changes first old between new places front more began k is up = more_sound more between.state up.marked.state up.observed (between_sound past changes first old between places front began k is)
+  marked_sound past changes first old between new places front more began k is up = more_sound more between.state up.marked.state up.observed (chosen_sound places front old between is (from_sound past changes first old began k))
 
   -- and no lock stands in it
   pub marked_free : (old between new : KeptTable) (places : List ℕ) (front more : List ObserverOf) → IsChosenOf places front old between → (up : CatchesUp more between new) → IsUnlocked up.marked.state
@@ -103,7 +66,7 @@ module _ (keeps : StepsKeepSound) (opens : OpeningIsSound) (left : LeftAreSound)
 
   from_free : (past changes : List Writes) (first table : KeptTable) → IsFirstTable past first → IsUnlocked first.state → KeepsFrom first changes table → IsUnlocked table.state
   from_free past changes first table began free k =
-      of_all first.state.observers (parts_rest keeps first.state.observers) changes k.said k.form.form first.state table.state (first_sound past first began) free k.leads
+      of_all first.state.observers (parts_rest keeps first.state.observers) (change_rests keeps) changes k.said k.form.form first.state table.state (first_sound past first began) free k.leads
 
   -- nor does one as it begins
   pub first_free : (past : List Writes) (first : KeptTable) → IsFirstTable past first → IsUnlocked first.state

@@ -1,29 +1,16 @@
 -- No more runs are committed than 64 bits can say, since each took a timestamp.
-use Rattle.std.proofs.Common.{arith, ◌≡◌, ℕ, ◌+◌, ◌-◌, ◌^◌, ◌<◌, ◌≤◌, min, inl, inr, Bool, true, false, cond, List, [], ◌∷◌, ◌++◌, length, Option, Some, None, refl, sym, ap, subst}
+use Rattle.std.proofs.Common.{arith, ◌≡◌, ℕ, ◌+◌, ◌-◌, ◌^◌, ◌<◌, ◌≤◌, min, Bool, true, false, cond, List, [], ◌∷◌, ◌++◌, Option, refl, ap}
 use Rattle.std.proofs.lemmas.List.Sums.{sum_by-append, sum_by-cons}
 use Rattle.std.specs.List.{count_by}
-use Rattle.pb_base.specs.declared.cell.Cell.{Cell}
-use Rattle.pb_base.specs.declared.names.Ts.{Ts}
-use Rattle.pb_finished.specs.Finished.{Meant}
-use Rattle.pb_steps.specs.State.{StateOf}
-use Rattle.pb_steps.specs.Steps.{StepCase}
-use Rattle.pb_steps.specs.declared.step.Step.{Step}
-use Rattle.pb_steps.specs.declared.step.Answer.{Answer}
-use Rattle.pb_verify.specs.Observers.{ObserverOf}
-use Rattle.pb_history.specs.Journals.{JournalLeads}
-use Rattle.pb_history.specs.declared.entry.Received.{Received}
-use Rattle.pb_txn.specs.Conversations.{told}
-use Rattle.pb_notify.specs.Allowed.{entries_by}
-use Rattle.pb_notify.specs.Forms.{IsRunConversation, ran}
-use Rattle.pb_notify.specs.Runs.{Watch}
-use Rattle.pb_notify.specs.declared.need.JobEnd.{JobEnd}
-use Rattle.pb_passes.specs.Passes.{AreRuns, before_all, runs as ran_then, passes_by, IsWalk, at_beginning, found, IsPass, ArePasses, at_first, one_more, IsDrain}
+use Rattle.pb_passes.proofs.Drains.{HoldsOfRuns, of_drain}
+use Rattle.pb_keeper.specs.Words.{Cell, Ts, Meant, StateOf, StepCase, Step, Answer, ObserverOf, JournalLeads, Received, told, entries_by, IsRunConversation, ran, Watch, JobEnd, IsDrain}
 use Rattle.pb_keeper.specs.Counts.{commit_count}
 use Rattle.pb_keeper.specs.Leads.{SaidLeads}
 use Rattle.pb_keeper.specs.Stats.{Counted}
 use Rattle.pb_keeper.specs.declared.stats.ObserverStats.{ObserverStats}
 use Rattle.pb_keeper.proofs.Counting.{count_append, not_counted, run_count}
 use Rattle.pb_keeper.proofs.PassAlong.{Led}
+use Rattle.pb_keeper.proofs.Statistics.{counted_as}
 use Rattle.pb_keeper.proofs.Wholes.{IsPlainFrom, asked_from}
 
 -- ---- the clock goes on with each timestamp that is given out
@@ -67,9 +54,6 @@ few_none said e = omega (arith, e)
 few_on : (a b : List Received) → AreFew a → AreFew b → AreFew (a ++ b)
 few_on a b p q = let c = count_append a b in let g = given_append a b in omega (arith, p, q, c, g)
 
-few_as : (a b : List Received) → a ≡ b → AreFew b → AreFew a
-few_as a b e p = subst AreFew (sym e) p
-
 -- its begin is given one
 given_from : (s : Ts) (said : List Received) → IsPlainFrom s said → 1 ≤ given_count said
 given_from s said f =
@@ -86,35 +70,18 @@ few_run o said end run (ran s seen talk k before plan f c w i few on whole can) 
     omega (arith, one, begun, first, all)
 few_run o said end run talk = few_none said (run_count o said end run talk)
 
-mark_few : (after : Option Cell) (answer : Answer) → AreFew (told (Step.NextMark after) answer ∷ [])
-mark_few after answer = few_none (told (Step.NextMark after) answer ∷ []) (not_counted (told (Step.NextMark after) answer) [] refl)
-
 module _ (observers : List ObserverOf) where
-  few_runs : (x : Cell) (i : ℕ) (said : List Received) → AreRuns observers x i said → AreFew said
-  few_runs x i said before_all = few_none [] refl
-  few_runs x i said (ran_then k before more b is) = few_on before more (few_runs x k before b) (few_run _ more is.end is.run is.talk)
-  few_runs x i said (passes_by k before b other) = few_runs x k before b
-
-  few_walk : (said : List Received) (at : Option Cell) → IsWalk observers said at → AreFew said
-  few_walk said at at_beginning = few_none [] refl
-  few_walk said at (found before after x more w rs) =
-      few_on before (told (Step.NextMark after) (Answer.Marked x) ∷ more) (few_walk before after w) (few_on (told (Step.NextMark after) (Answer.Marked x) ∷ []) more (mark_few after (Answer.Marked x)) (few_runs x (length observers) more rs))
-
-  few_pass : (last : Option Cell) (said : List Received) → IsPass observers last said → AreFew said
-  few_pass last said p = few_as said _ p.said_is (few_on p.before _ (few_walk p.before last p.walk) (mark_few last Answer.NoMark))
-
-  few_passes : (i : ℕ) (said : List Received) → ArePasses observers i said → AreFew said
-  few_passes i said at_first = few_none [] refl
-  few_passes i said (one_more k before more x p one) = few_on before more (few_passes k before p) (few_pass (Some x) more one)
-
-  few_drain : (said : List Received) → IsDrain observers said → AreFew said
-  few_drain said d = few_as said _ d.said_is (few_on d.before d.rest (few_passes d.count d.before d.passes) (elim d.ends [ inl e ↦ few_pass None d.rest e.1 | inr e ↦ few_as d.rest [] e.1 (few_none [] refl) ]))
+  few_parts : HoldsOfRuns observers AreFew
+  few_parts = record {
+    adds = record { nothing = few_none [] refl; both = few_on };
+    mark = λ after answer. few_none (told (Step.NextMark after) answer ∷ []) (not_counted (told (Step.NextMark after) answer) [] refl);
+    run = λ i x said is. few_run _ said is.end is.run is.talk;
+  }
 
   -- so their number is known
   pub drain_counts : (s t : List ObserverStats) (m : ℕ) (old new : StateOf) → new.clock < 2 ^ 64 → Led observers s t (IsDrain observers) m old new → (leads : SaidLeads (Counted observers s t (IsDrain observers)) old new) × (m ≡ commit_count leads.said)
   drain_counts s t m old new fits g =
-      let counted : Counted observers s t (IsDrain observers) g.said = record { form = g.form.form.form; total = g.form.total; did = g.form.did; as_many = g.form.as_many; grows = g.form.grows } in
-      (record { said = g.said; form = counted; leads = g.leads }, whole (commit_count g.said) (given_count g.said) (few_drain g.said g.form.form.form) (clock_on g.said old new g.leads) g.form.form.count)
+      (record { said = g.said; form = counted_as (λ d. d.form) g.form; leads = g.leads }, whole (commit_count g.said) (given_count g.said) (of_drain observers few_parts g.said g.form.form.form) (clock_on g.said old new g.leads) g.form.form.count)
     where
       whole : (n t : ℕ) → n ≤ t → old.clock + t ≤ new.clock → m ≡ min n (2 ^ 64 - 1) → m ≡ n
       whole n t few later is = omega (arith, few, later, is, fits)

@@ -1,38 +1,15 @@
 -- Whole conversations on a table without locks, of which only one seat knows: a transaction commits, and a run meets no lock.
 use Rattle.std.proofs.Common.{arith, ◌≡◌, ℕ, ◌<◌, Bool, true, false, inr, List, [], ◌∷◌, ◌++◌, Option, Some, None, refl, sym, ap, subst, ◌∙◌}
 use Rattle.std.proofs.lemmas.List.{append_assoc, append-nil}
-use Rattle.pb_base.specs.Batch.{Writes}
-use Rattle.pb_base.specs.declared.cell.Cell.{Cell}
-use Rattle.pb_base.specs.declared.content.Revision.{Revision}
-use Rattle.pb_base.specs.declared.names.Ts.{Ts}
-use Rattle.pb_isa.specs.Meaning.{Talk}
-use Rattle.pb_store.specs.Contents.{Entries}
-use Rattle.pb_finished.specs.Finished.{Meant}
-use Rattle.pb_steps.specs.Begin.{Begins}
-use Rattle.pb_steps.specs.Read.{read_step}
-use Rattle.pb_steps.specs.Readings.{lock_at, write_at, IsLockOn}
-use Rattle.pb_steps.specs.State.{StateOf}
-use Rattle.pb_steps.specs.Steps.{StepCase}
-use Rattle.pb_steps.specs.declared.seen.Seen.{Seen}
-use Rattle.pb_steps.specs.declared.step.Step.{Step}
-use Rattle.pb_steps.specs.declared.step.Work.{Work}
-use Rattle.pb_steps.specs.declared.step.Answer.{Answer}
-use Rattle.pb_steps.specs.declared.step.Declared.{Declared}
-use Rattle.pb_history.specs.Journals.{JournalLeads}
-use Rattle.pb_history.specs.Laws.{StepsKeepSound}
-use Rattle.pb_history.specs.Sound.{IsSoundTable}
-use Rattle.pb_history.specs.declared.entry.Received.{Received}
+use Rattle.std.proofs.lemmas.Bool.{true≢false}
+use Rattle.pb_keeper.specs.Words.{Writes, Cell, Revision, Ts, Talk, Entries, Meant, Begins, read_step, lock_at, write_at, IsLockOn, StateOf, StepCase, Seen, Step, Work, Answer, Declared, JournalLeads, StepsKeepSound, IsSoundTable, Received, told, IsWhole, committed, conflicted_first, conflicted_later, lost, prewrites, secondaries, Outcome, entries_by, IsRound, cleared, settled, AreRounds, at_first, one_more, IsLooked, IsObserved, IsAcknowledged, IsRecalled, AreAsked, dirty, asked, its_begin, LooksFrom, at_cell, at_acknowledgment, at_old, at_ask, IsRunConversation, absent, clean, ran, conflicted, blocked, Watch, JobEnd}
+use Rattle.pb_notify.specs.Forms.{lost as lost_run}
 use Rattle.pb_history.proofs.Updates.{none_if}
-use Rattle.pb_txn.specs.Conversations.{told}
-use Rattle.pb_txn.specs.Forms.{IsWhole, committed, conflicted_first, conflicted_later, lost, prewrites, secondaries}
-use Rattle.pb_txn.specs.declared.place.Outcome.{Outcome}
-use Rattle.pb_notify.specs.Allowed.{entries_by}
-use Rattle.pb_notify.specs.Forms.{IsRound, cleared, settled, AreRounds, at_first, one_more, IsLooked, IsObserved, IsAcknowledged, IsRecalled, AreAsked, dirty, asked, its_begin, LooksFrom, at_cell, at_acknowledgment, at_old, at_ask, IsRunConversation, absent, clean, ran, conflicted, lost as lost_run, blocked}
-use Rattle.pb_notify.specs.Runs.{Watch}
-use Rattle.pb_notify.specs.declared.need.JobEnd.{JobEnd}
 use Rattle.pb_keeper.specs.Leads.{SaidLeads, IsEndedChange}
 use Rattle.pb_keeper.specs.Stops.{IsUnlocked}
-use Rattle.pb_keeper.proofs.Alone.{IsAlone, AreLeft, declared_alone, prewritten_alone, meets_nothing, stamped_alone, loses_not, committed_alone, secondary_alone, true_false}
+use Rattle.pb_conversations.proofs.Joining.{Adds}
+use Rattle.pb_keeper.proofs.EachStep.{AreEach, each_last, each_on}
+use Rattle.pb_keeper.proofs.Alone.{IsAlone, AreLeft, declared_alone, prewritten_alone, meets_nothing, stamped_alone, loses_not, committed_alone, secondary_alone}
 
 -- ---- parts of a seat's conversation
 
@@ -44,6 +21,18 @@ leads_parts m n (x ∷ a) b r = let p = leads_parts r.0 n a b r.2 in (p.0, (r.0,
 pub stays_sound : StepsKeepSound → (m n : StateOf) (said : List Received) → IsSoundTable m → JournalLeads m (entries_by 0 said) n → IsSoundTable n
 stays_sound keeps m n [] sound r = subst IsSoundTable (sym r) sound
 stays_sound keeps m n (x ∷ said) sound r = stays_sound keeps r.0 n said (keeps m 0 x.step x.answer r.0 sound r.1) r.2
+
+-- where this holds of a sound table before the conversation, it holds of it afterwards
+abbrev pub Preserves : (StateOf → Type 0) → List Received → Type 0
+Preserves P said = (m n : StateOf) → IsSoundTable m → P m → JournalLeads m (entries_by 0 said) n → P n
+
+pub preserves_adds : StepsKeepSound → (P : StateOf → Type 0) → Adds (Preserves P)
+preserves_adds keeps P = record {
+  nothing = λ m n sound is r. subst P (sym r) is;
+  both = λ a b p q m n sound is r.
+      let parts = leads_parts m n a b r in
+      q parts.0 n (stays_sound keeps m parts.0 a sound parts.1) (p m parts.0 sound is parts.1) parts.2;
+}
 
 -- each write record is of a commit below this
 abbrev pub AreBelow : ℕ → StateOf → Type 0
@@ -141,22 +130,18 @@ plain_step old new (Step.Read s x) (Answer.Locked t q) free p m = absurd (none_l
 plain_step old new (Step.ReadAt s x at) (Answer.Locked t q) free p m = absurd (none_locked old.entries x t.0 q free m.locked)
 plain_step old new step answer free p m = grind arith
 
+abbrev pub IsPlain : Received → Type 0
+IsPlain r = is_plain r.step ≡ true
+
 abbrev pub ArePlain : List Received → Type 0
-ArePlain [] = Unit {0}
-ArePlain (r ∷ rs) = (is_plain r.step ≡ true) × ArePlain rs
+ArePlain said = AreEach IsPlain said
+
+abbrev IsLockless : Received → Type 0
+IsLockless r = names_lock r.answer ≡ false
 
 -- no answer names a lock
 abbrev NameNoLock : List Received → Type 0
-NameNoLock [] = Unit {0}
-NameNoLock (r ∷ rs) = (names_lock r.answer ≡ false) × NameNoLock rs
-
-plain_append : (a b : List Received) → ArePlain a → ArePlain b → ArePlain (a ++ b)
-plain_append [] b p q = q
-plain_append (x ∷ a) b p q = (p.0, plain_append a b p.1 q)
-
-no_lock_last : (a : List Received) (r : Received) → NameNoLock (a ++ r ∷ []) → names_lock r.answer ≡ false
-no_lock_last [] r n = n.0
-no_lock_last (x ∷ a) r n = no_lock_last a r n.1
+NameNoLock said = AreEach IsLockless said
 
 pub plain_walk : (m n : StateOf) (said : List Received) → IsUnlocked m → ArePlain said → JournalLeads m (entries_by 0 said) n → (n.entries ≡ m.entries) × NameNoLock said
 plain_walk m n [] free p r = (ap (λ (z : StateOf). z.entries) r, tt)
@@ -166,8 +151,8 @@ plain_walk m n (x ∷ said) free p r =
     (on.0 ∙ one.0, (one.1, on.1))
 
 -- where the entries stay, so do the locks
-pub free_after : (m n : StateOf) (said : List Received) → IsUnlocked m → n.entries ≡ m.entries → IsUnlocked n
-free_after m n said free e y u = ap (λ (z : Entries). lock_at z y u) e ∙ free y u
+pub free_after : (m n : StateOf) → IsUnlocked m → n.entries ≡ m.entries → IsUnlocked n
+free_after m n free e y u = ap (λ (z : Entries). lock_at z y u) e ∙ free y u
 
 -- a begin at this start, and then looks
 pub record IsPlainFrom (s : Ts) (said : List Received) : Type 0 where
@@ -194,10 +179,7 @@ plain_after s said m n f sound free g =
     }
 
 pub from_more : (s : Ts) (a b : List Received) → IsPlainFrom s a → ArePlain b → IsPlainFrom s (a ++ b)
-from_more s a b f p = record { work = f.work; rest = f.rest ++ b; said_is = ap (λ l. l ++ b) f.said_is; plain = plain_append f.rest b f.plain p }
-
-from_as : (s : Ts) (a b : List Received) → b ≡ a → IsPlainFrom s a → IsPlainFrom s b
-from_as s a b e f = subst (IsPlainFrom s) (sym e) f
+from_more s a b f p = record { work = f.work; rest = f.rest ++ b; said_is = ap (λ l. l ++ b) f.said_is; plain = each_on IsPlain f.rest b f.plain p }
 
 pub read_plain : (s : Ts) (x : Cell) (at : Option Ts) → is_plain (read_step s x at) ≡ true
 read_plain s x None = refl
@@ -213,7 +195,7 @@ module _ (s : Ts) where
   rounds_from x at m base n said (one_more k before round rs one) f = from_more s before round (rounds_from x at m base k before rs f) (round_plain x at round one)
 
   pub looked_from : (x : Cell) (at : Option Ts) (m : ℕ) (base : List Received) (n : ℕ) (said : List Received) → IsLooked s x at m base n said → IsPlainFrom s base → IsPlainFrom s said
-  looked_from x at m base n said l f = from_as s _ said l.said_is (from_more s l.before _ (rounds_from x at m base n l.before l.rounds f) (read_plain s x at, tt))
+  looked_from x at m base n said l f = subst (IsPlainFrom s) (sym l.said_is) (from_more s l.before _ (rounds_from x at m base n l.before l.rounds f) (read_plain s x at, tt))
 
   module _ (o : Watch) where
     pub begin_from : IsPlainFrom s (its_begin o s)
@@ -247,12 +229,6 @@ IsUndisturbed (JobEnd.Ran result) = Unit {0}
 IsUndisturbed JobEnd.Clean = Unit {0}
 IsUndisturbed _ = ⊥
 
-pub lost_none : (c : Ts) → Outcome.Lost ≡ Outcome.Committed c → ⊥
-lost_none c e = cc
-
-pub conflicted_none : (c : Ts) → Outcome.Conflicted ≡ Outcome.Committed c → ⊥
-conflicted_none c e = cc
-
 -- a run on a table without locks meets none, commits if it declares, and leaves none
 pub run_rests : StepsKeepSound → (o : Watch) (said : List Received) (end : JobEnd) (run : Option Meant) (m n : StateOf) → IsRunConversation o said end run → IsSoundTable m → IsUnlocked m → JournalLeads m (entries_by 0 said) n
     → IsUndisturbed end × IsUnlocked n
@@ -269,12 +245,12 @@ run_rests keeps o said end run m n (conflicted s seen talk k before plan f i few
     let q = leads_parts m n before plan r in
     let a = plain_after s before m q.0 (asked_from s o seen talk k before i) sound free q.1 in
     let e = whole_commits keeps s (Declared.Run o.observer f) _ plan Outcome.Conflicted q.0 n whole (stays_sound keeps m q.0 before sound q.1) a.free a.below q.2 in
-    absurd (conflicted_none e.0.0 e.0.1)
+    absurd (let other : Outcome.Conflicted ≡ Outcome.Committed e.0.0 = e.0.1 in cc)
 run_rests keeps o said end run m n (lost_run s seen talk k before plan f i few on whole) sound free r =
     let q = leads_parts m n before plan r in
     let a = plain_after s before m q.0 (asked_from s o seen talk k before i) sound free q.1 in
     let e = whole_commits keeps s (Declared.Run o.observer f) _ plan Outcome.Lost q.0 n whole (stays_sound keeps m q.0 before sound q.1) a.free a.below q.2 in
-    absurd (lost_none e.0.0 e.0.1)
+    absurd (let other : Outcome.Lost ≡ Outcome.Committed e.0.0 = e.0.1 in cc)
 run_rests keeps o said end run m n (blocked s x at j base k before t primary from rounds last) sound free r =
     let a = plain_after s _ m n (from_more s before _ (rounds_from s x at j base k before rounds (base_from s o x at j base from)) (read_plain s x at, tt)) sound free r in
-    absurd (true_false (no_lock_last before (told (read_step s x at) (Answer.Locked t primary)) a.none))
+    absurd (true≢false (each_last IsLockless before (told (read_step s x at) (Answer.Locked t primary) ∷ []) a.none).0)

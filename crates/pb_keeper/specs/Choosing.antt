@@ -1,6 +1,6 @@
 -- Which observers of a new list an old one has.
 use Rattle.std.specs.Prelude.{◌≡◌, ℕ, List, [], ◌∷◌, ◌++◌, Some, slice_get}
-use Rattle.pb_verify.specs.Observers.{ObserverOf}
+use Rattle.pb_keeper.specs.Words.{ObserverOf}
 
 -- the list has it at some place
 abbrev pub IsOneOf : List ObserverOf → ObserverOf → Type 0

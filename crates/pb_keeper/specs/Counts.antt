@@ -1,13 +1,7 @@
 -- How many runs of observers were committed, read off what the only seat said.
 use Rattle.std.specs.Prelude.{◌≡◌, ℕ, Bool, true, false, List, count_by}
 use Rattle.std.specs.Io.Iter.{u64_saturate}
-use Rattle.pb_base.specs.declared.cell.Cell.{Cell}
-use Rattle.pb_verify.specs.Observers.{ObserverOf}
-use Rattle.pb_steps.specs.declared.step.Step.{Step}
-use Rattle.pb_steps.specs.declared.step.Answer.{Answer}
-use Rattle.pb_history.specs.declared.entry.Received.{Received}
-use Rattle.pb_notify.specs.declared.need.JobEnd.{JobEnd}
-use Rattle.pb_passes.specs.Passes.{IsRun}
+use Rattle.pb_keeper.specs.Words.{Cell, ObserverOf, Step, Answer, Received, JobEnd, IsRun}
 
 -- the step commits a transaction, at its primary (OSDI 2010, section 2.2)
 abbrev pub is_primary_commit : Step → Answer → Bool

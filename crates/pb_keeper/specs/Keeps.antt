@@ -1,32 +1,23 @@
 -- A table that is kept over generations: it is opened with nothing in it, or begins anew from a quiet one, also with other observers,
 -- and then these changes led to it, and nothing else.
 use Rattle.std.specs.Prelude.{◌≡◌, ℕ, ◌<◌, List, [], ◌∷◌, ◌++◌, length, slice_get}
-use Rattle.pb_base.specs.Batch.{Writes}
-use Rattle.pb_base.specs.declared.names.Ts.{Ts}
-use Rattle.pb_verify.specs.Observers.{ObserverOf}
-use Rattle.pb_steps.specs.Readings.{last_timestamp}
-use Rattle.pb_steps.specs.State.{StateOf, opening}
-use Rattle.pb_history.specs.Handled.{IsQuiet}
-use Rattle.pb_history.specs.Sound.{IsCommittedAt}
-use Rattle.pb_history.specs.TableView.{view_of}
-use Rattle.pb_history.specs.declared.entry.Received.{Received}
-use Rattle.pb_notify.specs.Allowed.{entries_by}
-use Rattle.pb_passes.specs.Passes.{IsDrain}
-use Rattle.pb_state.specs.MoreObservers.{HasMoreObservers}
-use Rattle.pb_generations.specs.Chosen.{AreChosen, IsChosenSnapshot, chosen_state, new_number, renumbered_said}
-use Rattle.pb_generations.specs.KeptTables.{IsKeptTable}
-use Rattle.pb_generations.specs.Mirrored.{carried}
-use Rattle.pb_generations.specs.Snapshots.{AreLeft, IsSnapshotOf}
+use Rattle.pb_keeper.specs.Words.{Writes, Ts, ObserverOf, last_timestamp, StateOf, opening, IsQuiet, IsCommittedAt, view_of, Received, AreParts, entries_by, IsDrain, HasMoreObservers, AreChosen, IsChosenSnapshot, chosen_state, new_number, renumbered_said, IsKeptTable, carried, AreLeft, IsSnapshotOf}
 use Rattle.pb_keeper.specs.Leads.{SaidLeads}
 use Rattle.pb_keeper.specs.Made.{IsMade}
 use Rattle.pb_keeper.specs.Stats.{AreKeptStats, AreStatsOf, Counted, KeptTable, chosen_stats, first_stats, kept_table, no_runs, total_at, sum_of}
 use Rattle.pb_keeper.specs.Stops.{IsUnlocked}
 use Rattle.pb_keeper.specs.declared.stats.ObserverStats.{ObserverStats}
 
+-- the next change was made, with the drain that follows it
+pub record IsNextMade (observers : List ObserverOf) (changes now : List Writes) (said : List Received) : Type 0 where
+  pub batch : Writes
+  pub commit : Ts
+  pub now_is : now ≡ changes ++ batch ∷ []
+  pub made : IsMade observers batch commit said
+
 -- these changes, each once and in order, each with the drain that follows it
-pub data AreMade (observers : List ObserverOf) : List Writes → List Received → Type 0 where
-  none : AreMade observers [] []
-  one_more : (changes : List Writes) (said more : List Received) (batch : Writes) (commit : Ts) → AreMade observers changes said → IsMade observers batch commit more → AreMade observers (changes ++ batch ∷ []) (said ++ more)
+abbrev pub AreMade : List ObserverOf → List Writes → List Received → Type 0
+AreMade observers changes said = AreParts (IsNextMade observers) [] changes said
 
 -- ---- a generation
 

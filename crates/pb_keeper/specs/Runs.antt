@@ -1,12 +1,6 @@
 -- A run of an observer, by what the only seat said.
 use Rattle.std.specs.Prelude.{◌≡◌, List, ◌++◌, Option}
-use Rattle.pb_history.specs.declared.entry.Received.{Received}
-use Rattle.pb_finished.specs.Finished.{Meant}
-use Rattle.pb_notify.specs.declared.need.JobEnd.{JobEnd}
-use Rattle.pb_notify.specs.declared.need.Need.{Need}
-use Rattle.pb_notify.specs.Runs.{RunOf, Watch, fresh, need_of}
-use Rattle.pb_notify.specs.Conversations.{Reaches}
-use Rattle.pb_notify.specs.Forms.{IsRunConversation, WasMeant}
+use Rattle.pb_keeper.specs.Words.{Received, Meant, JobEnd, Need, RunOf, Watch, fresh, need_of, Reaches, IsRunConversation, WasMeant}
 
 -- before its first step
 abbrev pub IsFreshJob : RunOf → Type 0

@@ -1,16 +1,7 @@
 -- What the runs of each observer did, counted along what the only seat said.
 use Rattle.std.specs.Prelude.{◌≡◌, ℕ, ◌+◌, ◌<◌, ◌==◌, Bool, true, false, cond, List, [], ◌∷◌, ◌++◌, length, map, replicate, slice_index_or, Option, Some, None}
 use Rattle.std.specs.Io.Iter.{u64_saturate}
-use Rattle.pb_base.specs.declared.cell.Cell.{Cell}
-use Rattle.pb_verify.specs.Observers.{ObserverOf}
-use Rattle.pb_steps.specs.State.{StateOf}
-use Rattle.pb_steps.specs.declared.step.Step.{Step}
-use Rattle.pb_steps.specs.declared.step.Work.{Work}
-use Rattle.pb_history.specs.declared.entry.Received.{Received}
-use Rattle.pb_notify.specs.Conversations.{Reaches, made, took, computed}
-use Rattle.pb_notify.specs.Runs.{RunOf, next_of}
-use Rattle.pb_notify.specs.declared.need.JobEnd.{JobEnd}
-use Rattle.pb_passes.specs.Passes.{IsJobOn}
+use Rattle.pb_keeper.specs.Words.{Cell, ObserverOf, StateOf, Step, Work, Received, took, went, no_part, one_part, Reaches, RunOf, next_of, JobEnd, IsJobOn}
 use Rattle.pb_keeper.specs.Leads.{SaidLeads}
 use Rattle.pb_keeper.specs.Runs.{IsWholeRunOf}
 use Rattle.pb_keeper.specs.declared.stats.ObserverStats.{ObserverStats}
@@ -44,9 +35,9 @@ instruction_stats job = record { runs = 0; nonzero = 0; conflicts = 0; asks = co
 
 -- all instructions of a run so far
 abbrev pub instructions_in : (first : RunOf) (said : List Received) (job : RunOf) → Reaches first said job → ObserverStats
-instructions_in first said job made = no_runs
-instructions_in first said job (took before k r l h is_next can is look) = instructions_in first before k h
-instructions_in first said job (computed before k l h is_next one) = sum_of (instructions_in first before k h) (instruction_stats l)
+instructions_in first said job no_part = no_runs
+instructions_in first said job (one_part k l before more h (took r is_next can is)) = instructions_in first before k h
+instructions_in first said job (one_part k l before more h (went one)) = sum_of (instructions_in first before k h) (instruction_stats l)
 
 -- it has come so far, and this many of them are counted
 pub record ReachesAndDid (first job : RunOf) (stats : ObserverStats) (said : List Received) : Type 0 where

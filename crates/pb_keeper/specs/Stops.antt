@@ -1,18 +1,7 @@
 -- Why a change is left: a table that is kept over generations refuses its only seat a timestamp, where none is left, and nothing
 -- else.
 use Rattle.std.specs.Prelude.{◌≡◌, ℕ, ◌<◌, ◌^◌, List, Some, None, slice_get}
-use Rattle.pb_base.specs.declared.cell.Cell.{Cell}
-use Rattle.pb_base.specs.declared.names.Row.{Row}
-use Rattle.pb_base.specs.declared.refusal.Reason.{Reason}
-use Rattle.pb_verify.specs.Observers.{ObserverOf}
-use Rattle.pb_steps.specs.Readings.{last_timestamp, lock_at}
-use Rattle.pb_steps.specs.State.{StateOf}
-use Rattle.pb_steps.specs.Steps.{step_reason}
-use Rattle.pb_steps.specs.declared.step.Step.{Step}
-use Rattle.pb_history.specs.declared.entry.Received.{Received}
-use Rattle.pb_notify.specs.Allowed.{entries_by}
-use Rattle.pb_notify.specs.Runs.{RunOf, watch_of, fresh}
-use Rattle.pb_generations.specs.KeptTables.{IsKeptTable}
+use Rattle.pb_keeper.specs.Words.{Cell, Row, Reason, ObserverOf, last_timestamp, lock_at, StateOf, step_reason, Step, Received, entries_by, RunOf, watch_of, fresh, IsKeptTable}
 use Rattle.pb_keeper.specs.declared.change.Stopped.{Stopped}
 
 -- the table is kept over generations, of which the last began at c, by what its only seat said since it was opened, with the numbers that

@@ -6,9 +6,9 @@ ghost use Rattle.pb_store.specs.Contents.{IsNextMark};
 ghost use Rattle.pb_keeper.specs.Counts.{CountsCommits, commit_count};
 ghost use Rattle.pb_keeper.specs.Keeps.{Keeps};
 ghost use Rattle.pb_keeper.specs.Stats.{Counted, KeptTable, kept_table};
-ghost use Rattle.pb_passes.specs.Passes.{AreAllRuns, IsPassThat, IsDrain};
+ghost use Rattle.pb_passes.specs.Passes.{AreAllRuns, IsDrain, IsPassThat, IsTurnOf};
 ghost use Rattle.pb_keeper.specs.Leads.{SaidLeads, IsAny};
-ghost use Rattle.pb_keeper.specs.Made.{IsMade, IsItsTurn};
+ghost use Rattle.pb_keeper.specs.Made.{IsMade};
 ghost use Rattle.pb_keeper.specs.Stops.{WasKept, IsStop};
 
 use crate::change::{Stopped, ask, commit};
@@ -75,7 +75,7 @@ fn run_place<R: Wait, T: Tablet>(
 ) -> Result<u64, Stopped>
     requires { place < length state.old.observers }
     ensures ok { IfOk result (λ runs. SaidLeads (Counted state.old.observers stats.old stats.new
-        (CountsCommits (IsItsTurn state.old.observers place cell.now) runs))
+        (CountsCommits (IsTurnOf state.old.observers place cell.now) runs))
         state.old state.new) }
     ensures err { OnErr result (SaidLeads IsAny state.old state.new) }
     ensures stops { WasKept state.old → IfErr result (λ e. IsStop e state.new) }

@@ -1,7 +1,7 @@
 use Rattle.std.proofs.Common.{◌≡◌, ◌==◌, ◌+◌, Some, length, slice_get, take, refl, sym, ap, ◌∙◌, subst}
 use Rattle.std.specs.List.{list_any}
 use Rattle.std.proofs.lemmas.Option.{slice_get_read}
-use Rattle.pb_generations.specs.Chosen.{AreChosen}
+use Rattle.pb_keeper.specs.Words.{AreChosen}
 use Rattle.pb_keeper.specs.Choosing.{lacks_one}
 use Rattle.pb_keeper.proofs.Choosing.{one_more, stands_twice}
 use Rattle.pb_keeper.proofs.chosen.places_of.Goals as goal

@@ -1,5 +1,5 @@
 use Rattle.std.proofs.Common.{take}
-use Rattle.pb_generations.specs.Chosen.{AreChosen}
+use Rattle.pb_keeper.specs.Words.{AreChosen}
 use Rattle.pb_keeper.proofs.chosen.places_of.Given as goal
 
 -- these are the places of those that were met

@@ -1,20 +1,15 @@
-use Rattle.std.proofs.Common.{rules, Result, Ok, Err, IfOk, OnOk, ap, ◌∙◌}
+use Rattle.std.proofs.Common.{rules, ap, ◌∙◌}
 use Rattle.std.proofs.lemmas.List.{with_items_is, places}
 use Rattle.std.proofs.lemmas.Result.{IfOk-weaker}
-use Rattle.pb_steps.specs.State.{StateOf}
+use Rattle.pb_keeper.specs.Words.{StateOf}
 use Rattle.pb_keeper.specs.Keeps.{changed}
 use Rattle.pb_keeper.specs.Stats.{kept_table}
 use Rattle.pb_keeper.proofs.Keeping.{caught, kept_marked}
 use Rattle.pb_keeper.proofs.Leading.{leads_observers}
 use Rattle.pb_keeper.proofs.observe.observe_also.Goals as goal
 
--- what holds where there is a value
-on_ok : {T E : Type 0} (r : Result T E) (P : T → Type 0) (Q : Type 0) → ((x : T) → P x → Q) → IfOk r P → OnOk r Q
-on_ok (Ok x) P Q holds p = holds x p
-on_ok (Err e) P Q holds p = tt
-
 pub returns-in-Ok-clause-observers : goal.returns-in-Ok-clause-observers
-returns-in-Ok-clause-observers g c = on_ok c.drain.result _ _ (λ d p. leads_observers c.add_all.new.state c.drain.new.state p.0 ∙ ap (λ (z : StateOf). z.observers) c.in-Ok.ensures.observed.is) c.drain.ensures.ok
+returns-in-Ok-clause-observers g c = IfOk-weaker c.drain.result _ _ (λ d p. leads_observers c.add_all.new.state c.drain.new.state p.0 ∙ ap (λ (z : StateOf). z.observers) c.in-Ok.ensures.observed.is) c.drain.ensures.ok
 
 pub returns-in-Ok-clause-caught_up : goal.returns-in-Ok-clause-caught_up
 returns-in-Ok-clause-caught_up g c =
@@ -25,7 +20,7 @@ returns-in-Ok-clause-caught_up g c =
 pub returns-in-Ok-clause-begins : goal.returns-in-Ok-clause-begins
 returns-in-Ok-clause-begins g c past changes first old places front began k quiet room is =
     rw (with_items_is c.add_all.new.stats c.drain.new.stats (search (rules, places)))
-    (on_ok c.drain.result _ _
+    (IfOk-weaker c.drain.result _ _
     (λ d p. changed past changes first old (kept_table c.args.state.now c.args.stats.now.items) (kept_table c.drain.new.state c.drain.new.stats) places front c.args.more.items began k quiet room is
     (caught c.args.more.items (kept_table c.args.state.now c.args.stats.now.items) c.add_all.new.state c.drain.new.state c.deref_mut.result.now c.drain.new.stats c.in-Ok.ensures.observed (c.deref_mut.ensures.value ∙ c.in-Ok.ensures.stats) p.0)) c.drain.ensures.ok)
 

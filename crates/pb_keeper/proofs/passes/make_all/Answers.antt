@@ -1,9 +1,9 @@
 use Rattle.std.proofs.Common.{arith, List, [], ◌∷◌, ◌++◌, subst}
-use Rattle.pb_base.specs.Batch.{Writes}
 use Rattle.pb_keeper.specs.Keeps.{Keeps}
 use Rattle.pb_keeper.specs.Stats.{kept_table}
 use Rattle.std.proofs.lemmas.List.{append_assoc}
 use Rattle.std.proofs.lemmas.Result.{err_from_is_err_and}
+use Rattle.pb_keeper.specs.Words.{Writes}
 use Rattle.pb_keeper.proofs.passes.make_all.Goals as goal
 
 pub loop-batch-preserved : goal.loop-batch-preserved

@@ -1,10 +1,10 @@
 use Rattle.std.proofs.lemmas.Result.{err_from_is_err_and}
-use Rattle.std.proofs.Common.{List, ◌≡◌, sym, subst}
-use Rattle.pb_verify.specs.Observers.{ObserverOf}
-use Rattle.pb_passes.specs.Passes.{HasColumn, IsOfOther}
+use Rattle.std.proofs.Common.{List, ◌≡◌, inr, refl, sym, ap, subst}
+use Rattle.pb_keeper.specs.Words.{ObserverOf, HasColumn, IsOfOther}
+use Rattle.pb_keeper.specs.Counts.{commits_of_end}
 use Rattle.pb_keeper.specs.Stops.{IsKnownJob}
 use Rattle.pb_keeper.proofs.InTime.{job_is_of}
-use Rattle.pb_keeper.proofs.PassAlong.{ran_counts, other_column_counts, other_end_counts}
+use Rattle.pb_keeper.proofs.PassAlong.{led_none, none_of_end, turn_counts}
 use Rattle.pb_keeper.proofs.passes.run_place.Goals as goal
 
 pub returns-in_err-ran-clause-stops : goal.returns-in_err-ran-clause-stops
@@ -16,10 +16,16 @@ returns-in_err-ran-clause-stops g c opened =
     rw (p.1, p.2) (c.in_err-ran.ensures.stops opened (subst (λ (l : List ObserverOf). IsKnownJob l c.in-Ok.job) c.observers-observers.ensures.observers of))
 
 pub returns-in-Ran-clause-ok : goal.returns-in-Ran-clause-ok
-returns-in-Ran-clause-ok g c = ran_counts c.args.state.now.observers c.observers-observers.result.now c.args.place c.in-Some.number c.args.cell.now c.in-Ok.job c.in_ok-ran.ran.end c.in_ok-ran.ran.stats c.args.state.now c.run_one.new.state c.observers-observers.ensures.observers c.in-Some.ensures.some (c.is_observer_of.ensures.is c.if-not-is_observer_of.false) c.in-Ok.ensures c.in_ok-ran.ensures.ok c.args.stats.now c.add_run.new.stats c.add_run.ensures.length c.add_run.ensures.counted c.in-Ran.field-0 c.in-Ran.is
+returns-in-Ran-clause-ok g c =
+    turn_counts c.observers-observers.ensures.observers c.in-Some.ensures.some (c.is_observer_of.ensures.is c.if-not-is_observer_of.false) c.in-Ok.ensures c.in_ok-ran.ensures.ok c.add_run.ensures.length c.add_run.ensures.counted
+    1 (ap commits_of_end (sym c.in-Ran.is))
 
 pub returns-clause-ok : goal.returns-clause-ok
-returns-clause-ok g c = other_end_counts c.args.state.now.observers c.observers-observers.result.now c.args.place c.in-Some.number c.args.cell.now c.in-Ok.job c.in_ok-ran.ran.end c.in_ok-ran.ran.stats c.args.state.now c.run_one.new.state c.observers-observers.ensures.observers c.in-Some.ensures.some (c.is_observer_of.ensures.is c.if-not-is_observer_of.false) c.in-Ok.ensures c.in_ok-ran.ensures.ok c.args.stats.now c.add_run.new.stats c.add_run.ensures.length c.add_run.ensures.counted c.in_default-end.not-Ran
+returns-clause-ok g c =
+    turn_counts c.observers-observers.ensures.observers c.in-Some.ensures.some (c.is_observer_of.ensures.is c.if-not-is_observer_of.false) c.in-Ok.ensures c.in_ok-ran.ensures.ok c.add_run.ensures.length c.add_run.ensures.counted
+    0 (sym (none_of_end c.in_ok-ran.ran.end c.in_default-end.not-Ran))
 
+-- an observer of another column has no part
 pub returns-then-not-is_observer_of-clause-ok : goal.returns-then-not-is_observer_of-clause-ok
-returns-then-not-is_observer_of-clause-ok g c = other_column_counts c.args.state.now.observers c.args.place c.args.cell.now c.args.stats.now c.args.state.now (subst (λ (l : List ObserverOf). IsOfOther l c.args.place c.args.cell.now) c.observers-observers.ensures.observers (c.is_observer_of.ensures.isnt c.if-not-is_observer_of.true))
+returns-then-not-is_observer_of-clause-ok g c =
+    led_none (inr (subst (λ (l : List ObserverOf). IsOfOther l c.args.place c.args.cell.now) c.observers-observers.ensures.observers (c.is_observer_of.ensures.isnt c.if-not-is_observer_of.true), refl))
