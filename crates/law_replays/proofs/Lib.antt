@@ -1,2 +1,1 @@
-pub mod Runs
-pub mod Drains
+pub mod Replays

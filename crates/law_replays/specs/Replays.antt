@@ -1,11 +1,8 @@
 -- Tables that keep the same changes are the same, and so are those whose new observers have caught up. The laws of this crate cite it.
 use Rattle.std.specs.Prelude.{◌≡◌, ℕ, ◌≤◌, List, ◌++◌, Some, slice_get}
-use Rattle.pb_base.specs.Batch.{Writes}
-use Rattle.pb_isa.specs.declared.limits.TheConstants.{MAX_RECORD_BYTES}
-use Rattle.pb_verify.specs.Observers.{ObserverOf}
-use Rattle.pb_history.specs.Handled.{IsQuiet}
 use Rattle.pb_keeper.specs.Keeps.{CatchesUp, IsChosenOf, Keeps}
 use Rattle.pb_keeper.specs.Stats.{KeptTable}
+use Rattle.law_replays.specs.Words.{MAX_RECORD_BYTES, Writes, ObserverOf, IsQuiet}
 
 -- the program of each is judged for a record of a size that there is, as every accepted one is
 abbrev pub AreJudged : List ObserverOf → Type 0

@@ -1,4 +1,4 @@
-use Rattle.law_replays.proofs.Drains.{caught_up_once}
+use Rattle.law_replays.proofs.Replays.{caught_up_once}
 use Rattle.law_replays.proofs.catching_up_has_one_outcome.Goals as goal
 
 pub returns : goal.returns

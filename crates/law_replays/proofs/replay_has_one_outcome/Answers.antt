@@ -1,4 +1,4 @@
-use Rattle.law_replays.proofs.Drains.{replay_once}
+use Rattle.law_replays.proofs.Replays.{replay_once}
 use Rattle.law_replays.proofs.replay_has_one_outcome.Goals as goal
 
 pub returns : goal.returns
