@@ -1,27 +1,6 @@
 -- A snapshot of a quiet table begins the next generation, and what is chosen of it goes on with other observers.
 use Rattle.std.proofs.Common.{◌≡◌, ℕ, arith, List, [], ◌∷◌, Some, refl, sym, ap, ◌∙◌, subst}
-use Rattle.pb_base.specs.Batch.{Writes}
-use Rattle.pb_base.specs.declared.cell.Cell.{Cell}
-use Rattle.pb_base.specs.declared.content.Revision.{Revision}
-use Rattle.pb_verify.specs.Observers.{ObserverOf}
-use Rattle.pb_steps.specs.Readings.{IsVersion}
-use Rattle.pb_steps.specs.State.{StateOf}
-use Rattle.pb_steps.specs.Steps.{StepCase}
-use Rattle.pb_steps.specs.declared.step.Answer.{Answer}
-use Rattle.pb_steps.specs.declared.step.Step.{Step}
-use Rattle.pb_history.specs.History.{Has}
-use Rattle.pb_history.specs.Journals.{JournalLeads}
-use Rattle.pb_history.specs.Laws.{StepsKeepSound, OpeningIsSound}
-use Rattle.pb_history.specs.Sound.{IsSoundTable}
-use Rattle.pb_history.specs.declared.entry.Entry.{Entry}
-use Rattle.pb_history.specs.declared.entry.Received.{Received}
-use Rattle.pb_notify.specs.Allowed.{entries_by}
-use Rattle.pb_generations.specs.Chosen.{ChosenAreSound, chosen_cell}
-use Rattle.pb_generations.specs.Snapshots.{LeftAreSound}
-use Rattle.pb_state.specs.CarriedOver.{IsCarriedOver}
-use Rattle.pb_keeper.specs.Keeps.{IsFirstTable, KeepsFrom, anew, changed, opened}
-use Rattle.pb_keeper.specs.Leads.{SaidLeads}
-use Rattle.pb_keeper.specs.Stats.{KeptTable, chosen_stats}
+use Rattle.pb_snapshots.specs.Words.{Writes, Cell, Revision, ObserverOf, IsVersion, StateOf, StepCase, Answer, Step, Has, JournalLeads, StepsKeepSound, OpeningIsSound, IsSoundTable, Entry, Received, entries_by, ChosenAreSound, chosen_cell, LeftAreSound, IsCarriedOver, IsFirstTable, KeepsFrom, anew, changed, opened, SaidLeads, KeptTable, chosen_stats}
 use Rattle.pb_keeper.proofs.Resting.{from_sound}
 use Rattle.pb_snapshots.specs.Beginnings.{SnapshotsBegin}
 use Rattle.pb_snapshots.specs.Chosen.{ChosenBegin}

@@ -1,13 +1,9 @@
 -- The cells of a table under the new numbers of its observers: which they are, and that no two become one.
 use Rattle.std.proofs.Common.{◌≡◌, ℕ, List, true, Option, Some, None, option_map, refl, sym, ap, ◌∙◌, subst}
 use Rattle.pb_base.proofs.Logic.{same_some}
-use Rattle.pb_base.specs.declared.cell.Cell.{Cell}
-use Rattle.pb_base.specs.declared.content.Revision.{Revision}
-use Rattle.pb_base.specs.declared.names.Row.{Row}
-use Rattle.pb_verify.specs.Observers.{ObserverOf}
-use Rattle.pb_generations.specs.Chosen.{AreChosen, chosen_cell, place_among}
+use Rattle.pb_snapshots.specs.Words.{Cell, Revision, Row, ObserverOf, AreChosen, chosen_cell, has_its_observer, is_content_of, is_of_column}
+use Rattle.pb_generations.specs.Chosen.{place_among}
 use Rattle.pb_generations.proofs.ChosenNumbers.{place_is}
-use Rattle.pb_state.specs.CarriedOver.{has_its_observer, is_content_of, is_of_column}
 
 mapped_some : {A B : Type 0} (f : A → B) (o : Option A) (y : B) → option_map f o ≡ Some y → (x : A) × (o ≡ Some x) × (f x ≡ y)
 mapped_some f (Some x) y is = (x, refl, same_some (f x) y is)

@@ -5,11 +5,7 @@ use Rattle.std.proofs.Common.{◌≡◌, ℕ, inl, inr, cond, List, [], ◌∷�
 use Rattle.std.specs.List.{AllByRecursion}
 use Rattle.std.specs.List.Sorted.{IsStrictlySortedBy}
 use Rattle.pb_base.proofs.Logic.{not_none, same_some}
-use Rattle.pb_base.specs.declared.cell.Cell.{Cell}
-use Rattle.pb_base.specs.declared.content.Revision.{Revision}
-use Rattle.pb_base.specs.declared.names.Ts.{Ts}
-use Rattle.pb_history.specs.History.{Has}
-use Rattle.pb_generations.specs.Chosen.{chosen_cell}
+use Rattle.pb_snapshots.specs.Words.{Cell, Revision, Ts, Has, chosen_cell}
 use Rattle.pb_snapshots.specs.ChosenWalks.{HaveOneOfEachStart, AreChosenVersions, HasChosen, IsOfChosen}
 use Rattle.pb_snapshots.specs.VersionWalks.{start_cmp, start_of_version, version_listed}
 use Rattle.pb_snapshots.proofs.ChosenCells.{one_cell}

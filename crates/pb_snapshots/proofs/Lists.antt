@@ -4,9 +4,7 @@ use Rattle.std.specs.List.{flat_map, AllByRecursion}
 use Rattle.std.specs.Int.{w64, from_le_bytes}
 use Rattle.std.proofs.lemmas.Bool.{and_parts, ltb-false}
 use Rattle.std.proofs.lemmas.List.{length-append, length-drop, flat_map_more}
-use Rattle.pb_base.specs.declared.cell.Cell.{Cell}
-use Rattle.pb_base.specs.declared.content.Revision.{Revision}
-use Rattle.pb_keeper.specs.declared.stats.ObserverStats.{ObserverStats}
+use Rattle.pb_snapshots.specs.Words.{Cell, Revision, ObserverStats}
 use Rattle.pb_snapshots.specs.Snapshot.{SnapshotOf, is_of_its_cell, are_of_their_cells, number_bytes, version_bytes, stats_bytes, snapshot_magic, snapshot_bytes, FitsVersion, FitsStats, FitsSnapshot}
 use Rattle.pb_snapshots.specs.Reading.{◌>>=◌, u64_at, version_at, stats_at}
 use Rattle.pb_snapshots.proofs.Fields.{guard_some, number_again, number_none}

@@ -2,23 +2,7 @@
 use Rattle.std.proofs.Common.{◌≡◌, ℕ, List, Option, Some, refl, sym, ap, ◌∙◌, subst, false}
 use Rattle.std.specs.FinMap as map
 use Rattle.pb_base.proofs.Logic.{none_is, same_some}
-use Rattle.pb_base.specs.Batch.{content_in}
-use Rattle.pb_base.specs.Cell.{cell_cmp, cell_cmp_total, cell_cmp-IsAntisymmetric}
-use Rattle.pb_base.specs.declared.cell.Cell.{Cell}
-use Rattle.pb_base.specs.declared.content.Content.{Content}
-use Rattle.pb_base.specs.declared.content.Revision.{Revision}
-use Rattle.pb_base.specs.declared.names.Ts.{Ts}
-use Rattle.pb_verify.specs.Observers.{ObserverOf}
-use Rattle.pb_store.specs.Contents.{Marks}
-use Rattle.pb_steps.specs.Readings.{IsVersion, data_at, write_at}
-use Rattle.pb_steps.specs.State.{StateOf, TransactionOf, phase_in}
-use Rattle.pb_steps.specs.declared.phase.Phase.{Phase}
-use Rattle.pb_history.specs.Handled.{IsQuiet}
-use Rattle.pb_history.specs.History.{Has}
-use Rattle.pb_history.specs.Sound.{IsSoundTable}
-use Rattle.pb_generations.specs.Mirrored.{carried}
-use Rattle.pb_generations.specs.Snapshots.{AreLeft, IsLeftOf, IsSnapshotOf}
-use Rattle.pb_state.specs.CarriedOver.{IsCarriedOver, IsLeftOver}
+use Rattle.pb_snapshots.specs.Words.{content_in, cell_cmp, cell_cmp_total, cell_cmp-IsAntisymmetric, Cell, Content, Revision, Ts, ObserverOf, Marks, IsVersion, data_at, write_at, StateOf, TransactionOf, phase_in, Phase, IsQuiet, Has, IsSoundTable, carried, AreLeft, IsLeftOf, IsSnapshotOf, IsCarriedOver, IsLeftOver}
 
 -- where no cell is marked there are no marks
 no_marks : (m : Marks) → ((x : Cell) → map.contains_key m x ≡ false) → m ≡ map.empty

@@ -8,40 +8,12 @@ use Rattle.std.specs.Ordering.{eq_by_cmp, is_lt, nat_cmp, ordering_then}
 use Rattle.std.proofs.lemmas.Bool.{cases_Bool, cases_lt, eq-eqb}
 use Rattle.std.proofs.lemmas.Option.{slice_get_cases}
 use Rattle.pb_base.proofs.Logic.{and_true, below_true, same_some}
-use Rattle.pb_base.specs.Batch.{Writes, content_in, is_batch, is_data_write}
-use Rattle.pb_base.specs.Cell.{cell_cmp, cell_cmp-IsAntisymmetric}
-use Rattle.pb_base.specs.declared.cell.Cell.{Cell}
-use Rattle.pb_base.specs.declared.content.Content.{Content}
-use Rattle.pb_base.specs.declared.content.Revision.{Revision}
-use Rattle.pb_base.specs.declared.names.Row.{Row}
-use Rattle.pb_base.specs.declared.names.Ts.{Ts}
-use Rattle.pb_store.specs.Contents.{Entries}
-use Rattle.pb_store.specs.declared.slot.Sort.{Sort}
-use Rattle.pb_verify.specs.Observers.{ObserverOf, acknowledgment}
-use Rattle.pb_steps.specs.Readings.{IsVersion, NoLock, last_timestamp, write_at}
-use Rattle.pb_steps.specs.State.{StateOf, phase_in}
-use Rattle.pb_steps.specs.declared.phase.Phase.{Phase}
-use Rattle.pb_steps.specs.declared.step.Work.{Work}
-use Rattle.pb_history.specs.History.{Has, InHistory, Member}
-use Rattle.pb_history.specs.Laws.{OpeningIsSound, RunsAreTold, ScriptsWriteBatches, StepsKeepSound}
-use Rattle.pb_history.specs.RunsTold.{IsObserverRun}
-use Rattle.pb_history.specs.Sound.{IsCommittedAt, IsSoundTable}
-use Rattle.pb_history.specs.TableView.{view_of}
-use Rattle.pb_history.specs.declared.entry.Entry.{Entry}
+use Rattle.pb_snapshots.specs.Words.{Writes, content_in, is_batch, is_data_write, cell_cmp, cell_cmp-IsAntisymmetric, Cell, Content, Revision, Row, Ts, Entries, Sort, ObserverOf, acknowledgment, IsVersion, NoLock, last_timestamp, write_at, StateOf, phase_in, Phase, Work, Has, InHistory, Member, OpeningIsSound, RunsAreTold, ScriptsWriteBatches, StepsKeepSound, IsObserverRun, IsCommittedAt, IsSoundTable, view_of, Entry, entries_by, AreChosen, ChosenAreSound, chosen_cell, KeptTablesAreWhole, NewestInAll, StandsForAll, is_known_cell, known_entries, LeftAreSound, AreInOrder, IsAmiss, MayFollow, comes_before, has_its_observer, is_content_of, is_of_column, is_stamp_of, CarryFault, Keeps, KeptFollowOneAnother, KeptIsUnlocked, KeptIsWhole, KeptTable}
 use Rattle.pb_history.proofs.DeclaredCells.{batch_plain, run_plain}
 use Rattle.pb_history.proofs.Updates.{none_if}
-use Rattle.pb_notify.specs.Allowed.{entries_by}
-use Rattle.pb_generations.specs.Chosen.{AreChosen, ChosenAreSound, chosen_cell}
-use Rattle.pb_generations.specs.KeptTables.{KeptTablesAreWhole, NewestInAll, StandsForAll}
-use Rattle.pb_generations.specs.LeftOut.{is_known_cell, known_entries}
-use Rattle.pb_generations.specs.Snapshots.{LeftAreSound}
 use Rattle.pb_generations.proofs.HistoryButMarks.{same_member}
 use Rattle.pb_generations.proofs.KnownEntries.{unknown_none}
 use Rattle.pb_generations.proofs.LongerLists.{stay_in_front}
-use Rattle.pb_state.specs.CarriedOver.{AreInOrder, IsAmiss, MayFollow, comes_before, has_its_observer, is_content_of, is_of_column, is_stamp_of}
-use Rattle.pb_state.specs.declared.carry_fault.CarryFault.{CarryFault}
-use Rattle.pb_keeper.specs.Keeps.{Keeps, KeptFollowOneAnother, KeptIsUnlocked, KeptIsWhole}
-use Rattle.pb_keeper.specs.Stats.{KeptTable}
 use Rattle.pb_keeper.proofs.Leading.{leads_observers}
 use Rattle.pb_keeper.proofs.Resting.{kept_sound}
 use Rattle.pb_snapshots.specs.Chosen.{ChosenAreAccepted, IsChosenFrom}

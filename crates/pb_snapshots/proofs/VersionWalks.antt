@@ -12,16 +12,7 @@ use Rattle.std.specs.List.Sorted.{IsStrictlySortedBy}
 use Rattle.std.proofs.lemmas.Bool.{cases_Bool}
 use Rattle.std.proofs.lemmas.Cmp.{on_total, then_total}
 use Rattle.std.proofs.lemmas.Map.Views.{btree_map_get_iff}
-use Rattle.pb_base.specs.Cell.{both_equal, cell_cmp_total, cell_cmp-IsAntisymmetric}
-use Rattle.pb_base.specs.declared.cell.Cell.{Cell}
-use Rattle.pb_base.specs.declared.content.Revision.{Revision}
-use Rattle.pb_base.specs.declared.names.Ts.{Ts}
-use Rattle.pb_store.specs.Contents.{Entries}
-use Rattle.pb_store.specs.Slot.{slot_cmp}
-use Rattle.pb_store.specs.declared.slot.Item.{Item}
-use Rattle.pb_store.specs.declared.slot.Slot.{Slot}
-use Rattle.pb_steps.specs.Readings.{IsVersion}
-use Rattle.pb_history.specs.History.{Has}
+use Rattle.pb_snapshots.specs.Words.{both_equal, cell_cmp_total, cell_cmp-IsAntisymmetric, Cell, Revision, Ts, Entries, slot_cmp, Item, Slot, IsVersion, Has}
 use Rattle.pb_history.proofs.Updates.{has_at, has_contains}
 use Rattle.pb_state.proofs.EntryWalks.{here_or_left, record_there}
 use Rattle.pb_snapshots.specs.VersionWalks.{AreListed, AreVersions, HasNoted, HasVersions, IsVersionIn, NoVersionIn, start_cmp, start_of_version, version_listed, version_slot}

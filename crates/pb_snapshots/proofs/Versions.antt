@@ -2,14 +2,8 @@
 use Rattle.std.proofs.Common.{◌≡◌, ℕ, zero, suc, ◌^◌, ◌<◌, ◌≤◌, true, false, ltb, List, [], ◌∷◌, ◌++◌, length, take, drop, Option, Some, refl, sym, ap, subst, ◌∙◌, arith, eq-eqb}
 use Rattle.std.proofs.lemmas.Bool.{ltb-false, le-ltb, eqb-true}
 use Rattle.std.proofs.lemmas.List.{take-append-drop, length-take, length-append, take_at, drop_at}
-use Rattle.pb_base.specs.Cell.{row_of, column_of}
-use Rattle.pb_base.specs.declared.cell.Cell.{Cell}
-use Rattle.pb_base.specs.declared.content.Content.{Content}
-use Rattle.pb_base.specs.declared.content.Revision.{Revision}
+use Rattle.pb_snapshots.specs.Words.{row_of, column_of, Cell, Content, Revision, Row, Ts, ObserverStats}
 use Rattle.pb_base.specs.declared.limits.TheConstants.{COLUMNS, MAX_OBSERVERS}
-use Rattle.pb_base.specs.declared.names.Row.{Row}
-use Rattle.pb_base.specs.declared.names.Ts.{Ts}
-use Rattle.pb_keeper.specs.declared.stats.ObserverStats.{ObserverStats}
 use Rattle.pb_snapshots.specs.Snapshot.{number_bytes, version_kind, held_bytes, version_bytes, stats_bytes, is_of_its_cell, FitsHeld, FitsVersion, FitsStats}
 use Rattle.pb_snapshots.specs.Reading.{◌>>=◌, u64_at, small_at, held_at, version_at, stats_at}
 use Rattle.pb_snapshots.proofs.Fields.{IsBytes, bytes-drop, bind_some, guard_some, Takes, takes_then, number_takes, number_again, small_takes, small_again}

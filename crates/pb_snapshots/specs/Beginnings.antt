@@ -1,11 +1,6 @@
 -- What follows from taking a snapshot of a quiet table: a state that was opened with it begins the table's next generation.
 use Rattle.std.specs.Prelude.{◌≡◌, ◌<◌, List, ◌++◌}
-use Rattle.pb_base.specs.Batch.{Writes}
-use Rattle.pb_steps.specs.Readings.{last_timestamp}
-use Rattle.pb_history.specs.Handled.{IsQuiet}
-use Rattle.pb_state.specs.CarriedOver.{IsCarriedOver}
-use Rattle.pb_keeper.specs.Keeps.{IsFirstTable, KeepsFrom}
-use Rattle.pb_keeper.specs.Stats.{KeptTable}
+use Rattle.pb_snapshots.specs.Words.{Writes, last_timestamp, IsQuiet, IsCarriedOver, IsFirstTable, KeepsFrom, KeptTable}
 use Rattle.pb_snapshots.specs.Snapshot.{SnapshotOf}
 use Rattle.pb_snapshots.specs.Taken.{IsSnapshotTaken}
 

@@ -1,17 +1,7 @@
 -- A snapshot for other observers: of each cell of theirs its version, under their new numbers, and their stats.
 use Rattle.std.specs.Prelude.{◌≡◌, List, ℕ, Some, map}
 use Rattle.std.specs.List.Sorted.{IsStrictlySortedBy}
-use Rattle.pb_base.specs.Batch.{Writes}
-use Rattle.pb_base.specs.declared.cell.Cell.{Cell}
-use Rattle.pb_base.specs.declared.content.Revision.{Revision}
-use Rattle.pb_verify.specs.Observers.{ObserverOf}
-use Rattle.pb_history.specs.Handled.{IsQuiet}
-use Rattle.pb_history.specs.History.{Has}
-use Rattle.pb_state.specs.CarriedOver.{IsCarriedOver, WhyNotCarried}
-use Rattle.pb_state.specs.declared.carry_fault.CarryFault.{CarryFault}
-use Rattle.pb_generations.specs.Chosen.{AreChosen, chosen_cell}
-use Rattle.pb_keeper.specs.Keeps.{IsChosenOf, IsFirstTable, Keeps, KeepsFrom}
-use Rattle.pb_keeper.specs.Stats.{KeptTable, chosen_stats}
+use Rattle.pb_snapshots.specs.Words.{Writes, Cell, Revision, ObserverOf, IsQuiet, Has, IsCarriedOver, WhyNotCarried, CarryFault, AreChosen, chosen_cell, IsChosenOf, IsFirstTable, Keeps, KeepsFrom, KeptTable, chosen_stats}
 use Rattle.pb_snapshots.specs.Snapshot.{SnapshotOf}
 use Rattle.pb_snapshots.specs.Taken.{IsSnapshotTaken}
 use Rattle.pb_snapshots.specs.TakenOrder.{IsForMemory}

@@ -2,11 +2,7 @@
 -- src/choosing.rt cite these.
 use Rattle.std.specs.Prelude.{◌≡◌, ℕ, List, Some}
 use Rattle.std.specs.BTreeMap.{BTreeMap}
-use Rattle.pb_base.specs.declared.cell.Cell.{Cell}
-use Rattle.pb_base.specs.declared.content.Revision.{Revision}
-use Rattle.pb_base.specs.declared.names.Ts.{Ts}
-use Rattle.pb_history.specs.History.{Has}
-use Rattle.pb_generations.specs.Chosen.{chosen_cell}
+use Rattle.pb_snapshots.specs.Words.{Cell, Revision, Ts, Has, chosen_cell}
 use Rattle.pb_snapshots.specs.VersionWalks.{AreListed, HasNoted}
 
 -- a cell has one of these versions at most of one start

@@ -1,3 +1,4 @@
+pub mod Words
 pub mod Snapshot
 pub mod Reading
 pub mod RecordLaws

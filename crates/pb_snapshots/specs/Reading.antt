@@ -2,11 +2,8 @@
 -- cite it; that it finds what was written is proved.
 use Rattle.std.specs.Prelude.{ℕ, zero, suc, List, [], ◌∷◌, length, take, drop, Option, Some, None, nat_lt, if◌then◌else◌}
 use Rattle.std.specs.Int.{w64, from_le_bytes}
-use Rattle.pb_base.specs.declared.cell.Cell.{Cell}
-use Rattle.pb_base.specs.declared.content.Content.{Content}
-use Rattle.pb_base.specs.declared.content.Revision.{Revision}
+use Rattle.pb_snapshots.specs.Words.{Cell, Content, Revision, ObserverStats}
 use Rattle.pb_base.specs.declared.limits.TheConstants.{COLUMNS, MAX_OBSERVERS}
-use Rattle.pb_keeper.specs.declared.stats.ObserverStats.{ObserverStats}
 
 -- what is found, and then what is found after it
 infixl 10 ◌>>=◌

@@ -2,13 +2,8 @@
 use Rattle.std.specs.Prelude.{◌≡◌, ◌<◌, ◌^◌, ℕ, Bool, true, List, [], ◌∷◌, ◌++◌, length, codes}
 use Rattle.std.specs.List.{flat_map, list_all, AllByRecursion}
 use Rattle.std.specs.Int.{w64, to_le_bytes}
-use Rattle.pb_base.specs.Cell.{row_of, column_of}
-use Rattle.pb_base.specs.declared.cell.Cell.{Cell}
-use Rattle.pb_base.specs.declared.content.Content.{Content}
-use Rattle.pb_base.specs.declared.content.Revision.{Revision}
+use Rattle.pb_snapshots.specs.Words.{row_of, column_of, Cell, Content, Revision, is_content_of, ObserverStats}
 use Rattle.pb_base.specs.declared.limits.TheConstants.{COLUMNS, MAX_OBSERVERS}
-use Rattle.pb_state.specs.CarriedOver.{is_content_of}
-use Rattle.pb_keeper.specs.declared.stats.ObserverStats.{ObserverStats}
 use Rattle.pb_snapshots.specs.declared.snapshot.Snapshot.{Snapshot}
 
 -- a snapshot, wherever it lies in memory

@@ -1,10 +1,6 @@
 -- What a snapshot of a table has.
 use Rattle.std.specs.Prelude.{◌≡◌}
-use Rattle.pb_base.specs.declared.cell.Cell.{Cell}
-use Rattle.pb_base.specs.declared.content.Revision.{Revision}
-use Rattle.pb_steps.specs.Readings.{IsVersion}
-use Rattle.pb_history.specs.History.{Has}
-use Rattle.pb_keeper.specs.Stats.{KeptTable}
+use Rattle.pb_snapshots.specs.Words.{Cell, Revision, IsVersion, Has, KeptTable}
 use Rattle.pb_snapshots.specs.Snapshot.{SnapshotOf}
 
 -- the clock, what the runs of the observers did, and of each cell the newest version, acknowledgments too, and nothing else

@@ -1,11 +1,7 @@
 -- What follows from taking a snapshot of a kept table, quiet or not: a state may begin with it.
 use Rattle.std.specs.Prelude.{ℕ, List, map}
 use Rattle.std.specs.List.Sorted.{IsStrictlySortedBy}
-use Rattle.pb_base.specs.Batch.{Writes}
-use Rattle.pb_state.specs.CarriedOver.{AreInOrder, WhyNotCarried}
-use Rattle.pb_state.specs.declared.carry_fault.CarryFault.{CarryFault}
-use Rattle.pb_keeper.specs.Keeps.{Keeps}
-use Rattle.pb_keeper.specs.Stats.{KeptTable}
+use Rattle.pb_snapshots.specs.Words.{Writes, AreInOrder, WhyNotCarried, CarryFault, Keeps, KeptTable}
 use Rattle.pb_snapshots.specs.Snapshot.{SnapshotOf}
 use Rattle.pb_snapshots.specs.Taken.{IsSnapshotTaken}
 use Rattle.pb_snapshots.specs.VersionWalks.{start_cmp, start_of_version}

@@ -7,17 +7,7 @@ use Rattle.std.specs.FinMap.Entries.{find}
 use Rattle.std.specs.List.Sorted.{IsStrictlySortedBy}
 use Rattle.std.specs.Ordering.{nat_cmp, on, then_cmp}
 use Rattle.std.specs.declared.cmp.Ordering.{Ordering}
-use Rattle.pb_base.specs.Cell.{cell_cmp}
-use Rattle.pb_base.specs.declared.cell.Cell.{Cell}
-use Rattle.pb_base.specs.declared.content.Revision.{Revision}
-use Rattle.pb_base.specs.declared.names.Ts.{Ts}
-use Rattle.pb_store.specs.Contents.{Entries, slot_at}
-use Rattle.pb_store.specs.Slot.{slot_cmp}
-use Rattle.pb_store.specs.declared.slot.Item.{Item}
-use Rattle.pb_store.specs.declared.slot.Slot.{Slot}
-use Rattle.pb_store.specs.declared.slot.Sort.{Sort}
-use Rattle.pb_steps.specs.Readings.{IsVersion}
-use Rattle.pb_history.specs.History.{Has}
+use Rattle.pb_snapshots.specs.Words.{cell_cmp, Cell, Revision, Ts, Entries, slot_at, slot_cmp, Item, Slot, Sort, IsVersion, Has}
 
 -- by the starts of their transactions, and by cells within one start
 abbrev pub start_cmp : Ts × Cell → Ts × Cell → Ordering

@@ -1,5 +1,5 @@
 use Rattle.std.proofs.Common.{refl, sym, ap, ◌∙◌, subst}
-use Rattle.pb_keeper.specs.Stats.{chosen_stats}
+use Rattle.pb_snapshots.specs.Words.{chosen_stats}
 use Rattle.pb_snapshots.specs.ChosenWalks.{AreChosenVersions}
 use Rattle.pb_snapshots.proofs.choosing.choose_observers.Goals as goal
 

@@ -1,5 +1,5 @@
 use Rattle.std.proofs.Common.{◌≡◌, ◌++◌, drop}
-use Rattle.pb_keeper.specs.Stats.{chosen_stats}
+use Rattle.pb_snapshots.specs.Words.{chosen_stats}
 use Rattle.pb_snapshots.proofs.choosing.chosen_stats.Given as goal
 
 abbrev pub invariant-loop-place : goal.invariant-loop-place

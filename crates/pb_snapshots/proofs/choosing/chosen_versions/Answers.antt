@@ -1,7 +1,6 @@
 use Rattle.std.proofs.Common.{◌≡◌, ◌+◌, List, Some, length, drop, slice_get, refl, subst}
 use Rattle.std.proofs.lemmas.Option.{slice_get_read}
-use Rattle.pb_base.specs.declared.cell.Cell.{Cell}
-use Rattle.pb_base.specs.declared.content.Revision.{Revision}
+use Rattle.pb_snapshots.specs.Words.{Cell, Revision}
 use Rattle.pb_snapshots.specs.ChosenWalks.{HasChosen}
 use Rattle.pb_snapshots.proofs.ChosenWalks.{chosen_listed, none_chosen, rising_apart}
 use Rattle.pb_snapshots.proofs.Places.{next_dropped, none_left}

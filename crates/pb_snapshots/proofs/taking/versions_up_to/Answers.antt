@@ -1,8 +1,6 @@
 use Rattle.std.proofs.Common.{◌≡◌, [], ◌∙◌, List, sym, subst, Some}
 use Rattle.std.specs.FinMap as map
-use Rattle.pb_store.specs.Contents.{entries_after}
-use Rattle.pb_store.specs.declared.slot.Item.{Item}
-use Rattle.pb_store.specs.declared.slot.Slot.{Slot}
+use Rattle.pb_snapshots.specs.Words.{entries_after, Item, Slot}
 use Rattle.pb_snapshots.specs.VersionWalks.{HasVersions}
 use Rattle.pb_state.proofs.EntryWalks.{first_and_rest, none_left}
 use Rattle.pb_snapshots.proofs.VersionWalks.{none_noted, versions_listed}

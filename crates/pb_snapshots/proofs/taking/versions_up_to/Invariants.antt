@@ -1,6 +1,6 @@
 use Rattle.std.proofs.Common.{length}
 use Rattle.std.specs.FinMap as map
-use Rattle.pb_store.specs.Contents.{entries_after}
+use Rattle.pb_snapshots.specs.Words.{entries_after}
 use Rattle.pb_snapshots.specs.VersionWalks.{HasVersions}
 use Rattle.pb_snapshots.proofs.taking.versions_up_to.Given as goal
 

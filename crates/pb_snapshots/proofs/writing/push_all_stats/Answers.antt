@@ -1,7 +1,7 @@
 use Rattle.std.proofs.Common.{◌≡◌, ◌++◌, ◌∷◌, ◌+◌, [], List, take, get_or, ap, subst, sym, ◌∙◌}
 use Rattle.std.specs.List.{flat_map, AllByRecursion}
 use Rattle.std.proofs.lemmas.List.{take_more, flat_map_more}
-use Rattle.pb_keeper.specs.declared.stats.ObserverStats.{ObserverStats}
+use Rattle.pb_snapshots.specs.Words.{ObserverStats}
 use Rattle.pb_snapshots.specs.Snapshot.{stats_bytes, FitsStats}
 use Rattle.pb_snapshots.proofs.Lists.{recursion_push}
 use Rattle.pb_snapshots.proofs.writing.push_all_stats.Goals as goal

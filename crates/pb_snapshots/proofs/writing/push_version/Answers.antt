@@ -1,7 +1,6 @@
 use Rattle.std.proofs.Common.{◌≡◌, ◌++◌, ◌∷◌, [], ℕ, ◌<◌, ◌^◌, ap, subst, ◌∙◌}
 use Rattle.pb_base.specs.declared.limits.TheConstants.{COLUMNS}
-use Rattle.pb_base.specs.declared.names.Row.{Row}
-use Rattle.pb_base.specs.Cell.{row_of, column_of}
+use Rattle.pb_snapshots.specs.Words.{Row, row_of, column_of}
 use Rattle.pb_snapshots.specs.Snapshot.{number_bytes, version_kind, held_bytes}
 use Rattle.pb_snapshots.proofs.Appending.{added_both}
 use Rattle.pb_snapshots.proofs.writing.push_version.Goals as goal

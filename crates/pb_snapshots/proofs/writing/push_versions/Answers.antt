@@ -1,8 +1,7 @@
 use Rattle.std.proofs.Common.{◌≡◌, ◌++◌, ◌∷◌, ◌+◌, [], List, take, ap, subst, sym, ◌∙◌}
 use Rattle.std.specs.List.{flat_map, AllByRecursion}
 use Rattle.std.proofs.lemmas.List.{take_all, take_more, flat_map_more}
-use Rattle.pb_base.specs.declared.cell.Cell.{Cell}
-use Rattle.pb_base.specs.declared.content.Revision.{Revision}
+use Rattle.pb_snapshots.specs.Words.{Cell, Revision}
 use Rattle.pb_snapshots.specs.Snapshot.{version_bytes}
 use Rattle.pb_snapshots.proofs.Lists.{FitsIfOwn, recursion_push, all_own_fit}
 use Rattle.pb_snapshots.proofs.writing.push_versions.Goals as goal
