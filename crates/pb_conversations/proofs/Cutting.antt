@@ -1,7 +1,7 @@
 -- Parts that were cut off.
 use Rattle.std.proofs.Common.{◌≡◌, ◌≢◌, ◌⊎◌, inl, inr, List, [], ◌∷◌, ◌++◌, refl, sym, ap, subst, ◌∙◌, append-nil}
 use Rattle.pb_conversations.specs.Words.{Received}
-use Rattle.pb_conversations.specs.Parts.{AreParts, no_part, one_part, EndsIn}
+use Rattle.pb_conversations.specs.Parts.{IsOfParts, no_part, one_part, EndsIn}
 use Rattle.pb_conversations.specs.Conversations.{JobOf, IsMove, took, went, IsConversation}
 use Rattle.pb_conversations.proofs.Joining.{end_there}
 use Rattle.pb_conversations.specs.Laws.{IsCutOff, PartsAreCut, ConversationsAreCut}
@@ -23,14 +23,14 @@ which_part (x ∷ a) b (y ∷ c) d e =
 -- ---- parts
 
 module _ {S : Type 0} (Part : S → S → List Received → Type 0) (IsBegun : S → List Received → Type 0) (each : (t u : S) (said more : List Received) → Part t u (said ++ more) → more ≢ [] → IsCutOff IsBegun t said) where
-  whole : (s u : S) (said : List Received) → AreParts Part s u said → EndsIn Part (IsCutOff IsBegun) s said
+  whole : (s u : S) (said : List Received) → IsOfParts Part s u said → EndsIn Part (IsCutOff IsBegun) s said
   whole s u said p = end_there s u said p (inl refl)
 
-  in_next : (s t u : S) (had part left more : List Received) → AreParts Part s t had → Part t u part → part ≡ left ++ more → EndsIn Part (IsCutOff IsBegun) s (had ++ left)
+  in_next : (s t u : S) (had part left more : List Received) → IsOfParts Part s t had → Part t u part → part ≡ left ++ more → EndsIn Part (IsCutOff IsBegun) s (had ++ left)
   in_next s t u had part left [] p next e = subst (λ l. EndsIn Part (IsCutOff IsBegun) s (had ++ l)) (e ∙ append-nil left) (whole s u (had ++ part) (one_part t u had part p next))
   in_next s t u had part left (r ∷ rs) p next e = record { at = t; before = had; parts = p; last = left; ends = each t u left (r ∷ rs) (subst (Part t u) e next) (λ n. cc); said_is = refl }
 
-  cut : (s u : S) (all said more : List Received) → AreParts Part s u all → all ≡ said ++ more → EndsIn Part (IsCutOff IsBegun) s said
+  cut : (s u : S) (all said more : List Received) → IsOfParts Part s u all → all ≡ said ++ more → EndsIn Part (IsCutOff IsBegun) s said
   cut s u all [] more p e = whole s s [] no_part
   cut s u all (r ∷ said) more no_part e = absurd cc
   cut s u all (r ∷ said) more (one_part t v had part p next) e = elim (which_part had part (r ∷ said) more e) [
@@ -57,8 +57,26 @@ uncut : {S : Type 0} (job : JobOf S) (t u : S) (all said more : List Received) �
 uncut job t u all said more (took r next can hears) e some = one_entry r said more e some
 uncut job t u all said more (went goes) e some = no_entry said more e
 
-pub conversations_are_cut : {S : Type 0} (job : JobOf S) → ConversationsAreCut job
-conversations_are_cut job s u said more talk =
-    let c = parts_are_cut (IsMove job) (λ t l. ⊥) (λ t v l rest move some. inl (uncut job t v (l ++ rest) l rest move refl some)) s u said more talk in
-    let none : c.last ≡ [] = elim c.ends [ inl e ↦ e | inr never ↦ absurd never ] in
-    (c.at, subst (λ l. IsConversation job s l c.at) (sym (c.said_is ∙ ap (λ l. c.before ++ l) none ∙ append-nil c.before)) c.parts)
+module _ {S : Type 0} (job : JobOf S) where
+  -- the first steps are a conversation on to a place, and what is left one from there
+  abbrev IsCutAt : S → S → List Received → List Received → Type 0
+  IsCutAt s u said more = (t : S) × IsConversation job s said t × IsConversation job t more u
+
+  in_move : (s t u : S) (had last left more : List Received) → IsConversation job s had t → IsMove job t u last → last ≡ left ++ more → IsCutAt s u (had ++ left) more
+  in_move s t u had last left [] p move e = (u, subst (λ l. IsConversation job s (had ++ l) u) (e ∙ append-nil left) (one_part t u had last p move), no_part)
+  in_move s t u had last left (r ∷ more) p move e =
+      let none : left ≡ [] = uncut job t u last left (r ∷ more) move e (λ n. cc) in
+      let at_start : had ++ left ≡ had = ap (λ l. had ++ l) none ∙ append-nil had in
+      let rest : last ≡ r ∷ more = e ∙ ap (λ l. l ++ r ∷ more) none in
+      (t, subst (λ l. IsConversation job s l t) (sym at_start) p, subst (λ l. IsConversation job t l u) rest (one_part t u [] last no_part move))
+
+  cut_there : (s u : S) (all said more : List Received) → IsConversation job s all u → all ≡ said ++ more → IsCutAt s u said more
+  cut_there s u all [] more no_part e = (s, no_part, subst (λ l. IsConversation job s l s) e no_part)
+  cut_there s u all (r ∷ said) more no_part e = absurd cc
+  cut_there s u all said more (one_part t v had last p move) e = elim (which_part had last said more e) [
+    | inl w ↦ let c = cut_there s t had said w.0 p w.1 in (c.0, c.1, subst (λ l. IsConversation job c.0 l v) (sym w.2) (one_part t v w.0 last c.2 move))
+    | inr w ↦ subst (λ l. IsCutAt s v l more) (sym w.1) (in_move s t v had last w.0 more p move w.2)
+  ]
+
+  pub conversations_are_cut : ConversationsAreCut job
+  conversations_are_cut s u said more talk = cut_there s u (said ++ more) said more talk refl

@@ -1,4 +1,5 @@
 pub mod Joining
+pub mod Unfolding
 pub mod Asking
 pub mod Cutting
 pub mod OneOutcome

@@ -1,6 +1,6 @@
 -- Parts of which two from one place have one outcome, on one table, have one all together: the same words, which lead to the same.
 use Rattle.std.proofs.Common.{◌≡◌, List, ◌++◌, refl, sym, subst, ◌∙◌, append_assoc}
-use Rattle.pb_conversations.specs.Parts.{AreParts, no_part, one_part, EndsIn}
+use Rattle.pb_conversations.specs.Parts.{IsOfParts, no_part, one_part, EndsIn}
 
 -- ---- parts, and what ends them, from the first on
 
@@ -9,7 +9,7 @@ pub data EndsOn {S E : Type 0} (Part : S → S → List E → Type 0) (Last : S 
   part_first : (s t : S) (said more : List E) → Part s t said → EndsOn Part Last t more → EndsOn Part Last s (said ++ more)
 
 module _ {S E : Type 0} {Part : S → S → List E → Type 0} {Last : S → List E → Type 0} where
-  parts_before : (s t : S) (said more : List E) → AreParts Part s t said → EndsOn Part Last t more → EndsOn Part Last s (said ++ more)
+  parts_before : (s t : S) (said more : List E) → IsOfParts Part s t said → EndsOn Part Last t more → EndsOn Part Last s (said ++ more)
   parts_before s t said more no_part e = e
   parts_before s t said more (one_part u v had last p part) e = subst (EndsOn Part Last s) (sym (append_assoc had last more)) (parts_before s u had (last ++ more) p (part_first u t last more part e))
 
@@ -46,9 +46,9 @@ module _ {E M : Type 0} (Sound : M → Type 0) (Leads : M → List E → M → T
     -- what a part does may follow from the conversation before it, and that nothing ends there from what comes after it
     module _ {S R : Type 0} (Part : S → S → List E → Type 0) (Last : R → S → List E → Type 0) (first : S)
         (last_once : (s : S) (f g : R) → HaveOneOutcome f g (Last f s) (Last g s))
-        (part_once : (s t u : S) (had : List E) → AreParts Part first s had → HaveOneOutcome t u (Part s t) (Part s u))
+        (part_once : (s t u : S) (had : List E) → IsOfParts Part first s had → HaveOneOutcome t u (Part s t) (Part s u))
         (not_last : (s t : S) (f g : R) (said after last : List E) (m a b : M) → Part s t said → EndsOn Part (Last f) t after → Last g s last → Sound m → Leads m said a → Leads m last b → ⊥) where
-      pub ends_once : (f g : R) (s : S) (had : List E) → AreParts Part first s had → HaveOneOutcome f g (EndsOn Part (Last f) s) (EndsOn Part (Last g) s)
+      pub ends_once : (f g : R) (s : S) (had : List E) → IsOfParts Part first s had → HaveOneOutcome f g (EndsOn Part (Last f) s) (EndsOn Part (Last g) s)
       ends_once f g s had from said more m a b (last_part v l e) (last_part w k h) sound p q = last_once s f g said more m a b e h sound p q
       ends_once f g s had from said more m a b (last_part v l e) (part_first w t x y h on) sound p q =
           let j = split m b x y q in

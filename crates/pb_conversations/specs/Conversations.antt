@@ -2,7 +2,7 @@
 -- of an observer are jobs.
 use Rattle.std.specs.Prelude.{◌≡◌, List, [], ◌∷◌, Option, Some}
 use Rattle.pb_conversations.specs.Words.{CanAnswer, Answer, Step, Received}
-use Rattle.pb_conversations.specs.Parts.{AreParts}
+use Rattle.pb_conversations.specs.Parts.{IsOfParts}
 
 -- where it stands, which step it asks next, if any, where an answer leads it, and where it goes without one
 pub record JobOf (S : Type 0) : Type 1 where
@@ -21,4 +21,4 @@ pub data IsMove {S : Type 0} (job : JobOf S) (s t : S) : List Received → Type 
 
 -- from one place to another it has asked this, and was answered so
 abbrev pub IsConversation : {S : Type 0} → JobOf S → S → List Received → S → Type 0
-IsConversation job s said t = AreParts (IsMove job) s t said
+IsConversation job s said t = IsOfParts (IsMove job) s t said

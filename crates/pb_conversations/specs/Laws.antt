@@ -1,14 +1,14 @@
 -- What holds of all conversations, whatever the job, and of all that comes part after part.
 use Rattle.std.specs.Prelude.{◌≡◌, ◌≢◌, ◌⊎◌, List, [], ◌∷◌, ◌++◌, Some, None}
-use Rattle.pb_conversations.specs.Words.{Answer, Step, Received}
-use Rattle.pb_conversations.specs.Parts.{AreParts, EndsIn}
+use Rattle.pb_conversations.specs.Words.{CanAnswer, Answer, Step, Received}
+use Rattle.pb_conversations.specs.Parts.{IsOfParts, EndsIn}
 use Rattle.pb_conversations.specs.Conversations.{JobOf, IsMove, IsConversation}
 
 -- ---- parts
 
 -- some parts, and then others from where they led, are parts
 abbrev pub PartsFollow : {S : Type 0} → (S → S → List Received → Type 0) → Type 0
-PartsFollow {S} Part = (s t u : S) (said more : List Received) → AreParts Part s t said → AreParts Part t u more → AreParts Part s u (said ++ more)
+PartsFollow {S} Part = (s t u : S) (said more : List Received) → IsOfParts Part s t said → IsOfParts Part t u more → IsOfParts Part s u (said ++ more)
 
 -- what is left of a part that was cut off: nothing, or a beginning of it
 abbrev pub IsCutOff : {S : Type 0} → (S → List Received → Type 0) → S → List Received → Type 0
@@ -17,13 +17,32 @@ IsCutOff IsBegun t said = (said ≡ []) ⊎ IsBegun t said
 -- where each part may be cut off before its end, parts may be anywhere: whole ones are left, and what is left of the next
 abbrev pub PartsAreCut : {S : Type 0} → (S → S → List Received → Type 0) → (S → List Received → Type 0) → Type 0
 PartsAreCut {S} Part IsBegun = ((t u : S) (said more : List Received) → Part t u (said ++ more) → more ≢ [] → IsCutOff IsBegun t said)
-    → (s u : S) (said more : List Received) → AreParts Part s u (said ++ more) → EndsIn Part (IsCutOff IsBegun) s said
+    → (s u : S) (said more : List Received) → IsOfParts Part s u (said ++ more) → EndsIn Part (IsCutOff IsBegun) s said
 
 -- ---- conversations
 
--- each beginning of a conversation is one, since it is cut between a step with its answer and the next
+-- its first step was asked at a place to which it went by itself, and the rest follows from where the answer led it
+pub record AsksFirst {S : Type 0} (job : JobOf S) (s : S) (r : Received) (more : List Received) (u : S) : Type 0 where
+  pub at : S
+  pub went_there : IsConversation job s [] at
+  pub asked : job.next at ≡ Some r.step
+  pub can : CanAnswer r.step r.answer
+  pub to : S
+  pub heard : job.hears at r.answer to
+  pub goes_on : IsConversation job to more u
+
+-- With no step it is where it was, or went on by itself. Else its first step comes first.
+abbrev pub Unfolds : {S : Type 0} → JobOf S → S → List Received → S → Type 0
+Unfolds {S} job s [] u = (u ≡ s) ⊎ ((t : S) × job.goes s t × IsConversation job t [] u)
+Unfolds job s (r ∷ more) u = AsksFirst job s r more u
+
+-- a conversation is that, and nothing else is one
+abbrev pub ConversationsUnfold : {S : Type 0} → JobOf S → Type 0
+ConversationsUnfold {S} job = (s u : S) (said : List Received) → (IsConversation job s said u → Unfolds job s said u) × (Unfolds job s said u → IsConversation job s said u)
+
+-- it may be cut anywhere, since it is cut between a step with its answer and the next: the steps before are one, and what is left
 abbrev pub ConversationsAreCut : {S : Type 0} → JobOf S → Type 0
-ConversationsAreCut {S} job = (s u : S) (said more : List Received) → IsConversation job s (said ++ more) u → (t : S) × IsConversation job s said t
+ConversationsAreCut {S} job = (s u : S) (said more : List Received) → IsConversation job s (said ++ more) u → (t : S) × IsConversation job s said t × IsConversation job t more u
 
 -- it asks nothing more, and goes nowhere by itself
 abbrev pub AsksNoMore : {S : Type 0} → JobOf S → S → List Received → Type 0

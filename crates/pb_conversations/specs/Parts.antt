@@ -3,15 +3,15 @@
 use Rattle.std.specs.Prelude.{◌≡◌, List, [], ◌++◌}
 
 -- parts from one place to another, one after another
-pub data AreParts {S E : Type 0} (Part : S → S → List E → Type 0) (s : S) : S → List E → Type 0 where
-  no_part : AreParts Part s s []
-  one_part : (t u : S) (said more : List E) → AreParts Part s t said → Part t u more → AreParts Part s u (said ++ more)
+pub data IsOfParts {S E : Type 0} (Part : S → S → List E → Type 0) (s : S) : S → List E → Type 0 where
+  no_part : IsOfParts Part s s []
+  one_part : (t u : S) (said more : List E) → IsOfParts Part s t said → Part t u more → IsOfParts Part s u (said ++ more)
 
 -- parts, and then this where they lead: what ends them, or a part of which there is just a beginning
 pub record EndsIn {S E : Type 0} (Part : S → S → List E → Type 0) (Last : S → List E → Type 0) (s : S) (said : List E) : Type 0 where
   pub at : S
   pub before : List E
-  pub parts : AreParts Part s at before
+  pub parts : IsOfParts Part s at before
   pub last : List E
   pub ends : Last at last
   pub said_is : said ≡ before ++ last

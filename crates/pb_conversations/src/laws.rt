@@ -1,7 +1,8 @@
 //! What holds of all conversations.
-ghost use Rattle.pb_conversations.specs.Laws.{AnswersDecide, ConversationsAreCut, PartsAreCut, PartsFollow};
+ghost use Rattle.pb_conversations.specs.Laws.{AnswersDecide, ConversationsAreCut, ConversationsUnfold, PartsAreCut, PartsFollow};
 
-/// What comes part after part, with what may be left of a part that is cut off: a place is a value.
+/// What comes part after part, with what may be left of a part that is cut off: a place is a value. It carries the law of all parts,
+/// and no type has to implement it.
 pub trait ComesInParts {
     ghost use Rattle.std.specs.Prelude.{List};
     ghost use Rattle.pb_history.specs.declared.entry.Received.{Received};
@@ -18,14 +19,20 @@ pub trait AsksSteps {
     ghost job: { JobOf Self };
 }
 
-/// Parts follow one another. They may be cut off anywhere, where each part may: a whole is a beginning, and a beginning of a
-/// beginning is one.
+/// Parts follow one another. They may be cut off anywhere, if each part may: whole parts are left, and what is left of the next.
 pub fn parts_are_cut<P: ComesInParts>()
     ensures follow { PartsFollow P.part }
     ensures cut { PartsAreCut P.part P.begun }
 {}
 
-/// What a job has asked may be cut off anywhere between two steps.
+/// A conversation from its first step on: each step is the one that is next where the job stands by then, with one of its answers, and
+/// the job goes on from where the answer leads it. What it does by itself says nothing.
+pub fn conversations_unfold<J: AsksSteps>()
+    ensures { ConversationsUnfold J.job }
+{}
+
+/// A conversation may be cut between any two steps: the steps before and the steps after are conversations, of which the first leads
+/// to where the second begins.
 pub fn conversations_are_cut<J: AsksSteps>()
     ensures { ConversationsAreCut J.job }
 {}

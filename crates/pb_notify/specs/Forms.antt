@@ -116,10 +116,13 @@ pub data IsRunConversation (o : Watch) : List Received → JobEnd → Option Mea
   blocked : (s : Ts) (x : Cell) (at : Option Ts) (m : ℕ) (base : List Received) (n : ℕ) (said : List Received) (t : Ts) (primary : Cell) → LooksFrom o s x at m base
       → AreRounds s x at m base n said → suc n ≡ MAX_LOCKED → IsRunConversation o (said ++ told (read_step s x at) (Answer.Locked t primary) ∷ []) JobEnd.Blocked None
 
--- what a job has asked so far is a beginning of such a conversation
+-- a beginning of one
+abbrev pub BeginsRun : Watch → List Received → Type 0
+BeginsRun o said = (rest : List Received) × (end : JobEnd) × (run : Option Meant) × IsRunConversation o (said ++ rest) end run
+
+-- what a job has asked so far is such a beginning
 abbrev pub JobsConverse : Type 0
-JobsConverse = (o : Watch) (said : List Received) (k : RunOf) → Reaches (fresh o) said k
-    → (rest : List Received) × (end : JobEnd) × (run : Option Meant) × IsRunConversation o (said ++ rest) end run
+JobsConverse = (o : Watch) (said : List Received) (k : RunOf) → Reaches (fresh o) said k → BeginsRun o said
 
 -- a run that was declared is what its program means
 abbrev pub WasMeant : Option Meant → Type 0

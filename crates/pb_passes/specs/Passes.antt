@@ -1,7 +1,7 @@
 -- Passes over the marked cells (OSDI 2010, section 2.4): each mark is found, and the observers of its column are run
 -- on it.
 use Rattle.std.specs.Prelude.{◌≡◌, ◌≢◌, ℕ, ◌+◌, ◌<◌, ◌⊎◌, Bool, true, false, List, [], ◌∷◌, length, Option, Some, None, slice_get}
-use Rattle.pb_passes.specs.Words.{Cell, row_of, column_of, Meant, Step, Answer, ObserverOf, Received, told, JobEnd, Need, RunOf, watch_of, fresh, need_of, Reaches, IsRunConversation, WasMeant, AreParts, EndsIn}
+use Rattle.pb_passes.specs.Words.{Cell, row_of, column_of, Meant, Step, Answer, ObserverOf, Received, told, JobEnd, Need, RunOf, watch_of, fresh, need_of, Reaches, IsRunConversation, WasMeant, IsOfParts, EndsIn}
 use Rattle.pb_passes.specs.declared.passes.TheConstants.{MAX_PASSES}
 
 -- the observer of this number is one of the cell's column
@@ -45,13 +45,13 @@ pub record IsOfOther (observers : List ObserverOf) (n : ℕ) (x : Cell) : Type 0
 abbrev pub IsTurnOf : List ObserverOf → ℕ → Cell → List Received → Type 0
 IsTurnOf observers n x said = IsRun observers n x said ⊎ (IsOfOther observers n x × (said ≡ []))
 
--- that of the next observer
+-- the turn of the next observer
 abbrev pub IsNextTurn : List ObserverOf → Cell → ℕ → ℕ → List Received → Type 0
 IsNextTurn observers x n m said = (m ≡ n + 1) × IsTurnOf observers n x said
 
 -- a run of each observer of the cell's column among the first so many, in file order
 abbrev pub AreRuns : List ObserverOf → Cell → ℕ → List Received → Type 0
-AreRuns observers x n said = AreParts (IsNextTurn observers x) 0 n said
+AreRuns observers x n said = IsOfParts (IsNextTurn observers x) 0 n said
 
 -- a run of each observer of the cell's column
 abbrev pub AreAllRuns : List ObserverOf → Cell → List Received → Type 0
@@ -67,9 +67,9 @@ pub record IsMarkRun (observers : List ObserverOf) (after now : Option Cell) (sa
 
 -- from the beginning on to this cell each mark was found, and followed by the runs on its cell
 abbrev pub IsWalk : List ObserverOf → List Received → Option Cell → Type 0
-IsWalk observers said last = AreParts (IsMarkRun observers) None last said
+IsWalk observers said last = IsOfParts (IsMarkRun observers) None last said
 
--- no mark was found after this cell
+-- no mark was found after the last cell
 abbrev pub IsMarkless : Option Cell → Option Cell → List Received → Type 0
 IsMarkless last after said = (after ≡ last) × (said ≡ told (Step.NextMark after) Answer.NoMark ∷ [])
 
@@ -88,7 +88,7 @@ IsNextPass observers n m said = (m ≡ n + 1) × IsPassThat observers true said
 
 -- so many passes, each of which found a mark
 abbrev pub ArePasses : List ObserverOf → ℕ → List Received → Type 0
-ArePasses observers n said = AreParts (IsNextPass observers) 0 n said
+ArePasses observers n said = IsOfParts (IsNextPass observers) 0 n said
 
 -- after so many passes one that finds no mark, or nothing where no more may be made
 abbrev pub EndsDrain : List ObserverOf → ℕ → List Received → Type 0

@@ -7,10 +7,10 @@ pub use Rattle.pb_steps.specs.Answers.{CanAnswer}
 pub use Rattle.pb_steps.specs.declared.step.Answer.{Answer}
 pub use Rattle.pb_steps.specs.declared.step.Step.{Step}
 pub use Rattle.pb_history.specs.declared.entry.Received.{Received}
-pub use Rattle.pb_conversations.specs.Parts.{AreParts, EndsIn}
+pub use Rattle.pb_conversations.specs.Parts.{IsOfParts, EndsIn}
 pub use Rattle.pb_txn.specs.Conversations.{told}
 pub use Rattle.pb_notify.specs.Conversations.{Reaches}
-pub use Rattle.pb_notify.specs.Forms.{IsRunConversation, WasMeant}
+pub use Rattle.pb_notify.specs.Forms.{BeginsRun, IsRunConversation, WasMeant}
 pub use Rattle.pb_notify.specs.Runs.{RunOf, fresh, need_of, next_of, watch_of}
 pub use Rattle.pb_notify.specs.declared.need.JobEnd.{JobEnd}
 pub use Rattle.pb_notify.specs.declared.need.Need.{Need}

@@ -1,6 +1,6 @@
 -- A seat's list goes on, by one part after another.
 use Rattle.std.proofs.Common.{◌≡◌, ℕ, List, [], ◌∷◌, ◌++◌, Option, refl, sym, ap, subst, ◌∙◌, append_assoc, append-nil}
-use Rattle.pb_threads.specs.Words.{Refusal, Step, Answer, Received, SeatOf, told, AreParts, one_part, EndsIn}
+use Rattle.pb_threads.specs.Words.{Refusal, Step, Answer, Received, SeatOf, told, IsOfParts, one_part, EndsIn}
 use Rattle.pb_threads.specs.Gains.{OpeningOf, Told, Gains, IsSeatStop}
 use Rattle.pb_threads.specs.Stops.{Stops}
 
@@ -44,9 +44,9 @@ gains_left {opens} {r = r} next g begun stop = gains_as (λ said p. record { nex
 
 -- ---- parts
 
-module _ {S : Type 0} {Part : S → S → List Received → Type 0} {s t : S} {a b c : SeatOf} (parts : Gains (AreParts Part s t) a b) where
+module _ {S : Type 0} {Part : S → S → List Received → Type 0} {s t : S} {a b c : SeatOf} (parts : Gains (IsOfParts Part s t) a b) where
   -- one part more
-  pub gains_part : {u : S} → Gains (Part t u) b c → Gains (AreParts Part s u) a c
+  pub gains_part : {u : S} → Gains (Part t u) b c → Gains (IsOfParts Part s u) a c
   gains_part {u} h = gains_on parts h (λ said more p q. one_part t u said more p q)
 
   -- what ends them

@@ -1,6 +1,6 @@
 -- Where a worker stopped: just a beginning of what it was to ask, and the step that it asked next.
 use Rattle.std.specs.Prelude.{◌≡◌, ◌+◌, ◌*◌, ◌<◌, ◌⊎◌, ℕ, Bool, false, List, [], ◌∷◌, ◌++◌, length, Option, Some, slice_get}
-use Rattle.pb_threads.specs.Words.{Ts, Refusal, Writes, Step, Received, Outcome, ChangeOf, new_change, Converses, IsWholeChange, EndsIn}
+use Rattle.pb_threads.specs.Words.{Refusal, Writes, Step, Received, ChangeOf, new_change, Converses, BeginsChange, EndsIn}
 use Rattle.pb_txn.specs.Changes as changes
 use Rattle.pb_threads.specs.declared.tries.TheConstants.{MAX_TRIES}
 use Rattle.pb_threads.specs.Gains.{OpeningOf, IsSeatStop}
@@ -12,19 +12,20 @@ pub record Stops (opens : Option OpeningOf) (seat : ℕ) (IsBegun : Option Step 
   pub begun : IsBegun next said
   pub stop : IsSeatStop opens seat next r
 
--- in a try: a beginning of its conversation, and whether its transaction was committed by then
+-- a try was begun, and whether its transaction was committed by then
 pub record IsTryBegun (batch : Writes) (committed : Bool) (next : Option Step) (said : List Received) : Type 0 where
-  pub told : committed ≡ has_commit said
+  pub committed_is : committed ≡ has_commit said
   pub job : ChangeOf
   pub converses : Converses (new_change batch) said job
-  pub begins : (start : Ts) × (rest : List Received) × (o : Outcome) × IsWholeChange batch start (said ++ rest) o
+  pub begins : BeginsChange batch said
   pub next_is : next ≡ changes.next_of job
 
--- after tries in vain, in the next
+-- tries were in vain, and the next was begun
 abbrev pub AreTriesBegun : Writes → Bool → Option Step → List Received → Type 0
 AreTriesBegun batch committed next said = EndsIn (IsNextVain batch) (λ count part. (count < MAX_TRIES) × IsTryBegun batch committed next part) 0 said
 
--- in the next change, or before it, of which these flags show then whether each committed
+-- After the changes of these flags the next was begun, or not yet. `done` is these flags, or has one more: whether the transaction of
+-- the last try of this change was committed by then.
 pub record IsChangeBegun (batches : List Writes) (n first : ℕ) (done : List Bool) (next : Option Step) (flags : List Bool) (said : List Received) : Type 0 where
   pub batch : Writes
   pub there : slice_get batches (first + length flags * n) ≡ Some batch
@@ -32,6 +33,6 @@ pub record IsChangeBegun (batches : List Writes) (n first : ℕ) (done : List Bo
   pub tries : AreTriesBegun batch committed next said
   pub done_is : (done ≡ flags ++ committed ∷ []) ⊎ ((done ≡ flags) × (committed ≡ false))
 
--- after some changes, in the next
+-- changes were tried, and the next was begun
 abbrev pub AreChangesBegun : List Writes → ℕ → ℕ → List Bool → Option Step → List Received → Type 0
 AreChangesBegun batches n first done next said = EndsIn (IsNextTried batches n first) (IsChangeBegun batches n first done next) [] said

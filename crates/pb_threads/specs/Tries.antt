@@ -1,6 +1,6 @@
 -- The changes of one worker: each is tried until a try of it commits, or so often as may be.
 use Rattle.std.specs.Prelude.{◌≡◌, ℕ, ◌+◌, ◌*◌, ◌<◌, ◌≤◌, Bool, true, false, ◌||◌, List, [], ◌∷◌, ◌++◌, length, Option, Some, None, slice_get}
-use Rattle.pb_threads.specs.Words.{Ts, Writes, Answer, Received, Outcome, IsWholeChange, AreParts, EndsIn}
+use Rattle.pb_threads.specs.Words.{Ts, Writes, Answer, Received, Outcome, IsWholeChange, IsOfParts, EndsIn}
 use Rattle.pb_threads.specs.declared.tries.TheConstants.{MAX_TRIES}
 
 -- the outcome of a committed transaction, at whatever timestamp
@@ -36,7 +36,7 @@ IsNextVain batch n m said = (m ≡ n + 1) × IsTry batch false said
 
 -- so many tries, none of which committed
 abbrev pub AreVain : Writes → ℕ → List Received → Type 0
-AreVain batch n said = AreParts (IsNextVain batch) 0 n said
+AreVain batch n said = IsOfParts (IsNextVain batch) 0 n said
 
 -- tries of which the last committed
 abbrev pub IsDone : Writes → List Received → Type 0
@@ -57,7 +57,7 @@ pub record IsNextTried (batches : List Writes) (n first : ℕ) (done now : List 
 
 -- its first changes, with whether each committed
 abbrev pub AreTried : List Writes → ℕ → ℕ → List Bool → List Received → Type 0
-AreTried batches n first done said = AreParts (IsNextTried batches n first) [] done said
+AreTried batches n first done said = IsOfParts (IsNextTried batches n first) [] done said
 
 -- all of them
 pub record AreAllTried (batches : List Writes) (n first : ℕ) (done : List Bool) (said : List Received) : Type 0 where

@@ -25,9 +25,9 @@ share_of batches workers first = record { batches = batches; workers = workers; 
 pub record AreTriedThen (share : ShareOfChanges) (done : List Bool) (Last : List Received → Type 0) (said : List Received) : Type 0 where
   pub changes : List Received
   pub tried : AreAllTried share.batches share.workers share.first done changes
-  pub passes : List Received
-  pub drained : Last passes
-  pub said_is : said ≡ changes ++ passes
+  pub rest : List Received
+  pub ends : Last rest
+  pub said_is : said ≡ changes ++ rest
 
 -- all changes, and then passes up to one without a mark, or so many as may be made
 abbrev pub IsWorkDone : List ObserverOf → ShareOfChanges → List Bool → List Received → Type 0

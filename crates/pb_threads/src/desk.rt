@@ -98,7 +98,7 @@ impl Desk {
     }
 }
 
-/// How a worker calls the table: by its lock, and each time past the gate. What its jobs grow by comes from `alloc`.
+/// How a worker calls the table: under its lock, each time after the gate. What its jobs grow by comes from `alloc`.
 #[derive(Drop)]
 pub(crate) struct Caller<'a, R, C, G> {
     pub(crate) rt: &'a R,

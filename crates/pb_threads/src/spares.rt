@@ -102,7 +102,7 @@ pub(crate) fn work_beside_swaps<
         return (workers, None);
     }
     let waiting = &mut spares;
-    // For the proof: a join gives no clause of a closure that captures the caller whole.
+    // For the proof: `join` passes on no clause of a closure that captures the whole `Caller`.
     let (rt, alloc, shared, gate) = (caller.rt, caller.alloc, caller.shared, caller.gate);
     let worked = thread::join(
         rt,

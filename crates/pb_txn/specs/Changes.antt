@@ -66,10 +66,13 @@ pub record IsWholeChange (batch : Writes) (start : Ts) (said : List Received) (o
   pub said_is : said ≡ told (Step.Begin Work.Script) (Answer.At start) ∷ rest
   pub whole : IsWhole start (Declared.Script batch) (declared_cells (Declared.Script batch)) rest o
 
--- what a change of some cells has asked so far is a beginning of such a conversation
+-- a beginning of one
+abbrev pub BeginsChange : Writes → List Received → Type 0
+BeginsChange batch said = (start : Ts) × (rest : List Received) × (o : Outcome) × IsWholeChange batch start (said ++ rest) o
+
+-- what a change of some cells has asked so far is such a beginning
 abbrev pub ChangesConverse : Type 0
-ChangesConverse = (batch : Writes) (said : List Received) (q : ChangeOf) → batch ≢ [] → Converses (new_change batch) said q
-    → (start : Ts) × (rest : List Received) × (o : Outcome) × IsWholeChange batch start (said ++ rest) o
+ChangesConverse = (batch : Writes) (said : List Received) (q : ChangeOf) → batch ≢ [] → Converses (new_change batch) said q → BeginsChange batch said
 
 -- and where it is over, a whole one, with the start of its plan and its outcome
 abbrev pub ChangesEnd : Type 0

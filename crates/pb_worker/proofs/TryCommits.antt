@@ -90,10 +90,10 @@ of_cut batch is next said some t =
       b.0,
       record {
         made = λ e.
-            let c = cut_commits batch t.last s.job some s.converses (sym s.told ∙ e) in
+            let c = cut_commits batch t.last s.job some s.converses (sym s.committed_is ∙ e) in
             made_in_part batch t.at t.before t.last said t.parts t.said_is b.0 (subst (λ u. HasCommitted batch u t.last) (its c.0 c.1.committed) c.1);
         only = λ u h.
             let k = only_in_part batch t.at t.before t.last said t.parts t.said_is u h in
-            (s.told ∙ has_committed t.last u k, its u k);
+            (s.committed_is ∙ has_committed t.last u k, its u k);
       },
     )

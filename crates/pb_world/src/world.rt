@@ -265,7 +265,7 @@ impl<T: Tablet> World<T> {
         }
     }
 
-    // One event. At fault, it did nothing, since each looks for what it needs before it does anything.
+    // One event. At fault, it did nothing, since each kind of event looks for what it needs before it does anything.
     fn event(&mut self, alloc: Global, event: &Event) -> Result<Note, EventFault>
         ensures { TriesEvent self.old event.now result self.new }
     {
