@@ -1,7 +1,7 @@
 -- The lines that wait, and how they are answered.
 use Rattle.std.specs.Prelude.{◌≡◌, ℕ, ◌+◌, ◌≤◌, Bool, true, false, ◌&&◌, ◌==◌, nat_le, nat_lt, List, [], ◌∷◌, ◌++◌, length, None, Ok, codes, decimal, string_bytes}
 use Rattle.std.specs.List.{join_with_byte, list_any}
-use Rattle.pb_keep.specs.Words.{Writes, commit_count, MAX_CHANGES, IsNextMark, KeptTable, is_skipped, batch_of, SaidLeads, Counted, IsMade, Made}
+use Rattle.pb_keep.specs.Words.{Writes, commit_count, MAX_CHANGES, IsNextMark, KeptTable, is_skipped, batch_of, SaidLeads, Counted, IsMade, comes_to_rest, Made}
 use Rattle.pb_keep.specs.declared.waiting.TheConstants.{MAX_RECORD}
 use Rattle.pb_keep.specs.declared.waiting.Waits.{Waits}
 use Rattle.pb_keep.specs.declared.waiting.Waiting.{Waiting}
@@ -120,12 +120,14 @@ other_line (Waits.Refused code) = codes "refused " ++ (decimal code ++ codes "\n
 other_line Waits.Begun = codes "begun\n"
 other_line Waits.Ended = codes "ended\n"
 
--- a change was made, and is answered so: the commit is its transaction's, the runs are those that were committed after it, and where
--- their number is in the line, no cell is marked; what all of its runs did is counted
+-- A change was made, and is answered so: the commit is its transaction's, the runs are those that were committed after it, and where
+-- their number is in the line, no cell is marked. The line has `unquiet` only where as many passes as may be made each found a mark, and
+-- always there. What all of its runs did is counted.
 pub record IsMadeAs (batch : Writes) (old new : KeptTable) (text : List ℕ) : Type 0 where
   pub made : Made
   pub leads : SaidLeads (Counted old.state.observers old.stats new.stats (IsMade old.state.observers batch made.commit)) old.state new.state
   pub runs : made.drained.runs ≡ commit_count leads.form.form.drain
+  pub rests : made.drained.rests ≡ comes_to_rest leads.form.form.drained
   pub quiet : made.drained.rests ≡ true → IsNextMark new.state.marks None None
   pub line : text ≡ made_line made
 

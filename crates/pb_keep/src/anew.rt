@@ -40,10 +40,11 @@ fn make_all_counted<R: Wait, T: Tablet>(
     stats: &mut Vec<ObserverStats>,
     batches: Vec<Batch>,
 ) -> Result<(), Stopped>
-    ensures { (first : KeptTable) (changes : List Writes)
+    ensures keeps { (first : KeptTable) (changes : List Writes)
         → Keeps first changes (kept_table state.old stats.old.items)
         → OnOk result (Keeps first (changes ++ batches.items)
         (kept_table state.new stats.new.items)) }
+    ensures observers { OnOk result (state.new.observers ≡ state.old.observers) }
 {
     make_all(rt, alloc, state, stats, batches)
 }
@@ -62,6 +63,7 @@ fn make_anew<R: Wait, T: Tablet>(
         → Keeps first changes (kept_table state.old stats.old.items)
         → Keeps first (changes ++ script) (kept_table state.new stats.new.items))
         × (n ≡ length script)) }
+    ensures observers { OnOk result (state.new.observers ≡ state.old.observers) }
     ensures why { IfErr result IsOfAnew }
 {
     let batches = batches_of(alloc, record)?;
@@ -85,6 +87,7 @@ pub fn make_records_anew<R: Wait, T: Tablet>(
         → Keeps first changes (kept_table state.old stats.old.items)
         → Keeps first (changes ++ more) (kept_table state.new stats.new.items))
         × (n ≡ reported_count (length more))) }
+    ensures observers { OnOk result (state.new.observers ≡ state.old.observers) }
     ensures why { IfErr result IsOfAnew }
 {
     let mut count = 0u64;

@@ -23,7 +23,7 @@ use thiserror::Error;
 // One more than the most bytes of a record.
 const TOO_LONG: usize = 4_294_967_296;
 
-/// Why no log was begun with a snapshot of a table.
+/// Why no log was begun with a snapshot of a table, or why a table got no other observers.
 #[derive(Debug, Drop, Error)]
 pub enum SnapshotFault {
     #[error("{0}")]
@@ -99,7 +99,8 @@ impl<T: Tablet, D: Disk + Drop> Keeper<T, D> {
     }
 
     /// Begins a new log of this manifest with a snapshot of the table, which has to be quiet: the newest version of each cell.
-    /// Returns how many versions it has. The keeper's own log is left as it is.
+    /// Returns how many versions it has. The keeper's own log is left as it is. That the manifest is the one of the table's
+    /// observers is for the caller.
     pub fn snapshot_into<E: Disk + Drop>(
         &self,
         alloc: Global,

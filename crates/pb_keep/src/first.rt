@@ -1,5 +1,5 @@
 //! What a table begins with: nothing, or the snapshot that its log begins with.
-ghost use Rattle.std.specs.Prelude.{◌≡◌, ◌∷◌, [], true, map, IfOk, IfErr};
+ghost use Rattle.std.specs.Prelude.{◌≡◌, ◌∷◌, [], true, map, IfOk, IfErr, OnOk};
 ghost use Rattle.pb_keeper.specs.Keeps.{opened_table};
 ghost use Rattle.pb_keeper.specs.Stats.{kept_table};
 ghost use Rattle.pb_keep.specs.Causes.{IsOfFirst};
@@ -37,6 +37,7 @@ fn begin_with<T: Tablet>(
     requires begins_so { begins_as_snapshot («record».now ∷ []) ≡ true }
     ensures begun { IfOk result (λ t. IsBegunWith state.old.observers («record».now ∷ []) []
         t.0 (kept_table state.new stats.new.items)) }
+    ensures observers { OnOk result (state.new.observers ≡ state.old.observers) }
     ensures why { IfErr result (IsOfFirst state.old.observers («record».now ∷ [])) }
 {
     // For the proof: no other snapshot has this record.
@@ -65,6 +66,7 @@ pub(crate) fn begin<T: Tablet>(
     ensures begun { IfOk result (λ t. IsBegunWith state.old.observers
         (map (λ v. v.items) records.old.items) (map (λ v. v.items) records.new.items)
         t.0 (kept_table state.new stats.new.items)) }
+    ensures observers { OnOk result (state.new.observers ≡ state.old.observers) }
     ensures why { IfErr result
         (IsOfFirst state.old.observers (map (λ v. v.items) records.old.items)) }
 {

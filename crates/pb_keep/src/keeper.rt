@@ -102,6 +102,9 @@ impl<T: Tablet, D: Disk + Drop> Keeper<T, D> {
             ≡ opened_table self.old.state.observers }
         ensures usable { OnOk result (IsTrue (D.is_usable self.new.log.disk)) }
         ensures waiting { self.new.waiting ≡ self.old.waiting }
+        // The table has the same observers.
+        ensures observers { OnOk result
+            (self.new.state.observers ≡ self.old.state.observers) }
         ensures kept { (written : Option (List ℕ)) → IfOk result (λ n.
             IsTrue (D.is_clean self.new.log.disk)
             → IsOpenedLog manifest.now (D.seen self.old.log.disk) self.old.state.observers n
@@ -140,6 +143,8 @@ impl<T: Tablet, D: Disk + Drop> Keeper<T, D> {
         ensures usable { OnOk result (IsTrue (D.is_usable self.new.log.disk)) }
         ensures idle { OnOk result (IsNoLine self.new.waiting) }
         ensures since { self.new.since ≡ self.old.since }
+        ensures observers { OnOk result
+            (self.new.state.observers ≡ self.old.state.observers) }
         ensures kept { (origin : Origin) (first : KeptTable) (changes : List Writes)
             → IsLogOf origin changes (D.seen self.old.log.disk)
             (D.may_leave self.old.log.disk) self.old.log.end
@@ -201,6 +206,9 @@ impl<T: Tablet, D: Disk + Drop> Keeper<T, D> {
         requires alone { self.old.waiting.is_group ≡ false }
         ensures usable { OnOk result (IsTrue (D.is_usable self.new.log.disk)) }
         ensures idle { OnOk result (IsNoLine self.new.waiting) }
+        // The table has the same observers.
+        ensures observers { OnOk result
+            (self.new.state.observers ≡ self.old.state.observers) }
         ensures serves { (b : Beginning) (lines : List (List ℕ))
             → Serves b lines (keeper_view D.seen D.may_leave self.old (S.taken out.old))
             → OnOk result (Serves b lines

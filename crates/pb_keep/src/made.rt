@@ -5,7 +5,7 @@ ghost use Rattle.pb_store.specs.Contents.{IsNextMark};
 ghost use Rattle.pb_keeper.specs.Counts.{commit_count};
 ghost use Rattle.pb_keeper.specs.Keeps.{Keeps};
 ghost use Rattle.pb_keeper.specs.Leads.{SaidLeads};
-ghost use Rattle.pb_keeper.specs.Made.{IsMade};
+ghost use Rattle.pb_keeper.specs.Made.{IsMade, comes_to_rest};
 ghost use Rattle.pb_keeper.specs.Stats.{kept_table, Counted, KeptTable};
 ghost use Rattle.pb_keeper.specs.Stops.{IsStop};
 ghost use Rattle.pb_keep.specs.Left.{IsOfMaking, IsRightOf};
@@ -66,13 +66,15 @@ fn make_counted<R: Wait, T: Tablet>(
     ensures ok { IfOk result (λ m. (leads : SaidLeads
         (Counted state.old.observers stats.old.items stats.new.items
         (IsMade state.old.observers batch m.commit)) state.old state.new)
-        × (m.drained.runs ≡ commit_count leads.form.form.drain)) }
+        × (m.drained.runs ≡ commit_count leads.form.form.drain)
+        × (m.drained.rests ≡ comes_to_rest leads.form.form.drained)) }
     ensures quiet { IfOk result
         (λ m. m.drained.rests ≡ true → IsNextMark state.new.marks None None) }
     ensures keeps { (first : KeptTable) (changes : List Writes)
         → Keeps first changes (kept_table state.old stats.old.items)
         → OnOk result (Keeps first (changes ++ batch ∷ [])
         (kept_table state.new stats.new.items)) }
+    ensures observers { OnOk result (state.new.observers ≡ state.old.observers) }
     ensures stops { (first : KeptTable) (changes : List Writes)
         → Keeps first changes (kept_table state.old stats.old.items)
         → IfErr result (λ e. IsStop e state.new) }
@@ -97,6 +99,7 @@ fn answer<R: Wait, T: Tablet>(
         → Keeps first changes (kept_table state.old stats.old.items)
         → OnOk result (Keeps first (changes ++ changes_in (item ∷ []))
         (kept_table state.new stats.new.items)) }
+    ensures observers { OnOk result (state.new.observers ≡ state.old.observers) }
     ensures unanswered { OnErr result (string_bytes text.new ≡ string_bytes text.old) }
     ensures why { IfErr result IsOfMaking }
     ensures right { (first : KeptTable) (changes : List Writes)
@@ -133,6 +136,7 @@ pub(crate) fn make_and_answer<R: Wait, T: Tablet>(
         → Keeps first changes (kept_table state.old stats.old.items)
         → OnOk result (Keeps first (changes ++ changes_in items.items)
         (kept_table state.new stats.new.items)) }
+    ensures observers { OnOk result (state.new.observers ≡ state.old.observers) }
     ensures some { OnErr result (AreSomeAnswers items.items (kept_table state.old stats.old.items)
         (string_bytes text.old) (string_bytes text.new)) }
     ensures why { IfErr result IsOfMaking }

@@ -69,10 +69,10 @@ impl<T: Tablet, D: Disk + Drop> Keeper<T, D> {
 
     /// Goes on with the observers at these places, which keep what they have acknowledged, and then with others, and makes passes
     /// until these have handled all that was ever written to their columns, or so many passes as may be made. Returns how many
-    /// runs these were. The table has to be quiet. What its other observers have acknowledged isn't kept.
+    /// runs were committed in these passes, of whatever observer. The table has to be quiet. What its other observers have acknowledged isn't kept.
     ///
-    /// The state is empty, as opened with the observers that stay. It takes the place of the keeper's, which is closed. Where it
-    /// is refused before that, it is closed itself.
+    /// The state is empty, as opened with the observers that stay. It takes the place of the keeper's, which is closed. If the
+    /// call fails before that, the given state is closed instead.
     ///
     /// The keeper's own log isn't of such a table. So only another change of observers, `snapshot_into` a log of the new manifest,
     /// and `close` may follow; and where it fails otherwise than as `NotQuiet`, `close` alone.

@@ -65,6 +65,8 @@ fn take_bytes<R: Wait, T: Tablet, D: Disk + Drop, S: Sink>(
     requires waiting { IsWaiting keeper.old.waiting }
     ensures usable { OnOk result (IsTrue (D.is_usable keeper.new.log.disk)) }
     ensures waiting { OnOk result (IsWaiting keeper.new.waiting) }
+    ensures observers { OnOk result
+        (keeper.new.state.observers ≡ keeper.old.state.observers) }
     ensures serves { (b : Beginning) (lines : List (List ℕ))
         → Serves b lines (keeper_view D.seen D.may_leave keeper.old (S.taken out.old))
         → IfOk result (ServesLine b lines bytes.now
@@ -102,6 +104,8 @@ fn take_read<R: Wait, T: Tablet, D: Disk + Drop, S: Sink>(
     requires waiting { IsWaiting keeper.old.waiting }
     ensures usable { OnOk result (IsTrue (D.is_usable keeper.new.log.disk)) }
     ensures waiting { OnOk result (IsWaiting keeper.new.waiting) }
+    ensures observers { OnOk result
+        (keeper.new.state.observers ≡ keeper.old.state.observers) }
     ensures serves { (b : Beginning) (lines : List (List ℕ)) (from to : Option (List ℕ))
         → IsLineRead read bytes.now from to
         → Serves b lines (keeper_view D.seen D.may_leave keeper.old (S.taken out.old))
@@ -147,6 +151,8 @@ fn turn<R: Wait, I: Read + Drop, T: Tablet, D: Disk + Drop, S: Sink>(
     requires waiting { IsWaiting keeper.old.waiting }
     ensures usable { OnOk result (IsTrue (D.is_usable keeper.new.log.disk)) }
     ensures waiting { OnOk result (IsWaiting keeper.new.waiting) }
+    ensures observers { OnOk result
+        (keeper.new.state.observers ≡ keeper.old.state.observers) }
     ensures serves { (b : Beginning) (lines : List (List ℕ))
         → Serves b lines (keeper_view D.seen D.may_leave keeper.old (S.taken out.old))
         → IfOk result (ServesNext b lines (reader_remaining I.remaining input.old)
@@ -199,6 +205,9 @@ pub fn serve<R: Wait, I: Read + Drop, T: Tablet, D: Disk + Drop, S: Sink>(
     requires waiting { IsWaiting keeper.old.waiting }
     ensures usable { OnOk result (IsTrue (D.is_usable keeper.new.log.disk)) }
     ensures waiting { OnOk result (IsWaiting keeper.new.waiting) }
+    // The table has the same observers.
+    ensures observers { OnOk result
+        (keeper.new.state.observers ≡ keeper.old.state.observers) }
     // At the end of the input all of its lines are taken, and only a group without its end isn't
     // answered. At any other pause all lines that were taken are answered.
     ensures serves { (b : Beginning) (lines : List (List ℕ))

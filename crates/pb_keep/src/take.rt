@@ -345,6 +345,8 @@ impl<T: Tablet, D: Disk + Drop> Keeper<T, D> {
         ensures kept { OnOk result (is_asked ≡ true → IsNoLine self.new.waiting) }
         ensures idle { IsNoLine self.old.waiting → OnOk result (IsNoLine self.new.waiting) }
         ensures same { is_asked ≡ false → self.new ≡ self.old }
+        ensures observers { OnOk result
+            (self.new.state.observers ≡ self.old.state.observers) }
         ensures serves { (b : Beginning) (lines : List (List ℕ))
             → Serves b lines (keeper_view D.seen D.may_leave self.old (S.taken out.old))
             → OnOk result (Serves b lines
@@ -380,6 +382,9 @@ impl<T: Tablet, D: Disk + Drop> Keeper<T, D> {
         requires waiting { IsWaiting self.old.waiting }
         ensures usable { OnOk result (IsTrue (D.is_usable self.new.log.disk)) }
         ensures waiting { OnOk result (IsWaiting self.new.waiting) }
+        // The table has the same observers.
+        ensures observers { OnOk result
+            (self.new.state.observers ≡ self.old.state.observers) }
         ensures serves { (b : Beginning) (lines : List (List ℕ))
             → Serves b lines (keeper_view D.seen D.may_leave self.old (S.taken out.old))
             → IfOk result (ServesLine b lines line.now

@@ -2,7 +2,7 @@
 use Rattle.std.proofs.Common.{◌≡◌, ℕ, List, [], ◌∷◌, ◌++◌, Option, refl, sym, ap, subst, ◌∙◌}
 use Rattle.std.proofs.lemmas.List.{append_assoc, append-nil}
 use Rattle.pb_passes.proofs.Drains.{HoldsOfRuns}
-use Rattle.pb_keeper.specs.Words.{Writes, row_of, Cell, ObserverOf, StateOf, Step, Answer, JournalLeads, Entry, Received, told, Outcome, entries_by, IsKeptTable, opened, stepped, anew, chosen, RunsKeepTables, WholeChangesKeepTables, MarksKeepTables, AreParts}
+use Rattle.pb_keeper.specs.Words.{Writes, row_of, Cell, ObserverOf, StateOf, Step, Answer, JournalLeads, Entry, Received, told, Outcome, entries_by, IsKeptTable, opened, stepped, anew, chosen, RunsKeepTables, WholeChangesKeepTables, MarksKeepTables, IsOfParts}
 use Rattle.pb_history.proofs.TransactionAfter.{case_observers}
 use Rattle.pb_generations.proofs.SeatEntries.{by_append}
 use Rattle.pb_keeper.specs.Leads.{SaidLeads, IsEndedChange}
@@ -64,5 +64,5 @@ kept_after a b k leaves g = record {
 
 -- and after parts whose runs are counted
 pub kept_while : {S : Type 0} {Part : S → S → List Received → Type 0} {p q : S} {s t : List ObserverStats} {m : ℕ} {a b : StateOf} → WasKept a → ((x y : S) (said : List Received) → Part x y said → LeavesKept a.observers said)
-    → Led a.observers s t (AreParts Part p q) m a b → WasKept b
+    → Led a.observers s t (IsOfParts Part p q) m a b → WasKept b
 kept_while {p = p} {q = q} {a = a} {b = b} k leaves g = kept_after a b k (λ said f. of_parts (leaves_add a.observers) leaves p q said f.form.form) g

@@ -1,11 +1,11 @@
 -- Passes over the marked cells on their way, with the number of runs that were committed, and a change with its drain.
 use Rattle.std.specs.Io.Iter.{u64_saturate}
-use Rattle.std.proofs.Common.{arith, ◌≡◌, ◌≢◌, ℕ, ◌+◌, ◌-◌, ◌^◌, ◌<◌, ◌≤◌, ◌==◌, min, inl, false, cond, List, [], ◌∷◌, ◌++◌, length, Option, Some, None, refl, sym, ap, subst, ◌∙◌, is_some, slice_get, slice_index_or}
-use Rattle.pb_keeper.specs.Words.{Writes, row_of, Cell, Ts, Step, Answer, StateOf, TableStep, IsNextMark, ObserverOf, Received, Outcome, told, Reaches, IsRunConversation, RunOf, Watch, watch_of, JobEnd, HasColumn, IsJobOn, IsRun, IsDrain, AreParts, EndsIn, one_part, IsTurnOf}
+use Rattle.std.proofs.Common.{arith, ◌≡◌, ◌≢◌, ℕ, ◌+◌, ◌-◌, ◌^◌, ◌<◌, ◌≤◌, ◌==◌, min, inl, Bool, false, cond, List, [], ◌∷◌, ◌++◌, length, Option, Some, None, refl, sym, ap, subst, ◌∙◌, is_some, slice_get, slice_index_or}
+use Rattle.pb_keeper.specs.Words.{Writes, row_of, Cell, Ts, Step, Answer, StateOf, TableStep, IsNextMark, ObserverOf, Received, Outcome, told, Reaches, IsRunConversation, RunOf, Watch, watch_of, JobEnd, HasColumn, IsJobOn, IsRun, IsDrain, IsOfParts, EndsIn, one_part, IsTurnOf}
 use Rattle.pb_base.proofs.Logic.{one_value}
 use Rattle.pb_keeper.specs.Leads.{SaidLeads, IsAny, IsEndedChange}
 use Rattle.pb_keeper.specs.Counts.{commit_count, commits_of_end, CountsCommits}
-use Rattle.pb_keeper.specs.Made.{IsMade}
+use Rattle.pb_keeper.specs.Made.{IsMade, comes_to_rest}
 use Rattle.pb_keeper.specs.Stats.{no_runs, added, Counted, RanAndDid}
 use Rattle.pb_keeper.specs.declared.stats.ObserverStats.{ObserverStats}
 use Rattle.pb_keeper.proofs.Counting.{count_append, not_counted, run_count}
@@ -35,12 +35,12 @@ module _ {observers : List ObserverOf} {s t u : List ObserverStats} {m n k : ℕ
       both x y z p q e = omega (arith, sum, p, q, e)
 
   -- parts, and then what comes next where the table has the same observers
-  module _ {seen : List ObserverOf} (same : seen ≡ observers) {S : Type 0} {Part : S → S → List Received → Type 0} {p q : S} (before : Led observers s t (AreParts Part p q) m a b) (Next : List ObserverOf → List Received → Type 0) (next : Led seen t u (Next seen) n b c) where
+  module _ {seen : List ObserverOf} (same : seen ≡ observers) {S : Type 0} {Part : S → S → List Received → Type 0} {p q : S} (before : Led observers s t (IsOfParts Part p q) m a b) (Next : List ObserverOf → List Received → Type 0) (next : Led seen t u (Next seen) n b c) where
     next_here : Led observers t u (Next observers) n b c
     next_here = subst (λ (l : List ObserverOf). Led l t u (Next l) n b c) same next
 
     -- one part more
-    pub part_on : {r : S} → ((said : List Received) → Next observers said → Part q r said) → Led observers s u (AreParts Part p r) k a c
+    pub part_on : {r : S} → ((said : List Received) → Next observers said → Part q r said) → Led observers s u (IsOfParts Part p r) k a c
     part_on {r} is = counts_on before next_here (λ said more x y. one_part q r said more x (is more y))
 
     -- what ends them
@@ -99,13 +99,16 @@ module _ {observers seen : List ObserverOf} {n number : ℕ} {x : Cell} {job : R
 
 -- ---- a change, and a drain
 
-pub change_is_made : {observers seen : List ObserverOf} {s t : List ObserverStats} {batch : Writes} {commit : Ts} {m : ℕ} {a b c : StateOf} → seen ≡ observers → SaidLeads (IsEndedChange batch (Outcome.Committed commit)) a b
-    → (leads : SaidLeads (Counted seen s t (IsDrain seen)) b c) × (m ≡ commit_count leads.said) → (leads : SaidLeads (Counted observers s t (IsMade observers batch commit)) a c) × (m ≡ commit_count leads.form.form.drain)
+pub change_is_made : {observers seen : List ObserverOf} {s t : List ObserverStats} {batch : Writes} {commit : Ts} {m : ℕ} {rests : Bool} {a b c : StateOf} → seen ≡ observers → SaidLeads (IsEndedChange batch (Outcome.Committed commit)) a b
+    → (leads : SaidLeads (Counted seen s t (IsDrain seen)) b c) × (m ≡ commit_count leads.said) × (rests ≡ comes_to_rest leads.form.form)
+    → (leads : SaidLeads (Counted observers s t (IsMade observers batch commit)) a c) × (m ≡ commit_count leads.form.form.drain) × (rests ≡ comes_to_rest leads.form.form.drained)
 unfolding leads_on counted_on
-change_is_made {observers} {s = s} {t = t} {batch = batch} {commit = commit} {m = m} {b = b} {c = c} same g h =
-    let here : (leads : SaidLeads (Counted observers s t (IsDrain observers)) b c) × (m ≡ commit_count leads.said) = subst (λ (l : List ObserverOf). (leads : SaidLeads (Counted l s t (IsDrain l)) b c) × (m ≡ commit_count leads.said)) same h in (
+change_is_made {observers} {s = s} {t = t} {batch = batch} {commit = commit} {m = m} {rests = rests} {b = b} {c = c} same g h =
+    let here : (leads : SaidLeads (Counted observers s t (IsDrain observers)) b c) × (m ≡ commit_count leads.said) × (rests ≡ comes_to_rest leads.form.form) =
+    subst (λ (l : List ObserverOf). (leads : SaidLeads (Counted l s t (IsDrain l)) b c) × (m ≡ commit_count leads.said) × (rests ≡ comes_to_rest leads.form.form)) same h in (
       leads_on g here.0 (λ said more p q. counted_on {P = IsEndedChange batch (Outcome.Committed commit)} (counted_none (change_begins_none batch (Outcome.Committed commit) said p) p) q (λ change drain. record { change = said; changed = change; drain = more; drained = drain; said_is = refl })),
       here.1,
+      here.2,
     )
 
 -- where a pass found no mark at all, no cell is marked

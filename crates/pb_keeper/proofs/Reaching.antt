@@ -4,7 +4,7 @@ use Rattle.std.proofs.lemmas.List.{append-nil}
 use Rattle.pb_keeper.specs.Words.{Step, Answer, CanAnswer, StateOf, TableStep, JournalLeads, told, RunOf, next_of, need_of, HearsLook, Computes, JobEnd, Need, took, went, no_part, one_part, Reaches, JobsConverse, JobsEnd, entries_by, Writes, ChangeOf, Converses, new_change, answered}
 use Rattle.pb_txn.specs.Changes.{answered as change_answered, next_of as change_next}
 use Rattle.pb_keeper.specs.Leads.{SaidLeads}
-use Rattle.pb_keeper.specs.Runs.{IsFreshJob, IsWholeRunOf, BeginsRun}
+use Rattle.pb_keeper.specs.Runs.{IsFreshJob, IsWholeRunOf, BeginsRunOf}
 use Rattle.pb_keeper.specs.Stats.{no_runs, sum_of, added, instruction_stats, instructions_in, end_stats, RanAndDid, RanSoFar, ReachesAndDid}
 use Rattle.pb_keeper.specs.declared.stats.ObserverStats.{ObserverStats}
 use Rattle.pb_keeper.proofs.Leading.{leads_on, leads_one}
@@ -31,7 +31,7 @@ hears_more first job next stats old mid new step answer so_far is_next can taken
     leads_on so_far (leads_one mid new step answer taken)
     (λ said more p e. subst (λ l. ReachesAndDid first next stats (said ++ l)) (sym e) (record { reaches = one_part job next said (r ∷ []) p.reaches (took r is_next can (is, look)); stats_are = p.stats_are }))
 
-pub run_begins : (first job : RunOf) (stats : ObserverStats) (old new : StateOf) → JobsConverse → IsFreshJob first → RanSoFar first job stats old new → SaidLeads (BeginsRun first) old new
+pub run_begins : (first job : RunOf) (stats : ObserverStats) (old new : StateOf) → JobsConverse → IsFreshJob first → RanSoFar first job stats old new → SaidLeads (BeginsRunOf first) old new
 run_begins first job stats old new law is so_far = record { said = so_far.said; form = (is.0, is.1, law is.0 so_far.said job (subst (λ (j : RunOf). Reaches j so_far.said job) is.1 so_far.form.reaches)); leads = so_far.leads }
 
 -- where it is over, the whole run, and what it did

@@ -68,7 +68,7 @@ module _ {observers : List ObserverOf} where
   -- ---- what is kept
 
   -- it may be stated in other words
-  pub counted_as : {s t : List ObserverStats} {P Q : List Received → Type 0} {said : List Received} → (P said → Q said) → Counted observers s t P said → Counted observers s t Q said
+  unfoldable pub counted_as : {s t : List ObserverStats} {P Q : List Received → Type 0} {said : List Received} → (P said → Q said) → Counted observers s t P said → Counted observers s t Q said
   counted_as is g = record { form = is g.form; total = g.total; did = g.did; as_many = g.as_many; grows = g.grows }
 
   -- one part after another

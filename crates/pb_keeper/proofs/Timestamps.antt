@@ -6,6 +6,7 @@ use Rattle.pb_passes.proofs.Drains.{HoldsOfRuns, of_drain}
 use Rattle.pb_keeper.specs.Words.{Cell, Ts, Meant, StateOf, StepCase, Step, Answer, ObserverOf, JournalLeads, Received, told, entries_by, IsRunConversation, ran, Watch, JobEnd, IsDrain}
 use Rattle.pb_keeper.specs.Counts.{commit_count}
 use Rattle.pb_keeper.specs.Leads.{SaidLeads}
+use Rattle.pb_keeper.specs.Made.{IsDrainThat, comes_to_rest}
 use Rattle.pb_keeper.specs.Stats.{Counted}
 use Rattle.pb_keeper.specs.declared.stats.ObserverStats.{ObserverStats}
 use Rattle.pb_keeper.proofs.Counting.{count_append, not_counted, run_count}
@@ -79,9 +80,15 @@ module _ (observers : List ObserverOf) where
   }
 
   -- so their number is known
-  pub drain_counts : (s t : List ObserverStats) (m : ℕ) (old new : StateOf) → new.clock < 2 ^ 64 → Led observers s t (IsDrain observers) m old new → (leads : SaidLeads (Counted observers s t (IsDrain observers)) old new) × (m ≡ commit_count leads.said)
-  drain_counts s t m old new fits g =
-      (record { said = g.said; form = counted_as (λ d. d.form) g.form; leads = g.leads }, whole (commit_count g.said) (given_count g.said) (of_drain observers few_parts g.said g.form.form.form) (clock_on g.said old new g.leads) g.form.form.count)
+  pub drain_counts : (s t : List ObserverStats) (m : ℕ) (rests : Bool) (old new : StateOf) → new.clock < 2 ^ 64 → Led observers s t (IsDrainThat observers rests) m old new
+      → (leads : SaidLeads (Counted observers s t (IsDrain observers)) old new) × (m ≡ commit_count leads.said) × (rests ≡ comes_to_rest leads.form.form)
+  unfolding counted_as
+  drain_counts s t m rests old new fits g =
+      let d = g.form.form.form in (
+        record { said = g.said; form = counted_as (λ p. p.form.0) g.form; leads = g.leads },
+        whole (commit_count g.said) (given_count g.said) (of_drain observers few_parts g.said d.0) (clock_on g.said old new g.leads) g.form.form.count,
+        d.1,
+      )
     where
       whole : (n t : ℕ) → n ≤ t → old.clock + t ≤ new.clock → m ≡ min n (2 ^ 64 - 1) → m ≡ n
       whole n t few later is = omega (arith, few, later, is, fits)

@@ -1,7 +1,7 @@
 -- A table that is kept over generations: it is opened with nothing in it, or begins anew from a quiet one, also with other observers,
 -- and then these changes led to it, and nothing else.
 use Rattle.std.specs.Prelude.{◌≡◌, ℕ, ◌<◌, List, [], ◌∷◌, ◌++◌, length, slice_get}
-use Rattle.pb_keeper.specs.Words.{Writes, Ts, ObserverOf, last_timestamp, StateOf, opening, IsQuiet, IsCommittedAt, view_of, Received, AreParts, entries_by, IsDrain, HasMoreObservers, AreChosen, IsChosenSnapshot, chosen_state, new_number, renumbered_said, IsKeptTable, carried, AreLeft, IsSnapshotOf}
+use Rattle.pb_keeper.specs.Words.{Writes, Ts, ObserverOf, last_timestamp, StateOf, opening, IsQuiet, IsCommittedAt, view_of, Received, IsOfParts, entries_by, IsDrain, HasMoreObservers, AreChosen, IsChosenSnapshot, chosen_state, new_number, renumbered_said, IsKeptTable, carried, AreLeft, IsSnapshotOf}
 use Rattle.pb_keeper.specs.Leads.{SaidLeads}
 use Rattle.pb_keeper.specs.Made.{IsMade}
 use Rattle.pb_keeper.specs.Stats.{AreKeptStats, AreStatsOf, Counted, KeptTable, chosen_stats, first_stats, kept_table, no_runs, total_at, sum_of}
@@ -17,7 +17,7 @@ pub record IsNextMade (observers : List ObserverOf) (changes now : List Writes) 
 
 -- these changes, each once and in order, each with the drain that follows it
 abbrev pub AreMade : List ObserverOf → List Writes → List Received → Type 0
-AreMade observers changes said = AreParts (IsNextMade observers) [] changes said
+AreMade observers changes said = IsOfParts (IsNextMade observers) [] changes said
 
 -- ---- a generation
 

@@ -1,6 +1,6 @@
 -- A run of an observer, by what the only seat said.
-use Rattle.std.specs.Prelude.{◌≡◌, List, ◌++◌, Option}
-use Rattle.pb_keeper.specs.Words.{Received, Meant, JobEnd, Need, RunOf, Watch, fresh, need_of, Reaches, IsRunConversation, WasMeant}
+use Rattle.std.specs.Prelude.{◌≡◌, List, Option}
+use Rattle.pb_keeper.specs.Words.{Received, Meant, JobEnd, Need, RunOf, Watch, fresh, need_of, Reaches, BeginsRun, IsRunConversation, WasMeant}
 
 -- before its first step
 abbrev pub IsFreshJob : RunOf → Type 0
@@ -18,5 +18,5 @@ pub record IsWholeRunOf (first : RunOf) (end : JobEnd) (said : List Received) : 
   pub meant : WasMeant run
 
 -- a beginning of one
-abbrev pub BeginsRun : RunOf → List Received → Type 0
-BeginsRun job said = (o : Watch) × (job ≡ fresh o) × ((rest : List Received) × (end : JobEnd) × (run : Option Meant) × IsRunConversation o (said ++ rest) end run)
+abbrev pub BeginsRunOf : RunOf → List Received → Type 0
+BeginsRunOf job said = (o : Watch) × (job ≡ fresh o) × BeginsRun o said

@@ -9,6 +9,7 @@ ghost use Rattle.pb_store.specs.Contents.{IsNextMark};
 ghost use Rattle.pb_verify.specs.Observers.{ObserverOf};
 ghost use Rattle.pb_keeper.specs.Counts.{commit_count};
 ghost use Rattle.pb_keeper.specs.Keeps.{CatchesUp, IsChosenOf, IsFirstTable, KeepsFrom};
+ghost use Rattle.pb_keeper.specs.Made.{comes_to_rest};
 ghost use Rattle.pb_keeper.specs.Stats.{KeptTable, first_stats, kept_table};
 ghost use Rattle.pb_keeper.specs.Stops.{IsStop};
 
@@ -59,10 +60,11 @@ pub fn observe_also<R: Wait, T: Tablet>(
     requires few { length state.old.observers + length more.items ≤ MAX_OBSERVERS }
     ensures observers { OnOk result
         (state.new.observers ≡ state.old.observers ++ more.items) }
-    // The runs are those of the drain by which they caught up.
+    // The runs are those of the drain by which they caught up, and it rests if that does.
     ensures caught_up { IfOk result (λ d. (u : CatchesUp more.items
         (kept_table state.old stats.old.items) (kept_table state.new stats.new.items))
-        × (d.runs ≡ commit_count u.drained.said)) }
+        × (d.runs ≡ commit_count u.drained.said)
+        × (d.rests ≡ comes_to_rest u.drained.form.form)) }
     // Where it rests no cell is marked.
     ensures quiet { IfOk result (λ d. d.rests ≡ true → IsNextMark state.new.marks None None) }
     // From what was chosen of a quiet table that keeps changes it is a generation's beginning,

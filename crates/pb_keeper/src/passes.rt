@@ -8,7 +8,7 @@ ghost use Rattle.pb_keeper.specs.Keeps.{Keeps};
 ghost use Rattle.pb_keeper.specs.Stats.{Counted, KeptTable, kept_table};
 ghost use Rattle.pb_passes.specs.Passes.{AreAllRuns, IsDrain, IsPassThat, IsTurnOf};
 ghost use Rattle.pb_keeper.specs.Leads.{SaidLeads, IsAny};
-ghost use Rattle.pb_keeper.specs.Made.{IsMade};
+ghost use Rattle.pb_keeper.specs.Made.{IsDrainThat, IsMade, comes_to_rest};
 ghost use Rattle.pb_keeper.specs.Stops.{WasKept, IsStop};
 
 use crate::change::{Stopped, ask, commit};
@@ -170,7 +170,7 @@ fn make_passes<R: Wait, T: Tablet>(
     stats: &mut [ObserverStats],
 ) -> Result<Drained, Stopped>
     ensures ok { IfOk result (λ d. SaidLeads (Counted state.old.observers stats.old stats.new
-        (CountsCommits (IsDrain state.old.observers) d.runs)) state.old state.new) }
+        (CountsCommits (IsDrainThat state.old.observers d.rests) d.runs)) state.old state.new) }
     ensures quiet { IfOk result (λ d. d.rests ≡ true → IsNextMark state.new.marks None None) }
     ensures err { OnErr result (SaidLeads IsAny state.old state.new) }
     ensures stops { WasKept state.old → IfErr result (λ e. IsStop e state.new) }
@@ -195,11 +195,13 @@ pub fn drain<R: Wait, T: Tablet>(
     state: &mut State<T>,
     stats: &mut [ObserverStats],
 ) -> Result<Drained, Stopped>
-    // The runs are those of the drain that were committed, and what they did is added to the stats.
+    // The runs are those of the drain that were committed, and what they did is added to the stats. It rests if its last
+    // pass found no mark, and does not if as many passes as may be made each found one.
     ensures ok { IfOk result (λ d.
         (leads : SaidLeads (Counted state.old.observers stats.old stats.new
         (IsDrain state.old.observers)) state.old state.new)
-        × (d.runs ≡ commit_count leads.said)) }
+        × (d.runs ≡ commit_count leads.said)
+        × (d.rests ≡ comes_to_rest leads.form.form)) }
     // Where it rests no cell is marked.
     ensures quiet { IfOk result (λ d. d.rests ≡ true → IsNextMark state.new.marks None None) }
     ensures err { OnErr result (SaidLeads IsAny state.old state.new) }
@@ -219,19 +221,23 @@ pub fn make<R: Wait, T: Tablet>(
     stats: &mut [ObserverStats],
     batch: Batch,
 ) -> Result<Made, Stopped>
-    // What the runs did is added to the stats, and those that were committed after the change are its runs.
+    // What the runs did is added to the stats, and those that were committed after the change are its runs. It rests if
+    // its drain does.
     ensures ok { IfOk result (λ m.
         (leads : SaidLeads (Counted state.old.observers stats.old stats.new
         (IsMade state.old.observers batch m.commit)) state.old state.new)
-        × (m.drained.runs ≡ commit_count leads.form.form.drain)) }
+        × (m.drained.runs ≡ commit_count leads.form.form.drain)
+        × (m.drained.rests ≡ comes_to_rest leads.form.form.drained)) }
     ensures quiet { IfOk result
         (λ m. m.drained.rests ≡ true → IsNextMark state.new.marks None None) }
-    // Behind the changes that are kept it is one more.
+    // After the changes that are kept it is one more.
     ensures keeps { (first : KeptTable) (changes : List Writes)
         → Keeps first changes (kept_table state.old stats.old)
         → OnOk result (Keeps first (changes ++ batch ∷ [])
         (kept_table state.new stats.new)) }
     ensures err { OnErr result (SaidLeads IsAny state.old state.new) }
+    // The table has the same observers.
+    ensures observers { OnOk result (state.new.observers ≡ state.old.observers) }
     // On a table that keeps changes it conflicts with nothing.
     ensures stops { (first : KeptTable) (changes : List Writes)
         → Keeps first changes (kept_table state.old stats.old)
@@ -261,6 +267,7 @@ pub fn make_all<R: Wait, T: Tablet>(
         → Keeps first changes (kept_table state.old stats.old)
         → OnOk result (Keeps first (changes ++ batches.items)
         (kept_table state.new stats.new)) }
+    ensures observers { OnOk result (state.new.observers ≡ state.old.observers) }
     ensures stops { (first : KeptTable) (changes : List Writes)
         → Keeps first changes (kept_table state.old stats.old)
         → IfErr result (λ e. IsStop e state.new) }

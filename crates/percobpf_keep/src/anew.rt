@@ -1,13 +1,14 @@
 //! A log that is compacted before any line, also for another manifest than its own.
-ghost use Rattle.std.specs.Prelude.{◌≡◌, ◌≤◌, ◌<◌, ◌+◌, ◌^◌, length, string_bytes, IfOk, IfSome, IsTrue};
+ghost use Rattle.std.specs.Prelude.{◌≡◌, ◌≤◌, ◌<◌, ◌+◌, ◌++◌, ◌^◌, ℕ, List, Some, true, length, slice_get, string_bytes, IfNone, IfOk, IfSome, Ok, OnOk, IsTrue};
 ghost use Rattle.sqlite_disk.specs.Disk.{Only};
 ghost use Rattle.pb_base.specs.declared.limits.TheConstants.{MAX_OBSERVERS};
 ghost use Rattle.pb_generations.specs.Chosen.{AreChosen};
 ghost use Rattle.pb_keeper.specs.Keeps.{opened_table};
 ghost use Rattle.pb_keeper.specs.Stats.{kept_table};
 ghost use Rattle.pb_verify.specs.Observers.{ObserverOf};
-ghost use Rattle.pb_keeper.specs.Choosing.{IsOneOf};
+ghost use Rattle.pb_keeper.specs.Choosing.{IsOneOf, IsSplit};
 ghost use Rattle.pb_keep.specs.Waits.{IsWaiting};
+ghost use Rattle.pb_registry.specs.Judging.{ReadsManifest};
 
 use crate::compact::compact;
 use crate::file::open_file;
@@ -54,7 +55,8 @@ fn places_in(
     }
 }
 
-// Goes on with these observers, which the table has, and then with others. Returns how many runs these had.
+// Goes on with these observers, which the table has, and then with others. Returns how many runs were committed
+// while these caught up.
 fn change_observers<R: Wait>(
     waits: &R,
     alloc: Global,
@@ -68,6 +70,8 @@ fn change_observers<R: Wait>(
         → IsOneOf keeper.old.state.observers o → ⊥ }
     ensures log { keeper.new.log ≡ keeper.old.log }
     ensures waiting { keeper.new.waiting ≡ keeper.old.waiting }
+    ensures observers { OnOk result
+        (keeper.new.state.observers ≡ staying.items ++ added.items) }
 {
     let places = places_in(alloc, keeper, &staying, names)?;
     let state = new_state(alloc, staying)?;
@@ -75,7 +79,7 @@ fn change_observers<R: Wait>(
 }
 
 // Goes on with those of these observers that the table has, and then with the others, which catch up. Prints how many these are, how
-// many runs they had, and how many observers are gone.
+// many runs were committed meanwhile, and how many observers are gone.
 fn observe_others<R: Wait>(
     waits: &R,
     rt: &HostRuntime,
@@ -86,6 +90,9 @@ fn observe_others<R: Wait>(
     requires few { length observers.items ≤ MAX_OBSERVERS }
     ensures log { keeper.new.log ≡ keeper.old.log }
     ensures waiting { keeper.new.waiting ≡ keeper.old.waiting }
+    ensures observers { OnOk result ((known others : List ObserverOf)
+        × IsSplit keeper.old.state.observers observers.items known others
+        × (keeper.new.state.observers ≡ known ++ others)) }
 {
     let alloc = rt.alloc();
     let before = keeper.state.observers().len();
@@ -96,7 +103,23 @@ fn observe_others<R: Wait>(
     Ok(())
 }
 
-// Brings the observers of the table into the order of this manifest, which has the same.
+// Whether these are the places of all observers of a table that has so many, in their order.
+fn are_all_in_order(places: &[usize], many: usize) -> bool
+    ensures all { result ≡ true → length places.now ≡ many }
+    ensures order { result ≡ true → (n p : ℕ) → slice_get places.now n ≡ Some p → p ≡ n }
+{
+    if places.len() != many {
+        return false;
+    }
+    for (number, place) in places.iter().enumerate() {
+        if *place != number {
+            return false;
+        }
+    }
+    true
+}
+
+// Brings the observers of the table into the order of this manifest, which has the same. Then they are those of the manifest.
 fn order_observers<R: Wait>(
     waits: &R,
     alloc: Global,
@@ -106,13 +129,42 @@ fn order_observers<R: Wait>(
 ) -> Result<()>
     ensures log { keeper.new.log ≡ keeper.old.log }
     ensures waiting { keeper.new.waiting ≡ keeper.old.waiting }
+    ensures manifest { OnOk result
+        (ReadsManifest manifest.now (Ok keeper.new.state.observers)) }
 {
     let observers = observers_of(alloc, manifest)?;
     let places = places_in(alloc, keeper, &observers, names)?;
-    if !places.is_sorted() {
-        change_observers(waits, alloc, keeper, observers, Vec::new(alloc), names)?;
+    if are_all_in_order(&places, keeper.state.observers().len()) {
+        return Ok(());
     }
+    change_observers(waits, alloc, keeper, observers, Vec::new(alloc), names)?;
     Ok(())
+}
+
+// Goes on with the observers of this manifest, if it is another than the one whose observers the table has.
+fn observe_manifest<R: Wait>(
+    waits: &R,
+    rt: &HostRuntime,
+    keeper: &mut Kept,
+    manifest: &str,
+    observers: Option<Vec<Observer>>,
+    names: &Names,
+) -> Result<()>
+    requires few { IfSome observers (λ v. length v.items ≤ MAX_OBSERVERS) }
+    requires same { IfNone observers
+        (ReadsManifest manifest.now (Ok keeper.old.state.observers)) }
+    ensures log { keeper.new.log ≡ keeper.old.log }
+    ensures waiting { keeper.new.waiting ≡ keeper.old.waiting }
+    ensures manifest { OnOk result
+        (ReadsManifest manifest.now (Ok keeper.new.state.observers)) }
+{
+    match observers {
+        Some(observers) => {
+            observe_others(waits, rt, keeper, observers, names)?;
+            order_observers(waits, rt.alloc(), keeper, manifest, names)
+        }
+        None => Ok(()),
+    }
 }
 
 // Opens the log with its own manifest, goes on with the observers of this one, if it is another, and compacts it for this manifest.
@@ -134,13 +186,12 @@ fn open_and_compact<R: Wait>(
     requires opened { kept_table keeper.old.state keeper.old.stats.items
         ≡ opened_table keeper.old.state.observers }
     requires waiting { IsWaiting keeper.old.waiting }
+    requires own_manifest { ReadsManifest own.now (Ok keeper.old.state.observers) }
+    requires same { IfNone observers (own.now ≡ manifest.now) }
 {
     let found = open_log(waits, rt.alloc(), keeper, own)?;
     print!(rt; "open {found}\n")?;
-    if let Some(observers) = observers {
-        observe_others(waits, rt, keeper, observers, names)?;
-        order_observers(waits, rt.alloc(), keeper, manifest, names)?;
-    }
+    observe_manifest(waits, rt, keeper, manifest, observers, names)?;
     match compact(waits, rt, keeper, manifest, names)? {
         Ok(versions) => {
             print!(rt; "compacted {versions}\n")?;
@@ -166,6 +217,7 @@ fn compact_file<R: Wait>(
     requires usable { IsTrue (⟦<FileFrom<Unknown> as Disk>⟧.is_usable disk) }
     requires restarted { Only (⟦<FileFrom<Unknown> as Disk>⟧.seen disk)
         (⟦<FileFrom<Unknown> as Disk>⟧.may_leave disk) }
+    requires same { IfNone observers (own.now ≡ manifest.now) }
 {
     let mut keeper = new_keeper(rt.alloc(), own, disk)?;
     let done = open_and_compact(waits, rt, &mut keeper, own, manifest, observers, names);

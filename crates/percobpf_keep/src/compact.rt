@@ -1,9 +1,11 @@
 //! A log that begins with a snapshot, put in the place of one that has each change ever made.
-ghost use Rattle.std.specs.Prelude.{◌≡◌, ◌<◌, ◌^◌, length, IfOk, OnOk, IsTrue};
+ghost use Rattle.std.specs.Prelude.{◌≡◌, ◌<◌, ◌^◌, length, IfOk, Ok, OnOk, IsTrue};
 ghost use Rattle.sqlite_disk.specs.Disk.{Only};
 ghost use Rattle.pb_keeper.specs.Keeps.{opened_table};
 ghost use Rattle.pb_keeper.specs.Stats.{kept_table};
+ghost use Rattle.pb_keep.specs.Anew.{BeginsAnew};
 ghost use Rattle.pb_keep.specs.Waits.{IsWaiting};
+ghost use Rattle.pb_registry.specs.Judging.{ReadsManifest};
 
 use crate::file::open_file;
 use crate::names::{Names, make_new_file, put_in_place, remove_new};
@@ -14,6 +16,7 @@ use pb_log::Log;
 use pb_memtablet::ListTablet;
 use sqlite_disk::{Disk, Unknown};
 use sqlite_std_file::FileFrom;
+use std::alloc::Global;
 use std::mem;
 use std::sync::Wait;
 
@@ -33,7 +36,29 @@ fn is_refused(fault: &SnapshotFault) -> bool {
     )
 }
 
-// Begins the new log with a snapshot of the table. Returns how many versions it has, or why such a table can't be compacted.
+// Begins this log with the manifest of the table's observers and a snapshot of the table. Returns how many versions it has, or why
+// such a table can't be compacted.
+fn write_log<D: Disk + Drop>(
+    alloc: Global,
+    keeper: &Kept,
+    log: &mut Log<D>,
+    manifest: &str,
+) -> Result<Result<usize, SnapshotFault>>
+    requires usable { IsTrue (D.is_usable log.old.disk) }
+    requires restarted { Only (D.seen log.old.disk) (D.may_leave log.old.disk) }
+    requires short { length manifest.now < 2 ^ 31 }
+    requires manifest { ReadsManifest manifest.now (Ok keeper.now.state.observers) }
+    ensures begun { IfOk result (λ wrote. IfOk wrote (λ n. IsTrue (D.is_clean log.new.disk)
+        → BeginsAnew manifest.now (kept_table keeper.now.state keeper.now.stats.items) n
+        (D.seen log.new.disk) (D.may_leave log.new.disk) log.new.end)) }
+{
+    match keeper.snapshot_into(alloc, log, manifest.as_bytes()) {
+        Err(fault) if !is_refused(&fault) => Err(fault.into()),
+        wrote => Ok(wrote),
+    }
+}
+
+// The same, in the file of the new log.
 fn write_new(
     rt: &HostRuntime,
     keeper: &Kept,
@@ -41,13 +66,11 @@ fn write_new(
     names: &Names,
 ) -> Result<Result<usize, SnapshotFault>>
     requires short { length manifest.now < 2 ^ 31 }
+    requires manifest { ReadsManifest manifest.now (Ok keeper.now.state.observers) }
 {
     make_new_file(rt, names)?;
     let mut log = Log::new(open_file(rt, names.new.as_str())?);
-    match keeper.snapshot_into(rt.alloc(), &mut log, manifest.as_bytes()) {
-        Err(fault) if !is_refused(&fault) => Err(fault.into()),
-        wrote => Ok(wrote),
-    }
+    write_log(rt.alloc(), keeper, &mut log, manifest)
 }
 
 // Opens the new log as any other, to see that it can be opened, and puts it in the place of the old one.
@@ -63,8 +86,11 @@ fn open_new<R: Wait, D: Disk + Drop>(
     requires short { length manifest.now < 2 ^ 31 }
     requires opened { kept_table keeper.old.state keeper.old.stats.items
         ≡ opened_table keeper.old.state.observers }
+    requires manifest { ReadsManifest manifest.now (Ok keeper.old.state.observers) }
     ensures usable { OnOk result (IsTrue (D.is_usable keeper.new.log.disk)) }
     ensures waiting { keeper.new.waiting ≡ keeper.old.waiting }
+    ensures observers { OnOk result
+        (keeper.new.state.observers ≡ keeper.old.state.observers) }
 {
     if open_log(waits, rt.alloc(), keeper, manifest)? != 0 {
         bail!("the new log has changes");
@@ -78,6 +104,7 @@ fn try_new<R: Wait>(waits: &R, rt: &HostRuntime, manifest: &str, names: &Names) 
     ensures usable { IfOk result (λ k.
         IsTrue (⟦<FileFrom<Unknown> as Disk>⟧.is_usable k.log.disk)) }
     ensures waiting { IfOk result (λ k. IsWaiting k.waiting) }
+    ensures manifest { IfOk result (λ k. ReadsManifest manifest.now (Ok k.state.observers)) }
 {
     let db = open_file(rt, names.new.as_str())?;
     let mut keeper = new_keeper(rt.alloc(), manifest, db)?;
@@ -98,9 +125,12 @@ fn make_new<R: Wait>(
     names: &Names,
 ) -> Result<Result<NewLog, SnapshotFault>>
     requires short { length manifest.now < 2 ^ 31 }
+    requires manifest { ReadsManifest manifest.now (Ok keeper.now.state.observers) }
     ensures usable { IfOk result (λ made. IfOk made (λ new.
         IsTrue (⟦<FileFrom<Unknown> as Disk>⟧.is_usable new.keeper.log.disk))) }
     ensures waiting { IfOk result (λ made. IfOk made (λ new. IsWaiting new.keeper.waiting)) }
+    ensures manifest { IfOk result (λ made. IfOk made (λ new.
+        ReadsManifest manifest.now (Ok new.keeper.state.observers))) }
 {
     let versions = match write_new(rt, keeper, manifest, names)? {
         Ok(versions) => versions,
@@ -111,6 +141,7 @@ fn make_new<R: Wait>(
 }
 
 /// Puts a log that begins with a snapshot of the table in the place of its log, and goes on with the table that the new log has.
+/// The new log has this manifest, which is the one of the table's observers, before and after.
 /// Returns how many versions the snapshot has, or why such a table can't be compacted: then all is as it was.
 pub(crate) fn compact<R: Wait>(
     waits: &R,
@@ -122,9 +153,12 @@ pub(crate) fn compact<R: Wait>(
     requires short { length manifest.now < 2 ^ 31 }
     requires usable { IsTrue (⟦<FileFrom<Unknown> as Disk>⟧.is_usable keeper.old.log.disk) }
     requires waiting { IsWaiting keeper.old.waiting }
+    requires manifest { ReadsManifest manifest.now (Ok keeper.old.state.observers) }
     ensures usable { OnOk result
         (IsTrue (⟦<FileFrom<Unknown> as Disk>⟧.is_usable keeper.new.log.disk)) }
     ensures waiting { OnOk result (IsWaiting keeper.new.waiting) }
+    ensures manifest { OnOk result
+        (ReadsManifest manifest.now (Ok keeper.new.state.observers)) }
 {
     remove_new(rt, names)?;
     let why = match make_new(waits, rt, keeper, manifest, names) {

@@ -1,9 +1,10 @@
 //! Lines that are served, and compactions in between.
-ghost use Rattle.std.specs.Prelude.{◌≡◌, ◌<◌, ◌^◌, length, OnOk, IsTrue};
+ghost use Rattle.std.specs.Prelude.{◌≡◌, ◌<◌, ◌^◌, length, Ok, OnOk, IsTrue};
 ghost use Rattle.sqlite_disk.specs.Disk.{Only};
 ghost use Rattle.pb_keeper.specs.Keeps.{opened_table};
 ghost use Rattle.pb_keeper.specs.Stats.{kept_table};
 ghost use Rattle.pb_keep.specs.Waits.{IsWaiting};
+ghost use Rattle.pb_registry.specs.Judging.{ReadsManifest};
 
 use crate::compact::compact;
 use crate::file::{make_log, open_file};
@@ -40,9 +41,12 @@ fn answer_compact<R: Wait, S: Sink>(
     requires short { length manifest.now < 2 ^ 31 }
     requires usable { IsTrue (⟦<FileFrom<Unknown> as Disk>⟧.is_usable keeper.old.log.disk) }
     requires waiting { IsWaiting keeper.old.waiting }
+    requires manifest { ReadsManifest manifest.now (Ok keeper.old.state.observers) }
     ensures usable { OnOk result
         (IsTrue (⟦<FileFrom<Unknown> as Disk>⟧.is_usable keeper.new.log.disk)) }
     ensures waiting { OnOk result (IsWaiting keeper.new.waiting) }
+    ensures manifest { OnOk result
+        (ReadsManifest manifest.now (Ok keeper.new.state.observers)) }
 {
     match compact(waits, rt, keeper, manifest, names)? {
         Ok(versions) => {
@@ -68,9 +72,12 @@ fn compact_large<R: Wait>(
     requires short { length manifest.now < 2 ^ 31 }
     requires usable { IsTrue (⟦<FileFrom<Unknown> as Disk>⟧.is_usable keeper.old.log.disk) }
     requires waiting { IsWaiting keeper.old.waiting }
+    requires manifest { ReadsManifest manifest.now (Ok keeper.old.state.observers) }
     ensures usable { OnOk result
         (IsTrue (⟦<FileFrom<Unknown> as Disk>⟧.is_usable keeper.new.log.disk)) }
     ensures waiting { OnOk result (IsWaiting keeper.new.waiting) }
+    ensures manifest { OnOk result
+        (ReadsManifest manifest.now (Ok keeper.new.state.observers)) }
 {
     match compact(waits, rt, keeper, manifest, names)? {
         Ok(_) => Ok(true),
@@ -96,6 +103,7 @@ fn serve_lines<R: Wait>(
     requires short { length manifest.now < 2 ^ 31 }
     requires usable { IsTrue (⟦<FileFrom<Unknown> as Disk>⟧.is_usable keeper.old.log.disk) }
     requires waiting { IsWaiting keeper.old.waiting }
+    requires manifest { ReadsManifest manifest.now (Ok keeper.old.state.observers) }
 {
     let alloc = rt.alloc();
     let mut out = Out::new(rt.stdout());
@@ -135,6 +143,7 @@ fn open_and_serve<R: Wait>(
     requires opened { kept_table keeper.old.state keeper.old.stats.items
         ≡ opened_table keeper.old.state.observers }
     requires waiting { IsWaiting keeper.old.waiting }
+    requires manifest { ReadsManifest manifest.now (Ok keeper.old.state.observers) }
 {
     let found = open_log(waits, rt.alloc(), keeper, manifest)?;
     if (keeper.log.end as u64) < least {

@@ -1,11 +1,12 @@
 //! The table that is kept, from the manifest's text to the changes of its log.
-ghost use Rattle.std.specs.Prelude.{◌≡◌, ◌≤◌, ◌<◌, ◌^◌, length, string_bytes, IfOk, OnOk, IsTrue};
+ghost use Rattle.std.specs.Prelude.{◌≡◌, ◌≤◌, ◌<◌, ◌^◌, length, string_bytes, IfOk, Ok, OnOk, IsTrue};
 ghost use Rattle.pb_base.specs.declared.limits.TheConstants.{MAX_OBSERVERS};
 ghost use Rattle.pb_store.specs.Contents.{nothing};
 ghost use Rattle.pb_steps.specs.State.{opening};
 ghost use Rattle.pb_keeper.specs.Keeps.{opened_table};
 ghost use Rattle.pb_keeper.specs.Stats.{kept_table};
 ghost use Rattle.pb_keep.specs.Waits.{IsWaiting};
+ghost use Rattle.pb_registry.specs.Judging.{ReadsManifest};
 ghost use Rattle.sqlite_disk.specs.Disk.{Only};
 
 use anyhow::{Result, bail};
@@ -40,7 +41,8 @@ pub(crate) fn short_text(text: String) -> Result<String>
 
 /// The observers of a manifest. That they are few enough for a table is promised by `Registry::from_json`.
 pub(crate) fn observers_of(alloc: Global, manifest: &str) -> Result<Vec<Observer>>
-    ensures { IfOk result (λ v. length v.items ≤ MAX_OBSERVERS) }
+    ensures few { IfOk result (λ v. length v.items ≤ MAX_OBSERVERS) }
+    ensures read { IfOk result (λ v. ReadsManifest manifest.now (Ok v.items)) }
 {
     match Registry::from_json(alloc, manifest)?.into_observers(alloc) {
         Ok(observers) => Ok(observers),
@@ -68,7 +70,7 @@ pub(crate) fn new_state(alloc: Global, observers: Vec<Observer>) -> Result<State
     Ok(State::new(alloc, table(alloc)?, observers, 1, Ts(0)))
 }
 
-/// A keeper of a table with no entry, over this disk.
+/// A keeper of a table with no entry and the observers of this manifest, over this disk.
 pub(crate) fn new_keeper<D: Disk + Drop>(
     alloc: Global,
     manifest: &str,
@@ -77,6 +79,7 @@ pub(crate) fn new_keeper<D: Disk + Drop>(
     ensures disk { IfOk result (λ k. k.log.disk ≡ disk) }
     ensures opened { IfOk result (λ k. kept_table k.state k.stats.items
         ≡ opened_table k.state.observers) }
+    ensures manifest { IfOk result (λ k. ReadsManifest manifest.now (Ok k.state.observers)) }
     ensures waiting { IfOk result (λ k. IsWaiting k.waiting) }
 {
     let observers = observers_of(alloc, manifest)?;
@@ -85,7 +88,7 @@ pub(crate) fn new_keeper<D: Disk + Drop>(
     Ok(Keeper::new(alloc, disk, state, stats))
 }
 
-/// Opens the log, and returns how many changes it has.
+/// Opens the log of this manifest, whose observers the table has, and returns how many changes it has.
 pub(crate) fn open_log<R: Wait, D: Disk + Drop>(
     waits: &R,
     alloc: Global,
@@ -97,8 +100,11 @@ pub(crate) fn open_log<R: Wait, D: Disk + Drop>(
     requires short { length manifest.now < 2 ^ 31 }
     requires opened { kept_table keeper.old.state keeper.old.stats.items
         ≡ opened_table keeper.old.state.observers }
+    requires manifest { ReadsManifest manifest.now (Ok keeper.old.state.observers) }
     ensures usable { OnOk result (IsTrue (D.is_usable keeper.new.log.disk)) }
     ensures waiting { keeper.new.waiting ≡ keeper.old.waiting }
+    ensures observers { OnOk result
+        (keeper.new.state.observers ≡ keeper.old.state.observers) }
 {
     Ok(keeper.open(waits, alloc, manifest.as_bytes())?)
 }

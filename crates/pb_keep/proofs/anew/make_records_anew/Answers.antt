@@ -1,4 +1,4 @@
-use Rattle.std.proofs.Common.{◌≡◌, ◌+◌, ◌++◌, length, [], map, ap, sym, subst, ◌∙◌, arith}
+use Rattle.std.proofs.Common.{◌≡◌, ◌+◌, ◌++◌, length, [], map, ap, refl, sym, subst, ◌∙◌, arith}
 use Rattle.std.specs.Vec.Iter.{into_iter_items}
 use Rattle.pb_keep.specs.Words.{Keeps, kept_table, script_of}
 use Rattle.pb_keep.specs.Kept.{changes_of, reported_count}
@@ -11,6 +11,7 @@ pub loop-record-init : goal.loop-record-init
 loop-record-init g c = record {
   parts = grind (arith, c.into_iter-record-iterator.ensures.into_iter_gives);
   counted = grind (arith, c.into_iter-record-iterator.ensures.into_iter_gives);
+  same = refl;
   keeps = ([], no_changes, λ first changes k. subst (λ l. Keeps first l (kept_table c.args.state.now c.args.stats.now.items)) (sym (append-nil changes)) k, grind arith);
 }
 
@@ -18,6 +19,7 @@ pub loop-record-preserved : goal.loop-record-preserved
 loop-record-preserved g c = record {
   parts = grind (arith, append_assoc, c.loop-record.invariant.parts, c.in-Some.ensures.steps);
   counted = grind (arith, c.loop-record.invariant.counted, c.in-Some.ensures.steps);
+  same = c.in_ok-made.ensures.observers ∙ c.loop-record.invariant.same;
   keeps =
       let i = c.loop-record.invariant.keeps in
       let m = c.in_ok-made.ensures.keeps in (

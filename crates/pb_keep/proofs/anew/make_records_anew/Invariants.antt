@@ -9,6 +9,7 @@ abbrev pub invariant-loop-record : goal.invariant-loop-record
 invariant-loop-record g l = record {
   parts : l.fn.records.items ≡ l.yielded ++ into_iter_items l.record-iterator;
   counted : into_iter_len l.record-iterator ≡ length (into_iter_items l.record-iterator);
+  same : l.state.observers ≡ l.initial.state.observers;
   keeps : (more : List Writes) × (changes_of (map (λ v. v.items) l.yielded) ≡ Ok more)
       × ((first : KeptTable) (changes : List Writes) → Keeps first changes (kept_table l.initial.state l.initial.stats.items) → Keeps first (changes ++ more) (kept_table l.state l.stats.items)) × (l.count ≡ reported_count (length more));
 }

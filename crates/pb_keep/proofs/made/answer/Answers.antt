@@ -13,7 +13,7 @@ returns-in_ok-push_made-in-Change-clause-answer g c =
       line,
       c.in_ok-push_made-in-Change.ensures.line,
       subst (λ i. IsAnswer i (kept_table c.args.state.now c.args.stats.now.items) (kept_table c.make_counted.new.state c.make_counted.new.stats.items) line) (sym c.in-Change.is)
-          (record { made = made; leads = c.in_ok-made-in-Change.ensures.ok.0; runs = c.in_ok-made-in-Change.ensures.ok.1; quiet = c.in_ok-made-in-Change.ensures.quiet; line = refl }),
+          (record { made = made; leads = c.in_ok-made-in-Change.ensures.ok.0; runs = c.in_ok-made-in-Change.ensures.ok.1; rests = c.in_ok-made-in-Change.ensures.ok.2; quiet = c.in_ok-made-in-Change.ensures.quiet; line = refl }),
     )
 
 pub returns-in_err-made-in-Change-clause-right : goal.returns-in_err-made-in-Change-clause-right

@@ -1,4 +1,4 @@
-use Rattle.std.proofs.Common.{◌≡◌, ◌∷◌, ◌++◌, [], ap, sym, subst, ◌∙◌, arith, Ok, Err, OnErr}
+use Rattle.std.proofs.Common.{◌≡◌, ◌∷◌, ◌++◌, [], refl, ap, sym, subst, ◌∙◌, arith, Ok, Err, OnErr}
 use Rattle.std.specs.Prelude.{string_bytes}
 use Rattle.std.specs.Vec.Iter.{into_iter_items}
 use Rattle.pb_keep.specs.Words.{Keeps, kept_table}
@@ -14,6 +14,7 @@ loop-item-init g c = record {
   parts = grind (arith, c.into_iter-item-iterator.ensures.into_iter_gives);
   counted = grind (arith, c.into_iter-item-iterator.ensures.into_iter_gives);
   answers = ([], sym (append-nil (string_bytes c.args.text.now)), AreAnswers.none (kept_table c.args.state.now c.args.stats.now.items));
+  same = refl;
   keeps = λ first changes k. subst (λ l. Keeps first l (kept_table c.args.state.now c.args.stats.now.items)) (sym (append-nil changes)) k;
 }
 
@@ -28,6 +29,7 @@ loop-item-preserved g c = record {
         a.1 ∙ ap (λ l. l ++ a.0) i.1 ∙ append_assoc (string_bytes c.args.text.now) i.0 a.0,
         AreAnswers.one_more c.loop-item.yielded c.in-Some.item (kept_table c.args.state.now c.args.stats.now.items) (kept_table c.loop-item.state c.loop-item.stats.items) (kept_table c.answer.new.state c.answer.new.stats.items) i.0 a.0 i.2 a.2,
       );
+  same = c.in_ok-answer.ensures.observers ∙ c.loop-item.invariant.same;
   keeps = λ first changes k.
       let is : changes ++ changes_in (c.loop-item.yielded ++ c.in-Some.item ∷ []) ≡ (changes ++ changes_in c.loop-item.yielded) ++ changes_in (c.in-Some.item ∷ []) =
       ap (λ l. changes ++ l) (changes_of_both c.loop-item.yielded (c.in-Some.item ∷ [])) ∙ sym (append_assoc changes (changes_in c.loop-item.yielded) (changes_in (c.in-Some.item ∷ []))) in

@@ -11,5 +11,6 @@ invariant-loop-item g l = record {
   parts : l.fn.items.items ≡ l.yielded ++ into_iter_items l.item-iterator;
   counted : into_iter_len l.item-iterator ≡ length (into_iter_items l.item-iterator);
   answers : (more : List ℕ) × (string_bytes l.text ≡ string_bytes l.initial.text ++ more) × AreAnswers l.yielded (kept_table l.initial.state l.initial.stats.items) (kept_table l.state l.stats.items) more;
+  same : l.state.observers ≡ l.initial.state.observers;
   keeps : (first : KeptTable) (changes : List Writes) → Keeps first changes (kept_table l.initial.state l.initial.stats.items) → Keeps first (changes ++ changes_in l.yielded) (kept_table l.state l.stats.items);
 }

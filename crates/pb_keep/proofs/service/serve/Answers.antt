@@ -15,6 +15,7 @@ loop-turn-init g c = record {
   usable = c.requires.usable;
   waiting = c.requires.waiting;
   faultless = refl;
+  same = refl;
   served = λ b lines s. serves_read_none (reader_remaining g.I.Read.remaining c.args.input.now) s;
 }
 
@@ -23,6 +24,7 @@ loop-turn-preserved g c = record {
   usable = c.in_ok-went.ensures.usable;
   waiting = c.in_ok-went.ensures.waiting;
   faultless = c.in_ok-went.ensures.faultless ∙ c.loop-turn.invariant.faultless;
+  same = c.in_ok-went.ensures.observers ∙ c.loop-turn.invariant.same;
   served = λ b lines s.
       let before = c.loop-turn.invariant.served b lines s in
       let from = reader_remaining g.I.Read.remaining c.loop-turn.input in

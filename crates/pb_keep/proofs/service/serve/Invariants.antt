@@ -11,6 +11,7 @@ invariant-loop-turn g l = record {
   usable : IsTrue (g.D.Disk.is_usable l.keeper.log.disk);
   waiting : IsWaiting l.keeper.waiting;
   faultless : g.D.Disk.faults l.keeper.log.disk ≡ g.D.Disk.faults l.initial.keeper.log.disk;
+  same : l.keeper.state.observers ≡ l.initial.keeper.state.observers;
   served : (b : Beginning) (lines : List (List ℕ)) → Serves b lines (keeper_view g.D.Disk.seen g.D.Disk.may_leave l.initial.keeper (g.S.Sink.taken l.initial.out))
       → ServesRead b lines (reader_remaining g.I.Read.remaining l.initial.input) (reader_remaining g.I.Read.remaining l.input) (keeper_view g.D.Disk.seen g.D.Disk.may_leave l.keeper (g.S.Sink.taken l.out));
 }

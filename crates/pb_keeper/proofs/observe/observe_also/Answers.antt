@@ -15,7 +15,7 @@ pub returns-in-Ok-clause-caught_up : goal.returns-in-Ok-clause-caught_up
 returns-in-Ok-clause-caught_up g c =
     rw (with_items_is c.add_all.new.stats c.drain.new.stats (search (rules, places)))
     (IfOk-weaker c.drain.result _ _
-    (λ d p. (caught c.args.more.items (kept_table c.args.state.now c.args.stats.now.items) c.add_all.new.state c.drain.new.state c.deref_mut.result.now c.drain.new.stats c.in-Ok.ensures.observed (c.deref_mut.ensures.value ∙ c.in-Ok.ensures.stats) p.0, p.1)) c.drain.ensures.ok)
+    (λ d p. (caught c.args.more.items (kept_table c.args.state.now c.args.stats.now.items) c.add_all.new.state c.drain.new.state c.deref_mut.result.now c.drain.new.stats c.in-Ok.ensures.observed (c.deref_mut.ensures.value ∙ c.in-Ok.ensures.stats) p.0, p.1, p.2)) c.drain.ensures.ok)
 
 pub returns-in-Ok-clause-begins : goal.returns-in-Ok-clause-begins
 returns-in-Ok-clause-begins g c past changes first old places front began k quiet room is =

@@ -1,4 +1,4 @@
-use Rattle.std.proofs.Common.{arith, List, [], ◌∷◌, ◌++◌, subst}
+use Rattle.std.proofs.Common.{arith, List, [], ◌∷◌, ◌++◌, ◌∙◌, subst}
 use Rattle.pb_keeper.specs.Keeps.{Keeps}
 use Rattle.pb_keeper.specs.Stats.{kept_table}
 use Rattle.std.proofs.lemmas.List.{append_assoc}
@@ -12,6 +12,7 @@ loop-batch-preserved g c = record {
   ends = tt;
   parts = grind (arith, append_assoc, c.loop-batch.invariant.parts, c.in-Some.ensures.steps);
   counted = grind (arith, c.loop-batch.invariant.counted, c.in-Some.ensures.steps);
+  same = c.in_ok-make.ensures.observers ∙ c.loop-batch.invariant.same;
   keeps = λ first changes k.
       subst (λ (l : List Writes). Keeps first l (kept_table c.make.new.state c.make.new.stats)) (append_assoc changes c.loop-batch.yielded (c.in-Some.batch ∷ []))
       (c.in_ok-make.ensures.keeps first (changes ++ c.loop-batch.yielded) (c.loop-batch.invariant.keeps first changes k));
