@@ -1,4 +1,4 @@
-//! What other languages call in their own process: a static library, `percobpf_api.h` its header. Each export is a function of
+//! The exports for C: a static library, with `percobpf_api.h` as its header. Each export is a function of
 //! `pb_api` under a name of C, which says what it answers.
 //!
 //! **Pointers.** Nothing checks C: a pointer isn't null, also where its length is 0, as many bytes as its length says may be
