@@ -99,8 +99,8 @@ impl<T: Tablet, D: Disk + Drop> Keeper<T, D> {
     }
 
     /// Begins a new log of this manifest with a snapshot of the table, which has to be quiet: the newest version of each cell.
-    /// Returns how many versions it has. The keeper's own log is left as it is. That the manifest is the one of the table's
-    /// observers is for the caller.
+    /// Returns how many versions it has. The keeper's own log is left as it is. The caller has to
+    /// give the manifest of the table's observers.
     pub fn snapshot_into<E: Disk + Drop>(
         &self,
         alloc: Global,

@@ -69,7 +69,8 @@ impl<T: Tablet, D: Disk + Drop> Keeper<T, D> {
 
     /// Goes on with the observers at these places, which keep what they have acknowledged, and then with others, and makes passes
     /// until these have handled all that was ever written to their columns, or so many passes as may be made. Returns how many
-    /// runs were committed in these passes, of whatever observer. The table has to be quiet. What its other observers have acknowledged isn't kept.
+    /// runs were committed in these passes, by any observer. Whether a mark is left isn't returned: the next call that wants a
+    /// quiet table is refused then. The table has to be quiet. What its other observers have acknowledged isn't kept.
     ///
     /// The state is empty, as opened with the observers that stay. It takes the place of the keeper's, which is closed. If the
     /// call fails before that, the given state is closed instead.

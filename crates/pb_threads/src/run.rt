@@ -304,8 +304,8 @@ fn run_held<R: Threads + Wait + Sync, T: Tablet + Send, J: Opening + Send + Sync
 ///
 /// While they run, the caller's thread swaps the spares in, each at its place, in the order of their list, and ends
 /// the emptied tablets that come back. A spare that [`Shared::swap`] refuses is ended too, and the other swaps and the
-/// passes go on; the first such refusal is that of the first seat, before any of its passes. Swaps don't pass the
-/// gate.
+/// passes go on, which no clause states, and rows try. The first such refusal is that of the first seat, before any of
+/// its passes. Swaps don't pass the gate.
 ///
 /// Its own growths come first: refused there, it hands everything back and has made no call. What a
 /// worker's seat gained is, in order, whole tries of its changes by number, each change until one
