@@ -119,7 +119,7 @@ fn are_all_in_order(places: &[usize], many: usize) -> bool
     true
 }
 
-// Brings the observers of the table into the order of this manifest, which has the same. Then they are those of the manifest.
+// Brings the observers of the table into the order of this manifest. It has the same ones, since others were added before.
 fn order_observers<R: Wait>(
     waits: &R,
     alloc: Global,

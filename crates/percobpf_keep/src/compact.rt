@@ -58,19 +58,27 @@ fn write_log<D: Disk + Drop>(
     }
 }
 
-// The same, in the file of the new log.
+// The same, in the file of the new log. Returns that log too.
 fn write_new(
     rt: &HostRuntime,
     keeper: &Kept,
     manifest: &str,
     names: &Names,
-) -> Result<Result<usize, SnapshotFault>>
+) -> Result<Result<(Log<FileFrom<Unknown>>, usize), SnapshotFault>>
     requires short { length manifest.now < 2 ^ 31 }
     requires manifest { ReadsManifest manifest.now (Ok keeper.now.state.observers) }
+    ensures begun { IfOk result (λ wrote. IfOk wrote (λ w.
+        IsTrue (⟦<FileFrom<Unknown> as Disk>⟧.is_clean w.0.disk)
+        → BeginsAnew manifest.now (kept_table keeper.now.state keeper.now.stats.items) w.1
+        (⟦<FileFrom<Unknown> as Disk>⟧.seen w.0.disk)
+        (⟦<FileFrom<Unknown> as Disk>⟧.may_leave w.0.disk) w.0.end)) }
 {
     make_new_file(rt, names)?;
     let mut log = Log::new(open_file(rt, names.new.as_str())?);
-    write_log(rt.alloc(), keeper, &mut log, manifest)
+    match write_log(rt.alloc(), keeper, &mut log, manifest)? {
+        Ok(versions) => Ok(Ok((log, versions))),
+        Err(why) => Ok(Err(why)),
+    }
 }
 
 // Opens the new log as any other, to see that it can be opened, and puts it in the place of the old one.
@@ -132,8 +140,9 @@ fn make_new<R: Wait>(
     ensures manifest { IfOk result (λ made. IfOk made (λ new.
         ReadsManifest manifest.now (Ok new.keeper.state.observers))) }
 {
+    // The log is closed before it is opened as any other.
     let versions = match write_new(rt, keeper, manifest, names)? {
-        Ok(versions) => versions,
+        Ok((_log, versions)) => versions,
         Err(why) => return Ok(Err(why)),
     };
     let keeper = try_new(waits, rt, manifest, names)?;

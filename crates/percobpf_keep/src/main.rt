@@ -35,8 +35,8 @@ line of standard input is answered: `put ROW COL HEX; ..`, `del ROW COL; ..`, `i
 
 With --compact, a log that begins with a snapshot of the table is put in the place of LOG, if nothing is left to do. It has the
 newest version of each cell, and takes the place that these want. MANIFEST may have other observers than LOG: new ones run for all
-that was written before, and those of both go on. With --compact-at, LOG is compacted while lines are answered, where it has at
-least BYTES bytes and twice as many as after the last time.
+that was written before, those of both go on, and the others are gone. With --compact-at, LOG is compacted while lines are
+answered, where it has at least BYTES bytes and twice as many as after the last time.
 ";
 
 const ABOUT_HELP: &str = "two words are wanted, MANIFEST and LOG: `percobpf_keep --help` has more";
