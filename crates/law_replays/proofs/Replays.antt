@@ -5,7 +5,8 @@ use Rattle.std.proofs.lemmas.List.{same_from_push, length_push}
 use Rattle.pb_base.specs.Cell.{cell_cmp_total, cell_cmp-IsAntisymmetric}
 use Rattle.pb_base.proofs.Logic.{none_some, one_value, some_none}
 use Rattle.pb_steps.specs.Marks.{is_marked}
-use Rattle.pb_conversations.specs.Laws.{AsksNoMore, IsDetermined}
+use Rattle.pb_conversations.specs.Conversations.{AsksNoMore}
+use Rattle.pb_conversations.specs.Laws.{IsDetermined}
 use Rattle.pb_conversations.proofs.Deciding.{wholes_once}
 use Rattle.pb_conversations.proofs.Joining.{end_there}
 use Rattle.pb_conversations.proofs.OneOutcome.{EndsOn, last_part, part_first, end_goes_on, AreOne, with_result, HaveOneOutcome, joined_once, ends_once}
@@ -111,7 +112,7 @@ module _ (once : StepsHaveOneOutcome) (keeps : StepsKeepSound) where
     run_is_once : (n : ℕ) (x : Cell) → HappenOnce (IsRun observers n x) (IsRun observers n x)
     run_is_once n x said more m a b f g =
         let same : g.o ≡ f.o = one_value (slice_get observers n) g.o f.o g.observer.there f.observer.there in
-        run_once meaning led (watch_of n f.o (row_of x)) (judged n f.o f.observer.there) f.job g.job f.end g.end f.over g.over said more m a b f.reaches (subst (λ (o : ObserverOf). Reaches (job_on n o x) more g.job) same g.reaches)
+        run_once meaning led (watch_of n f.o (row_of x)) (judged n f.o f.observer.there) f.whole.job g.whole.job f.end g.end f.whole.over g.whole.over said more m a b f.whole.reaches (subst (λ (o : ObserverOf). Reaches (job_on n o x) more g.whole.job) same g.whole.reaches)
 
     ran_or_other : (n : ℕ) (x : Cell) (said : List Received) → IsRun observers n x said → IsOfOther observers n x → ⊥
     ran_or_other n x said f g = g.column (ap (λ (o : ObserverOf). o.column) (one_value (slice_get observers n) g.o f.o g.there f.observer.there) ∙ f.observer.column)

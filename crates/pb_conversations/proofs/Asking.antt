@@ -1,12 +1,12 @@
 -- Jobs that do nothing but ask: a conversation from its first step on.
 use Rattle.std.proofs.Common.{◌≡◌, inl, inr, List, [], ◌∷◌, Option, Some, ap, subst, ◌∙◌, sym}
 use Rattle.pb_conversations.specs.Words.{CanAnswer, Answer, Step, Received}
-use Rattle.pb_conversations.specs.Conversations.{JobOf, asking, IsConversation}
+use Rattle.pb_conversations.specs.Conversations.{JobOf, asking_job, IsConversation}
 use Rattle.pb_conversations.proofs.Unfolding.{talk_unfolds}
 
 module _ {S : Type 0} (next : S → Option Step) (answered : S → Answer → S) where
   abbrev job : JobOf S
-  job = asking next answered
+  job = asking_job next answered
 
   -- it said nothing, or asked its first step and went on by the answer
   abbrev pub AsksOn : S → List Received → S → Type 0

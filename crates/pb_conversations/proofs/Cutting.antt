@@ -1,10 +1,11 @@
 -- Parts that were cut off.
-use Rattle.std.proofs.Common.{◌≡◌, ◌≢◌, ◌⊎◌, inl, inr, List, [], ◌∷◌, ◌++◌, refl, sym, ap, subst, ◌∙◌, append-nil}
+use Rattle.std.proofs.Common.{◌≡◌, ◌≢◌, ◌⊎◌, inl, inr, List, [], ◌∷◌, ◌++◌, Some, refl, sym, ap, subst, ◌∙◌, append_assoc, append-nil}
 use Rattle.pb_conversations.specs.Words.{Received}
-use Rattle.pb_conversations.specs.Parts.{IsOfParts, no_part, one_part, EndsIn}
-use Rattle.pb_conversations.specs.Conversations.{JobOf, IsMove, took, went, IsConversation}
-use Rattle.pb_conversations.proofs.Joining.{end_there}
-use Rattle.pb_conversations.specs.Laws.{IsCutOff, PartsAreCut, ConversationsAreCut}
+use Rattle.pb_conversations.specs.Parts.{IsOfParts, no_part, one_part, EndsIn, IsBeginningOf}
+use Rattle.pb_conversations.specs.Conversations.{JobOf, IsMove, took, went, IsConversation, HasAsked, IsWholeFrom}
+use Rattle.pb_conversations.proofs.Joining.{end_there, parts_join}
+use Rattle.pb_conversations.proofs.Unfolding.{conversations_unfold}
+use Rattle.pb_conversations.specs.Laws.{IsCutOff, PartsAreCut, ConversationsAreCut, BeginningsAreCut}
 
 -- ---- lists
 
@@ -80,3 +81,35 @@ module _ {S : Type 0} (job : JobOf S) where
 
   pub conversations_are_cut : ConversationsAreCut job
   conversations_are_cut s u said more talk = cut_there s u (said ++ more) said more talk refl
+
+-- ---- beginnings of whole ones
+
+module _ {S : Type 0} (job : JobOf S) where
+  -- its first steps, and what is left
+  whole_cut : (s : S) (said more : List Received) (w : IsWholeFrom job s (said ++ more)) → (t : S) × IsConversation job s said t × IsConversation job t more w.at
+  whole_cut s said more w =
+      let all : said ++ more ≡ w.before = w.said_is ∙ ap (λ l. w.before ++ l) w.ends.0 ∙ append-nil w.before in
+      conversations_are_cut job s w.at said more (subst (λ l. IsConversation job s l w.at) (sym all) w.parts)
+
+  begins_talk : (s : S) (said : List Received) → IsBeginningOf (IsWholeFrom job s) said → (t : S) × IsConversation job s said t
+  begins_talk s said b = let c = whole_cut s said b.0 b.1 in (c.0, c.1)
+
+  -- cut off before a step, it stands where that is next
+  asked_before : (s : S) (said more : List Received) (r : Received) → IsWholeFrom job s (said ++ r ∷ more) → HasAsked job (IsWholeFrom job s) s (Some r.step) said
+  asked_before s said more r w =
+      let c = whole_cut s said (r ∷ more) w in
+      let first = (conversations_unfold job c.0 w.at (r ∷ more)).0 c.2 in
+      record {
+        at = first.at;
+        talk = subst (λ l. IsConversation job s l first.at) (append-nil said) (parts_join s c.0 first.at said [] c.1 first.went_there);
+        begins = (r ∷ more, w);
+        next_is = sym first.asked;
+      }
+
+  pub beginnings_are_cut : BeginningsAreCut job
+  beginnings_are_cut = record {
+    wholes = λ s said w. ([], subst (IsWholeFrom job s) (sym (append-nil said)) w);
+    cut = λ s said more b. (more ++ b.0, subst (IsWholeFrom job s) (append_assoc said more b.0) b.1);
+    talk = begins_talk;
+    asked = asked_before;
+  }

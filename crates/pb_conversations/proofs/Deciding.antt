@@ -3,8 +3,8 @@ use Rattle.std.proofs.Common.{◌≡◌, List, [], ◌∷◌, ◌++◌, refl, sy
 use Rattle.pb_base.proofs.Logic.{none_some, same_some}
 use Rattle.pb_conversations.specs.Words.{Answer, Step, Received}
 use Rattle.pb_conversations.specs.Parts.{EndsIn, no_part}
-use Rattle.pb_conversations.specs.Conversations.{JobOf, IsMove, took, went, IsConversation}
-use Rattle.pb_conversations.specs.Laws.{AsksNoMore, IsDetermined, AreAnsweredBy, AnswersDecide}
+use Rattle.pb_conversations.specs.Conversations.{JobOf, IsMove, took, went, IsConversation, AsksNoMore}
+use Rattle.pb_conversations.specs.Laws.{IsDetermined, AreAnsweredBy, AnswersDecide}
 use Rattle.pb_conversations.proofs.OneOutcome.{EndsOn, end_goes_on, AreOne, with_result, HaveOneOutcome, ends_once}
 
 module _ {M : Type 0} (Sound : M → Type 0) (Leads : M → List Received → M → Type 0)

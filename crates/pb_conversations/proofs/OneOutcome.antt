@@ -1,4 +1,4 @@
--- Parts of which two from one place have one outcome, on one table, have one all together: the same words, which lead to the same.
+-- Where each part has one outcome from one place on one table, so have all together: the same words, which lead to the same table.
 use Rattle.std.proofs.Common.{◌≡◌, List, ◌++◌, refl, sym, subst, ◌∙◌, append_assoc}
 use Rattle.pb_conversations.specs.Parts.{IsOfParts, no_part, one_part, EndsIn}
 

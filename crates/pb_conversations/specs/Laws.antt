@@ -1,8 +1,8 @@
 -- What holds of all conversations, whatever the job, and of all that comes part after part.
-use Rattle.std.specs.Prelude.{◌≡◌, ◌≢◌, ◌⊎◌, List, [], ◌∷◌, ◌++◌, Some, None}
+use Rattle.std.specs.Prelude.{◌≡◌, ◌≢◌, ◌⊎◌, List, [], ◌∷◌, ◌++◌, Some}
 use Rattle.pb_conversations.specs.Words.{CanAnswer, Answer, Step, Received}
-use Rattle.pb_conversations.specs.Parts.{IsOfParts, EndsIn}
-use Rattle.pb_conversations.specs.Conversations.{JobOf, IsMove, IsConversation}
+use Rattle.pb_conversations.specs.Parts.{IsOfParts, EndsIn, IsBeginningOf}
+use Rattle.pb_conversations.specs.Conversations.{JobOf, HasAsked, IsConversation, IsWholeFrom}
 
 -- ---- parts
 
@@ -40,13 +40,18 @@ Unfolds job s (r ∷ more) u = AsksFirst job s r more u
 abbrev pub ConversationsUnfold : {S : Type 0} → JobOf S → Type 0
 ConversationsUnfold {S} job = (s u : S) (said : List Received) → (IsConversation job s said u → Unfolds job s said u) × (Unfolds job s said u → IsConversation job s said u)
 
--- it may be cut anywhere, since it is cut between a step with its answer and the next: the steps before are one, and what is left
+-- it may be cut anywhere, since it is cut between a step with its answer and the next: the steps before are a conversation, and so is
+-- what is left, from the place to which they led
 abbrev pub ConversationsAreCut : {S : Type 0} → JobOf S → Type 0
 ConversationsAreCut {S} job = (s u : S) (said more : List Received) → IsConversation job s (said ++ more) u → (t : S) × IsConversation job s said t × IsConversation job t more u
 
--- it asks nothing more, and goes nowhere by itself
-abbrev pub AsksNoMore : {S : Type 0} → JobOf S → S → List Received → Type 0
-AsksNoMore {S} job s said = (said ≡ []) × (job.next s ≡ None) × ((t : S) → job.goes s t → ⊥)
+-- A whole conversation is a beginning of one. What is left of a beginning that is cut off is one, and each is a conversation. Where a whole
+-- one is cut off before a step, the job has asked what came before, and asks that step next.
+pub record BeginningsAreCut {S : Type 0} (job : JobOf S) : Type 0 where
+  pub wholes : (s : S) (said : List Received) → IsWholeFrom job s said → IsBeginningOf (IsWholeFrom job s) said
+  pub cut : (s : S) (said more : List Received) → IsBeginningOf (IsWholeFrom job s) (said ++ more) → IsBeginningOf (IsWholeFrom job s) said
+  pub talk : (s : S) (said : List Received) → IsBeginningOf (IsWholeFrom job s) said → (t : S) × IsConversation job s said t
+  pub asked : (s : S) (said more : List Received) (r : Received) → IsWholeFrom job s (said ++ r ∷ more) → HasAsked job (IsWholeFrom job s) s (Some r.step) said
 
 -- each answer leads to one place, and so does what it does by itself, which is nothing where it asks
 pub record IsDetermined {S : Type 0} (job : JobOf S) (s : S) : Type 0 where
@@ -61,4 +66,4 @@ AreAnsweredBy rule said = (front rest : List Received) (r : Received) → said �
 -- two whole conversations of such a job that were answered by one rule are the same, and end at one place
 abbrev pub AnswersDecide : {S : Type 0} → JobOf S → Type 0
 AnswersDecide {S} job = (s : S) → ((t : S) (had : List Received) → IsConversation job s had t → IsDetermined job t) → (rule : List Received → Step → Answer) (said more : List Received)
-    → (e : EndsIn (IsMove job) (AsksNoMore job) s said) → (f : EndsIn (IsMove job) (AsksNoMore job) s more) → AreAnsweredBy rule said → AreAnsweredBy rule more → (said ≡ more) × (e.at ≡ f.at)
+    → (e : IsWholeFrom job s said) → (f : IsWholeFrom job s more) → AreAnsweredBy rule said → AreAnsweredBy rule more → (said ≡ more) × (e.at ≡ f.at)

@@ -1,5 +1,5 @@
 //! What holds of all conversations.
-ghost use Rattle.pb_conversations.specs.Laws.{AnswersDecide, ConversationsAreCut, ConversationsUnfold, PartsAreCut, PartsFollow};
+ghost use Rattle.pb_conversations.specs.Laws.{AnswersDecide, BeginningsAreCut, ConversationsAreCut, ConversationsUnfold, PartsAreCut, PartsFollow};
 
 /// What comes part after part, with what may be left of a part that is cut off: a place is a value. It carries the law of all parts,
 /// and no type has to implement it.
@@ -37,8 +37,14 @@ pub fn conversations_are_cut<J: AsksSteps>()
     ensures { ConversationsAreCut J.job }
 {}
 
-/// What a job asks follows from what it was answered, where each answer leads it to one place: of two whole conversations that
-/// one rule answers, both are the same.
+/// A whole conversation is a beginning of one, and a beginning may be cut between any two steps. Each is a conversation. A whole one
+/// that is cut off before a step is a beginning after which that step is next.
+pub fn beginnings_are_cut<J: AsksSteps>()
+    ensures { BeginningsAreCut J.job }
+{}
+
+/// What a job asks follows from what it was answered, where each answer leads it to one place: two whole conversations that one
+/// rule answers are the same, and end at one place.
 pub fn answers_decide<J: AsksSteps>()
     ensures { AnswersDecide J.job }
 {}

@@ -5,12 +5,13 @@
 //! `Begin(Script) At(1)`, which is a beginning of the whole one.
 //!
 //! Above it stands what comes part after part (`IsOfParts`, `EndsIn`): the tries of a change, the runs on a cell, the marks of a
-//! pass, the passes of a drain. Each of these is whole, or was cut off in a part. [`parts_are_cut`] holds of any such parts.
+//! pass, the passes of a drain. Each of these is whole, or was cut off in a part. [`parts_are_cut`] holds of any parts
+//! each of which may be cut.
 #![tactic(auto)]
 
 mod laws;
 
 pub use laws::{
-    AsksSteps, ComesInParts, answers_decide, conversations_are_cut, conversations_unfold,
-    parts_are_cut,
+    AsksSteps, ComesInParts, answers_decide, beginnings_are_cut, conversations_are_cut,
+    conversations_unfold, parts_are_cut,
 };

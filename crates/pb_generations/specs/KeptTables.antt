@@ -2,7 +2,7 @@
 -- snapshot of itself, also with another list of observers. What holds of one table's legal journal holds of the journal of all its
 -- generations.
 use Rattle.std.specs.Prelude.{◌≡◌, ℕ, ◌<◌, ◌≤◌, true, false, List, [], ◌∷◌, ◌++◌, length, Option, Some, None, slice_get}
-use Rattle.pb_generations.specs.Words.{Writes, Cell, Content, Revision, Row, Ts, ObserverOf, Entries, Marks, is_marked, IsNewestVersion, NoLock, data_at, last_timestamp, write_at, acknowledged_in, StateOf, Transactions, opening, TableStep, Answer, Step, Handles, IsQuiet, TellsOneHandler, Has, InHistory, IsEntry, IsSnapshot, Member, NoSnapshot, WritesTo, JournalLeads, WroteAt, TellsSnapshots, TellsTimestamps, Entry, Received, HasMoreObservers, ChangeOf, IsWholeChange, new_change, told, Outcome, entries_by, Reaches, IsHeld, RunOf, fresh, next_of, watch_of}
+use Rattle.pb_generations.specs.Words.{Writes, Cell, Content, Revision, Row, ObserverOf, Entries, Marks, is_marked, IsNewestVersion, NoLock, data_at, last_timestamp, write_at, acknowledged_in, StateOf, Transactions, opening, TableStep, Answer, Step, Handles, IsQuiet, TellsOneHandler, Has, InHistory, IsEntry, IsSnapshot, Member, NoSnapshot, WritesTo, JournalLeads, WroteAt, TellsSnapshots, TellsTimestamps, Entry, Received, HasMoreObservers, ChangeOf, IsSomeChange, new_change, told, entries_by, Reaches, IsHeld, RunOf, fresh, next_of, watch_of}
 use Rattle.pb_txn.specs.Changes as changes
 use Rattle.pb_generations.specs.Chosen.{AreChosen, IsChosenSnapshot, chosen_state, new_number}
 use Rattle.pb_generations.specs.LeftOut.{AnswersKnown, LacksOthers, NamesKnown, is_known_cell}
@@ -62,33 +62,27 @@ pub data IsKeptTable : List ObserverOf → List ObserverOf → ℕ → ℕ → �
       → AreChosen places observers front → IsChosenSnapshot places old f → AreEnded old ts → HasMoreObservers added (chosen_state old front f ts) new
       → IsKeptTable (front ++ added) (observers ++ gone) seats clock old.clock (renumbered_journal (new_number places (length (front ++ added))) journal) new
 
--- so it is after a run of an observer, as far as that went
+-- a table that is kept stays one after such a conversation of a seat
+abbrev pub KeepsTables : (List ObserverOf → List Received → Type 0) → Type 0
+KeepsTables Said =
+    (observers gone : List ObserverOf) (seats clock c : ℕ) (journal : List Entry) (old new : StateOf) → IsKeptTable observers gone seats clock c journal old
+    → (seat : ℕ) (said : List Received) → Said observers said → JournalLeads old (entries_by seat said) new → IsKeptTable observers gone seats clock c (journal ++ entries_by seat said) new
+
+-- so after a run of an observer, as far as that went
 abbrev pub RunsKeepTables : Type 0
-RunsKeepTables =
-    (observers gone : List ObserverOf) (seats clock c : ℕ) (journal : List Entry) (old new : StateOf) → IsKeptTable observers gone seats clock c journal old
-    → (seat o : ℕ) (observer : ObserverOf) (row : Row) (said : List Received) (k : RunOf) → slice_get observers o ≡ Some observer → Reaches (fresh (watch_of o observer row)) said k
-    → JournalLeads old (entries_by seat said) new → IsKeptTable observers gone seats clock c (journal ++ entries_by seat said) new
+RunsKeepTables = KeepsTables (λ observers said. (o : ℕ) × (observer : ObserverOf) × (row : Row) × (k : RunOf) × (slice_get observers o ≡ Some observer) × Reaches (fresh (watch_of o observer row)) said k)
 
--- and after a change, as far as that went
+-- after a change, as far as that went
 abbrev pub ChangesKeepTables : Type 0
-ChangesKeepTables =
-    (observers gone : List ObserverOf) (seats clock c : ℕ) (journal : List Entry) (old new : StateOf) → IsKeptTable observers gone seats clock c journal old
-    → (seat : ℕ) (batch : Writes) (said : List Received) (k : ChangeOf) → changes.Converses (new_change batch) said k
-    → JournalLeads old (entries_by seat said) new → IsKeptTable observers gone seats clock c (journal ++ entries_by seat said) new
+ChangesKeepTables = KeepsTables (λ observers said. (batch : Writes) × (k : ChangeOf) × changes.Converses (new_change batch) said k)
 
--- and after a whole change, by its conversation alone
+-- after a whole change, by its conversation alone
 abbrev pub WholeChangesKeepTables : Type 0
-WholeChangesKeepTables =
-    (observers gone : List ObserverOf) (seats clock c : ℕ) (journal : List Entry) (old new : StateOf) → IsKeptTable observers gone seats clock c journal old
-    → (seat : ℕ) (batch : Writes) (start : Ts) (said : List Received) (o : Outcome) → IsWholeChange batch start said o
-    → JournalLeads old (entries_by seat said) new → IsKeptTable observers gone seats clock c (journal ++ entries_by seat said) new
+WholeChangesKeepTables = KeepsTables (λ observers said. (batch : Writes) × IsSomeChange batch said)
 
 -- and after the next mark was asked for
 abbrev pub MarksKeepTables : Type 0
-MarksKeepTables =
-    (observers gone : List ObserverOf) (seats clock c : ℕ) (journal : List Entry) (old new : StateOf) → IsKeptTable observers gone seats clock c journal old
-    → (seat : ℕ) (after : Option Cell) (answer : Answer) (said : List Received) → said ≡ told (Step.NextMark after) answer ∷ []
-    → JournalLeads old (entries_by seat said) new → IsKeptTable observers gone seats clock c (journal ++ entries_by seat said) new
+MarksKeepTables = KeepsTables (λ observers said. (after : Option Cell) × (answer : Answer) × (said ≡ told (Step.NextMark after) answer ∷ []))
 
 -- ---- what holds of them
 

@@ -59,7 +59,7 @@ pub use Rattle.pb_state.specs.SnapshotViews.{IsSnapshotView}
 pub use Rattle.pb_conversations.specs.Conversations.{IsConversation, JobOf, took, went}
 pub use Rattle.pb_conversations.specs.Parts.{no_part, one_part}
 pub use Rattle.pb_txn.specs.Allowed.{IsTimely, IsWorkInRange, PlansAreAllowed}
-pub use Rattle.pb_txn.specs.Changes.{ChangeOf, Converses, IsWholeChange, change_job, new_change}
+pub use Rattle.pb_txn.specs.Changes.{ChangeOf, Converses, IsSomeChange, IsWholeChange, change_job, new_change}
 pub use Rattle.pb_txn.specs.Conversations.{told}
 pub use Rattle.pb_txn.specs.Forms.{AreCleared, IsWhole, PlansConverse, PlansEnd, committed, conflicted_first, conflicted_later, lost, prewrites}
 pub use Rattle.pb_txn.specs.Places.{declared_cells}

@@ -94,4 +94,4 @@ run_count o said end run (lost_run s seen talk k before plan f i few on whole) =
 run_count o said end run (blocked s x at j base k before t primary from rounds last) = from_count s _ (from_more s before _ (rounds_from s x at j base k before rounds (base_from s o x at j base from)) (read_plain s x at, tt))
 
 pub runs_commit : RunsCommitOnce
-runs_commit observers n x said run = run_count _ said run.end run.run run.talk
+runs_commit observers n x said run = run_count _ said run.end run.whole.run run.whole.talk

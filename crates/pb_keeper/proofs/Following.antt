@@ -205,7 +205,7 @@ module _ (keeps : StepsKeepSound) (observers : List ObserverOf) where
   parts_follow = record {
     adds = preserves_adds keeps Follow;
     mark = λ after a m n sound follow r. subst Follow (sym r.2) (plain_follow m r.0 (Step.NextMark after) a refl r.1.taken follow);
-    run = λ i x said is. one_keeps said (run_is_of_one _ said is.end is.run is.talk);
+    run = λ i x said is. one_keeps said (run_is_of_one _ said is.end is.whole.run is.whole.talk);
   }
 
 -- ---- generations

@@ -40,16 +40,16 @@ module _ (observers : List ObserverOf) where
   as_one gone c before said n k = subst (λ (es : List Entry). IsKeptTable observers gone 1 0 c es n) (sym (by_append 0 before said)) k
 
   pub mark_leaves : MarksKeepTables → (after : Option Cell) (a : Answer) → LeavesKept observers (told (Step.NextMark after) a ∷ [])
-  mark_leaves marks after a gone c before m n k r = let said = told (Step.NextMark after) a ∷ [] in as_one gone c before said n (marks observers gone 1 0 c (entries_by 0 before) m n k 0 after a said refl r)
+  mark_leaves marks after a gone c before m n k r = let said = told (Step.NextMark after) a ∷ [] in as_one gone c before said n (marks observers gone 1 0 c (entries_by 0 before) m n k 0 said (after, a, refl) r)
 
   pub change_leaves : WholeChangesKeepTables → (batch : Writes) (o : Outcome) (said : List Received) → IsEndedChange batch o said → LeavesKept observers said
-  change_leaves whole batch o said is gone c before m n k r = as_one gone c before said n (whole observers gone 1 0 c (entries_by 0 before) m n k 0 batch is.0 said o is.1 r)
+  change_leaves whole batch o said is gone c before m n k r = as_one gone c before said n (whole observers gone 1 0 c (entries_by 0 before) m n k 0 said (batch, (is.0, o, is.1)) r)
 
   pub parts_leave : RunsKeepTables → MarksKeepTables → HoldsOfRuns observers (LeavesKept observers)
   parts_leave runs marks = record {
     adds = leaves_add;
     mark = mark_leaves marks;
-    run = λ i x said is gone c before m n k r. as_one gone c before said n (runs observers gone 1 0 c (entries_by 0 before) m n k 0 i is.o (row_of x) said is.job is.observer.there is.reaches r);
+    run = λ i x said is gone c before m n k r. as_one gone c before said n (runs observers gone 1 0 c (entries_by 0 before) m n k 0 said (i, is.o, row_of x, is.whole.job, is.observer.there, is.whole.reaches) r);
   }
 
 -- so the table is kept after such a conversation

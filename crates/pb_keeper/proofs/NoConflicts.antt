@@ -94,7 +94,7 @@ counts_none observers said total nothing_said met o = refl
 counts_none observers said total (other_step before was r are isnt) met o = counts_none observers before was are (each_first IsConflictless before (r ∷ []) met) o
 counts_none observers said total (one_run before more was n x first end did are job did_run) met o =
     let earlier = counts_none observers before was are (each_first IsConflictless before more met) o in
-    let ended = run_counts_none did_run.whole.o more end did_run.whole.run did_run.whole.talk (each_last IsConflictless before more met) in
+    let ended = run_counts_none first.watch more end did_run.whole.run did_run.whole.talk (each_last IsConflictless before more met) in
     let asked = instructions_none first more did_run.whole.job did_run.whole.reaches in
     let its : did.conflicts ≡ 0 = ap (λ (z : ObserverStats). z.conflicts) did_run.did_is ∙ omega (arith, ended, asked) in
     let here = only_none (n == o) did its in
@@ -121,7 +121,7 @@ module _ (keeps : StepsKeepSound) (observers : List ObserverOf) where
           );
         };
         mark = λ after a. (rest.mark after a, λ m n sound free r. (refl, tt));
-        run = λ i x said is. (rest.run i x said is, λ m n sound free r. undisturbed_none _ said is.end is.run is.talk (run_rests keeps _ said is.end is.run m n is.talk sound free r).0);
+        run = λ i x said is. (rest.run i x said is, λ m n sound free r. undisturbed_none _ said is.end is.whole.run is.whole.talk (run_rests keeps _ said is.end is.whole.run m n is.whole.talk sound free r).0);
       }
 
   pub change_meets_none : (batch : Writes) (o : Outcome) (said : List Received) → IsEndedChange batch o said → Rests said × MeetsNone said

@@ -1,7 +1,7 @@
 -- Passes over the marked cells on their way, with the number of runs that were committed, and a change with its drain.
 use Rattle.std.specs.Io.Iter.{u64_saturate}
 use Rattle.std.proofs.Common.{arith, ◌≡◌, ◌≢◌, ℕ, ◌+◌, ◌-◌, ◌^◌, ◌<◌, ◌≤◌, ◌==◌, min, inl, Bool, false, cond, List, [], ◌∷◌, ◌++◌, length, Option, Some, None, refl, sym, ap, subst, ◌∙◌, is_some, slice_get, slice_index_or}
-use Rattle.pb_keeper.specs.Words.{Writes, row_of, Cell, Ts, Step, Answer, StateOf, TableStep, IsNextMark, ObserverOf, Received, Outcome, told, Reaches, IsRunConversation, RunOf, Watch, watch_of, JobEnd, HasColumn, IsJobOn, IsRun, IsDrain, IsOfParts, EndsIn, one_part, IsTurnOf}
+use Rattle.pb_keeper.specs.Words.{Writes, Cell, Ts, Step, Answer, StateOf, TableStep, IsNextMark, ObserverOf, Received, Outcome, told, IsWholeRun, RunOf, JobEnd, HasColumn, IsJobOn, IsRun, IsDrain, IsOfParts, EndsIn, one_part, IsTurnOf}
 use Rattle.pb_base.proofs.Logic.{one_value}
 use Rattle.pb_keeper.specs.Leads.{SaidLeads, IsAny, IsEndedChange}
 use Rattle.pb_keeper.specs.Counts.{commit_count, commits_of_end, CountsCommits}
@@ -80,20 +80,14 @@ module _ {observers seen : List ObserverOf} {n number : ℕ} {x : Cell} {job : R
       let known = subst (λ (l : List ObserverOf). HasColumn l n x) same_list column in
       let on = subst (λ (l : List ObserverOf). IsJobOn l n x job) same_list (subst (λ i. IsJobOn seen i x job) same_number job_on) in
       let same : known.0 ≡ on.o = one_value (slice_get observers n) known.0 on.o known.1.there on.there in
-      let watch : w.o ≡ watch_of n on.o (row_of x) = ap (λ (j : RunOf). j.watch) (sym w.is ∙ on.job_is) in
       let few = few_of_end end in
-      let counted = run_count w.o run.said end w.run w.talk in
+      let counted = run_count job.watch run.said end w.run w.talk in
       let count : k ≡ min (commit_count run.said) (2 ^ 64 - 1) = omega (arith, is, few, counted) in
       let its : IsRun observers n x run.said = record {
         o = on.o;
         observer = record { there = on.there; column = ap (λ (o : ObserverOf). o.column) (sym same) ∙ known.1.column };
-        job = w.job;
-        reaches = subst (λ (j : RunOf). Reaches j run.said w.job) on.job_is w.reaches;
         end = end;
-        over = w.over;
-        run = w.run;
-        talk = subst (λ (o : Watch). IsRunConversation o run.said end w.run) watch w.talk;
-        meant = w.meant;
+        whole = subst (λ (j : RunOf). IsWholeRun j end run.said) on.job_is w;
       } in
       record { said = run.said; form = counted_one on run.form as_many grown (record { form = inl its; count = count }); leads = run.leads }
 

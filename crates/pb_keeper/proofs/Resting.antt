@@ -19,7 +19,7 @@ module _ (keeps : StepsKeepSound) where
   parts_rest observers = record {
     adds = preserves_adds keeps IsUnlocked;
     mark = λ after a m n sound free r. free_after m n free (plain_walk m n (told (Step.NextMark after) a ∷ []) free (refl, tt) r).0;
-    run = λ i x said is m n sound free r. (run_rests keeps _ said is.end is.run m n is.talk sound free r).1;
+    run = λ i x said is m n sound free r. (run_rests keeps _ said is.end is.whole.run m n is.whole.talk sound free r).1;
   }
 
   pub change_rests : (batch : Writes) (o : Outcome) (said : List Received) → IsEndedChange batch o said → Rests said

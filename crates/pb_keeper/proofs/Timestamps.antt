@@ -76,7 +76,7 @@ module _ (observers : List ObserverOf) where
   few_parts = record {
     adds = record { nothing = few_none [] refl; both = few_on };
     mark = λ after answer. few_none (told (Step.NextMark after) answer ∷ []) (not_counted (told (Step.NextMark after) answer) [] refl);
-    run = λ i x said is. few_run _ said is.end is.run is.talk;
+    run = λ i x said is. few_run _ said is.end is.whole.run is.whole.talk;
   }
 
   -- so their number is known

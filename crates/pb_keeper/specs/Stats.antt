@@ -1,9 +1,8 @@
 -- What the runs of each observer did, counted along what the only seat said.
 use Rattle.std.specs.Prelude.{◌≡◌, ℕ, ◌+◌, ◌<◌, ◌==◌, Bool, true, false, cond, List, [], ◌∷◌, ◌++◌, length, map, replicate, slice_index_or, Option, Some, None}
 use Rattle.std.specs.Io.Iter.{u64_saturate}
-use Rattle.pb_keeper.specs.Words.{Cell, ObserverOf, StateOf, Step, Work, Received, took, went, no_part, one_part, Reaches, RunOf, next_of, JobEnd, IsJobOn}
+use Rattle.pb_keeper.specs.Words.{Cell, ObserverOf, StateOf, Step, Work, Received, took, went, no_part, one_part, Reaches, RunOf, next_of, JobEnd, IsWholeRun, IsJobOn}
 use Rattle.pb_keeper.specs.Leads.{SaidLeads}
-use Rattle.pb_keeper.specs.Runs.{IsWholeRunOf}
 use Rattle.pb_keeper.specs.declared.stats.ObserverStats.{ObserverStats}
 
 -- before the first run
@@ -56,7 +55,7 @@ end_stats _ = no_runs
 
 -- a whole run of this job, which ended so and did this
 pub record IsRunThatDid (first : RunOf) (end : JobEnd) (did : ObserverStats) (said : List Received) : Type 0 where
-  pub whole : IsWholeRunOf first end said
+  pub whole : IsWholeRun first end said
   pub did_is : did ≡ sum_of (instructions_in first said whole.job whole.reaches) (end_stats end)
 
 -- the same as a machine's numbers say it

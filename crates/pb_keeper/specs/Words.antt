@@ -52,7 +52,7 @@ pub use Rattle.pb_txn.specs.Plans.{PlanOf}
 pub use Rattle.pb_txn.specs.declared.place.Outcome.{Outcome}
 pub use Rattle.pb_notify.specs.Allowed.{entries_by}
 pub use Rattle.pb_notify.specs.Conversations.{Reaches}
-pub use Rattle.pb_notify.specs.Forms.{AreAsked, AreRounds, BeginsRun, IsAcknowledged, IsLooked, IsObserved, IsRecalled, IsRound, IsRunConversation, JobsConverse, JobsEnd, LooksFrom, WasMeant, absent, asked, at_acknowledgment, at_ask, at_cell, at_first, at_old, blocked, clean, cleared, conflicted, dirty, its_begin, one_more, ran, settled}
+pub use Rattle.pb_notify.specs.Forms.{AreAsked, AreRounds, BeginsRun, IsAcknowledged, IsLooked, IsObserved, IsRecalled, IsRound, IsRunConversation, IsWholeRun, JobsConverse, JobsEnd, LooksFrom, absent, asked, at_acknowledgment, at_ask, at_cell, at_first, at_old, blocked, clean, cleared, conflicted, dirty, its_begin, one_more, ran, settled}
 pub use Rattle.pb_notify.specs.Runs.{Computes, HearsLook, RunOf, Watch, answered, fresh, need_of, next_of, watch_of}
 pub use Rattle.pb_notify.specs.declared.need.JobEnd.{JobEnd}
 pub use Rattle.pb_notify.specs.declared.need.Need.{Need}

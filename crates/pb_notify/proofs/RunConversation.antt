@@ -293,7 +293,7 @@ module _ (o : Watch) where
         → IsRunOn o s seen talk f → conversations.Converses (plans.fresh s.0 (Declared.Run o.observer f)) plan p → CanEnd (base ++ plan)
     from_plan n s seen talk base plan f p few was on t =
         let w = plans_converse s.0 (Declared.Run o.observer f) _ _ plan p refl t in
-        by_plan n s seen talk base plan w.0 f w.1 few was on w.2
+        by_plan n s seen talk base plan w.0 f w.1.0 few was on w.1.1
 
     -- some run, whatever it means
     from_asked : (n : ℕ) (s : Ts) (seen : Seen) (talk : Talk) (said : List Received) → n < MAX_LOCKED → AreAsked o s seen talk n said → CanEnd said
@@ -380,7 +380,7 @@ pub jobs_converse : PlansConverse → PlansEnd → JobsConverse
 jobs_converse pt pe o said k reaches =
     let h = reached_holds o pt pe said k reaches in
     let c = can_end o pt pe k.locked k.place said h.at h.so in
-    (c.rest, c.end, c.run, c.whole)
+    (c.rest, (c.end, c.run, c.whole))
 
 -- at the end the conversation is whole
 pub jobs_end : PlansConverse → PlansEnd → JobsEnd

@@ -1,7 +1,7 @@
 -- The conversations of a run of an observer on a cell (OSDI 2010, section 2.4). Each goes on from an earlier part, and
 -- counts the reads that met a lock.
 use Rattle.std.specs.Prelude.{◌≡◌, ◌≢◌, ℕ, suc, ◌<◌, ◌≤◌, List, [], ◌∷◌, ◌++◌, Option, Some, None}
-use Rattle.pb_notify.specs.Words.{Cell, Ts, Revision, Talk, tells_old, record_by, Meant, IsMeant, Seen, Work, Declared, Step, Answer, CanAnswer, old_at, version_in, acknowledged_in, asked_cell, value_in, Received, Outcome, declared_cells, told, IsWhole, read_step}
+use Rattle.pb_notify.specs.Words.{Cell, Ts, Revision, Talk, tells_old, record_by, Meant, IsMeant, Seen, Work, Declared, Step, Answer, CanAnswer, old_at, version_in, acknowledged_in, asked_cell, value_in, Received, Outcome, declared_cells, told, IsWhole, read_step, IsBeginningOf}
 use Rattle.pb_isa.specs.Machine as machine
 use Rattle.pb_notify.specs.declared.look.TheConstants.{MAX_LOCKED}
 use Rattle.pb_notify.specs.declared.need.JobEnd.{JobEnd}
@@ -116,9 +116,13 @@ pub data IsRunConversation (o : Watch) : List Received → JobEnd → Option Mea
   blocked : (s : Ts) (x : Cell) (at : Option Ts) (m : ℕ) (base : List Received) (n : ℕ) (said : List Received) (t : Ts) (primary : Cell) → LooksFrom o s x at m base
       → AreRounds s x at m base n said → suc n ≡ MAX_LOCKED → IsRunConversation o (said ++ told (read_step s x at) (Answer.Locked t primary) ∷ []) JobEnd.Blocked None
 
+-- a whole one, whatever its end and the run that it declared
+abbrev pub IsSomeRun : Watch → List Received → Type 0
+IsSomeRun o said = (end : JobEnd) × (run : Option Meant) × IsRunConversation o said end run
+
 -- a beginning of one
 abbrev pub BeginsRun : Watch → List Received → Type 0
-BeginsRun o said = (rest : List Received) × (end : JobEnd) × (run : Option Meant) × IsRunConversation o (said ++ rest) end run
+BeginsRun o said = IsBeginningOf (IsSomeRun o) said
 
 -- what a job has asked so far is such a beginning
 abbrev pub JobsConverse : Type 0
@@ -133,3 +137,12 @@ WasMeant (Some f) = IsMeant f
 abbrev pub JobsEnd : Type 0
 JobsEnd = (o : Watch) (said : List Received) (k : RunOf) (end : JobEnd) → Reaches (fresh o) said k → need_of k ≡ Need.Over end
     → (run : Option Meant) × IsRunConversation o said end run × WasMeant run
+
+-- this job came to its end so by a whole conversation, and what it declared, if it did, is what its program means
+pub record IsWholeRun (first : RunOf) (end : JobEnd) (said : List Received) : Type 0 where
+  pub job : RunOf
+  pub reaches : Reaches first said job
+  pub over : need_of job ≡ Need.Over end
+  pub run : Option Meant
+  pub talk : IsRunConversation first.watch said end run
+  pub meant : WasMeant run

@@ -44,7 +44,7 @@ pub use Rattle.pb_history.specs.TransactionsTold.{BeginsOnce, TellsTransactions,
 pub use Rattle.pb_history.specs.declared.entry.Entry.{Entry}
 pub use Rattle.pb_history.specs.declared.entry.Received.{Received}
 pub use Rattle.pb_conversations.specs.Conversations.{IsConversation, JobOf, took, went}
-pub use Rattle.pb_conversations.specs.Parts.{no_part, one_part}
+pub use Rattle.pb_conversations.specs.Parts.{IsBeginningOf, no_part, one_part}
 pub use Rattle.pb_txn.specs.Allowed.{HasSaid, IsTimely, IsWorkInRange, PlansAreAllowed, names}
 pub use Rattle.pb_txn.specs.Conversations.{Converses, told}
 pub use Rattle.pb_txn.specs.Forms.{IsWhole, PlansConverse, PlansEnd}

@@ -1,6 +1,6 @@
 -- Passes that were cut off: just a beginning of what there was to ask, and the step that came next.
 use Rattle.std.specs.Prelude.{◌≡◌, ℕ, ◌<◌, ◌⊎◌, List, [], ◌∷◌, Option, Some, None}
-use Rattle.pb_passes.specs.Words.{Cell, row_of, Step, Answer, ObserverOf, Received, told, RunOf, watch_of, next_of, Reaches, BeginsRun, EndsIn}
+use Rattle.pb_passes.specs.Words.{Cell, row_of, Step, Answer, ObserverOf, Received, told, watch_of, run_job, IsSomeRun, EndsIn, HasAsked}
 use Rattle.pb_passes.specs.declared.passes.TheConstants.{MAX_PASSES}
 use Rattle.pb_passes.specs.Passes.{IsObserverOf, job_on, IsNextTurn, IsMarkRun, IsNextPass}
 
@@ -8,10 +8,7 @@ use Rattle.pb_passes.specs.Passes.{IsObserverOf, job_on, IsNextTurn, IsMarkRun, 
 pub record IsRunBegun (observers : List ObserverOf) (i : ℕ) (x : Cell) (next : Option Step) (said : List Received) : Type 0 where
   pub o : ObserverOf
   pub observer : IsObserverOf observers i x o
-  pub job : RunOf
-  pub reaches : Reaches (job_on i o x) said job
-  pub begins : BeginsRun (watch_of i o (row_of x)) said
-  pub next_is : next ≡ next_of job
+  pub run : HasAsked run_job (IsSomeRun (watch_of i o (row_of x))) (job_on i o x) next said
 
 -- the runs of the first observers were made, and that of the next was begun
 abbrev pub AreRunsBegun : List ObserverOf → Cell → Option Step → List Received → Type 0

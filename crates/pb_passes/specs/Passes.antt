@@ -1,7 +1,7 @@
 -- Passes over the marked cells (OSDI 2010, section 2.4): each mark is found, and the observers of its column are run
 -- on it.
-use Rattle.std.specs.Prelude.{◌≡◌, ◌≢◌, ℕ, ◌+◌, ◌<◌, ◌⊎◌, Bool, true, false, List, [], ◌∷◌, length, Option, Some, None, slice_get}
-use Rattle.pb_passes.specs.Words.{Cell, row_of, column_of, Meant, Step, Answer, ObserverOf, Received, told, JobEnd, Need, RunOf, watch_of, fresh, need_of, Reaches, IsRunConversation, WasMeant, IsOfParts, EndsIn}
+use Rattle.std.specs.Prelude.{◌≡◌, ◌≢◌, ℕ, ◌<◌, ◌⊎◌, Bool, true, false, List, [], ◌∷◌, length, Option, Some, None, slice_get}
+use Rattle.pb_passes.specs.Words.{Cell, row_of, column_of, Step, Answer, ObserverOf, Received, told, JobEnd, RunOf, watch_of, fresh, IsWholeRun, IsOfParts, EndsIn, IsNextOf}
 use Rattle.pb_passes.specs.declared.passes.TheConstants.{MAX_PASSES}
 
 -- the observer of this number is one of the cell's column
@@ -23,17 +23,12 @@ pub record IsJobOn (observers : List ObserverOf) (n : ℕ) (x : Cell) (job : Run
   pub there : slice_get observers n ≡ Some o
   pub job_is : job ≡ job_on n o x
 
--- what it declared, if it did, is what its program means, and this is a whole conversation of its run on the cell
+-- a whole run of the observer of this number on the cell, and how it ended
 pub record IsRun (observers : List ObserverOf) (n : ℕ) (x : Cell) (said : List Received) : Type 0 where
   pub o : ObserverOf
   pub observer : IsObserverOf observers n x o
-  pub job : RunOf
-  pub reaches : Reaches (job_on n o x) said job
   pub end : JobEnd
-  pub over : need_of job ≡ Need.Over end
-  pub run : Option Meant
-  pub talk : IsRunConversation (watch_of n o (row_of x)) said end run
-  pub meant : WasMeant run
+  pub whole : IsWholeRun (job_on n o x) end said
 
 -- the observer of this number is one of another column
 pub record IsOfOther (observers : List ObserverOf) (n : ℕ) (x : Cell) : Type 0 where
@@ -47,7 +42,7 @@ IsTurnOf observers n x said = IsRun observers n x said ⊎ (IsOfOther observers 
 
 -- the turn of the next observer
 abbrev pub IsNextTurn : List ObserverOf → Cell → ℕ → ℕ → List Received → Type 0
-IsNextTurn observers x n m said = (m ≡ n + 1) × IsTurnOf observers n x said
+IsNextTurn observers x n m said = IsNextOf (λ i part. IsTurnOf observers i x part) n m said
 
 -- a run of each observer of the cell's column among the first so many, in file order
 abbrev pub AreRuns : List ObserverOf → Cell → ℕ → List Received → Type 0
@@ -84,7 +79,7 @@ IsPassThat observers false said = IsPass observers None said
 
 -- the next pass, which found a mark
 abbrev pub IsNextPass : List ObserverOf → ℕ → ℕ → List Received → Type 0
-IsNextPass observers n m said = (m ≡ n + 1) × IsPassThat observers true said
+IsNextPass observers n m said = IsNextOf (λ i part. IsPassThat observers true part) n m said
 
 -- so many passes, each of which found a mark
 abbrev pub ArePasses : List ObserverOf → ℕ → List Received → Type 0

@@ -43,7 +43,7 @@ module _ {observers : List ObserverOf} {n : ℕ} {x : Cell} {a b : SeatOf} {job 
   -- it was cut off
   pub run_left : {opens : Option OpeningOf} {r : Refusal} → JobsConverse → IsSeatStop opens b.number (next_of job) r → Gains (Stops opens a.number (IsRunBegun observers n x) r) a b
   run_left law stop =
-      gains_left (next_of job) along.gains (λ said h. record { o = along.o; observer = along.observer; job = job; reaches = h; begins = law (watch_of n along.o (row_of x)) said job h; next_is = refl }) stop
+      gains_left (next_of job) along.gains (λ said h. record { o = along.o; observer = along.observer; run = record { at = job; talk = h; begins = law (watch_of n along.o (row_of x)) said job h; next_is = refl } }) stop
 
 -- ---- at its end
 
@@ -60,5 +60,5 @@ run_ends {n = n} {x = x} {job = job} along law calls none some =
     gains_as
     (λ said h.
     let talk = law (watch_of n along.o (row_of x)) said job ends.0 h ends.1 in
-    record { o = along.o; observer = along.observer; job = job; reaches = h; end = ends.0; over = ends.1; run = talk.0; talk = talk.1; meant = talk.2 })
+    record { o = along.o; observer = along.observer; end = ends.0; whole = record { job = job; reaches = h; over = ends.1; run = talk.0; talk = talk.1; meant = talk.2 } })
     along.gains

@@ -32,7 +32,7 @@ module _ {batch : Writes} {a b : SeatOf} {job : ChangeOf} {committed : Bool} (al
 
   -- it was cut off
   pub try_left : {opens : Option OpeningOf} {r : Refusal} → ChangesConverse → batch ≢ [] → IsSeatStop opens b.number (next_of job) r → Gains (Stops opens a.number (IsTryBegun batch committed) r) a b
-  try_left law some stop = gains_left (next_of job) along (λ said h. record { committed_is = h.1; job = job; converses = h.0; begins = law batch said job some h.0; next_is = refl }) stop
+  try_left law some stop = gains_left (next_of job) along (λ said h. record { committed_is = h.1; change = record { at = job; talk = h.0; begins = law batch said job some h.0; next_is = refl } }) stop
 
 -- ---- at its end
 

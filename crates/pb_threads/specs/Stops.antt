@@ -1,7 +1,6 @@
 -- Where a worker stopped: just a beginning of what it was to ask, and the step that it asked next.
-use Rattle.std.specs.Prelude.{◌≡◌, ◌+◌, ◌*◌, ◌<◌, ◌⊎◌, ℕ, Bool, false, List, [], ◌∷◌, ◌++◌, length, Option, Some, slice_get}
-use Rattle.pb_threads.specs.Words.{Refusal, Writes, Step, Received, ChangeOf, new_change, Converses, BeginsChange, EndsIn}
-use Rattle.pb_txn.specs.Changes as changes
+use Rattle.std.specs.Prelude.{◌≡◌, ◌+◌, ◌*◌, ◌<◌, ◌⊎◌, ℕ, Bool, false, List, [], ◌∷◌, ◌++◌, length, Option, Some, None, slice_get}
+use Rattle.pb_threads.specs.Words.{Refusal, Writes, Step, Received, new_change, change_job, IsSomeChange, EndsIn, HasAsked}
 use Rattle.pb_threads.specs.declared.tries.TheConstants.{MAX_TRIES}
 use Rattle.pb_threads.specs.Gains.{OpeningOf, IsSeatStop}
 use Rattle.pb_threads.specs.Tries.{has_commit, IsNextVain, IsNextTried}
@@ -12,13 +11,15 @@ pub record Stops (opens : Option OpeningOf) (seat : ℕ) (IsBegun : Option Step 
   pub begun : IsBegun next said
   pub stop : IsSeatStop opens seat next r
 
+-- it is whole, or, with a refusal, just a beginning
+abbrev pub IsUpTo : Option OpeningOf → ℕ → (List Received → Type 0) → (Option Step → List Received → Type 0) → Option Refusal → List Received → Type 0
+IsUpTo opens seat Whole IsBegun None said = Whole said
+IsUpTo opens seat Whole IsBegun (Some r) said = Stops opens seat IsBegun r said
+
 -- a try was begun, and whether its transaction was committed by then
 pub record IsTryBegun (batch : Writes) (committed : Bool) (next : Option Step) (said : List Received) : Type 0 where
   pub committed_is : committed ≡ has_commit said
-  pub job : ChangeOf
-  pub converses : Converses (new_change batch) said job
-  pub begins : BeginsChange batch said
-  pub next_is : next ≡ changes.next_of job
+  pub change : HasAsked change_job (IsSomeChange batch) (new_change batch) next said
 
 -- tries were in vain, and the next was begun
 abbrev pub AreTriesBegun : Writes → Bool → Option Step → List Received → Type 0

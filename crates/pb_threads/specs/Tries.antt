@@ -1,6 +1,6 @@
 -- The changes of one worker: each is tried until a try of it commits, or so often as may be.
 use Rattle.std.specs.Prelude.{◌≡◌, ℕ, ◌+◌, ◌*◌, ◌<◌, ◌≤◌, Bool, true, false, ◌||◌, List, [], ◌∷◌, ◌++◌, length, Option, Some, None, slice_get}
-use Rattle.pb_threads.specs.Words.{Ts, Writes, Answer, Received, Outcome, IsWholeChange, IsOfParts, EndsIn}
+use Rattle.pb_threads.specs.Words.{Ts, Writes, Answer, Received, Outcome, IsWholeChange, IsOfParts, EndsIn, IsNextOf}
 use Rattle.pb_threads.specs.declared.tries.TheConstants.{MAX_TRIES}
 
 -- the outcome of a committed transaction, at whatever timestamp
@@ -32,7 +32,7 @@ pub record IsTry (batch : Writes) (committed : Bool) (said : List Received) : Ty
 
 -- the next try, which didn't commit
 abbrev pub IsNextVain : Writes → ℕ → ℕ → List Received → Type 0
-IsNextVain batch n m said = (m ≡ n + 1) × IsTry batch false said
+IsNextVain batch n m said = IsNextOf (λ i part. IsTry batch false part) n m said
 
 -- so many tries, none of which committed
 abbrev pub AreVain : Writes → ℕ → List Received → Type 0
@@ -59,7 +59,11 @@ pub record IsNextTried (batches : List Writes) (n first : ℕ) (done now : List 
 abbrev pub AreTried : List Writes → ℕ → ℕ → List Bool → List Received → Type 0
 AreTried batches n first done said = IsOfParts (IsNextTried batches n first) [] done said
 
+-- so many flags are of all of them
+abbrev pub AreSoMany : List Writes → ℕ → ℕ → List Bool → Type 0
+AreSoMany batches n first done = length batches ≤ first + length done * n
+
 -- all of them
 pub record AreAllTried (batches : List Writes) (n first : ℕ) (done : List Bool) (said : List Received) : Type 0 where
   pub tried : AreTried batches n first done said
-  pub all : length batches ≤ first + length done * n
+  pub all : AreSoMany batches n first done

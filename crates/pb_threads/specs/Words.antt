@@ -18,9 +18,9 @@ pub use Rattle.pb_history.specs.declared.entry.Entry.{Entry}
 pub use Rattle.pb_history.specs.declared.entry.Received.{Received}
 pub use Rattle.pb_core.specs.Calls.{AreSeatsFrom, SeatOf, SharedOf, call_reason}
 pub use Rattle.pb_core.specs.Histories.{IsLegalTable}
-pub use Rattle.pb_conversations.specs.Conversations.{took}
-pub use Rattle.pb_conversations.specs.Parts.{IsOfParts, EndsIn, no_part, one_part}
-pub use Rattle.pb_txn.specs.Changes.{BeginsChange, ChangeOf, ChangesConverse, ChangesEnd, Converses, IsWholeChange, new_change, outcome_of}
+pub use Rattle.pb_conversations.specs.Conversations.{HasAsked, took}
+pub use Rattle.pb_conversations.specs.Parts.{IsOfParts, EndsIn, IsNextOf, no_part, one_part}
+pub use Rattle.pb_txn.specs.Changes.{ChangeOf, ChangesConverse, ChangesEnd, Converses, IsSomeChange, IsWholeChange, change_job, new_change, outcome_of}
 pub use Rattle.pb_txn.specs.Conversations.{told}
 pub use Rattle.pb_txn.specs.Forms.{PlansStop}
 pub use Rattle.pb_txn.specs.declared.place.Outcome.{Outcome}

@@ -2,14 +2,14 @@
 -- `WorkedOn`; what it means for the journal is the law `changes_are_made`.
 use Rattle.std.specs.Prelude.{◌≡◌, ◌≢◌, ℕ, ◌+◌, ◌-◌, ◌/◌, ◌%◌, ◌<◌, ◌≤◌, ◌⊎◌, zero, suc, Bool, false, if◌then◌else◌, List, [], ◌∷◌, ◌++◌, length, map, vec_capacity, slice_get, Option, Some, None, slice_index_or}
 use Rattle.std.specs.Option.{option_or}
-use Rattle.pb_threads.specs.Words.{Refusal, Writes, Step, ObserverOf, Received, SharedOf, SeatOf}
+use Rattle.pb_threads.specs.Words.{Refusal, Writes, Step, ObserverOf, Received, SharedOf, SeatOf, EndsIn}
 use Rattle.pb_threads.specs.declared.worker.Worker.{Worker}
 use Rattle.pb_threads.specs.declared.run.Rooms.{Rooms}
 use Rattle.pb_threads.specs.Gains.{Gains, OpeningOf, opening_of}
-use Rattle.pb_threads.specs.Tries.{AreAllTried}
+use Rattle.pb_threads.specs.Tries.{AreSoMany, IsNextTried}
 use Rattle.pb_passes.specs.Passes.{IsDrain}
 use Rattle.pb_passes.specs.Begun.{IsDrainBegun}
-use Rattle.pb_threads.specs.Stops.{Stops, AreChangesBegun}
+use Rattle.pb_threads.specs.Stops.{IsUpTo, AreChangesBegun}
 use Rattle.pb_threads.specs.Swaps.{Spare, AreSwapped}
 
 -- of all changes those of one of so many workers: its first at this number, and each later one so many further
@@ -22,12 +22,8 @@ abbrev pub share_of : List Writes → ℕ → ℕ → ShareOfChanges
 share_of batches workers first = record { batches = batches; workers = workers; first = first }
 
 -- all changes, and then this
-pub record AreTriedThen (share : ShareOfChanges) (done : List Bool) (Last : List Received → Type 0) (said : List Received) : Type 0 where
-  pub changes : List Received
-  pub tried : AreAllTried share.batches share.workers share.first done changes
-  pub rest : List Received
-  pub ends : Last rest
-  pub said_is : said ≡ changes ++ rest
+abbrev pub AreTriedThen : ShareOfChanges → List Bool → (List Received → Type 0) → List Received → Type 0
+AreTriedThen share done Last said = EndsIn (IsNextTried share.batches share.workers share.first) (λ flags rest. (flags ≡ done) × AreSoMany share.batches share.workers share.first flags × Last rest) [] said
 
 -- all changes, and then passes up to one without a mark, or so many as may be made
 abbrev pub IsWorkDone : List ObserverOf → ShareOfChanges → List Bool → List Received → Type 0
@@ -39,13 +35,11 @@ IsWorkBegun observers share done next said = AreChangesBegun share.batches share
 
 -- what a worker's seat gained: only with a refusal just a beginning
 abbrev pub IsWork : Option OpeningOf → ℕ → List ObserverOf → ShareOfChanges → List Bool → Option Refusal → List Received → Type 0
-IsWork opens seat observers share done None said = IsWorkDone observers share done said
-IsWork opens seat observers share done (Some r) said = Stops opens seat (IsWorkBegun observers share done) r said
+IsWork opens seat observers share done r said = IsUpTo opens seat (IsWorkDone observers share done) (IsWorkBegun observers share done) r said
 
 -- passes alone: only with a refusal just a beginning
 abbrev pub IsDrainTo : Option OpeningOf → ℕ → List ObserverOf → Option Refusal → List Received → Type 0
-IsDrainTo opens seat observers None said = IsDrain observers said
-IsDrainTo opens seat observers (Some r) said = Stops opens seat (IsDrainBegun observers) r said
+IsDrainTo opens seat observers r said = IsUpTo opens seat (IsDrain observers) (IsDrainBegun observers) r said
 
 -- what the main seat gained: passes alone, whether a spare was refused or not. Its refusal is the first of the swaps',
 -- or else that of the passes.

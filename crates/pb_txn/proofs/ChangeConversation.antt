@@ -8,7 +8,7 @@ use Rattle.pb_txn.specs.Plans.{PlanOf, fresh}
 use Rattle.pb_txn.specs.Plans as plans
 use Rattle.pb_txn.specs.Conversations as conversations
 use Rattle.pb_txn.specs.Conversations.{told}
-use Rattle.pb_txn.specs.Forms.{IsWhole}
+use Rattle.pb_txn.specs.Forms.{IsWhole, IsSomeWhole, BeginsPlan}
 use Rattle.pb_txn.specs.Changes.{ChangeOf, new_change, next_of, answered, Converses, ChangesConverse, ChangesEnd}
 use Rattle.pb_txn.proofs.Conversation.{plans_converse, plans_end}
 use Rattle.pb_txn.proofs.PlanTransactions.{keeps_start_and_what}
@@ -47,13 +47,13 @@ answered_has_begun batch r rest q talk =
     subst (λ (z : Received). HasBegun batch z rest q) (λ i. record { step = is i; answer = r.answer }) b
 
 -- some way to make it
-whole : (batch : Writes) → batch ≢ [] → (rest : List Received) × (o : Outcome) × IsWhole (record { 0 = 0 }) (Declared.Script batch) (declared_cells (Declared.Script batch)) rest o
+whole : (batch : Writes) → batch ≢ [] → (rest : List Received) × IsSomeWhole (record { 0 = 0 }) (Declared.Script batch) rest
 whole [] some = absurd (some refl)
 whole (w ∷ ws) some = plans_converse 0 (Declared.Script (w ∷ ws)) w.0 _ [] (fresh 0 (Declared.Script (w ∷ ws))) refl no_part
 
 -- the conversation since the begin can be ended, since a batch has some cells
 on_from : (batch : Writes) (s : ℕ) (rest : List Received) (q : PlanOf) → batch ≢ [] → conversations.Converses (fresh s (Declared.Script batch)) rest q
-    → (more : List Received) × (o : Outcome) × IsWhole (record { 0 = s }) (Declared.Script batch) (declared_cells (Declared.Script batch)) (rest ++ more) o
+    → BeginsPlan (record { 0 = s }) (Declared.Script batch) rest
 on_from [] s rest q some t = absurd (some refl)
 on_from (w ∷ ws) s rest q some t = plans_converse s (Declared.Script (w ∷ ws)) w.0 _ rest q refl t
 
@@ -67,11 +67,11 @@ at_end (w ∷ ws) s rest q o some t e = plans_end s (Declared.Script (w ∷ ws))
 pub changes_converse : ChangesConverse
 changes_converse batch [] q some t =
     let w = whole batch some in
-    (record { 0 = 0 }, told (Step.Begin Work.Script) (Answer.At (record { 0 = 0 })) ∷ w.0, w.1, record { rest = w.0; said_is = refl; whole = w.2 })
+    (told (Step.Begin Work.Script) (Answer.At (record { 0 = 0 })) ∷ w.0, (record { 0 = 0 }, w.1.0, record { rest = w.0; said_is = refl; whole = w.1.1 }))
 changes_converse batch (r ∷ rest) q some t =
     let b = answered_has_begun batch r rest q t in
     let w = on_from batch b.s rest b.plan some b.said in
-    (record { 0 = b.s }, w.0, w.1, record { rest = rest ++ w.0; said_is = ap (λ (z : Received). z ∷ rest ++ w.0) b.first; whole = w.2 })
+    (w.0, (record { 0 = b.s }, w.1.0, record { rest = rest ++ w.0; said_is = ap (λ (z : Received). z ∷ rest ++ w.0) b.first; whole = w.1.1 }))
 
 none_is : (batch : Writes) (z : ChangeOf) (p : PlanOf) → z ≡ new_change batch → z.plan ≡ Some p → ⊥
 none_is batch z p is h = let k : z.plan ≡ None = ap (λ (j : ChangeOf). j.plan) is in cc

@@ -277,7 +277,7 @@ pub plans_converse : PlansConverse
 plans_converse s what x others said q is t =
     let so = said_all (record { 0 = s }) what x others is q said t in
     let r = can_end (record { 0 = s }) what x others q.place said so in
-    (r.0, r.1, subst (λ cs. IsWhole (record { 0 = s }) what cs (said ++ r.0) r.1) (sym is) r.2)
+    (r.0, (r.1, subst (λ cs. IsWhole (record { 0 = s }) what cs (said ++ r.0) r.1) (sym is) r.2))
 
 pub plans_end : PlansEnd
 plans_end s what x others said q o is t e =

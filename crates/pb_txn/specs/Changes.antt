@@ -1,7 +1,7 @@
 -- Changes of a script: a transaction that begins and then follows its plan. The contracts of `ChangeJob` cite them,
 -- and those of `pb_world` and `pb_threads` say by them what an actor or a worker has asked.
-use Rattle.std.specs.Prelude.{◌≡◌, ◌≢◌, List, [], ◌∷◌, ◌++◌, Option, Some, None}
-use Rattle.pb_txn.specs.Words.{Writes, Ts, Work, Declared, Step, Answer, batch_in, Received, JobOf, asking, IsConversation}
+use Rattle.std.specs.Prelude.{◌≡◌, ◌≢◌, List, [], ◌∷◌, Option, Some, None}
+use Rattle.pb_txn.specs.Words.{Writes, Ts, Work, Declared, Step, Answer, batch_in, Received, JobOf, asking_job, IsConversation, IsBeginningOf}
 use Rattle.pb_txn.specs.declared.place.Outcome.{Outcome}
 use Rattle.pb_txn.specs.Places.{declared_cells}
 use Rattle.pb_txn.specs.Plans.{PlanOf, fresh}
@@ -54,7 +54,7 @@ outcome_of j = outcome_in j.plan
 
 -- a change does nothing but ask
 abbrev pub change_job : JobOf ChangeOf
-change_job = asking next_of answered
+change_job = asking_job next_of answered
 
 -- from one place to another, each of its next steps was answered with one of its answers
 abbrev pub Converses : ChangeOf → List Received → ChangeOf → Type 0
@@ -66,9 +66,13 @@ pub record IsWholeChange (batch : Writes) (start : Ts) (said : List Received) (o
   pub said_is : said ≡ told (Step.Begin Work.Script) (Answer.At start) ∷ rest
   pub whole : IsWhole start (Declared.Script batch) (declared_cells (Declared.Script batch)) rest o
 
+-- a whole change, whatever its start and its outcome
+abbrev pub IsSomeChange : Writes → List Received → Type 0
+IsSomeChange batch said = (start : Ts) × (o : Outcome) × IsWholeChange batch start said o
+
 -- a beginning of one
 abbrev pub BeginsChange : Writes → List Received → Type 0
-BeginsChange batch said = (start : Ts) × (rest : List Received) × (o : Outcome) × IsWholeChange batch start (said ++ rest) o
+BeginsChange batch said = IsBeginningOf (IsSomeChange batch) said
 
 -- what a change of some cells has asked so far is such a beginning
 abbrev pub ChangesConverse : Type 0

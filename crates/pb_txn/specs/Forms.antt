@@ -1,7 +1,7 @@
 -- The conversations of a transaction (OSDI 2010, section 2.2): four forms, in words of steps and answers alone, so that those who
 -- read a journal need to know nothing of plans. The law `plans_converse` says that plans keep to them.
 use Rattle.std.specs.Prelude.{◌≡◌, ℕ, List, [], ◌∷◌, ◌++◌, map, Some, None}
-use Rattle.pb_txn.specs.Words.{Cell, Ts, Declared, Step, Answer, CanAnswer, Received}
+use Rattle.pb_txn.specs.Words.{Cell, Ts, Declared, Step, Answer, CanAnswer, Received, IsBeginningOf}
 use Rattle.pb_txn.specs.declared.place.Outcome.{Outcome}
 use Rattle.pb_txn.specs.Places.{declared_cells}
 use Rattle.pb_txn.specs.Plans.{PlanOf, fresh, next_of, outcome_of}
@@ -36,14 +36,18 @@ pub data IsWhole (s : Ts) (what : Declared) : List Cell → List Received → Ou
   lost : (x : Cell) (others : List Cell) (c : Ts) (cs : List Received) → AreCleared others cs
       → IsWhole s what (x ∷ others) (told (Step.Declare s what) Answer.Done ∷ prewrites s (x ∷ others) ++ told (Step.Stamp s) (Answer.At c) ∷ told (Step.CommitPrimary s) Answer.Lost ∷ cs) Outcome.Lost
 
--- a beginning of such a conversation
-abbrev pub IsBeginning : Ts → Declared → List Received → Type 0
-IsBeginning s what said = (rest : List Received) × (o : Outcome) × IsWhole s what (declared_cells what) (said ++ rest) o
+-- such a conversation of all that is declared, whatever its outcome
+abbrev pub IsSomeWhole : Ts → Declared → List Received → Type 0
+IsSomeWhole s what said = (o : Outcome) × IsWhole s what (declared_cells what) said o
+
+-- a beginning of one
+abbrev pub BeginsPlan : Ts → Declared → List Received → Type 0
+BeginsPlan s what said = IsBeginningOf (IsSomeWhole s what) said
 
 -- what a plan of some cells has asked so far is a beginning of such a conversation
 abbrev pub PlansConverse : Type 0
 PlansConverse = (s : ℕ) (what : Declared) (x : Cell) (others : List Cell) (said : List Received) (q : PlanOf) → declared_cells what ≡ x ∷ others → Converses (fresh s what) said q
-    → IsBeginning (record { 0 = s }) what said
+    → BeginsPlan (record { 0 = s }) what said
 
 -- and where it is over, a whole one with its outcome
 abbrev pub PlansEnd : Type 0

@@ -28,5 +28,5 @@ pub use Rattle.pb_history.specs.Laws.{HistoriesAreTold, JournalsAreSound, Transa
 pub use Rattle.pb_history.specs.TransactionsTold.{BeginsOnce, TellsTransactions, committed_phase, entries_naming, is_begin, names_start, transaction_after, transaction_by, transaction_from}
 pub use Rattle.pb_history.specs.declared.entry.Entry.{Entry}
 pub use Rattle.pb_history.specs.declared.entry.Received.{Received}
-pub use Rattle.pb_conversations.specs.Conversations.{IsConversation, JobOf, asking, took, went}
-pub use Rattle.pb_conversations.specs.Parts.{no_part, one_part}
+pub use Rattle.pb_conversations.specs.Conversations.{IsConversation, JobOf, asking_job, took, went}
+pub use Rattle.pb_conversations.specs.Parts.{IsBeginningOf, no_part, one_part}

@@ -51,14 +51,14 @@ of_beginning o row s (r ∷ said) rest i = record {
 -- so a whole run
 run_commits : (observers : List ObserverOf) (n : ℕ) (x : Cell) (said : List Received) → IsRun observers n x said → CommitRuns said
 run_commits observers n x said r =
-    let k = of_run (watch_of n r.o (row_of x)) said r.end r.run r.talk in
+    let k = of_run (watch_of n r.o (row_of x)) said r.end r.whole.run r.whole.talk in
     of_beginning n (row_of x) k.0 said [] (subst (IsOneTransaction (Work.Run n (row_of x)) k.0) (sym (append-nil said)) k.1)
 
 -- and one that was cut off
 run_begun : (observers : List ObserverOf) (next : Option Step) (i : ℕ) (x : Cell) (said : List Received) → IsRunBegun observers i x next said → CommitRuns said
 run_begun observers next i x said s =
-    let b = s.begins in
-    let k = of_run (watch_of i s.o (row_of x)) (said ++ b.0) b.1 b.2 b.3 in
+    let b = s.run.begins in
+    let k = of_run (watch_of i s.o (row_of x)) (said ++ b.0) b.1.0 b.1.1 b.1.2 in
     of_beginning i (row_of x) k.0 said b.0 k.1
 
 -- ---- passes

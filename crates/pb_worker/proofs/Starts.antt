@@ -159,7 +159,7 @@ module _ (batches : List Writes) (n first : ℕ) where
         neither b p q = cc
 
     of_then : {Last : List Received → Type 0} → ((passes : List Received) → Last passes → CommitRuns passes) → (said : List Received) → AreTriedThen (share_of batches n first) done Last said → StartsOf done said
-    of_then commits said w = subst (λ l. StartsOf done l) (sym w.said_is) (with_runs done w.changes w.rest (commits w.rest w.ends) (of_tried done w.changes w.tried.tried))
+    of_then commits said w = subst (λ l. StartsOf done l) (sym w.said_is) (with_runs done w.before w.last (commits w.last w.ends.2) (subst (λ (fs : List Bool). StartsOf fs w.before) w.ends.0 (of_tried w.at w.before w.parts)))
 
     pub of_work : (opens : Option OpeningOf) (r : Option Refusal) (said : List Received) → IsWork opens seat observers (share_of batches n first) done r said → StartsOf done said
     of_work opens None said w = of_then (drain_commits_runs observers) said w

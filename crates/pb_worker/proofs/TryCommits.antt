@@ -84,13 +84,14 @@ of_tries batch is said d = grind (arith, of_done, has_none, tries_in_vain)
 pub of_cut : (batch : Writes) (is : Bool) (next : Option Step) (said : List Received) → batch ≢ [] → AreTriesBegun batch is next said → (start : Ts) × TellsCommit batch is start said
 of_cut batch is next said some t =
     let s = t.ends.1 in
-    let b = s.begins in
-    let own = of_change batch b.0 (t.last ++ b.1) b.2 b.3 in
-    let its : (u : Ts) → Has t.last (commit_of u) → u ≡ b.0 = λ u h. own.own.each (commit_of u) (has_left t.last b.1 (commit_of u) h) u refl in (
+    let rest = s.change.begins.0 in
+    let b = s.change.begins.1 in
+    let own = of_change batch b.0 (t.last ++ rest) b.1 b.2 in
+    let its : (u : Ts) → Has t.last (commit_of u) → u ≡ b.0 = λ u h. own.own.each (commit_of u) (has_left t.last rest (commit_of u) h) u refl in (
       b.0,
       record {
         made = λ e.
-            let c = cut_commits batch t.last s.job some s.converses (sym s.committed_is ∙ e) in
+            let c = cut_commits batch t.last s.change.at some s.change.talk (sym s.committed_is ∙ e) in
             made_in_part batch t.at t.before t.last said t.parts t.said_is b.0 (subst (λ u. HasCommitted batch u t.last) (its c.0 c.1.committed) c.1);
         only = λ u h.
             let k = only_in_part batch t.at t.before t.last said t.parts t.said_is u h in

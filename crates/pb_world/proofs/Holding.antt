@@ -37,21 +37,16 @@ its_observer w (Job.Run o row) r its = its.2
 
 -- and so is what a run has said, whose machine was led by it
 of_run : AcceptedAreNeverStuck → JobsConverse → MachinesAreLed → AsksAreOpen → EndedRunsMean → (w : WorldOf) (r : RunOf) (said : List Received) → JobCame w (ActorJob.Run r) said → HoldsOfRun w r said
-of_run stuck converses led waits ended w r said m =
-    let t = converses r.watch said r m.converses in
-    record {
-      its = its_observer w m.job r m.its;
-      rest = t.0;
-      end = t.1;
-      run = t.2;
-      talk = t.3;
-      machine = λ s v stands.
-          let machine = led r.watch said r s v m.converses stands in
-          let accepted : RulesAccept v.judged = subst (λ j. RulesAccept j) (sym machine.program) m.ready in
-          (machine, never_stuck stuck v accepted (machine.size ∙ ap (λ (j : JudgedOf). j.record_size) (sym machine.program)) machine.led);
-      asks = waits r.watch said r m.converses;
-      ended = ended r.watch said r m.converses;
-    }
+of_run stuck converses led waits ended w r said m = record {
+  its = its_observer w m.job r m.its;
+  begins = converses r.watch said r m.converses;
+  machine = λ s v stands.
+      let machine = led r.watch said r s v m.converses stands in
+      let accepted : RulesAccept v.judged = subst (λ j. RulesAccept j) (sym machine.program) m.ready in
+      (machine, never_stuck stuck v accepted (machine.size ∙ ap (λ (j : JudgedOf). j.record_size) (sym machine.program)) machine.led);
+  asks = waits r.watch said r m.converses;
+  ended = ended r.watch said r m.converses;
+}
 
 of_job : AcceptedAreNeverStuck → JobsConverse → MachinesAreLed → AsksAreOpen → EndedRunsMean → ChangesConverse → (w : WorldOf) (j : ActorJob) (said : List Received) → JobCame w j said → HoldsOfJob w j said
 of_job stuck converses led waits ended changes w j said m = grind (arith, of_change, of_run)

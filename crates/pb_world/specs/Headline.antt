@@ -1,6 +1,6 @@
 -- What holds in every world, whatever the order of its events (OSDI 2010, sections 2.2 to 2.4).
-use Rattle.std.specs.Prelude.{◌≡◌, ◌≢◌, ℕ, ◌<◌, List, ◌++◌, length, Option, Some, slice_get}
-use Rattle.pb_world.specs.Words.{Ts, slots, Placement, IsPlacement, State, Stuck, act, Position, IsAtState, environment_at, Meant, Received, entries_of, TellsRecords, SeatOf, AreSeats, IsLegalTable, IsSnapshotHistory, HandlesOnce, Outcome, ChangeOf, IsWholeChange, JobEnd, RunOf, IsRunConversation, MachineStandsAt, IsMachineOf, IsAskingAt, HasEnded, Event}
+use Rattle.std.specs.Prelude.{◌≡◌, ◌≢◌, ℕ, ◌<◌, List, ◌++◌, length, Some, slice_get}
+use Rattle.pb_world.specs.Words.{Ts, slots, Placement, IsPlacement, State, Stuck, act, Position, IsAtState, environment_at, Received, entries_of, TellsRecords, SeatOf, AreSeats, IsLegalTable, IsSnapshotHistory, HandlesOnce, BeginsChange, ChangeOf, BeginsRun, RunOf, MachineStandsAt, IsMachineOf, IsAskingAt, HasEnded, Event}
 use Rattle.pb_world.specs.declared.actor.Actor.{Actor}
 use Rattle.pb_world.specs.declared.job.ActorJob.{ActorJob}
 use Rattle.pb_world.specs.declared.note.Note.{Note}
@@ -19,20 +19,14 @@ pub record IsNeverStuck (v : Position) : Type 0 where
 pub record HoldsOfChange (w : WorldOf) (c : ChangeOf) (said : List Received) : Type 0 where
   pub number : ℕ
   pub there : change_of w.batches number ≡ Some c.batch
-  pub start : Ts
-  pub rest : List Received
-  pub outcome : Outcome
-  pub talk : IsWholeChange c.batch start (said ++ rest) outcome
+  pub begins : BeginsChange c.batch said
 
 -- The conversation is a beginning of a run of its observer on the cell of its row. Its machine, while there is one, runs the
 -- observer's program on the record of what was read, had what was read as its replies, and is never stuck; while it asks, it
 -- stands before the asking instruction.
 pub record HoldsOfRun (w : WorldOf) (r : RunOf) (said : List Received) : Type 0 where
   pub its : HasObserver w r.watch
-  pub rest : List Received
-  pub end : JobEnd
-  pub run : Option Meant
-  pub talk : IsRunConversation r.watch (said ++ rest) end run
+  pub begins : BeginsRun r.watch said
   pub machine : (s : Ts) (v : Position) → MachineStandsAt r.place s v → IsMachineOf r.watch r.place s v said × IsNeverStuck v
   pub asks : IsAskingAt r.place
   pub ended : HasEnded r.watch r.place said

@@ -15,7 +15,6 @@ pub use Rattle.pb_isa.specs.declared.limits.TheConstants.{MAX_RECORD_BYTES}
 pub use Rattle.pb_verify.specs.Arriving.{Accepts}
 pub use Rattle.pb_verify.specs.Observers.{ObserverOf}
 pub use Rattle.pb_sound.specs.NeverStuck.{AcceptedAreNeverStuck}
-pub use Rattle.pb_finished.specs.Finished.{Meant}
 pub use Rattle.pb_vm.specs.Moves.{IsAtState, environment_at}
 pub use Rattle.pb_vm.specs.Position.{Position}
 pub use Rattle.pb_steps.specs.Answers.{CanAnswer}
@@ -35,11 +34,9 @@ pub use Rattle.pb_parse.specs.declared.event.Event.{Event}
 pub use Rattle.pb_parse.specs.declared.event.Job.{Job}
 pub use Rattle.pb_conversations.specs.Conversations.{IsMove, JobOf, took, went}
 pub use Rattle.pb_conversations.specs.Parts.{no_part, one_part}
-pub use Rattle.pb_txn.specs.Changes.{ChangeOf, ChangesConverse, Converses, IsWholeChange, new_change}
-pub use Rattle.pb_txn.specs.declared.place.Outcome.{Outcome}
+pub use Rattle.pb_txn.specs.Changes.{BeginsChange, ChangeOf, ChangesConverse, Converses, new_change}
 pub use Rattle.pb_notify.specs.Conversations.{Reaches, run_job}
-pub use Rattle.pb_notify.specs.Forms.{IsRunConversation, JobsConverse}
+pub use Rattle.pb_notify.specs.Forms.{BeginsRun, JobsConverse}
 pub use Rattle.pb_notify.specs.Led.{AsksAreOpen, EndedRunsMean, HasEnded, IsAskingAt, IsMachineOf, MachineStandsAt, MachinesAreLed}
 pub use Rattle.pb_notify.specs.Runs.{RunOf, Watch, fresh, need_of, watch_of}
-pub use Rattle.pb_notify.specs.declared.need.JobEnd.{JobEnd}
 pub use Rattle.pb_notify.specs.declared.need.Need.{Need}

@@ -107,7 +107,7 @@ module _ (wholes : KeptTablesAreWhole) (over : RefusalsCarryOver) (alike : SameR
         → step_reason new 0 step ≡ Some why → why ≡ Reason.OutOfTimestamps
     of_change keep allowed told_by batch job step why talk next refused =
         let journal = entries_by 0 (before ++ said) in
-        let led = on (keep observers gone 1 clock c (entries_by 0 before) old new kept 0 batch said job talk leads) in
+        let led = on (keep observers gone 1 clock c (entries_by 0 before) old new kept 0 said (batch, job, talk) leads) in
         let w = stands journal new led in
         let named = late_in_change batch said job c step (late Work.Script) talk next in
         let known = change_names_known (length observers) 0 batch old new said job step talk leads next in

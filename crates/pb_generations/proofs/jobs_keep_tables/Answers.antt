@@ -79,17 +79,17 @@ whole_asked observers seat batch start said o old new whole leads =
     subst (AreAsked observers) (sym whole.said_is) (λ journal. tt, tt, asked_whole observers start batch _ whole.rest o cells whole.whole)
 
 pub returns-clause-runs : goal.returns-clause-runs
-returns-clause-runs c observers gone seats clock g journal old new kept seat o observer row said k there reaches leads =
-    (kept_run c.kept_tables_are_whole.ensures.answers observers gone seats clock g journal old kept seat c.jobs_ask_steps.ensures.runs c.jobs_name_known_cells.ensures.runs o observer row there said k new reaches leads).0
+returns-clause-runs c observers gone seats clock g journal old new kept seat said run leads =
+    (kept_run c.kept_tables_are_whole.ensures.answers observers gone seats clock g journal old kept seat c.jobs_ask_steps.ensures.runs c.jobs_name_known_cells.ensures.runs run.0 run.1 run.2 run.4 said run.3 new run.5 leads).0
 
 pub returns-clause-changes : goal.returns-clause-changes
-returns-clause-changes c observers gone seats clock g journal old new kept seat batch said k talk leads =
-    (kept_change c.kept_tables_are_whole.ensures.answers observers gone seats clock g journal old kept seat c.jobs_ask_steps.ensures.changes batch said k new talk leads).0
+returns-clause-changes c observers gone seats clock g journal old new kept seat said change leads =
+    (kept_change c.kept_tables_are_whole.ensures.answers observers gone seats clock g journal old kept seat c.jobs_ask_steps.ensures.changes change.0 said change.1 new change.2 leads).0
 
 pub returns-clause-whole : goal.returns-clause-whole
-returns-clause-whole c observers gone seats clock g journal old new kept seat batch start said o whole leads =
-    of_asked observers gone seats clock g seat journal old new said kept (whole_asked observers seat batch start said o old new whole leads) leads
+returns-clause-whole c observers gone seats clock g journal old new kept seat said change leads =
+    of_asked observers gone seats clock g seat journal old new said kept (whole_asked observers seat change.0 change.1.0 said change.1.1 old new change.1.2 leads) leads
 
 pub returns-clause-marks : goal.returns-clause-marks
-returns-clause-marks c observers gone seats clock g journal old new kept seat after answer said is leads =
-    of_asked observers gone seats clock g seat journal old new said kept (subst (AreAsked observers) (sym is) (λ journal. tt, tt, tt)) leads
+returns-clause-marks c observers gone seats clock g journal old new kept seat said mark leads =
+    of_asked observers gone seats clock g seat journal old new said kept (subst (AreAsked observers) (sym mark.2) (λ journal. tt, tt, tt)) leads

@@ -14,7 +14,7 @@ returns-in_err-change_all-clause-err g c =
 pub returns-in_err-drain-clause-err : goal.returns-in_err-drain-clause-err
 returns-in_err-drain-clause-err g c =
     let p = err_from_is_err_and c.from_residual-in_err-drain.result c.from_residual-in_err-drain.ensures.1 in
-    rw (p.1, p.2) (gains_stop {P = AreAllTried c.args.batches.now c.args.count c.args.first c.change_all.new.done.items} {Q = IsDrainBegun c.args.observers.now} c.in_ok-change_all.ensures.ok c.in_err-drain.ensures.err (λ said more next t begun. inr (record { changes = said; tried = t; rest = more; ends = begun; said_is = refl })))
+    rw (p.1, p.2) (gains_stop {P = AreAllTried c.args.batches.now c.args.count c.args.first c.change_all.new.done.items} {Q = IsDrainBegun c.args.observers.now} c.in_ok-change_all.ensures.ok c.in_err-drain.ensures.err (λ said more next t begun. inr (record { at = c.change_all.new.done.items; before = said; parts = t.tried; last = more; ends = (refl, t.all, begun); said_is = refl })))
 
 pub returns-clause-ok : goal.returns-clause-ok
-returns-clause-ok g c = gains_on c.in_ok-change_all.ensures.ok c.in_ok-drain.ensures.ok (λ said more t d. record { changes = said; tried = t; rest = more; ends = d; said_is = refl })
+returns-clause-ok g c = gains_on c.in_ok-change_all.ensures.ok c.in_ok-drain.ensures.ok (λ said more t d. record { at = c.change_all.new.done.items; before = said; parts = t.tried; last = more; ends = (refl, t.all, d); said_is = refl })
