@@ -4,7 +4,7 @@ use Rattle.std.specs.FinMap as finite
 use Rattle.std.specs.Ordering.{nat_cmp}
 use Rattle.std.specs.Cmp.{unsigned_tied, nat_cmp_total}
 use Rattle.std.proofs.lemmas.Bool.{eqb-true, eq-eqb}
-use Rattle.pb_passes.proofs.Drains.{HoldsOfRuns, of_drain}
+use Rattle.pb_passes.proofs.Drains.{HoldsOfRuns}
 use Rattle.pb_keeper.specs.Words.{Writes, Ts, Meant, ObserverOf, Begins, read_step, write_at, StateOf, TransactionOf, phase_in, new_transaction, StepCase, Phase, Step, Answer, Work, JournalLeads, StepsKeepSound, OpeningIsSound, IsSoundTable, IsCommittedAt, view_of, Received, names_start, committed_phase, transaction_after, told, Outcome, entries_by, its_begin, IsRunConversation, absent, clean, ran, conflicted, blocked, Watch, JobEnd, ChosenAreSound, LeftAreSound}
 use Rattle.pb_notify.specs.Forms.{lost as lost_run}
 use Rattle.pb_history.proofs.Agreement.{got}
@@ -12,8 +12,9 @@ use Rattle.pb_history.proofs.StepsKeepSound.{some_is}
 use Rattle.pb_history.proofs.TransactionAfter.{told_after, case_tells}
 use Rattle.pb_keeper.specs.Leads.{IsEndedChange}
 use Rattle.pb_keeper.specs.Keeps.{IsFirstTable, IsAnew, IsChosenOf, opened, anew, changed, KeepsFrom, KeptFollowOneAnother}
-use Rattle.pb_keeper.specs.Stats.{KeptTable}
+use Rattle.pb_keeper.specs.Stats.{KeptTable, starts_run}
 use Rattle.pb_keeper.proofs.EachStep.{is_step_within, AreWithin, IsWithin, each_as, each_on, whole_within}
+use Rattle.pb_keeper.proofs.BoundedDrains.{of_drain_within}
 use Rattle.pb_keeper.proofs.EachPart.{of_all}
 use Rattle.pb_keeper.proofs.Resting.{first_sound, from_sound, marked_sound}
 use Rattle.pb_keeper.proofs.Wholes.{is_plain, IsPlain, ArePlain, IsPlainFrom, looked_from, rounds_from, base_from, begin_from, acknowledged_from, asked_from, read_plain, Preserves, preserves_adds}
@@ -167,15 +168,24 @@ plain_is s step p = grind arith
 plain_within : (s : ℕ) (said : List Received) → ArePlain said → AreWithin s said
 plain_within s said p = each_as IsPlain (IsWithin s) (λ r is. plain_is s r.step is) said p
 
-module _ (s : Ts) where
-  planned : (before plan : List Received) → IsPlainFrom s before → AreWithin s.0 plan → IsOfOne (before ++ plan)
-  planned before plan f w = one_more before plan (record { s = s; work = f.work; rest = f.rest; said_is = f.said_is; within = plain_within s.0 f.rest f.plain }) w
+-- it is that of a run
+abbrev pub IsOfOneRun : List Received → Type 0
+IsOfOneRun said = (one : IsOfOne said) × (starts_run (Step.Begin one.work) ≡ true)
 
-pub run_is_of_one : (o : Watch) (said : List Received) (end : JobEnd) (run : Option Meant) → IsRunConversation o said end run → IsOfOne said
+more_of_run : (said more : List Received) (o : IsOfOneRun said) → AreWithin o.0.s.0 more → IsOfOneRun (said ++ more)
+unfolding one_more
+more_of_run said more o w = (one_more said more o.0 w, o.1)
+
+module _ (s : Ts) where
+  planned : (before plan : List Received) → IsPlainFrom s before → AreWithin s.0 plan → IsOfOneRun (before ++ plan)
+  unfolding one_more
+  planned before plan f w = (one_more before plan (record { s = s; work = f.work; rest = f.rest; said_is = f.said_is; within = plain_within s.0 f.rest f.plain }) w, f.is_run)
+
+pub run_is_of_one : (o : Watch) (said : List Received) (end : JobEnd) (run : Option Meant) → IsRunConversation o said end run → IsOfOneRun said
 run_is_of_one o said end run (absent s k before w look none few can) = planned s before _ (looked_from s _ None 0 (its_begin o s) k before look (begin_from s o)) (refl, tt)
 run_is_of_one o said end run (clean s seen k before w i late few can) = planned s before _ (acknowledged_from s o seen k before i) (refl, tt)
 run_is_of_one o said end run (ran s seen talk k before plan f c w i few on whole can) =
-    one_more (before ++ plan) _ (planned s before plan (asked_from s o seen talk k before i) (whole_within s _ _ plan (Outcome.Committed c) whole)) (refl, tt)
+    more_of_run (before ++ plan) _ (planned s before plan (asked_from s o seen talk k before i) (whole_within s _ _ plan (Outcome.Committed c) whole)) (refl, tt)
 run_is_of_one o said end run (conflicted s seen talk k before plan f i few on whole) = planned s before plan (asked_from s o seen talk k before i) (whole_within s _ _ plan Outcome.Conflicted whole)
 run_is_of_one o said end run (lost_run s seen talk k before plan f i few on whole) = planned s before plan (asked_from s o seen talk k before i) (whole_within s _ _ plan Outcome.Lost whole)
 run_is_of_one o said end run (blocked s x at j base k before t primary from rounds last) =
@@ -205,7 +215,7 @@ module _ (keeps : StepsKeepSound) (observers : List ObserverOf) where
   parts_follow = record {
     adds = preserves_adds keeps Follow;
     mark = λ after a m n sound follow r. subst Follow (sym r.2) (plain_follow m r.0 (Step.NextMark after) a refl r.1.taken follow);
-    run = λ i x said is. one_keeps said (run_is_of_one _ said is.end is.whole.run is.whole.talk);
+    run = λ i x said is. one_keeps said (run_is_of_one _ said is.end is.whole.run is.whole.talk).0;
   }
 
 -- ---- generations
@@ -248,7 +258,7 @@ module _ (keeps : StepsKeepSound) (opens : OpeningIsSound) (left : LeftAreSound)
   first_follow past first (changed before changes start old between new places front more began k quiet room is up) =
       let sound = from_sound keeps opens left chosen before changes start old began k in
       let was = from_follow before changes start old began (first_follow before start began) k in
-      of_drain up.marked.state.observers (parts_follow keeps up.marked.state.observers) up.drained.said up.drained.form.form up.marked.state first.state
+      of_drain_within up.marked.state.observers (parts_follow keeps up.marked.state.observers) up.bound up.drained.said up.drained.form.form up.marked.state first.state
       (marked_sound keeps opens left chosen before changes start old between new places front more began k is up)
       (subst Follow (sym up.observed.is) (left_follow old.state between.state (at_choice old between sound is) was)) up.drained.leads
     where

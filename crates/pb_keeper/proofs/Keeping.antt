@@ -2,15 +2,16 @@
 use Rattle.std.proofs.Common.{arith, ◌≡◌, ℕ, ◌<◌, List, [], ◌∷◌, ◌++◌, ◌+◌, length, slice_index_or, Some, slice_get, refl, sym, ap, subst, ◌∙◌}
 use Rattle.std.proofs.lemmas.List.{append_assoc, append-nil, length-append, length-map, length-replicate}
 use Rattle.std.proofs.lemmas.Option.{slice_get_within}
-use Rattle.pb_passes.proofs.Drains.{of_drain}
-use Rattle.pb_keeper.specs.Words.{Writes, Ts, ObserverOf, last_timestamp, StateOf, IsQuiet, StepsKeepSound, OpeningIsSound, IsSoundTable, Received, entries_by, IsDrain, HasMoreObservers, AreChosen, ChosenAreSound, new_number, renumbered_said, IsKeptTable, opened as opened_kept, anew as anew_kept, chosen as chosen_kept, RunsKeepTables, WholeChangesKeepTables, MarksKeepTables, LeftAreSound, no_part, one_part}
+use Rattle.pb_keeper.specs.Words.{Writes, Ts, ObserverOf, last_timestamp, StateOf, IsQuiet, StepsKeepSound, OpeningIsSound, IsSoundTable, Received, entries_by, HasMoreObservers, AreChosen, ChosenAreSound, new_number, renumbered_said, IsKeptTable, opened as opened_kept, anew as anew_kept, chosen as chosen_kept, RunsKeepTables, WholeChangesKeepTables, MarksKeepTables, LeftAreSound, no_part, one_part}
 use Rattle.pb_generations.proofs.ChosenNumbers.{said_renumbered}
+use Rattle.pb_keeper.specs.Drains.{IsDrainWithin}
 use Rattle.pb_keeper.specs.Leads.{SaidLeads}
 use Rattle.pb_keeper.specs.Made.{IsMade}
 use Rattle.pb_keeper.specs.Keeps.{AreMade, AreMadeInAll, nothing_made, change_made, observers_changed, total_in, CatchesUp, IsChosenOf, Keeps, KeepsFrom, IsFirstTable, opened, anew, changed, BeginningKeepsNone, IsWholeTable, KeptIsWhole}
 use Rattle.pb_keeper.specs.Stats.{no_runs, sum_of, AreKeptStats, AreStatsOf, Counted, KeptTable, chosen_stats, first_stats, kept_table}
 use Rattle.pb_keeper.specs.Stops.{WasKept}
 use Rattle.pb_keeper.specs.declared.stats.ObserverStats.{ObserverStats}
+use Rattle.pb_keeper.proofs.BoundedDrains.{of_drain_within}
 use Rattle.pb_keeper.proofs.EachPart.{of_all}
 use Rattle.pb_keeper.proofs.CatchingUp.{kept_with_none, none_counted, none_of_any}
 use Rattle.pb_keeper.proofs.KeptTables.{change_leaves, parts_leave}
@@ -37,9 +38,9 @@ pub beginning_keeps_none : BeginningKeepsNone
 beginning_keeps_none past first began = record { past = past; began = began; leads = leads_none first.state (counted_none tt no_part) }
 
 -- it got more observers, and a drain led on
-abbrev pub caught : (more : List ObserverOf) (old : KeptTable) (marked new : StateOf) (begun stats : List ObserverStats) → HasMoreObservers more old.state marked → begun ≡ old.stats ++ first_stats more
-    → SaidLeads (Counted marked.observers begun stats (IsDrain marked.observers)) marked new → CatchesUp more old (kept_table new stats)
-caught more old marked new begun stats has are g = record { marked = kept_table marked begun; observed = has; stats_are = are; drained = g }
+abbrev pub caught : (more : List ObserverOf) (bound : ℕ) (old : KeptTable) (marked new : StateOf) (begun stats : List ObserverStats) → HasMoreObservers more old.state marked → begun ≡ old.stats ++ first_stats more
+    → SaidLeads (Counted marked.observers begun stats (IsDrainWithin marked.observers bound)) marked new → CatchesUp more old (kept_table new stats)
+caught more bound old marked new begun stats has are g = record { marked = kept_table marked begun; observed = has; stats_are = are; bound = bound; drained = g }
 
 -- ---- all generations
 
@@ -143,8 +144,8 @@ module _ (keeps : StepsKeepSound) (opens : OpeningIsSound) (left : LeftAreSound)
       same : up.marked.state.observers ≡ observers
       same = ap (λ (z : StateOf). z.observers) up.observed.is ∙ ap (λ (z : StateOf). z.observers ++ more) is.is
 
-      drain : SaidLeads (Counted observers up.marked.stats first.stats (IsDrain observers)) up.marked.state first.state
-      drain = subst (λ (l : List ObserverOf). SaidLeads (Counted l up.marked.stats first.stats (IsDrain l)) up.marked.state first.state) same up.drained
+      drain : SaidLeads (Counted observers up.marked.stats first.stats (IsDrainWithin observers up.bound)) up.marked.state first.state
+      drain = subst (λ (l : List ObserverOf). SaidLeads (Counted l up.marked.stats first.stats (IsDrainWithin l up.bound)) up.marked.state first.state) same up.drained
 
       over : IsWholeTable start.state.observers (before ++ changes) old → IsWholeTable first.state.observers (before ++ changes) first
       over w =
@@ -155,13 +156,13 @@ module _ (keeps : StepsKeepSound) (opens : OpeningIsSound) (left : LeftAreSound)
             gone = start.state.observers ++ w.gone;
             said = said ++ drain.said;
             total = λ o. sum_of (total_in places w.total o) (drain.form.total o);
-            made = observers_changed start.state.observers w.gone front more places (before ++ changes) w.said drain.said w.total drain.form.total w.made (subst (λ l. AreChosen places l front) was is.are) drain.form.form drain.form.did;
+            made = observers_changed start.state.observers w.gone front more places up.bound (before ++ changes) w.said drain.said w.total drain.form.total w.made (subst (λ l. AreChosen places l front) was is.are) drain.form.form drain.form.did;
             c = old.state.clock;
-            kept = of_drain observers (parts_leave observers runs marks) drain.said drain.form.form (start.state.observers ++ w.gone) old.state.clock said up.marked.state first.state
+            kept = of_drain_within observers (parts_leave observers runs marks) up.bound drain.said drain.form.form (start.state.observers ++ w.gone) old.state.clock said up.marked.state first.state
                 (kept_chosen start.state.observers w.gone w.c w.said old between up.marked.state places front more w.kept was (from_sound keeps opens left chosen before changes start old began k) quiet room is up.observed) drain.leads;
             clean = λ o.
                 let earlier = none_of_any w.total w.clean (slice_get places o) in
-                let met = (of_drain observers (parts_meet_none keeps observers) drain.said drain.form.form).1 up.marked.state first.state
+                let met = (of_drain_within observers (parts_meet_none keeps observers) up.bound drain.said drain.form.form).1 up.marked.state first.state
                 (marked_sound keeps opens left chosen before changes start old between new places front more began k is up) (marked_free keeps opens left chosen old between new places front more is up) drain.leads in
                 let later = counts_none observers drain.said drain.form.total drain.form.did met o in
                 omega (arith, earlier, later);

@@ -5,6 +5,7 @@ use Rattle.pb_passes.proofs.Drains.{HoldsOfRuns}
 use Rattle.pb_keeper.specs.Words.{Writes, row_of, Cell, ObserverOf, StateOf, Step, Answer, JournalLeads, Entry, Received, told, Outcome, entries_by, IsKeptTable, opened, stepped, anew, chosen, RunsKeepTables, WholeChangesKeepTables, MarksKeepTables, IsOfParts}
 use Rattle.pb_history.proofs.TransactionAfter.{case_observers}
 use Rattle.pb_generations.proofs.SeatEntries.{by_append}
+use Rattle.pb_keeper.specs.Drains.{HasRuns}
 use Rattle.pb_keeper.specs.Leads.{SaidLeads, IsEndedChange}
 use Rattle.pb_keeper.specs.Stops.{WasKept}
 use Rattle.pb_keeper.specs.declared.stats.ObserverStats.{ObserverStats}
@@ -63,6 +64,6 @@ kept_after a b k leaves g = record {
 }
 
 -- and after parts whose runs are counted
-pub kept_while : {S : Type 0} {Part : S → S → List Received → Type 0} {p q : S} {s t : List ObserverStats} {m : ℕ} {a b : StateOf} → WasKept a → ((x y : S) (said : List Received) → Part x y said → LeavesKept a.observers said)
-    → Led a.observers s t (IsOfParts Part p q) m a b → WasKept b
-kept_while {p = p} {q = q} {a = a} {b = b} k leaves g = kept_after a b k (λ said f. of_parts (leaves_add a.observers) leaves p q said f.form.form) g
+pub kept_while : {S : Type 0} {Part : S → S → List Received → Type 0} {p q : S} {s t : List ObserverStats} {i m : ℕ} {a b : StateOf} → WasKept a → ((x y : S) (said : List Received) → Part x y said → LeavesKept a.observers said)
+    → Led a.observers s t (HasRuns (IsOfParts Part p q) i) m a b → WasKept b
+kept_while {p = p} {q = q} {a = a} {b = b} k leaves g = kept_after a b k (λ said f. of_parts (leaves_add a.observers) leaves p q said f.form.form.0) g

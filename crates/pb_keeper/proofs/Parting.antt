@@ -71,7 +71,7 @@ module _ (observers : List ObserverOf) where
   stats_of_none said total nothing_said e = refl
   stats_of_none said total (other_step before was r are isnt) e = absurd (let no : ◌≡◌ {A = List Received} (r ∷ []) [] = last_none before (r ∷ []) e in cc)
   stats_of_none said total (one_run before more was n x first end did are job ran) e =
-      let one = run_is_of_one first.watch more end ran.whole.run ran.whole.talk in
+      let one = (run_is_of_one first.watch more end ran.whole.run ran.whole.talk).0 in
       absurd (let no : told (Step.Begin one.work) (Answer.At one.s) ∷ one.rest ≡ [] = sym one.said_is ∙ last_none before more e in cc)
 
   all_first : (said : List Received) (total : ℕ → ObserverStats) → AreStatsOf observers said total → (a b : List Received) → said ≡ a ++ b → b ≡ [] → AreParted observers a b total
@@ -108,7 +108,7 @@ module _ (observers : List ObserverOf) where
           total_is = (λ i o. sum_of (p.total_is i o) (only_at n did o)) ∙ (λ i o. plus_assoc (p.earlier o) (p.later o) (only_at n did o) i);
         })
     | inr h ↦ (
-        let one = run_is_of_one first.watch more end ran.whole.run ran.whole.talk in
+        let one = (run_is_of_one first.watch more end ran.whole.run ran.whole.talk).0 in
         let rest = (same_tail _ h.0 one.rest (h.1 ++ b) (sym one.said_is ∙ h.2)).1 in
         all_first (before ++ more) (λ o. sum_of (was o) (only_at n did o)) (one_run before more was n x first end did are job ran) a b e
         (none_after one.s.0 h.1 b (subst (AreWithin one.s.0) rest one.within) begins))

@@ -1,12 +1,13 @@
 -- Changes with their drains leave no lock.
 use Rattle.std.proofs.Common.{arith, ℕ, List, [], ◌∷◌, refl, sym, ap, subst, ◌∙◌}
 use Rattle.std.specs.FinMap as finite
-use Rattle.pb_passes.proofs.Drains.{HoldsOfRuns, of_drain}
+use Rattle.pb_passes.proofs.Drains.{HoldsOfRuns}
 use Rattle.pb_keeper.specs.Words.{Writes, slot_cmp, slot_at, Sort, lock_at, primary_of, StateOf, opening, Step, ObserverOf, StepsKeepSound, OpeningIsSound, IsSoundTable, Received, told, HasMoreObservers, ChosenAreSound, LeftAreSound, Outcome}
 use Rattle.pb_keeper.specs.Leads.{IsEndedChange}
 use Rattle.pb_keeper.specs.Stats.{KeptTable}
 use Rattle.pb_keeper.specs.Stops.{IsUnlocked}
 use Rattle.pb_keeper.specs.Keeps.{CatchesUp, IsChosenOf, IsFirstTable, opened, anew, changed, Keeps, KeepsFrom, KeptIsUnlocked}
+use Rattle.pb_keeper.proofs.BoundedDrains.{of_drain_within}
 use Rattle.pb_keeper.proofs.EachPart.{of_all}
 use Rattle.pb_keeper.proofs.Wholes.{Preserves, preserves_adds, stays_sound, plain_walk, run_rests, change_commits, free_after}
 
@@ -73,7 +74,7 @@ module _ (keeps : StepsKeepSound) (opens : OpeningIsSound) (left : LeftAreSound)
   first_free past first (opened observers) = opening_free observers
   first_free past first (anew before changes start old new began leads quiet room is stats) = is.snapshot.unlocked
   first_free past first (changed before changes start old between new places front more began leads quiet room is up) =
-      of_drain up.marked.state.observers (parts_rest keeps up.marked.state.observers) up.drained.said up.drained.form.form up.marked.state first.state
+      of_drain_within up.marked.state.observers (parts_rest keeps up.marked.state.observers) up.bound up.drained.said up.drained.form.form up.marked.state first.state
       (marked_sound before changes start old between new places front more began leads is up) (marked_free old between new places front more is up) up.drained.leads
 
   -- a table that keeps changes is sound

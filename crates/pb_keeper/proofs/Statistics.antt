@@ -42,7 +42,7 @@ one_more_run false was before did stats e f = e ∙ ap saturated (sym (plus_none
 abbrev pub BeginNoRun : List Received → Type 0
 BeginNoRun said = AreEach (λ r. starts_run r.step ≡ false) said
 
-within_begins_none : (s : ℕ) (step : Step) → is_step_within s step ≡ true → starts_run step ≡ false
+pub within_begins_none : (s : ℕ) (step : Step) → is_step_within s step ≡ true → starts_run step ≡ false
 within_begins_none s step w = grind arith
 
 -- a change begins no run

@@ -2,11 +2,13 @@
 use Rattle.std.proofs.Common.{arith, ◌≡◌, ℕ, ◌+◌, ◌-◌, ◌^◌, ◌<◌, ◌≤◌, min, Bool, true, false, cond, List, [], ◌∷◌, ◌++◌, Option, refl, ap}
 use Rattle.std.proofs.lemmas.List.Sums.{sum_by-append, sum_by-cons}
 use Rattle.std.specs.List.{count_by}
-use Rattle.pb_passes.proofs.Drains.{HoldsOfRuns, of_drain}
-use Rattle.pb_keeper.specs.Words.{Cell, Ts, Meant, StateOf, StepCase, Step, Answer, ObserverOf, JournalLeads, Received, told, entries_by, IsRunConversation, ran, Watch, JobEnd, IsDrain}
+use Rattle.pb_passes.proofs.Drains.{HoldsOfRuns}
+use Rattle.pb_keeper.specs.Words.{Cell, Ts, Meant, StateOf, StepCase, Step, Answer, ObserverOf, JournalLeads, Received, told, entries_by, IsRunConversation, ran, Watch, JobEnd}
 use Rattle.pb_keeper.specs.Counts.{commit_count}
 use Rattle.pb_keeper.specs.Leads.{SaidLeads}
+use Rattle.pb_keeper.specs.Drains.{IsDrainWithin}
 use Rattle.pb_keeper.specs.Made.{IsDrainThat, comes_to_rest}
+use Rattle.pb_keeper.proofs.BoundedDrains.{of_drain_within}
 use Rattle.pb_keeper.specs.Stats.{Counted}
 use Rattle.pb_keeper.specs.declared.stats.ObserverStats.{ObserverStats}
 use Rattle.pb_keeper.proofs.Counting.{count_append, not_counted, run_count}
@@ -80,13 +82,13 @@ module _ (observers : List ObserverOf) where
   }
 
   -- so their number is known
-  pub drain_counts : (s t : List ObserverStats) (m : ℕ) (rests : Bool) (old new : StateOf) → new.clock < 2 ^ 64 → Led observers s t (IsDrainThat observers rests) m old new
-      → (leads : SaidLeads (Counted observers s t (IsDrain observers)) old new) × (m ≡ commit_count leads.said) × (rests ≡ comes_to_rest leads.form.form)
+  pub drain_counts : (bound : ℕ) (s t : List ObserverStats) (m : ℕ) (rests : Bool) (old new : StateOf) → new.clock < 2 ^ 64 → Led observers s t (IsDrainThat observers bound rests) m old new
+      → (leads : SaidLeads (Counted observers s t (IsDrainWithin observers bound)) old new) × (m ≡ commit_count leads.said) × (rests ≡ comes_to_rest leads.form.form)
   unfolding counted_as
-  drain_counts s t m rests old new fits g =
+  drain_counts bound s t m rests old new fits g =
       let d = g.form.form.form in (
         record { said = g.said; form = counted_as (λ p. p.form.0) g.form; leads = g.leads },
-        whole (commit_count g.said) (given_count g.said) (of_drain observers few_parts g.said d.0) (clock_on g.said old new g.leads) g.form.form.count,
+        whole (commit_count g.said) (given_count g.said) (of_drain_within observers few_parts bound g.said d.0) (clock_on g.said old new g.leads) g.form.form.count,
         d.1,
       )
     where

@@ -6,6 +6,7 @@ use Rattle.pb_keeper.specs.Words.{Writes, Cell, Revision, Ts, Talk, Entries, Mea
 use Rattle.pb_notify.specs.Forms.{lost as lost_run}
 use Rattle.pb_history.proofs.Updates.{none_if}
 use Rattle.pb_keeper.specs.Leads.{SaidLeads, IsEndedChange}
+use Rattle.pb_keeper.specs.Stats.{starts_run}
 use Rattle.pb_keeper.specs.Stops.{IsUnlocked}
 use Rattle.pb_conversations.proofs.Joining.{Adds}
 use Rattle.pb_keeper.proofs.EachStep.{AreEach, each_last, each_on}
@@ -157,6 +158,7 @@ free_after m n free e y u = ap (λ (z : Entries). lock_at z y u) e ∙ free y u
 -- a begin at this start, and then looks
 pub record IsPlainFrom (s : Ts) (said : List Received) : Type 0 where
   pub work : Work
+  pub is_run : starts_run (Step.Begin work) ≡ true
   pub rest : List Received
   pub said_is : said ≡ told (Step.Begin work) (Answer.At s) ∷ rest
   pub plain : ArePlain rest
@@ -179,7 +181,7 @@ plain_after s said m n f sound free g =
     }
 
 pub from_more : (s : Ts) (a b : List Received) → IsPlainFrom s a → ArePlain b → IsPlainFrom s (a ++ b)
-from_more s a b f p = record { work = f.work; rest = f.rest ++ b; said_is = ap (λ l. l ++ b) f.said_is; plain = each_on IsPlain f.rest b f.plain p }
+from_more s a b f p = record { work = f.work; is_run = f.is_run; rest = f.rest ++ b; said_is = ap (λ l. l ++ b) f.said_is; plain = each_on IsPlain f.rest b f.plain p }
 
 pub read_plain : (s : Ts) (x : Cell) (at : Option Ts) → is_plain (read_step s x at) ≡ true
 read_plain s x None = refl
@@ -199,7 +201,7 @@ module _ (s : Ts) where
 
   module _ (o : Watch) where
     pub begin_from : IsPlainFrom s (its_begin o s)
-    begin_from = record { work = Work.Run o.observer o.row; rest = []; said_is = refl; plain = tt }
+    begin_from = record { work = Work.Run o.observer o.row; is_run = refl; rest = []; said_is = refl; plain = tt }
 
     observed_from : (found : Revision) (n : ℕ) (said : List Received) → IsObserved o s found n said → IsPlainFrom s said
     observed_from found n said i = looked_from _ None 0 (its_begin o s) n said i.look begin_from

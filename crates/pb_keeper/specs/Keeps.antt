@@ -1,7 +1,8 @@
 -- A table that is kept over generations: it is opened with nothing in it, or begins anew from a quiet one, also with other observers,
 -- and then these changes led to it, and nothing else.
 use Rattle.std.specs.Prelude.{◌≡◌, ℕ, ◌<◌, List, [], ◌∷◌, ◌++◌, length, slice_get}
-use Rattle.pb_keeper.specs.Words.{Writes, Ts, ObserverOf, last_timestamp, StateOf, opening, IsQuiet, IsCommittedAt, view_of, Received, IsOfParts, entries_by, IsDrain, HasMoreObservers, AreChosen, IsChosenSnapshot, chosen_state, new_number, renumbered_said, IsKeptTable, carried, AreLeft, IsSnapshotOf}
+use Rattle.pb_keeper.specs.Words.{Writes, Ts, ObserverOf, last_timestamp, StateOf, opening, IsQuiet, IsCommittedAt, view_of, Received, IsOfParts, entries_by, HasMoreObservers, AreChosen, IsChosenSnapshot, chosen_state, new_number, renumbered_said, IsKeptTable, carried, AreLeft, IsSnapshotOf}
+use Rattle.pb_keeper.specs.Drains.{IsDrainWithin}
 use Rattle.pb_keeper.specs.Leads.{SaidLeads}
 use Rattle.pb_keeper.specs.Made.{IsMade}
 use Rattle.pb_keeper.specs.Stats.{AreKeptStats, AreStatsOf, Counted, KeptTable, chosen_stats, first_stats, kept_table, no_runs, total_at, sum_of}
@@ -45,12 +46,13 @@ pub record IsChosenOf (places : List ℕ) (front : List ObserverOf) (old new : K
   pub stats_are : new.stats ≡ chosen_stats places old.stats
 
 -- it got these observers after those that it had, with a mark on each cell of theirs that has a write record, and then a drain led on, by
--- which they catch up; what its runs did is counted, of the new ones from nothing on
+-- which they catch up, as far as so many runs go; what its runs did is counted, of the new ones from nothing on
 pub record CatchesUp (more : List ObserverOf) (old new : KeptTable) : Type 0 where
   pub marked : KeptTable
   pub observed : HasMoreObservers more old.state marked.state
   pub stats_are : marked.stats ≡ old.stats ++ first_stats more
-  pub drained : SaidLeads (Counted marked.state.observers marked.stats new.stats (IsDrain marked.state.observers)) marked.state new.state
+  pub bound : ℕ
+  pub drained : SaidLeads (Counted marked.state.observers marked.stats new.stats (IsDrainWithin marked.state.observers bound)) marked.state new.state
 
 -- a table as a generation begins with it, and the changes of all generations before
 pub data IsFirstTable : List Writes → KeptTable → Type 0 where
@@ -94,8 +96,8 @@ pub data AreMadeInAll : List ObserverOf → List ObserverOf → List Writes → 
   nothing_made : (observers : List ObserverOf) → AreMadeInAll observers [] [] [] (λ o. no_runs)
   change_made : (observers gone : List ObserverOf) (changes : List Writes) (said more : List Received) (total did : ℕ → ObserverStats) (batch : Writes) (commit : Ts) → AreMadeInAll observers gone changes said total
       → IsMade observers batch commit more → AreStatsOf observers more did → AreMadeInAll observers gone (changes ++ batch ∷ []) (said ++ more) (λ o. sum_of (total o) (did o))
-  observers_changed : (observers gone front added : List ObserverOf) (places : List ℕ) (changes : List Writes) (said more : List Received) (total did : ℕ → ObserverStats) → AreMadeInAll observers gone changes said total
-      → AreChosen places observers front → IsDrain (front ++ added) more → AreStatsOf (front ++ added) more did
+  observers_changed : (observers gone front added : List ObserverOf) (places : List ℕ) (bound : ℕ) (changes : List Writes) (said more : List Received) (total did : ℕ → ObserverStats) → AreMadeInAll observers gone changes said total
+      → AreChosen places observers front → IsDrainWithin (front ++ added) bound more → AreStatsOf (front ++ added) more did
       → AreMadeInAll (front ++ added) (observers ++ gone) changes (renumbered_said (new_number places (length (front ++ added))) said ++ more) (λ o. sum_of (total_in places total o) (did o))
 
 -- One conversation, of all generations, makes these changes and leads to the table; what is kept of an observer is what its runs did

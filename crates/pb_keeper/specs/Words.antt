@@ -43,7 +43,7 @@ pub use Rattle.pb_history.specs.TransactionsTold.{committed_phase, names_start, 
 pub use Rattle.pb_history.specs.declared.entry.Entry.{Entry}
 pub use Rattle.pb_history.specs.declared.entry.Received.{Received}
 pub use Rattle.pb_state.specs.MoreObservers.{HasMoreObservers}
-pub use Rattle.pb_conversations.specs.Conversations.{took, went}
+pub use Rattle.pb_conversations.specs.Conversations.{IsMove, took, went}
 pub use Rattle.pb_conversations.specs.Parts.{IsOfParts, EndsIn, no_part, one_part}
 pub use Rattle.pb_txn.specs.Changes.{BeginsChange, ChangeOf, ChangesConverse, ChangesEnd, Converses, IsWholeChange, new_change, outcome_in}
 pub use Rattle.pb_txn.specs.Conversations.{told}
@@ -51,12 +51,14 @@ pub use Rattle.pb_txn.specs.Forms.{AreCleared, IsWhole, PlansStop, committed, co
 pub use Rattle.pb_txn.specs.Plans.{PlanOf}
 pub use Rattle.pb_txn.specs.declared.place.Outcome.{Outcome}
 pub use Rattle.pb_notify.specs.Allowed.{entries_by}
-pub use Rattle.pb_notify.specs.Conversations.{Reaches}
+pub use Rattle.pb_notify.specs.Conversations.{Reaches, run_job}
 pub use Rattle.pb_notify.specs.Forms.{AreAsked, AreRounds, BeginsRun, IsAcknowledged, IsLooked, IsObserved, IsRecalled, IsRound, IsRunConversation, IsWholeRun, JobsConverse, JobsEnd, LooksFrom, absent, asked, at_acknowledgment, at_ask, at_cell, at_first, at_old, blocked, clean, cleared, conflicted, dirty, its_begin, one_more, ran, settled}
 pub use Rattle.pb_notify.specs.Runs.{Computes, HearsLook, RunOf, Watch, answered, fresh, need_of, next_of, watch_of}
 pub use Rattle.pb_notify.specs.declared.need.JobEnd.{JobEnd}
 pub use Rattle.pb_notify.specs.declared.need.Need.{Need}
-pub use Rattle.pb_passes.specs.Passes.{ArePasses, AreRuns, HasColumn, IsDrain, IsJobOn, IsMarkRun, IsMarkless, IsNextPass, IsOfOther, IsPass, IsPassThat, IsRun, IsTurnOf, IsWalk}
+pub use Rattle.pb_notify.specs.declared.place.RunPlace.{RunPlace}
+pub use Rattle.pb_notify.specs.Places.{IsPlanning}
+pub use Rattle.pb_passes.specs.Passes.{AreAllRuns, ArePasses, AreRuns, HasColumn, IsDrain, IsJobOn, IsMarkRun, IsMarkless, IsNextPass, IsNextTurn, IsOfOther, IsPass, IsPassThat, IsRun, IsTurnOf, IsWalk}
 pub use Rattle.pb_passes.specs.declared.passes.TheConstants.{MAX_PASSES}
 pub use Rattle.pb_generations.specs.Chosen.{AreChosen, ChosenAreSound, IsChosenSnapshot, chosen_state, new_number, renumbered_said}
 pub use Rattle.pb_generations.specs.InTime.{ChangesAreInTime, MarksAreInTime, RunsAreInTime}

@@ -23,7 +23,6 @@ use pb_state::State;
 use pb_store::Tablet;
 use pb_verify::Observer;
 use std::alloc::Global;
-use std::sync::Wait;
 
 // Adds observers to a table, with stats of no run. Memory is asked for before the table has them.
 fn add_all<T: Tablet>(
@@ -44,18 +43,19 @@ fn add_all<T: Tablet>(
 }
 
 /// Adds observers after those that a table has, which keep what they have acknowledged, and makes passes until the new ones
-/// have handled all that was ever written to their columns, or so many passes as may be made. It returns what these did.
+/// have handled all that was ever written to their columns, or so many passes as may be made, or so many runs, where another is
+/// due. It returns what these did.
 ///
 /// The table is one that goes on with the observers that stay of a quiet one, in their new order, before anything else is done
 /// with it: all of them stay where observers are only added.
 ///
 /// Where it fails, some cells may be marked, and the table serves for nothing more.
-pub fn observe_also<R: Wait, T: Tablet>(
-    rt: &R,
+pub fn observe_also<T: Tablet>(
     alloc: Global,
     state: &mut State<T>,
     stats: &mut Vec<ObserverStats>,
     more: Vec<Observer>,
+    bound: u64,
 ) -> Result<Drained, Stopped>
     requires few { length state.old.observers + length more.items ≤ MAX_OBSERVERS }
     ensures observers { OnOk result
@@ -63,6 +63,7 @@ pub fn observe_also<R: Wait, T: Tablet>(
     // The runs are those of the drain by which they caught up, and it rests if that does.
     ensures caught_up { IfOk result (λ d. (u : CatchesUp more.items
         (kept_table state.old stats.old.items) (kept_table state.new stats.new.items))
+        × (u.bound ≡ bound)
         × (d.runs ≡ commit_count u.drained.said)
         × (d.rests ≡ comes_to_rest u.drained.form.form)) }
     // Where it rests no cell is marked.
@@ -89,7 +90,7 @@ pub fn observe_also<R: Wait, T: Tablet>(
     snapshots_serve();
     jobs_keep_tables();
     match add_all(alloc, state, stats, more) {
-        Ok(()) => drain(rt, alloc, state, stats),
+        Ok(()) => drain(alloc, state, stats, bound),
         Err(refused) => Err(Stopped::NoMemory(refused)),
     }
 }

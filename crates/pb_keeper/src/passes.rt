@@ -1,15 +1,18 @@
-//! Passes over the marked cells (OSDI 2010, section 2.4), and a change with what follows from it.
-ghost use Rattle.std.specs.Prelude.{◌≡◌, ◌<◌, ◌^◌, ◌∷◌, ◌++◌, [], List, None, true, false, length, IfOk, IfErr, OnErr, OnOk};
+//! Passes over the marked cells (OSDI 2010, section 2.4), and a change with what follows from it. A drain makes so many runs at
+//! most, so that it ends whatever its observers do.
+ghost use Rattle.std.specs.Prelude.{◌≡◌, ◌<◌, ◌≤◌, ◌^◌, ◌∷◌, ◌++◌, [], List, None, true, false, length, IfOk, IfErr, OnErr, OnOk};
 ghost use Rattle.pb_base.specs.Batch.{Writes};
-ghost use Rattle.pb_base.specs.Cell.{column_of, row_of};
+ghost use Rattle.pb_base.specs.Cell.{column_of, rank_of, row_of};
 ghost use Rattle.pb_store.specs.Contents.{IsNextMark};
 ghost use Rattle.pb_keeper.specs.Counts.{CountsCommits, commit_count};
 ghost use Rattle.pb_keeper.specs.Keeps.{Keeps};
 ghost use Rattle.pb_keeper.specs.Stats.{Counted, KeptTable, kept_table};
-ghost use Rattle.pb_passes.specs.Passes.{AreAllRuns, IsDrain, IsPassThat, IsTurnOf};
+ghost use Rattle.pb_passes.specs.Passes.{HasColumn};
+ghost use Rattle.pb_keeper.specs.Drains.{end_after, AreRunsThat, HasRuns, IsDrainWithin, IsPassWithEnd, IsTurnThat};
 ghost use Rattle.pb_keeper.specs.Leads.{SaidLeads, IsAny};
 ghost use Rattle.pb_keeper.specs.Made.{IsDrainThat, IsMade, comes_to_rest};
 ghost use Rattle.pb_keeper.specs.Stops.{WasKept, IsStop};
+ghost use Rattle.pb_keeper.specs.declared.passes.PassEnd.TheVariants as ends;
 
 use crate::change::{Stopped, ask, commit};
 use crate::run::run_one;
@@ -24,7 +27,6 @@ use pb_steps::{Answer, Step};
 use pb_store::Tablet;
 use pb_txn::Outcome;
 use std::alloc::Global;
-use std::sync::Wait;
 
 /// A change that is committed, and what followed from it.
 #[derive(Drop)]
@@ -40,21 +42,47 @@ pub struct Drained {
     pub rests: bool,
 }
 
-// What one pass did: how many runs were committed, and whether it found a mark. Then another is due, since its runs may
-// have marked cells that it had gone by.
+/// How many runs of observers a drain makes at most after a change. There is a limit, since an observer that changes a cell
+/// after the one on which it runs is due again in the same pass.
+pub const MAX_RUNS: u64 = 100_000;
+
+// What the turn of an observer did, or those of all on a cell: how many runs were made, how many of them were committed, and
+// whether another was due when no more might be made.
+#[derive(Clone, Copy)]
+struct Ran {
+    runs: u64,
+    commits: u64,
+    is_due: bool,
+}
+
+// How a pass ended: it found no mark at all, or some, so that another pass is due, since its runs may have marked cells that it
+// had gone by; or a run was due when no more might be made.
+#[derive(Clone, Copy)]
+enum PassEnd {
+    Markless,
+    Marked,
+    Due,
+}
+
+// What a pass did: how many runs were made, how many of them were committed, and how it ended.
 #[derive(Clone, Copy)]
 struct Passed {
     runs: u64,
-    marked: bool,
+    commits: u64,
+    end: PassEnd,
 }
 
-// Row and column of a cell have 64 bits.
+// Row, column and rank of a cell have 64 bits.
 fn fits(cell: &Cell)
     ensures row { (row_of cell.now).0 < 2 ^ 64 }
     ensures column { column_of cell.now < 2 ^ 64 }
+    ensures rank { rank_of cell.now < 2 ^ 64 }
 {
     let _row = cell.row();
     let _column = cell.column();
+    if let Cell::Ack(observer, _, _) = cell {
+        let _number = observer.number();
+    }
 }
 
 // The clock has 64 bits.
@@ -64,26 +92,23 @@ fn clock_fits<T: Tablet>(state: &State<T>)
     let _last = state.clock();
 }
 
-// Runs the observer of this number on the cell, if that is of its column, and returns how many runs were committed.
-fn run_place<R: Wait, T: Tablet>(
-    rt: &R,
+// Runs the observer of this number on the cell, and returns how many runs were committed.
+fn run_place<T: Tablet>(
     alloc: Global,
     state: &mut State<T>,
     stats: &mut [ObserverStats],
     place: usize,
     cell: &Cell,
 ) -> Result<u64, Stopped>
-    requires { place < length state.old.observers }
-    ensures ok { IfOk result (λ runs. SaidLeads (Counted state.old.observers stats.old stats.new
-        (CountsCommits (IsTurnOf state.old.observers place cell.now) runs))
+    requires within { place < length state.old.observers }
+    requires column { HasColumn state.old.observers place cell.now }
+    ensures ok { IfOk result (λ commits. SaidLeads (Counted state.old.observers stats.old stats.new
+        (CountsCommits (HasRuns (IsTurnThat state.old.observers cell.now place false) 1) commits))
         state.old state.new) }
     ensures err { OnErr result (SaidLeads IsAny state.old state.new) }
     ensures stops { WasKept state.old → IfErr result (λ e. IsStop e state.new) }
 {
     let observers = state.observers();
-    if !is_observer_of(observers, place, cell) {
-        return Ok(0);
-    }
     // A table has no more observers than there are numbers.
     let Some(number) = ObserverNo::new(place as u8) else {
         unreachable!()
@@ -94,7 +119,7 @@ fn run_place<R: Wait, T: Tablet>(
     };
     // For the proof: its row and its column are numbers that a record has room for.
     fits(cell);
-    let ran = run_one(rt, alloc, state, &mut job)?;
+    let ran = run_one(alloc, state, &mut job)?;
     add_run(stats, place, &ran.stats);
     match ran.end {
         JobEnd::Ran(_) => Ok(1),
@@ -102,43 +127,110 @@ fn run_place<R: Wait, T: Tablet>(
     }
 }
 
-// Runs each observer of the cell's column, in file order, and returns how many runs were committed.
-fn run_all<R: Wait, T: Tablet>(
-    rt: &R,
+// The turn of the observer of this number on the cell: its run, if it is of that column and a run may be made.
+fn turn<T: Tablet>(
+    alloc: Global,
+    state: &mut State<T>,
+    stats: &mut [ObserverStats],
+    place: usize,
+    cell: &Cell,
+    left: u64,
+) -> Result<Ran, Stopped>
+    requires { place < length state.old.observers }
+    ensures ok { IfOk result (λ r. SaidLeads (Counted state.old.observers stats.old stats.new
+        (CountsCommits (HasRuns (IsTurnThat state.old.observers cell.now place r.is_due) r.runs)
+        r.commits)) state.old state.new) }
+    ensures few { IfOk result (λ r. r.runs ≤ left) }
+    ensures due { IfOk result (λ r. r.is_due ≡ true → r.runs ≡ left) }
+    ensures err { OnErr result (SaidLeads IsAny state.old state.new) }
+    ensures stops { WasKept state.old → IfErr result (λ e. IsStop e state.new) }
+{
+    if !is_observer_of(state.observers(), place, cell) {
+        return Ok(Ran {
+            runs: 0,
+            commits: 0,
+            is_due: false,
+        });
+    }
+    if left == 0 {
+        return Ok(Ran {
+            runs: 0,
+            commits: 0,
+            is_due: true,
+        });
+    }
+    let commits = run_place(alloc, state, stats, place, cell)?;
+    Ok(Ran {
+        runs: 1,
+        commits,
+        is_due: false,
+    })
+}
+
+// Runs each observer of the cell's column, in file order, up to where no more runs may be made.
+fn run_all<T: Tablet>(
     alloc: Global,
     state: &mut State<T>,
     stats: &mut [ObserverStats],
     cell: &Cell,
-) -> Result<u64, Stopped>
-    ensures ok { IfOk result (λ runs. SaidLeads (Counted state.old.observers stats.old stats.new
-        (CountsCommits (AreAllRuns state.old.observers cell.now) runs))
-        state.old state.new) }
+    left: u64,
+) -> Result<Ran, Stopped>
+    ensures ok { IfOk result (λ r. SaidLeads (Counted state.old.observers stats.old stats.new
+        (CountsCommits (HasRuns (AreRunsThat state.old.observers cell.now r.is_due) r.runs)
+        r.commits)) state.old state.new) }
+    ensures few { IfOk result (λ r. r.runs ≤ left) }
+    ensures due { IfOk result (λ r. r.is_due ≡ true → r.runs ≡ left) }
     ensures err { OnErr result (SaidLeads IsAny state.old state.new) }
     ensures stops { WasKept state.old → IfErr result (λ e. IsStop e state.new) }
 {
     // For the proof: a table that is kept over generations is so after each run.
     jobs_keep_tables();
     let mut runs = 0u64;
+    let mut commits = 0u64;
     let many = state.observers().len();
     for place in 0..many {
-        let more = run_place(rt, alloc, state, stats, place, cell)?;
-        runs = runs.saturating_add(more);
+        let ran = turn(alloc, state, stats, place, cell, left - runs)?;
+        runs += ran.runs;
+        commits = commits.saturating_add(ran.commits);
+        if ran.is_due {
+            return Ok(Ran {
+                runs,
+                commits,
+                is_due: true,
+            });
+        }
     }
-    Ok(runs)
+    Ok(Ran {
+        runs,
+        commits,
+        is_due: false,
+    })
 }
 
-// One pass, from mark to mark up to where there is none.
-fn pass<R: Wait, T: Tablet>(
-    rt: &R,
+// How a pass ends that finds no mark after this one, or none at all.
+fn end_after(last: &Option<Cell>) -> PassEnd
+    ensures { result ≡ end_after last.now }
+{
+    match last {
+        None => PassEnd::Markless,
+        Some(_) => PassEnd::Marked,
+    }
+}
+
+// One pass, from mark to mark up to where there is none, or to where no more runs may be made.
+fn pass<T: Tablet>(
     alloc: Global,
     state: &mut State<T>,
     stats: &mut [ObserverStats],
+    left: u64,
 ) -> Result<Passed, Stopped>
     ensures ok { IfOk result (λ p. SaidLeads (Counted state.old.observers stats.old stats.new
-        (CountsCommits (IsPassThat state.old.observers p.marked) p.runs))
+        (CountsCommits (HasRuns (IsPassWithEnd state.old.observers p.end) p.runs) p.commits))
         state.old state.new) }
+    ensures few { IfOk result (λ p. p.runs ≤ left) }
+    ensures due { IfOk result (λ p. p.end ≡ ends.Due → p.runs ≡ left) }
     ensures quiet { IfOk result
-        (λ p. p.marked ≡ false → IsNextMark state.new.marks None None) }
+        (λ p. p.end ≡ ends.Markless → IsNextMark state.new.marks None None) }
     ensures err { OnErr result (SaidLeads IsAny state.old state.new) }
     ensures stops { WasKept state.old → IfErr result (λ e. IsStop e state.new) }
 {
@@ -146,60 +238,78 @@ fn pass<R: Wait, T: Tablet>(
     jobs_keep_tables();
     jobs_are_in_time();
     let mut runs = 0u64;
+    let mut commits = 0u64;
     let mut last = None;
-    for _turn in rt.forever() {
+    // It ends, since fewer runs may be made after each mark, or fewer cells come after it.
+    loop {
         let next = ask(state, &Step::NextMark(last))?;
         let Answer::Marked(cell) = &next else {
             return Ok(Passed {
                 runs,
-                marked: last.is_some(),
+                commits,
+                end: end_after(&last),
             });
         };
-        let more = run_all(rt, alloc, state, stats, cell)?;
-        runs = runs.saturating_add(more);
+        let ran = run_all(alloc, state, stats, cell, left - runs)?;
+        runs += ran.runs;
+        commits = commits.saturating_add(ran.commits);
+        if ran.is_due {
+            return Ok(Passed {
+                runs,
+                commits,
+                end: PassEnd::Due,
+            });
+        }
+        // For the proof: cells can be counted.
+        fits(cell);
         last = Some(*cell);
     }
-    unreachable!()
 }
 
-// Makes passes, as `drain` does. The number of runs is known up to 64 bits.
-fn make_passes<R: Wait, T: Tablet>(
-    rt: &R,
+// Makes passes, as `drain` does. The number of commits is known up to 64 bits.
+fn make_passes<T: Tablet>(
     alloc: Global,
     state: &mut State<T>,
     stats: &mut [ObserverStats],
+    bound: u64,
 ) -> Result<Drained, Stopped>
     ensures ok { IfOk result (λ d. SaidLeads (Counted state.old.observers stats.old stats.new
-        (CountsCommits (IsDrainThat state.old.observers d.rests) d.runs)) state.old state.new) }
+        (CountsCommits (IsDrainThat state.old.observers bound d.rests) d.runs))
+        state.old state.new) }
     ensures quiet { IfOk result (λ d. d.rests ≡ true → IsNextMark state.new.marks None None) }
     ensures err { OnErr result (SaidLeads IsAny state.old state.new) }
     ensures stops { WasKept state.old → IfErr result (λ e. IsStop e state.new) }
 {
     // For the proof: a table that is kept over generations is so after each pass.
     jobs_keep_tables();
+    let mut made = 0u64;
     let mut runs = 0u64;
     for _count in 0..MAX_PASSES {
-        let passed = pass(rt, alloc, state, stats)?;
-        runs = runs.saturating_add(passed.runs);
-        if !passed.marked {
-            return Ok(Drained { runs, rests: true });
+        let passed = pass(alloc, state, stats, bound - made)?;
+        made += passed.runs;
+        runs = runs.saturating_add(passed.commits);
+        match passed.end {
+            PassEnd::Markless => return Ok(Drained { runs, rests: true }),
+            PassEnd::Due => return Ok(Drained { runs, rests: false }),
+            PassEnd::Marked => (),
         }
     }
     Ok(Drained { runs, rests: false })
 }
 
-/// Makes passes until one finds no mark, or so many as may be made.
-pub fn drain<R: Wait, T: Tablet>(
-    rt: &R,
+/// Makes passes until one finds no mark, or so many as may be made, or so many runs, where another is due.
+pub fn drain<T: Tablet>(
     alloc: Global,
     state: &mut State<T>,
     stats: &mut [ObserverStats],
+    bound: u64,
 ) -> Result<Drained, Stopped>
     // The runs are those of the drain that were committed, and what they did is added to the stats. It rests if its last
-    // pass found no mark, and does not if as many passes as may be made each found one.
+    // pass found no mark, and does not if as many passes as may be made each found one, or if a run was due after as many runs as
+    // may be made.
     ensures ok { IfOk result (λ d.
         (leads : SaidLeads (Counted state.old.observers stats.old stats.new
-        (IsDrain state.old.observers)) state.old state.new)
+        (IsDrainWithin state.old.observers bound)) state.old state.new)
         × (d.runs ≡ commit_count leads.said)
         × (d.rests ≡ comes_to_rest leads.form.form)) }
     // Where it rests no cell is marked.
@@ -207,15 +317,14 @@ pub fn drain<R: Wait, T: Tablet>(
     ensures err { OnErr result (SaidLeads IsAny state.old state.new) }
     ensures stops { WasKept state.old → IfErr result (λ e. IsStop e state.new) }
 {
-    let drained = make_passes(rt, alloc, state, stats)?;
+    let drained = make_passes(alloc, state, stats, bound)?;
     // For the proof: each run took a timestamp, so that there are no more of them than 64 bits can say.
     clock_fits(state);
     Ok(drained)
 }
 
-/// Makes a change, and then passes over what it left marked.
-pub fn make<R: Wait, T: Tablet>(
-    rt: &R,
+/// Makes a change, and then passes over what it left marked, with [`MAX_RUNS`] runs at most.
+pub fn make<T: Tablet>(
     alloc: Global,
     state: &mut State<T>,
     stats: &mut [ObserverStats],
@@ -247,17 +356,16 @@ pub fn make<R: Wait, T: Tablet>(
     steps_keep_sound();
     snapshots_serve();
     jobs_keep_tables();
-    let outcome = commit(rt, alloc, state, batch)?;
+    let outcome = commit(alloc, state, batch)?;
     let Outcome::Committed(commit) = outcome else {
         return Err(Stopped::Conflict);
     };
-    let drained = drain(rt, alloc, state, stats)?;
+    let drained = drain(alloc, state, stats, MAX_RUNS)?;
     Ok(Made { commit, drained })
 }
 
 /// Makes changes, one after another, as where those of a log are made anew.
-pub fn make_all<R: Wait, T: Tablet>(
-    rt: &R,
+pub fn make_all<T: Tablet>(
     alloc: Global,
     state: &mut State<T>,
     stats: &mut [ObserverStats],
@@ -273,7 +381,7 @@ pub fn make_all<R: Wait, T: Tablet>(
         → IfErr result (λ e. IsStop e state.new) }
 {
     for batch in batches {
-        make(rt, alloc, state, stats, batch)?;
+        make(alloc, state, stats, batch)?;
     }
     Ok(())
 }

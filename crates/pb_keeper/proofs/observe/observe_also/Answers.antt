@@ -1,4 +1,4 @@
-use Rattle.std.proofs.Common.{rules, ap, ◌∙◌}
+use Rattle.std.proofs.Common.{rules, ap, refl, ◌∙◌}
 use Rattle.std.proofs.lemmas.List.{with_items_is, places}
 use Rattle.std.proofs.lemmas.Result.{IfOk-weaker}
 use Rattle.pb_keeper.specs.Words.{StateOf}
@@ -15,14 +15,14 @@ pub returns-in-Ok-clause-caught_up : goal.returns-in-Ok-clause-caught_up
 returns-in-Ok-clause-caught_up g c =
     rw (with_items_is c.add_all.new.stats c.drain.new.stats (search (rules, places)))
     (IfOk-weaker c.drain.result _ _
-    (λ d p. (caught c.args.more.items (kept_table c.args.state.now c.args.stats.now.items) c.add_all.new.state c.drain.new.state c.deref_mut.result.now c.drain.new.stats c.in-Ok.ensures.observed (c.deref_mut.ensures.value ∙ c.in-Ok.ensures.stats) p.0, p.1, p.2)) c.drain.ensures.ok)
+    (λ d p. (caught c.args.more.items c.args.bound (kept_table c.args.state.now c.args.stats.now.items) c.add_all.new.state c.drain.new.state c.deref_mut.result.now c.drain.new.stats c.in-Ok.ensures.observed (c.deref_mut.ensures.value ∙ c.in-Ok.ensures.stats) p.0, refl, p.1, p.2)) c.drain.ensures.ok)
 
 pub returns-in-Ok-clause-begins : goal.returns-in-Ok-clause-begins
 returns-in-Ok-clause-begins g c past changes first old places front began k quiet room is =
     rw (with_items_is c.add_all.new.stats c.drain.new.stats (search (rules, places)))
     (IfOk-weaker c.drain.result _ _
     (λ d p. changed past changes first old (kept_table c.args.state.now c.args.stats.now.items) (kept_table c.drain.new.state c.drain.new.stats) places front c.args.more.items began k quiet room is
-    (caught c.args.more.items (kept_table c.args.state.now c.args.stats.now.items) c.add_all.new.state c.drain.new.state c.deref_mut.result.now c.drain.new.stats c.in-Ok.ensures.observed (c.deref_mut.ensures.value ∙ c.in-Ok.ensures.stats) p.0)) c.drain.ensures.ok)
+    (caught c.args.more.items c.args.bound (kept_table c.args.state.now c.args.stats.now.items) c.add_all.new.state c.drain.new.state c.deref_mut.result.now c.drain.new.stats c.in-Ok.ensures.observed (c.deref_mut.ensures.value ∙ c.in-Ok.ensures.stats) p.0)) c.drain.ensures.ok)
 
 pub returns-in-Ok-clause-stops : goal.returns-in-Ok-clause-stops
 returns-in-Ok-clause-stops g c past changes first old places front began k quiet room is =
