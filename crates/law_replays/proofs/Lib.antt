@@ -1,1 +1,2 @@
+pub mod CutOffs
 pub mod Replays

@@ -1,7 +1,8 @@
 -- Runs, changes with their drains, and a drain by which added observers catch up, have one outcome on one table.
 use Rattle.std.specs.FinMap as map
-use Rattle.std.proofs.Common.{arith, ◌≡◌, ◌≢◌, ℕ, ◌≤◌, inl, inr, true, is_some, List, [], ◌∷◌, ◌++◌, length, Option, Some, None, refl, sym, ap, subst, ◌∙◌, slice_get}
+use Rattle.std.proofs.Common.{arith, ◌≡◌, ◌≢◌, ℕ, ◌<◌, ◌≤◌, inl, inr, true, is_some, List, [], ◌∷◌, ◌++◌, length, Option, Some, None, refl, sym, ap, subst, ◌∙◌, slice_get}
 use Rattle.std.proofs.lemmas.List.{same_from_push, length_push}
+use Rattle.std.proofs.lemmas.Option.{slice_get_within}
 use Rattle.pb_base.specs.Cell.{cell_cmp_total, cell_cmp-IsAntisymmetric}
 use Rattle.pb_base.proofs.Logic.{none_some, one_value, some_none}
 use Rattle.pb_steps.specs.Marks.{is_marked}
@@ -13,18 +14,18 @@ use Rattle.pb_conversations.proofs.OneOutcome.{EndsOn, last_part, part_first, en
 use Rattle.pb_txn.specs.Places.{declared_cells}
 use Rattle.pb_notify.specs.Conversations.{run_job}
 use Rattle.pb_passes.specs.Passes.{job_on}
-use Rattle.law_replays.specs.Words.{Writes, Cell, row_of, Ts, ObserverOf, Step, Answer, Work, Declared, StateOf, TableStep, HasMoreObservers, JournalLeads, IsSoundTable, OpeningIsSound, StepsKeepSound, Received, told, took, went, no_part, one_part, IsWhole, committed, prewrites, secondaries, Outcome, entries_by, Reaches, RunOf, Watch, fresh, need_of, next_of, watch_of, JobEnd, Need, IsRun, IsOfOther, IsTurnOf, AreRuns, AreAllRuns, IsMarkRun, IsMarkless, IsPass, IsNextPass, EndsDrain, IsDrain, MAX_PASSES, ChosenAreSound, LeftAreSound, MAX_RECORD_BYTES, EachHasOneMeaning, StepsHaveOneOutcome, MachinesAreLed, RunPlace}
+use Rattle.law_replays.specs.Words.{Writes, Cell, row_of, Ts, ObserverOf, Step, Answer, Work, Declared, StateOf, TableStep, HasMoreObservers, JournalLeads, IsSoundTable, OpeningIsSound, StepsKeepSound, Received, told, took, went, no_part, one_part, IsWhole, committed, prewrites, secondaries, Outcome, entries_by, Reaches, RunOf, Watch, fresh, need_of, next_of, watch_of, JobEnd, Need, IsRun, IsOfOther, IsTurnOf, AreRuns, AreAllRuns, IsMarkRun, IsMarkless, IsPass, IsNextPass, IsNextTurn, EndsDrain, HasColumn, IsDrain, MAX_PASSES, ChosenAreSound, LeftAreSound, MAX_RECORD_BYTES, EachHasOneMeaning, StepsHaveOneOutcome, MachinesAreLed, RunPlace}
+use Rattle.pb_keeper.specs.Drains.{within, cut_off, AreRunsDue, IsDrainDue, IsDrainWithin, IsMarkDue, IsPassDue, IsRunDue}
 use Rattle.pb_keeper.specs.Keeps.{AreMade}
 use Rattle.pb_keeper.specs.Leads.{IsEndedChange}
 use Rattle.pb_keeper.specs.Made.{IsMade}
+use Rattle.pb_keeper.specs.declared.passes.TheConstants.{MAX_RUNS}
 use Rattle.pb_keeper.proofs.Resting.{first_sound, marked_sound}
+use Rattle.pb_keeper.proofs.RunCounts.{run_is_one}
 use Rattle.pb_keeper.proofs.Wholes.{leads_parts, stays_sound}
 use Rattle.law_worlds.proofs.Jobs.{run_computes_once}
+use Rattle.law_replays.proofs.CutOffs.{same, compared_after, dues_compare, fewer_than, longer_after, same_by_count, wholes_go_on, AreCompared, AreComparedOn, GoesOnAfter, IsLonger, SeatLeads}
 use Rattle.law_replays.specs.Replays.{AreJudged, CatchingUpHasOneOutcome, ReplayHasOneOutcome}
-
--- this conversation of the only seat leads from one table to another
-abbrev SeatLeads : StateOf → List Received → StateOf → Type 0
-SeatLeads m said n = JournalLeads m (entries_by 0 said) n
 
 -- such parts of it have one outcome, with a result
 abbrev HaveOneResult : {A : Type 0} → A → A → (List Received → Type 0) → (List Received → Type 0) → Type 0
@@ -180,12 +181,116 @@ module _ (once : StepsHaveOneOutcome) (keeps : StepsKeepSound) where
         (λ n i j had from s t l c d e h sound p q. with_result i j (e.0 ∙ sym h.0) (pass_once (Some e.1.0) (Some h.1.0) s t l c d e.1.1 h.1.1 sound p q)) (λ n i k l. not_drained n i)
         tt tt 0 [] no_part said more m a b (end_goes_on 0 said f) (end_goes_on 0 more g)
 
+    -- ---- drains that are cut off
+
+    -- after one mark, of one table
+    after_mark : (at : Option Cell) (x y : Cell) (s t : List Received) (m a b : StateOf) → IsSoundTable m → SeatLeads m (told (Step.NextMark at) (Answer.Marked x) ∷ s) a → SeatLeads m (told (Step.NextMark at) (Answer.Marked y) ∷ t) b
+        → (c : StateOf) × (y ≡ x) × IsSoundTable c × SeatLeads c s a × SeatLeads c t b
+    after_mark at x y s t m a b sound p q =
+        let one = once m 0 (Step.NextMark at) (Answer.Marked x) p.0 (Answer.Marked y) q.0 sound p.1 q.1 in
+        let answer = one.answer in
+        (p.0, cc, keeps m 0 (Step.NextMark at) (Answer.Marked x) p.0 sound p.1, p.2, subst (λ (z : StateOf). SeatLeads z t b) (sym one.state) q.2)
+
+    within_list : (i : ℕ) (x : Cell) → HasColumn observers i x → i < length observers
+    within_list i x has = slice_get_within observers i has.0 has.1.there
+
+    turn_within : (i : ℕ) (x : Cell) (said : List Received) → IsTurnOf observers i x said → i < length observers
+    turn_within i x said (inl run) = slice_get_within observers i run.o run.observer.there
+    turn_within i x said (inr other) = slice_get_within observers i other.0.o other.0.there
+
+    module _ (x : Cell) where
+      next_turn_once : (i j k : ℕ) → HaveOneResult j k (IsNextTurn observers x i j) (IsNextTurn observers x i k)
+      next_turn_once i j k said more m a b f g sound p q = with_result j k (f.0 ∙ sym g.0) (turn_once i x said more m a b f.1 g.1 sound p q)
+
+      -- the run that is due is made
+      turn_goes_on : (i j : ℕ) → GoesOnAfter (IsNextTurn observers x i j) (IsRunDue observers x i)
+      turn_goes_on i j said more m a b f due sound p q = by f.1 where
+        by : IsTurnOf observers i x said → IsLonger said more
+        by (inl run) = let one = run_is_one observers i x said run in record { rest = said; said_is = ap (λ l. l ++ said) (sym due.1); some = omega (arith, one) }
+        by (inr other) = absurd (other.0.column (ap (λ (o : ObserverOf). o.column) (one_value (slice_get observers i) other.0.o due.0.0 other.0.there due.0.1.there) ∙ due.0.1.column))
+
+      runs_compare : AreComparedOn (AreRunsDue observers x) (AreRunsDue observers x)
+      runs_compare = dues_compare keeps (IsNextTurn observers x) (IsRunDue observers x) next_turn_once turn_goes_on (λ i said more m a b d e sound p q. same (d.1 ∙ sym e.1)) 0
+
+      runs_go_on : GoesOnAfter (AreAllRuns observers x) (AreRunsDue observers x)
+      runs_go_on said more m a b runs due =
+          wholes_go_on keeps (IsNextTurn observers x) (IsRunDue observers x) next_turn_once turn_goes_on (λ i part. (i ≡ length observers) × (part ≡ []))
+          (λ i s t n c d e h sound p q. let few = within_list i x h.0 in let all = e.0 in absurd (omega (arith, few, all))) (λ i j s after t n c d e on h sound p q. let few = turn_within i x s e.1 in let all = h.0 in omega (arith, few, all))
+          0 said more m a b (end_there 0 (length observers) said runs (refl, refl)) due
+
+    -- the same of what comes after a mark
+    mark_goes_on : (at now : Option Cell) → GoesOnAfter (IsMarkRun observers at now) (IsMarkDue observers at)
+    mark_goes_on at now said more m a b f g sound p q =
+        let h = after_mark at f.x g.x f.more g.more m a b sound (subst (λ l. SeatLeads m l a) f.said_is p) (subst (λ l. SeatLeads m l b) g.said_is q) in
+        let l = runs_go_on f.x f.more g.more h.0 a b f.runs (subst (λ x. AreRunsDue observers x g.more) h.1 g.runs) h.2 h.3 h.4 in
+        subst (λ z. IsLonger z more) (sym f.said_is) (subst (λ z. IsLonger (told (Step.NextMark at) (Answer.Marked f.x) ∷ f.more) z) (sym (g.said_is ∙ ap (λ x. told (Step.NextMark at) (Answer.Marked x) ∷ g.more) h.1))
+        (longer_after (told (Step.NextMark at) (Answer.Marked f.x) ∷ []) f.more g.more l))
+
+    mark_dues_compare : (at : Option Cell) → AreComparedOn (IsMarkDue observers at) (IsMarkDue observers at)
+    mark_dues_compare at said more m a b f g sound p q =
+        let h = after_mark at f.x g.x f.more g.more m a b sound (subst (λ l. SeatLeads m l a) f.said_is p) (subst (λ l. SeatLeads m l b) g.said_is q) in
+        let l = runs_compare f.x f.more g.more h.0 a b f.runs (subst (λ x. AreRunsDue observers x g.more) h.1 g.runs) h.2 h.3 h.4 in
+        subst (λ z. AreCompared z more) (sym f.said_is) (subst (λ z. AreCompared (told (Step.NextMark at) (Answer.Marked f.x) ∷ f.more) z) (sym (g.said_is ∙ ap (λ x. told (Step.NextMark at) (Answer.Marked x) ∷ g.more) h.1))
+        (compared_after (told (Step.NextMark at) (Answer.Marked f.x) ∷ []) f.more g.more l))
+
+    -- no mark, or one on whose cell a run is due
+    markless_or_due : (last at : Option Cell) → GoesOnAfter (IsMarkless last at) (IsMarkDue observers at)
+    markless_or_due last at said more m a b e g sound p q =
+        let none = subst (λ l. SeatLeads m l a) e.1 p in
+        let some = subst (λ l. SeatLeads m l b) g.said_is q in
+        let both = (once m 0 (Step.NextMark at) Answer.NoMark none.0 (Answer.Marked g.x) some.0 sound none.1 some.1).answer in
+        absurd cc
+
+    pass_dues_compare : AreComparedOn (IsPassDue observers) (IsPassDue observers)
+    pass_dues_compare = dues_compare keeps (IsMarkRun observers) (IsMarkDue observers) mark_once mark_goes_on mark_dues_compare None
+
+    pass_goes_on : (last : Option Cell) → GoesOnAfter (IsPass observers last) (IsPassDue observers)
+    pass_goes_on last =
+        wholes_go_on keeps (IsMarkRun observers) (IsMarkDue observers) mark_once mark_goes_on (IsMarkless last) (markless_or_due last)
+        (λ at now s after t n c d e on h sound p q. not_markless at now s n c d e sound p (subst (λ z. SeatLeads n z d) h.1 q)) None
+
+    -- a pass of a drain, or one in which a run is due
+    abbrev IsDueIn : ℕ → List Received → Type 0
+    IsDueIn count part = (count < MAX_PASSES) × IsPassDue observers part
+
+    next_pass_once : (n i j : ℕ) → HaveOneResult i j (IsNextPass observers n i) (IsNextPass observers n j)
+    next_pass_once n i j s t m a b e h sound p q = with_result i j (e.0 ∙ sym h.0) (pass_once (Some e.1.0) (Some h.1.0) s t m a b e.1.1 h.1.1 sound p q)
+
+    next_pass_goes_on : (n i : ℕ) → GoesOnAfter (IsNextPass observers n i) (IsDueIn n)
+    next_pass_goes_on n i said more m a b e d = pass_goes_on (Some e.1.0) said more m a b e.1.1 d.1
+
+    drain_dues_compare : AreComparedOn (IsDrainDue observers) (IsDrainDue observers)
+    drain_dues_compare = dues_compare keeps (IsNextPass observers) IsDueIn next_pass_once next_pass_goes_on (λ n said more m a b d e. pass_dues_compare said more m a b d.1 e.1) 0
+
+    due_below : (n : ℕ) (said : List Received) → EndsOn (IsNextPass observers) IsDueIn n said → n < MAX_PASSES
+    due_below n said (last_part k l d) = d.0
+    due_below n said (part_first k i s t e on) = let more = due_below i t on in omega (arith, more, e.0)
+
+    end_goes_on_so : (n : ℕ) → GoesOnAfter (EndsDrain observers n) (IsDueIn n)
+    end_goes_on_so n said more m a b (inl e) d = pass_goes_on None said more m a b e.1 d.1
+    end_goes_on_so n said more m a b (inr e) d = absurd (omega (arith, e.0, d.0))
+
+    not_ended : (n i : ℕ) (said after last : List Received) (m a b : StateOf) → IsNextPass observers n i said → EndsOn (IsNextPass observers) IsDueIn i after → EndsDrain observers n last → IsSoundTable m → SeatLeads m said a → SeatLeads m last b → ⊥
+    not_ended n i said after last m a b e on (inl h) sound p q = some_none e.1.0 (pass_once (Some e.1.0) None said last m a b e.1.1 h.1 sound p q).result_is
+    not_ended n i said after last m a b e on (inr h) sound p q = let below = due_below i after on in omega (arith, below, e.0, h.0)
+
+    drain_goes_on : GoesOnAfter (IsDrain observers) (IsDrainDue observers)
+    drain_goes_on = wholes_go_on keeps (IsNextPass observers) IsDueIn next_pass_once next_pass_goes_on (EndsDrain observers) end_goes_on_so not_ended 0
+
+    -- a drain that makes so many runs at most
+    drain_within_once : (bound : ℕ) → HappenOnce (IsDrainWithin observers bound) (IsDrainWithin observers bound)
+    drain_within_once bound said more m a b (within f few) (within g also) sound p q = drain_once said more m a b f g sound p q
+    drain_within_once bound said more m a b (within f few) (cut_off g is) sound p q = absurd (fewer_than said more bound (drain_goes_on said more m a b f g sound p q) few is)
+    drain_within_once bound said more m a b (cut_off f is) (within g few) sound p q = absurd (fewer_than more said bound (drain_goes_on more said m b a g f sound q p) few is)
+    drain_within_once bound said more m a b (cut_off f is) (cut_off g also) sound p q =
+        same_words tt tt said more m a b (same_by_count said more (drain_dues_compare said more m a b f g sound p q) (is ∙ sym also)) refl sound p q
+
     -- ---- changes
 
     made_once : (batch : Writes) (c d : Ts) → HappenOnce (IsMade observers batch c) (IsMade observers batch d)
     made_once batch c d said more m a b f g sound =
         joined_once IsSoundTable SeatLeads leads_parts (stays_sound keeps) c d tt tt said more f.change f.drain g.change g.drain m a b f.said_is g.said_is
-        (λ i j. change_once batch c d f.change g.change m i j f.changed g.changed sound) (λ i _. drain_once f.drain g.drain i a b f.drained g.drained) sound
+        (λ i j. change_once batch c d f.change g.change m i j f.changed g.changed sound) (λ i _. drain_within_once MAX_RUNS f.drain g.drain i a b f.drained g.drained) sound
 
     all_once : (cs ds : List Writes) → cs ≡ ds → HappenOnce (AreMade observers cs) (AreMade observers ds)
     all_once cs ds e said more m a b no_part no_part = same_words tt tt said more m a b refl refl
@@ -216,12 +321,13 @@ marked_once more old m n f g =
     f.is ∙ (λ i. record old { observers = old.observers ++ more; marks = marks i }) ∙ sym g.is
 
 pub caught_up_once : StepsHaveOneOutcome → StepsKeepSound → OpeningIsSound → LeftAreSound → ChosenAreSound → EachHasOneMeaning → MachinesAreLed → CatchingUpHasOneOutcome
-caught_up_once once keeps opens left chosen meaning led first changes old between a b places front more judged k quiet is f g =
+caught_up_once once keeps opens left chosen meaning led first changes old between a b places front more judged k quiet is f g bound =
     let observers = front ++ more in
     let same = marked_once more between.state f.marked.state g.marked.state f.observed g.observed in
     let sound = marked_sound keeps opens left chosen k.past changes first old between a places front more k.began k.leads is f in
-    let drained = λ (said : List Received) (m : StateOf) (has : HasMoreObservers more between.state m) (d : IsDrain m.observers said). subst (λ (l : List ObserverOf). IsDrain l said) (observers_after m has) d in
-    (drain_once once keeps meaning led observers judged f.drained.said g.drained.said f.marked.state a.state b.state (drained f.drained.said f.marked.state f.observed f.drained.form.form) (drained g.drained.said g.marked.state g.observed g.drained.form.form)
+    let drained = λ (said : List Received) (m : StateOf) (has : HasMoreObservers more between.state m) (d : IsDrainWithin m.observers f.bound said). subst (λ (l : List ObserverOf). IsDrainWithin l f.bound said) (observers_after m has) d in
+    let other = subst (λ n. IsDrainWithin g.marked.state.observers n g.drained.said) (sym bound) g.drained.form.form in
+    (drain_within_once once keeps meaning led observers judged f.bound f.drained.said g.drained.said f.marked.state a.state b.state (drained f.drained.said f.marked.state f.observed f.drained.form.form) (drained g.drained.said g.marked.state g.observed other)
     sound f.drained.leads (subst (λ (z : StateOf). SeatLeads z g.drained.said b.state) (sym same) g.drained.leads)).table_is
   where
     observers_after : (m : StateOf) → HasMoreObservers more between.state m → m.observers ≡ front ++ more

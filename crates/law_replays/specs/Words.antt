@@ -30,7 +30,7 @@ pub use Rattle.pb_notify.specs.Runs.{RunOf, Watch, fresh, need_of, next_of, watc
 pub use Rattle.pb_notify.specs.declared.need.JobEnd.{JobEnd}
 pub use Rattle.pb_notify.specs.declared.need.Need.{Need}
 pub use Rattle.pb_notify.specs.declared.place.RunPlace.{RunPlace}
-pub use Rattle.pb_passes.specs.Passes.{AreAllRuns, AreRuns, EndsDrain, IsDrain, IsMarkRun, IsMarkless, IsNextPass, IsOfOther, IsPass, IsRun, IsTurnOf}
+pub use Rattle.pb_passes.specs.Passes.{AreAllRuns, AreRuns, EndsDrain, HasColumn, IsDrain, IsMarkRun, IsMarkless, IsNextPass, IsNextTurn, IsOfOther, IsPass, IsRun, IsTurnOf}
 pub use Rattle.pb_passes.specs.declared.passes.TheConstants.{MAX_PASSES}
 pub use Rattle.pb_generations.specs.Chosen.{ChosenAreSound}
 pub use Rattle.pb_generations.specs.Snapshots.{LeftAreSound}
