@@ -28,5 +28,5 @@ pub use list::answer_list;
 pub use newest::newest_of;
 pub use pb_script::Newest;
 pub use quiet::{answer_quiet, is_quiet};
-pub use stats::answer_stats;
+pub use stats::{answer_stats, entries_of};
 pub use writes::answer_since;

@@ -59,6 +59,13 @@ fn count_entries<T: Tablet>(alloc: Global, table: &Table<T>) -> Result<usize, No
     Ok(walked.len())
 }
 
+/// How many entries a table has.
+pub fn entries_of<T: Tablet>(alloc: Global, state: &State<T>) -> Result<usize, NoMemory>
+    ensures { IfOk result (λ n. n ≡ map.len state.now.entries) }
+{
+    count_entries(alloc, state.table())
+}
+
 /// The answer to `stats`: a line for each observer with its numbers, then how many bytes the log has, how many entries the
 /// table has, and `end`. The table has no numbers of its own: the caller gives those of its observers, in their order.
 pub fn answer_stats<T: Tablet>(

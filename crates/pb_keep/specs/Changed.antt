@@ -1,19 +1,23 @@
 -- A table that goes on with other observers.
-use Rattle.std.specs.Prelude.{◌≡◌, ℕ, ◌<◌, List}
+use Rattle.std.specs.Prelude.{◌≡◌, ℕ, ◌<◌, List, ◌++◌, length}
+use Rattle.std.specs.FinMap as map
 use Rattle.pb_state.specs.declared.carry_fault.CarryFault.{CarryFault}
 use Rattle.pb_keeper.specs.Keeps.{CatchesUp, IsChosenOf}
+use Rattle.pb_keeper.specs.Made.{catching_up_bound}
 use Rattle.pb_keep.specs.Words.{IsQuiet, KeptTable, ObserverOf, StateOf, Stopped, commit_count, last_timestamp}
 use Rattle.pb_keep.specs.declared.compact.SnapshotFault.{SnapshotFault}
 use Rattle.pb_keep.specs.declared.waiting.Waits.{Waits}
 use Rattle.pb_keep.specs.Anew.{IsLeftToDo}
 
--- A quiet table with a timestamp left went on with the observers at these places, and then with others, which caught up by so many runs.
+-- A quiet table with a timestamp left went on with the observers at these places, and then with others, which caught up by so many runs,
+-- as far as their bound goes.
 pub record HasOtherObservers (places : List ℕ) (front more : List ObserverOf) (old new : KeptTable) (runs : ℕ) : Type 0 where
   pub quiet : IsQuiet old.state
   pub room : old.state.clock < last_timestamp
   pub between : KeptTable
   pub chosen : IsChosenOf places front old between
   pub caught_up : CatchesUp more between new
+  pub bound : caught_up.bound ≡ catching_up_bound (map.len between.state.entries) (length (front ++ more))
   pub count : runs ≡ commit_count caught_up.drained.said
 
 -- ---- faults

@@ -103,7 +103,7 @@ group_after group line item = group
 
 -- ---- answers
 
--- how the line of a change ends: how many runs followed it, or that some cell is still marked after all passes
+-- how the line of a change ends: how many runs followed it, or that its observers didn't come to rest within the bounds of a drain
 abbrev pub after_commit : Bool → ℕ → List ℕ
 after_commit true runs = codes " runs " ++ (decimal runs ++ codes "\n")
 after_commit false runs = codes " unquiet\n"
@@ -121,8 +121,8 @@ other_line Waits.Begun = codes "begun\n"
 other_line Waits.Ended = codes "ended\n"
 
 -- A change was made, and is answered so: the commit is its transaction's, the runs are those that were committed after it, and where
--- their number is in the line, no cell is marked. The line has `unquiet` only where as many passes as may be made each found a mark, and
--- always there. What all of its runs did is counted.
+-- their number is in the line, no cell is marked. The line has `unquiet` only where as many passes as may be made each found a mark, or
+-- where a run was due after as many as may be made, and always there. What all of its runs did is counted.
 pub record IsMadeAs (batch : Writes) (old new : KeptTable) (text : List ℕ) : Type 0 where
   pub made : Made
   pub leads : SaidLeads (Counted old.state.observers old.stats new.stats (IsMade old.state.observers batch made.commit)) old.state new.state

@@ -15,7 +15,6 @@ use pb_reading::TextFault;
 use pb_state::State;
 use pb_store::Tablet;
 use std::alloc::Global;
-use std::sync::Wait;
 
 // The changes of a record.
 fn batches_of(alloc: Global, record: &[u8]) -> Result<Vec<Batch>, KeepFault>
@@ -33,8 +32,7 @@ fn batches_of(alloc: Global, record: &[u8]) -> Result<Vec<Batch>, KeepFault>
 }
 
 // Makes changes, and counts what the runs did that followed them.
-fn make_all_counted<R: Wait, T: Tablet>(
-    rt: &R,
+fn make_all_counted<T: Tablet>(
     alloc: Global,
     state: &mut State<T>,
     stats: &mut Vec<ObserverStats>,
@@ -46,12 +44,11 @@ fn make_all_counted<R: Wait, T: Tablet>(
         (kept_table state.new stats.new.items)) }
     ensures observers { OnOk result (state.new.observers ≡ state.old.observers) }
 {
-    make_all(rt, alloc, state, stats, batches)
+    make_all(alloc, state, stats, batches)
 }
 
 // Makes the changes of a record, in order, each with its observers, and returns how many they are.
-fn make_anew<R: Wait, T: Tablet>(
-    rt: &R,
+fn make_anew<T: Tablet>(
     alloc: Global,
     state: &mut State<T>,
     stats: &mut Vec<ObserverStats>,
@@ -68,14 +65,13 @@ fn make_anew<R: Wait, T: Tablet>(
 {
     let batches = batches_of(alloc, record)?;
     let count = batches.len();
-    make_all_counted(rt, alloc, state, stats, batches)?;
+    make_all_counted(alloc, state, stats, batches)?;
     Ok(count)
 }
 
 /// Makes the changes of records, in order, each with its observers, and returns how many they are, or the greatest `u64`
 /// where they are more.
-pub fn make_records_anew<R: Wait, T: Tablet>(
-    rt: &R,
+pub fn make_records_anew<T: Tablet>(
     alloc: Global,
     state: &mut State<T>,
     stats: &mut Vec<ObserverStats>,
@@ -92,7 +88,7 @@ pub fn make_records_anew<R: Wait, T: Tablet>(
 {
     let mut count = 0u64;
     for record in records {
-        let made = make_anew(rt, alloc, state, stats, &record)?;
+        let made = make_anew(alloc, state, stats, &record)?;
         count = count.saturating_add(made as u64);
     }
     Ok(count)

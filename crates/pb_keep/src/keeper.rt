@@ -26,7 +26,6 @@ use pb_store::Tablet;
 use sqlite_disk::Disk;
 use std::alloc::Global;
 use std::mem;
-use std::sync::Wait;
 
 /// A table that is kept: its log, its state, what the runs of its observers did, the lines that wait, and since when its writes
 /// are there. It ends by `close` alone.
@@ -89,12 +88,7 @@ impl<T: Tablet, D: Disk + Drop> Keeper<T, D> {
 
     /// Opens the log of this manifest, or makes it, begins with its snapshot, if it has one, and makes its changes again, in
     /// order. Returns how many they are. The manifest has less than 2^31 bytes.
-    pub fn open<R: Wait>(
-        &mut self,
-        rt: &R,
-        alloc: Global,
-        manifest: &[u8],
-    ) -> Result<u64, KeepFault>
+    pub fn open(&mut self, alloc: Global, manifest: &[u8]) -> Result<u64, KeepFault>
         requires usable { IsTrue (D.is_usable self.old.log.disk) }
         requires restarted { Only (D.seen self.old.log.disk) (D.may_leave self.old.log.disk) }
         requires short { length manifest.now < 2 ^ 31 }
@@ -128,16 +122,11 @@ impl<T: Tablet, D: Disk + Drop> Keeper<T, D> {
         tables_keep_their_changes();
         let mut records = self.log.open(alloc, manifest)?;
         self.since = begin(alloc, &mut self.state, &mut self.stats, &mut records)?;
-        make_records_anew(rt, alloc, &mut self.state, &mut self.stats, records)
+        make_records_anew(alloc, &mut self.state, &mut self.stats, records)
     }
 
     // Puts what waits into the log, makes its changes, and writes the answers.
-    fn put_and_make<R: Wait, S: Sink>(
-        &mut self,
-        rt: &R,
-        alloc: Global,
-        out: &mut S,
-    ) -> Result<(), KeepFault>
+    fn put_and_make<S: Sink>(&mut self, alloc: Global, out: &mut S) -> Result<(), KeepFault>
         requires usable { IsTrue (D.is_usable self.old.log.disk) }
         requires waiting { IsWaiting self.old.waiting }
         ensures usable { OnOk result (IsTrue (D.is_usable self.new.log.disk)) }
@@ -179,14 +168,7 @@ impl<T: Tablet, D: Disk + Drop> Keeper<T, D> {
         put_script(alloc, &mut self.log, &self.waiting)?;
         let Waiting { items, .. } = mem::replace(&mut self.waiting, Waiting::new(alloc));
         let mut text = String::new(alloc);
-        let done = make_and_answer(
-            rt,
-            alloc,
-            &mut self.state,
-            &mut self.stats,
-            items,
-            &mut text,
-        );
+        let done = make_and_answer(alloc, &mut self.state, &mut self.stats, items, &mut text);
         // Also where a change was stopped: those before it are made.
         write(out, text.as_str())?;
         done
@@ -195,12 +177,7 @@ impl<T: Tablet, D: Disk + Drop> Keeper<T, D> {
     /// Keeps what waits, which is no group without its `end`: its changes by one record of the log, if there are any, which
     /// is on the disk before the first of them is made; then each is made with its observers; then all lines are answered, in
     /// their order.
-    pub fn keep<R: Wait, S: Sink>(
-        &mut self,
-        rt: &R,
-        alloc: Global,
-        out: &mut S,
-    ) -> Result<(), KeepFault>
+    pub fn keep<S: Sink>(&mut self, alloc: Global, out: &mut S) -> Result<(), KeepFault>
         requires usable { IsTrue (D.is_usable self.old.log.disk) }
         requires waiting { IsWaiting self.old.waiting }
         requires alone { self.old.waiting.is_group ≡ false }
@@ -231,7 +208,7 @@ impl<T: Tablet, D: Disk + Drop> Keeper<T, D> {
         ensures faultless { OnOk result
             (D.faults self.new.log.disk ≡ D.faults self.old.log.disk) }
     {
-        self.put_and_make(rt, alloc, out)
+        self.put_and_make(alloc, out)
     }
 
     /// Ends it, with its table.

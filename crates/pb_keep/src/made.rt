@@ -18,7 +18,6 @@ use pb_keeper::{Made, ObserverStats, Stopped, make};
 use pb_state::State;
 use pb_store::Tablet;
 use std::alloc::Global;
-use std::sync::Wait;
 
 // Adds the answer of a change that was made: `made C runs N`, or `made C unquiet` where its observers didn't come to rest.
 fn push_made(alloc: Global, text: &mut String, made: &Made) -> Result<(), NoMemory>
@@ -56,8 +55,7 @@ fn push_unmade(alloc: Global, text: &mut String, newest: Ts) -> Result<(), NoMem
 }
 
 // Makes a change, and counts what the runs did that followed it.
-fn make_counted<R: Wait, T: Tablet>(
-    rt: &R,
+fn make_counted<T: Tablet>(
     alloc: Global,
     state: &mut State<T>,
     stats: &mut Vec<ObserverStats>,
@@ -79,12 +77,11 @@ fn make_counted<R: Wait, T: Tablet>(
         → Keeps first changes (kept_table state.old stats.old.items)
         → IfErr result (λ e. IsStop e state.new) }
 {
-    make(rt, alloc, state, stats, batch)
+    make(alloc, state, stats, batch)
 }
 
 // Answers a line that waited, and makes its change, if it is one, before.
-fn answer<R: Wait, T: Tablet>(
-    rt: &R,
+fn answer<T: Tablet>(
     alloc: Global,
     state: &mut State<T>,
     stats: &mut Vec<ObserverStats>,
@@ -108,7 +105,7 @@ fn answer<R: Wait, T: Tablet>(
 {
     match item {
         Waits::Change(batch) => {
-            let made = make_counted(rt, alloc, state, stats, batch)?;
+            let made = make_counted(alloc, state, stats, batch)?;
             push_made(alloc, text, &made)?;
         }
         Waits::Unmade(newest) => push_unmade(alloc, text, newest)?,
@@ -120,8 +117,7 @@ fn answer<R: Wait, T: Tablet>(
 }
 
 // Makes the changes of lines that waited, each with its observers, and adds the answers to all of the lines.
-pub(crate) fn make_and_answer<R: Wait, T: Tablet>(
-    rt: &R,
+pub(crate) fn make_and_answer<T: Tablet>(
     alloc: Global,
     state: &mut State<T>,
     stats: &mut Vec<ObserverStats>,
@@ -145,7 +141,7 @@ pub(crate) fn make_and_answer<R: Wait, T: Tablet>(
         → IfErr result (IsRightOf state.new) }
 {
     for item in items {
-        answer(rt, alloc, state, stats, item, text)?;
+        answer(alloc, state, stats, item, text)?;
     }
     Ok(())
 }

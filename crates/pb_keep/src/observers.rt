@@ -15,7 +15,8 @@ ghost use Rattle.pb_keep.specs.Changed.{HasOtherObservers, IsNotQuiet, WhyNotCha
 
 use crate::compact::SnapshotFault;
 use crate::keeper::Keeper;
-use pb_keeper::{ObserverStats, observe_also};
+use pb_answers::entries_of;
+use pb_keeper::{ObserverStats, catching_up_bound, observe_also};
 use pb_snapshots::{choose_observers, chosen_are_accepted, chosen_begin, take_snapshot};
 use pb_state::State;
 use pb_store::Tablet;
@@ -23,7 +24,6 @@ use pb_verify::Observer;
 use sqlite_disk::Disk;
 use std::alloc::Global;
 use std::mem;
-use std::sync::Wait;
 
 impl<T: Tablet, D: Disk + Drop> Keeper<T, D> {
     // Begins this state, which is as opened with the observers at these places, with what the table has of them. Returns what
@@ -68,8 +68,8 @@ impl<T: Tablet, D: Disk + Drop> Keeper<T, D> {
     }
 
     /// Goes on with the observers at these places, which keep what they have acknowledged, and then with others, and makes passes
-    /// until these have handled all that was ever written to their columns, or so many passes as may be made. Returns how many
-    /// runs were committed in these passes, by any observer. Whether a mark is left isn't returned: the next call that wants a
+    /// until these have handled all that was ever written to their columns, or so many passes or runs as may be made. Returns how
+    /// many runs were committed in these passes, by any observer. Whether a mark is left isn't returned: the next call that wants a
     /// quiet table is refused then. The table has to be quiet. What its other observers have acknowledged isn't kept.
     ///
     /// The state is empty, as opened with the observers that stay. It takes the place of the keeper's, which is closed. If the
@@ -77,9 +77,8 @@ impl<T: Tablet, D: Disk + Drop> Keeper<T, D> {
     ///
     /// The keeper's own log isn't of such a table. So only another change of observers, `snapshot_into` a log of the new manifest,
     /// and `close` may follow; and where it fails otherwise than as `NotQuiet`, `close` alone.
-    pub fn change_observers<R: Wait>(
+    pub fn change_observers(
         &mut self,
-        rt: &R,
         alloc: Global,
         mut state: State<T>,
         places: &[usize],
@@ -128,7 +127,9 @@ impl<T: Tablet, D: Disk + Drop> Keeper<T, D> {
                 return Err(fault);
             }
         }
-        let drained = observe_also(rt, alloc, &mut self.state, &mut self.stats, more)?;
+        let entries = entries_of(alloc, &self.state)?;
+        let bound = catching_up_bound(entries, self.state.observers().len() + more.len());
+        let drained = observe_also(alloc, &mut self.state, &mut self.stats, more, bound)?;
         Ok(drained.runs)
     }
 }

@@ -54,8 +54,7 @@ fn refuse(waiting: &mut Waiting) -> Result<(), NoMemory>
 }
 
 // Takes the bytes of a line.
-fn take_bytes<R: Wait, T: Tablet, D: Disk + Drop, S: Sink>(
-    rt: &R,
+fn take_bytes<T: Tablet, D: Disk + Drop, S: Sink>(
     alloc: Global,
     keeper: &mut Keeper<T, D>,
     out: &mut S,
@@ -83,7 +82,7 @@ fn take_bytes<R: Wait, T: Tablet, D: Disk + Drop, S: Sink>(
         (D.faults keeper.new.log.disk ≡ D.faults keeper.old.log.disk) }
 {
     match std::str::from_utf8(bytes) {
-        Ok(line) => keeper.take(rt, alloc, out, line),
+        Ok(line) => keeper.take(alloc, out, line),
         Err(_) => {
             refuse(&mut keeper.waiting)?;
             Ok(Took::Served)
@@ -92,8 +91,7 @@ fn take_bytes<R: Wait, T: Tablet, D: Disk + Drop, S: Sink>(
 }
 
 // Takes what was read.
-fn take_read<R: Wait, T: Tablet, D: Disk + Drop, S: Sink>(
-    rt: &R,
+fn take_read<T: Tablet, D: Disk + Drop, S: Sink>(
     alloc: Global,
     keeper: &mut Keeper<T, D>,
     out: &mut S,
@@ -124,7 +122,7 @@ fn take_read<R: Wait, T: Tablet, D: Disk + Drop, S: Sink>(
         (D.faults keeper.new.log.disk ≡ D.faults keeper.old.log.disk) }
 {
     match read {
-        Line::Read => Ok(Went::Line(take_bytes(rt, alloc, keeper, out, bytes)?)),
+        Line::Read => Ok(Went::Line(take_bytes(alloc, keeper, out, bytes)?)),
         Line::TooLong => {
             refuse(&mut keeper.waiting)?;
             Ok(Went::Line(Took::Served))
@@ -171,9 +169,9 @@ fn turn<R: Wait, I: Read + Drop, T: Tablet, D: Disk + Drop, S: Sink>(
 {
     match read_line(rt, input, line) {
         Ok(read) => {
-            let went = take_read(rt, alloc, keeper, out, read, line.as_slice())?;
+            let went = take_read(alloc, keeper, out, read, line.as_slice())?;
             let is_kept = !keeper.waiting.is_group && !has_line(input);
-            keeper.keep_if(rt, alloc, out, is_kept)?;
+            keeper.keep_if(alloc, out, is_kept)?;
             Ok(went)
         }
         Err(_) => Err(KeepFault::Input),
@@ -235,7 +233,7 @@ pub fn serve<R: Wait, I: Read + Drop, T: Tablet, D: Disk + Drop, S: Sink>(
             Went::Line(Took::Asked) => return Ok(Paused::Asked),
             Went::End => {
                 let is_kept = !keeper.waiting.is_group;
-                keeper.keep_if(rt, alloc, out, is_kept)?;
+                keeper.keep_if(alloc, out, is_kept)?;
                 return Ok(Paused::Ended);
             }
         }

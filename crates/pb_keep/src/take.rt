@@ -29,7 +29,6 @@ use pb_state::State;
 use pb_store::Tablet;
 use sqlite_disk::Disk;
 use std::alloc::Global;
-use std::sync::Wait;
 
 /// The code of a line that may not stand in a group, and of an `end` without its `begin`.
 pub const OUT_OF_PLACE: u8 = 76;
@@ -330,9 +329,8 @@ impl<T: Tablet, D: Disk + Drop> Keeper<T, D> {
     }
 
     // Keeps what waits, where that is asked for.
-    pub(crate) fn keep_if<R: Wait, S: Sink>(
+    pub(crate) fn keep_if<S: Sink>(
         &mut self,
-        rt: &R,
         alloc: Global,
         out: &mut S,
         is_asked: bool,
@@ -364,16 +362,15 @@ impl<T: Tablet, D: Disk + Drop> Keeper<T, D> {
             (D.faults self.new.log.disk ≡ D.faults self.old.log.disk) }
     {
         if is_asked {
-            self.keep(rt, alloc, out)?;
+            self.keep(alloc, out)?;
         }
         Ok(())
     }
 
     /// Takes one line. A change waits, and so does the answer to a line that is refused; a question is answered after all that
     /// waits is kept. A line that asks for a compaction is answered by the caller.
-    pub fn take<R: Wait, S: Sink>(
+    pub fn take<S: Sink>(
         &mut self,
-        rt: &R,
         alloc: Global,
         out: &mut S,
         line: &str,
@@ -405,7 +402,7 @@ impl<T: Tablet, D: Disk + Drop> Keeper<T, D> {
     {
         let read = parse_request(line);
         let before = is_kept_before(&self.waiting, line, &read);
-        self.keep_if(rt, alloc, out, before)?;
+        self.keep_if(alloc, out, before)?;
         if asks_to_compact(&self.waiting, &read) {
             return Ok(Took::Asked);
         }

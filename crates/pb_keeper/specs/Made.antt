@@ -1,5 +1,6 @@
 -- A change with the passes that follow it.
-use Rattle.std.specs.Prelude.{◌≡◌, ℕ, Bool, false, nat_lt, List, ◌++◌}
+use Rattle.std.specs.Prelude.{◌≡◌, ℕ, ◌+◌, ◌*◌, Bool, false, nat_lt, List, ◌++◌}
+use Rattle.std.specs.Io.Iter.{u64_saturate}
 use Rattle.pb_keeper.specs.Words.{Writes, Ts, ObserverOf, Received, Outcome, MAX_PASSES}
 use Rattle.pb_keeper.specs.declared.passes.TheConstants.{MAX_RUNS}
 use Rattle.pb_keeper.specs.Drains.{IsDrainWithin, within, cut_off}
@@ -13,6 +14,10 @@ comes_to_rest (cut_off due is) = false
 -- a drain that came to rest, or one that did not
 abbrev pub IsDrainThat : List ObserverOf → ℕ → Bool → List Received → Type 0
 IsDrainThat observers bound rests said = (d : IsDrainWithin observers bound said) × (rests ≡ comes_to_rest d)
+
+-- how many runs observers make at most that catch up with a table of so many entries, as far as 64 bits can say
+abbrev pub catching_up_bound : ℕ → ℕ → ℕ
+catching_up_bound entries observers = u64_saturate (MAX_RUNS + entries * observers)
 
 -- a whole change of this batch, committed so, and then a drain
 pub record IsMade (observers : List ObserverOf) (batch : Writes) (commit : Ts) (said : List Received) : Type 0 where

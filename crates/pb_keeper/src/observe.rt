@@ -9,12 +9,12 @@ ghost use Rattle.pb_store.specs.Contents.{IsNextMark};
 ghost use Rattle.pb_verify.specs.Observers.{ObserverOf};
 ghost use Rattle.pb_keeper.specs.Counts.{commit_count};
 ghost use Rattle.pb_keeper.specs.Keeps.{CatchesUp, IsChosenOf, IsFirstTable, KeepsFrom};
-ghost use Rattle.pb_keeper.specs.Made.{comes_to_rest};
+ghost use Rattle.pb_keeper.specs.Made.{catching_up_bound, comes_to_rest};
 ghost use Rattle.pb_keeper.specs.Stats.{KeptTable, first_stats, kept_table};
 ghost use Rattle.pb_keeper.specs.Stops.{IsStop};
 
 use crate::change::Stopped;
-use crate::passes::{Drained, drain};
+use crate::passes::{Drained, MAX_RUNS, drain};
 use crate::stats::{ObserverStats, no_stats};
 use pb_base::NoMemory;
 use pb_generations::{jobs_keep_tables, snapshots_serve};
@@ -40,6 +40,14 @@ fn add_all<T: Tablet>(
     state.add_observers(more)?;
     stats.append(&mut none)?;
     Ok(())
+}
+
+/// How many runs observers make at most as they catch up: as many as after a change, and one of each observer for each entry
+/// of the table that they find, since a marked cell has some.
+pub fn catching_up_bound(entries: usize, observers: usize) -> u64
+    ensures { result ≡ catching_up_bound entries observers }
+{
+    MAX_RUNS.saturating_add((entries as u64).saturating_mul(observers as u64))
 }
 
 /// Adds observers after those that a table has, which keep what they have acknowledged, and makes passes until the new ones

@@ -1,6 +1,8 @@
-use Rattle.std.proofs.Common.{subst, sym}
+use Rattle.std.proofs.Common.{arith, ◌≡◌, ◌+◌, ◌++◌, length, ap, ◌∙◌, subst, sym}
+use Rattle.std.proofs.lemmas.List.{length-append}
+use Rattle.pb_keeper.specs.Made.{catching_up_bound}
 use Rattle.pb_keeper.specs.Keeps.{IsChosenOf}
-use Rattle.pb_keep.specs.Words.{KeptTable, kept_table}
+use Rattle.pb_keep.specs.Words.{KeptTable, StateOf, kept_table}
 use Rattle.pb_keep.specs.Changed.{WhyNotChanged}
 use Rattle.pb_keep.proofs.Causing.{not_changed_by_stop}
 use Rattle.pb_keep.proofs.Mapping.{passed_on}
@@ -14,7 +16,7 @@ returns-in_err-drained-clause-cause g c = λ past changes first began leads.
     let between : KeptTable = kept_table c.replace.new.dest c.in-Ok.stats.items in
     let chosen : IsChosenOf c.args.places.now front old between =
     subst (λ z. IsChosenOf c.args.places.now front old (kept_table z c.in-Ok.stats.items)) (sym c.replace.ensures.after) (c.in-Ok.ensures.chosen past changes first began leads) in
-    passed_on c.from_residual.result c.from_residual.ensures.1
+    passed_on c.from_residual-in_err-drained.result c.from_residual-in_err-drained.ensures.1
     (λ e is. subst (λ f. WhyNotChanged k.waiting.items.items k.state c.observe_also.new.state f) (sym is)
     (not_changed_by_stop k.waiting.items.items k.state c.observe_also.new.state c.in_err-drained.field-0.0
     (c.in_err-drained.ensures.stops past changes first old c.args.places.now front began leads c.in-Ok.ensures.quiet c.in-Ok.ensures.room chosen)))
@@ -27,13 +29,19 @@ returns-clause-changed g c = λ past changes first began leads.
     let between : KeptTable = kept_table c.replace.new.dest c.in-Ok.stats.items in
     let chosen : IsChosenOf c.args.places.now front old between =
     subst (λ z. IsChosenOf c.args.places.now front old (kept_table z c.in-Ok.stats.items)) (sym c.replace.ensures.after) (c.in-Ok.ensures.chosen past changes first began leads) in
+    let first_ones : length c.observers.result.now ≡ length front = ap length c.observers.ensures.observers ∙ ap (λ (z : StateOf). length z.observers) c.replace.ensures.after ∙ ap length c.in-Ok.ensures.observers in
+    let is = c.len.ensures in
+    let same = c.args.more.ok.0 in
+    let many : c.len.result ≡ length c.args.more.items = omega (arith, is, same) in
+    let all : length c.observers.result.now + c.len.result ≡ length (front ++ c.args.more.items) = (λ i. first_ones i + many i) ∙ sym (length-append front c.args.more.items) in
     record {
       quiet = c.in-Ok.ensures.quiet;
       room = c.in-Ok.ensures.room;
       between = between;
       chosen = chosen;
       caught_up = c.in_ok-drained.ensures.caught_up.0;
-      count = c.in_ok-drained.ensures.caught_up.1;
+      bound = c.in_ok-drained.ensures.caught_up.1 ∙ c.catching_up_bound-bound.ensures ∙ (λ i. catching_up_bound (c.in_ok-entries.ensures i) (all i));
+      count = c.in_ok-drained.ensures.caught_up.2;
     }
 
 pub returns-clause-begins : goal.returns-clause-begins
