@@ -189,10 +189,10 @@ fn run_all<T: Tablet>(
     let mut commits = 0u64;
     let many = state.observers().len();
     for place in 0..many {
-        let ran = turn(alloc, state, stats, place, cell, left - runs)?;
-        runs += ran.runs;
-        commits = commits.saturating_add(ran.commits);
-        if ran.is_due {
+        let turned = turn(alloc, state, stats, place, cell, left - runs)?;
+        runs += turned.runs;
+        commits = commits.saturating_add(turned.commits);
+        if turned.is_due {
             return Ok(Ran {
                 runs,
                 commits,
