@@ -21,7 +21,6 @@ use pb_verify::Observer;
 use sqlite_disk::{Disk, Unknown};
 use sqlite_std_file::FileFrom;
 use std::alloc::Global;
-use std::sync::Wait;
 
 // The manifest that the log has, if it has one.
 fn manifest_of<D: Disk>(rt: &HostRuntime, log: &mut Log<D>, names: &Names) -> Result<Option<String>>
@@ -57,8 +56,7 @@ fn places_in(
 
 // Goes on with these observers, which the table has, and then with others. Returns how many runs were committed
 // while these caught up.
-fn change_observers<R: Wait>(
-    waits: &R,
+fn change_observers(
     alloc: Global,
     keeper: &mut Kept,
     staying: Vec<Observer>,
@@ -75,13 +73,12 @@ fn change_observers<R: Wait>(
 {
     let places = places_in(alloc, keeper, &staying, names)?;
     let state = new_state(alloc, staying)?;
-    Ok(keeper.change_observers(waits, alloc, state, &places, added)?)
+    Ok(keeper.change_observers(alloc, state, &places, added)?)
 }
 
 // Goes on with those of these observers that the table has, and then with the others, which catch up. Prints how many these are, how
 // many runs were committed meanwhile, and how many observers are gone.
-fn observe_others<R: Wait>(
-    waits: &R,
+fn observe_others(
     rt: &HostRuntime,
     keeper: &mut Kept,
     observers: Vec<Observer>,
@@ -98,7 +95,7 @@ fn observe_others<R: Wait>(
     let before = keeper.state.observers().len();
     let (staying, added) = split_known(alloc, keeper.state.observers(), observers)?;
     let (count, gone) = (added.len(), before.saturating_sub(staying.len()));
-    let runs = change_observers(waits, alloc, keeper, staying, added, names)?;
+    let runs = change_observers(alloc, keeper, staying, added, names)?;
     print!(rt; "added {count} runs {runs} gone {gone}\n")?;
     Ok(())
 }
@@ -120,13 +117,7 @@ fn are_all_in_order(places: &[usize], many: usize) -> bool
 }
 
 // Brings the observers of the table into the order of this manifest. It has the same ones, since others were added before.
-fn order_observers<R: Wait>(
-    waits: &R,
-    alloc: Global,
-    keeper: &mut Kept,
-    manifest: &str,
-    names: &Names,
-) -> Result<()>
+fn order_observers(alloc: Global, keeper: &mut Kept, manifest: &str, names: &Names) -> Result<()>
     ensures log { keeper.new.log ≡ keeper.old.log }
     ensures waiting { keeper.new.waiting ≡ keeper.old.waiting }
     ensures manifest { OnOk result
@@ -137,13 +128,12 @@ fn order_observers<R: Wait>(
     if are_all_in_order(&places, keeper.state.observers().len()) {
         return Ok(());
     }
-    change_observers(waits, alloc, keeper, observers, Vec::new(alloc), names)?;
+    change_observers(alloc, keeper, observers, Vec::new(alloc), names)?;
     Ok(())
 }
 
 // Goes on with the observers of this manifest, if it is another than the one whose observers the table has.
-fn observe_manifest<R: Wait>(
-    waits: &R,
+fn observe_manifest(
     rt: &HostRuntime,
     keeper: &mut Kept,
     manifest: &str,
@@ -160,16 +150,15 @@ fn observe_manifest<R: Wait>(
 {
     match observers {
         Some(observers) => {
-            observe_others(waits, rt, keeper, observers, names)?;
-            order_observers(waits, rt.alloc(), keeper, manifest, names)
+            observe_others(rt, keeper, observers, names)?;
+            order_observers(rt.alloc(), keeper, manifest, names)
         }
         None => Ok(()),
     }
 }
 
 // Opens the log with its own manifest, goes on with the observers of this one, if it is another, and compacts it for this manifest.
-fn open_and_compact<R: Wait>(
-    waits: &R,
+fn open_and_compact(
     rt: &HostRuntime,
     keeper: &mut Kept,
     own: &str,
@@ -189,10 +178,10 @@ fn open_and_compact<R: Wait>(
     requires own_manifest { ReadsManifest own.now (Ok keeper.old.state.observers) }
     requires same { IfNone observers (own.now ≡ manifest.now) }
 {
-    let found = open_log(waits, rt.alloc(), keeper, own)?;
+    let found = open_log(rt.alloc(), keeper, own)?;
     print!(rt; "open {found}\n")?;
-    observe_manifest(waits, rt, keeper, manifest, observers, names)?;
-    match compact(waits, rt, keeper, manifest, names)? {
+    observe_manifest(rt, keeper, manifest, observers, names)?;
+    match compact(rt, keeper, manifest, names)? {
         Ok(versions) => {
             print!(rt; "compacted {versions}\n")?;
             Ok(())
@@ -202,8 +191,7 @@ fn open_and_compact<R: Wait>(
 }
 
 // The same, from its file on.
-fn compact_file<R: Wait>(
-    waits: &R,
+fn compact_file(
     rt: &HostRuntime,
     disk: FileFrom<Unknown>,
     own: &str,
@@ -220,19 +208,14 @@ fn compact_file<R: Wait>(
     requires same { IfNone observers (own.now ≡ manifest.now) }
 {
     let mut keeper = new_keeper(rt.alloc(), own, disk)?;
-    let done = open_and_compact(waits, rt, &mut keeper, own, manifest, observers, names);
+    let done = open_and_compact(rt, &mut keeper, own, manifest, observers, names);
     keeper.close();
     done
 }
 
 /// Puts a log of this manifest that begins with a snapshot of the table in the place of this one, and prints how many versions it
 /// has. The log's own manifest may have other observers: those of both keep what they have acknowledged.
-pub(crate) fn compact_alone<R: Wait>(
-    waits: &R,
-    rt: &HostRuntime,
-    manifest: &str,
-    path: &str,
-) -> Result<()>
+pub(crate) fn compact_alone(rt: &HostRuntime, manifest: &str, path: &str) -> Result<()>
     requires short { length manifest.now < 2 ^ 31 }
 {
     let names = names_of(rt, path)?;
@@ -241,7 +224,6 @@ pub(crate) fn compact_alone<R: Wait>(
         Some(own) if own.as_str() != manifest => {
             let observers = observers_of(rt.alloc(), manifest)?;
             compact_file(
-                waits,
                 rt,
                 log.disk,
                 own.as_str(),
@@ -250,6 +232,6 @@ pub(crate) fn compact_alone<R: Wait>(
                 &names,
             )
         }
-        _ => compact_file(waits, rt, log.disk, manifest, manifest, None, &names),
+        _ => compact_file(rt, log.disk, manifest, manifest, None, &names),
     }
 }

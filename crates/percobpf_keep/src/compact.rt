@@ -18,7 +18,6 @@ use sqlite_disk::{Disk, Unknown};
 use sqlite_std_file::FileFrom;
 use std::alloc::Global;
 use std::mem;
-use std::sync::Wait;
 
 // A log that was put in the place of another one.
 struct NewLog {
@@ -82,8 +81,7 @@ fn write_new(
 }
 
 // Opens the new log as any other, to see that it can be opened, and puts it in the place of the old one.
-fn open_new<R: Wait, D: Disk + Drop>(
-    waits: &R,
+fn open_new<D: Disk + Drop>(
     rt: &HostRuntime,
     keeper: &mut Keeper<ListTablet, D>,
     manifest: &str,
@@ -100,14 +98,14 @@ fn open_new<R: Wait, D: Disk + Drop>(
     ensures observers { OnOk result
         (keeper.new.state.observers ≡ keeper.old.state.observers) }
 {
-    if open_log(waits, rt.alloc(), keeper, manifest)? != 0 {
+    if open_log(rt.alloc(), keeper, manifest)? != 0 {
         bail!("the new log has changes");
     }
     put_in_place(rt, names)
 }
 
 // Returns the keeper of the new log, which is open, and in the place of the old one.
-fn try_new<R: Wait>(waits: &R, rt: &HostRuntime, manifest: &str, names: &Names) -> Result<Kept>
+fn try_new(rt: &HostRuntime, manifest: &str, names: &Names) -> Result<Kept>
     requires short { length manifest.now < 2 ^ 31 }
     ensures usable { IfOk result (λ k.
         IsTrue (⟦<FileFrom<Unknown> as Disk>⟧.is_usable k.log.disk)) }
@@ -116,7 +114,7 @@ fn try_new<R: Wait>(waits: &R, rt: &HostRuntime, manifest: &str, names: &Names) 
 {
     let db = open_file(rt, names.new.as_str())?;
     let mut keeper = new_keeper(rt.alloc(), manifest, db)?;
-    match open_new(waits, rt, &mut keeper, manifest, names) {
+    match open_new(rt, &mut keeper, manifest, names) {
         Ok(()) => Ok(keeper),
         Err(fault) => {
             keeper.close();
@@ -125,8 +123,7 @@ fn try_new<R: Wait>(waits: &R, rt: &HostRuntime, manifest: &str, names: &Names) 
     }
 }
 
-fn make_new<R: Wait>(
-    waits: &R,
+fn make_new(
     rt: &HostRuntime,
     keeper: &Kept,
     manifest: &str,
@@ -145,15 +142,14 @@ fn make_new<R: Wait>(
         Ok((_log, versions)) => versions,
         Err(why) => return Ok(Err(why)),
     };
-    let keeper = try_new(waits, rt, manifest, names)?;
+    let keeper = try_new(rt, manifest, names)?;
     Ok(Ok(NewLog { keeper, versions }))
 }
 
 /// Puts a log that begins with a snapshot of the table in the place of its log, and goes on with the table that the new log has.
 /// The new log has this manifest, which is the one of the table's observers, before and after.
 /// Returns how many versions the snapshot has, or why such a table can't be compacted: then all is as it was.
-pub(crate) fn compact<R: Wait>(
-    waits: &R,
+pub(crate) fn compact(
     rt: &HostRuntime,
     keeper: &mut Kept,
     manifest: &str,
@@ -170,7 +166,7 @@ pub(crate) fn compact<R: Wait>(
         (ReadsManifest manifest.now (Ok keeper.new.state.observers)) }
 {
     remove_new(rt, names)?;
-    let why = match make_new(waits, rt, keeper, manifest, names) {
+    let why = match make_new(rt, keeper, manifest, names) {
         Ok(
             Ok(
                 NewLog {

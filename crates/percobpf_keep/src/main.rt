@@ -85,7 +85,7 @@ fn main(rt: HostRuntime) -> Result<()> {
         }
         "--compact" => {
             let (text, path) = last_words(&rt, words.next(), words)?;
-            compact_alone(&rt, &rt, text.as_str(), path.as_str())
+            compact_alone(&rt, text.as_str(), path.as_str())
         }
         "--compact-at" => {
             let least = bytes_of(words.next())?;

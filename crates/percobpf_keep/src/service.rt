@@ -30,8 +30,7 @@ fn next_limit(least: u64, end: usize) -> u64 {
 }
 
 // Compacts the log, and writes the answer. Returns whether it is compacted.
-fn answer_compact<R: Wait, S: Sink>(
-    waits: &R,
+fn answer_compact<S: Sink>(
     rt: &HostRuntime,
     keeper: &mut Kept,
     manifest: &str,
@@ -48,7 +47,7 @@ fn answer_compact<R: Wait, S: Sink>(
     ensures manifest { OnOk result
         (ReadsManifest manifest.now (Ok keeper.new.state.observers)) }
 {
-    match compact(waits, rt, keeper, manifest, names)? {
+    match compact(rt, keeper, manifest, names)? {
         Ok(versions) => {
             let text = format!(in rt.alloc(); "compacted {versions}\n")?;
             out.write_all(text.as_bytes())?;
@@ -62,13 +61,7 @@ fn answer_compact<R: Wait, S: Sink>(
 }
 
 // Compacts a large log, or prints why its table can't be compacted. Returns whether it is compacted.
-fn compact_large<R: Wait>(
-    waits: &R,
-    rt: &HostRuntime,
-    keeper: &mut Kept,
-    manifest: &str,
-    names: &Names,
-) -> Result<bool>
+fn compact_large(rt: &HostRuntime, keeper: &mut Kept, manifest: &str, names: &Names) -> Result<bool>
     requires short { length manifest.now < 2 ^ 31 }
     requires usable { IsTrue (⟦<FileFrom<Unknown> as Disk>⟧.is_usable keeper.old.log.disk) }
     requires waiting { IsWaiting keeper.old.waiting }
@@ -79,7 +72,7 @@ fn compact_large<R: Wait>(
     ensures manifest { OnOk result
         (ReadsManifest manifest.now (Ok keeper.new.state.observers)) }
 {
-    match compact(waits, rt, keeper, manifest, names)? {
+    match compact(rt, keeper, manifest, names)? {
         Ok(_) => Ok(true),
         Err(why) => {
             let _ = eprintln!(rt; "{}: not compacted: {why}", names.log);
@@ -114,9 +107,9 @@ fn serve_lines<R: Wait>(
     for _pause in waits.forever() {
         let is_done = match serve(waits, alloc, keeper, &mut input, &mut out, limit)? {
             Paused::Ended => return Ok(()),
-            Paused::Asked => answer_compact(waits, rt, keeper, manifest, names, &mut out)?,
+            Paused::Asked => answer_compact(rt, keeper, manifest, names, &mut out)?,
             Paused::Large => {
-                compact_large(waits, rt, keeper, manifest, names)?;
+                compact_large(rt, keeper, manifest, names)?;
                 true
             }
         };
@@ -145,12 +138,12 @@ fn open_and_serve<R: Wait>(
     requires waiting { IsWaiting keeper.old.waiting }
     requires manifest { ReadsManifest manifest.now (Ok keeper.old.state.observers) }
 {
-    let found = open_log(waits, rt.alloc(), keeper, manifest)?;
+    let found = open_log(rt.alloc(), keeper, manifest)?;
     if (keeper.log.end as u64) < least {
         return serve_lines(waits, rt, keeper, manifest, names, found, least, least);
     }
     // A log that begins anew has no change.
-    let found = if compact_large(waits, rt, keeper, manifest, names)? {
+    let found = if compact_large(rt, keeper, manifest, names)? {
         0
     } else {
         found

@@ -21,7 +21,6 @@ use pb_verify::Observer;
 use sqlite_disk::{Disk, Unknown};
 use sqlite_std_file::FileFrom;
 use std::alloc::Global;
-use std::sync::Wait;
 
 /// A table that is kept in a file of which nothing is supposed.
 pub(crate) type Kept = Keeper<ListTablet, FileFrom<Unknown>>;
@@ -89,8 +88,7 @@ pub(crate) fn new_keeper<D: Disk + Drop>(
 }
 
 /// Opens the log of this manifest, whose observers the table has, and returns how many changes it has.
-pub(crate) fn open_log<R: Wait, D: Disk + Drop>(
-    waits: &R,
+pub(crate) fn open_log<D: Disk + Drop>(
     alloc: Global,
     keeper: &mut Keeper<ListTablet, D>,
     manifest: &str,
@@ -106,5 +104,5 @@ pub(crate) fn open_log<R: Wait, D: Disk + Drop>(
     ensures observers { OnOk result
         (keeper.new.state.observers ≡ keeper.old.state.observers) }
 {
-    Ok(keeper.open(waits, alloc, manifest.as_bytes())?)
+    Ok(keeper.open(alloc, manifest.as_bytes())?)
 }
