@@ -4,9 +4,12 @@
         made = table.change("put 7 0 2a", "put 8 0 2b")
         print(made.commit, table.get(7, 1))
 
-An answer says that the change is on the disk, committed, and seen by its observers. Where the program ends before it answers, `Gone`
-is raised: the change is made whole or not at all. A client that has to know which writes a number of its own into a cell, with each
-change, and reads that cell when it is connected again (`examples/keep/postings.py`).
+An answer shows that the change is on the disk, committed, and seen by its observers. If the program or the relay ends before it answers, or
+sends what is no answer, `Gone` is raised, by this call and by each after it: the change is made whole or not at all. A client that has to
+know which writes a number of its own into a cell, with each change, and reads that cell when it is connected again
+(`examples/keep/postings.py`).
+
+A line ends at its newline. So a text with a newline in it raises `ValueError`, and nothing of the call is sent.
 """
 from __future__ import annotations
 
@@ -18,13 +21,30 @@ import threading
 from contextlib import suppress
 from typing import NamedTuple
 
-MADE = re.compile(r"made (\d+)(?: runs (\d+)| unquiet)")
-CELL = re.compile(r"cell (\d+) (\d+) commit (\d+) (?:value ([0-9a-f]+)|deleted)")
-NEWEST = re.compile(r"(?:value ([0-9a-f]+)|deleted) commit (\d+)")
+# the most bytes of a line of an answer, with its newline: the program has none so long
+LONGEST = 256
+
+HIGHEST = (1 << 64) - 1
+NUMBER = "(0|[1-9][0-9]{0,19})"
+NAME = "[0-9a-z-]{1,32}"
+LEFT = "(?:value (?P<value>(?:[0-9a-f]{2}){1,32})|deleted)"
+WRITE = f"cell {NUMBER} ([0-9]|1[0-5]) commit {NUMBER} {LEFT}"
+
+OPENED = re.compile(f"open {NUMBER}")
+MADE = re.compile(f"made {NUMBER}(?: runs {NUMBER}| unquiet)")
+UNMADE = re.compile(f"unmade commit {NUMBER}")
+REFUSED = re.compile(f"refused (?:77 {NUMBER}|(?!77)([1-9][0-9]))")
+NEWEST = re.compile(f"{LEFT} commit {NUMBER}|absent")
+CELL = re.compile(WRITE)
+TO_DO = re.compile(f"quiet|marks {NUMBER} locks {NUMBER}")
+REPORT = re.compile(f"{WRITE}|runs {NAME} {NUMBER}|{TO_DO.pattern}")
+COUNTS = " ".join(f"{what} {NUMBER}" for what in ("runs", "nonzero", "conflicts", "asks", "instructions"))
+STATS = re.compile(f"stats {NAME} {COUNTS}|(?:log|entries) {NUMBER}")
+COMPACTED = re.compile(f"compacted {NUMBER}")
 
 
-class Gone(Exception):
-    """The program ended, or the connection did, before it answered."""
+class Gone(ConnectionError):
+    """The program or the relay ended, or the connection did, or what came is no answer. Each later call of the table raises it too."""
 
 
 class Refused(Exception):
@@ -72,11 +92,22 @@ class Cell(NamedTuple):
     value: bytes | None
 
 
-class Table:
-    """A table, by a pair of binary files: lines go to the first, and answers come from the second."""
+def matched(shape: re.Pattern, answer: str) -> re.Match | None:
+    """The match of an answer that has this shape, and no number of 2^64 or more."""
+    found = shape.fullmatch(answer)
+    value = shape.groupindex.get("value")
+    numbers = [it for group, it in enumerate(found.groups(), 1) if it and group != value] if found else []
+    return None if any(int(it) > HIGHEST for it in numbers) else found
 
-    def __init__(self, lines, answers, child=None) -> None:
-        self._lines, self._answers, self._child = lines, answers, child
+
+class Table:
+    """A table, by a pair of binary files: lines go to the first, and answers come from the second. `end` is the socket of the lines, if they
+    go to one, and `child` the program, if it was started here."""
+
+    def __init__(self, lines, answers, child: subprocess.Popen | None = None, end: socket.socket | None = None) -> None:
+        self._lines, self._answers, self._child, self._end = lines, answers, child, end
+        # whether answers are still to come, and no call after this one would get its own; and whose process uses the table
+        self._is_owed, self._is_closed, self._user = False, False, os.getpid()
 
     @classmethod
     def start(cls, manifest, log, program="./percobpf_keep", compact_at: int | None = None) -> Table:
@@ -84,26 +115,45 @@ class Table:
         by itself, from so many bytes on."""
         options = [] if compact_at is None else ["--compact-at", str(compact_at)]
         words = [os.fspath(program), *options, os.fspath(manifest), os.fspath(log)]
-        child = subprocess.Popen(words, stdin=subprocess.PIPE, stdout=subprocess.PIPE)
-        table = cls(child.stdin, child.stdout, child)
-        table.found = int(table._read().removeprefix("open "))
+        # a socket has an end even if a process that was forked meanwhile holds it too
+        end, its = socket.socketpair()
+        try:
+            child = subprocess.Popen(words, stdin=its, stdout=subprocess.PIPE)
+        except BaseException:
+            end.close()
+            raise
+        finally:
+            its.close()
+        table = cls(end.makefile("wb"), child.stdout, child, end)
+        try:
+            table.found = table._opened()
+        except BaseException:
+            table.close()
+            raise
         return table
 
     @classmethod
     def connect(cls, path) -> Table:
-        """Reaches a program behind `clients/relay`, at its unix socket."""
+        """Reaches a program behind `clients/relay`, at its unix socket. `Gone` is raised if no relay is there."""
         end = socket.socket(socket.AF_UNIX, socket.SOCK_STREAM)
-        end.connect(os.fspath(path))
-        files = end.makefile("wb"), end.makefile("rb")
-        end.close()
-        return cls(*files)
+        try:
+            end.connect(os.fspath(path))
+        except (FileNotFoundError, ConnectionError):
+            end.close()
+            raise Gone(f"no relay listens at {os.fspath(path)}") from None
+        except BaseException:
+            end.close()
+            raise
+        return cls(end.makefile("wb"), end.makefile("rb"), None, end)
 
     def close(self) -> None:
         """Ends the input; the program keeps what it has, and ends."""
-        try:
+        self._is_closed = True
+        with suppress(ConnectionError):
             self._lines.close()
-        except BrokenPipeError:
-            pass
+        if self._end:
+            self._shut(socket.SHUT_WR)
+            self._end.close()
         self._answers.close()
         if self._child:
             self._child.wait()
@@ -119,129 +169,193 @@ class Table:
         that is the commit of the cell's newest write, and 0 stands for a cell without one."""
         parts = [f"if {when[0]} {when[1]} {when[2]}"] if when else []
         line = "; ".join([*parts, *operations])
-        self._send([line])
-        return self._made(line, self._read())
+        return self._made(line, self._ask(line))
 
     def changes(self, lines: list[str]) -> list[Made]:
         """Makes many changes, each a line of operations joined by `; `. They are sent while their answers are read, since neither pipe
-        holds all of them. Those that wait together share a record of the log. Where some are refused or unmade, the others are made all the same, and the
-        first of these faults is raised."""
+        holds all of them. Those that wait together share a record of the log. Where some are refused or unmade, the others are made all the
+        same, and the first of these faults is raised."""
+        text = self._begin(lines)
 
         def send() -> None:
             # that the program has ended is seen where its answers are read
             with suppress(Gone):
-                self._send(lines)
+                self._send(text)
 
         sender = threading.Thread(target=send)
         sender.start()
-        made, fault = [], None
         try:
-            for line in lines:
-                answer = self._read()
-                try:
-                    made.append(self._made(line, answer))
-                except (Refused, Unmade) as refusal:
-                    fault = fault or refusal
+            made = self._made_by(lines)
+        except BaseException:
+            # the sender may wait for one that reads no more
+            self._lose()
+            raise
         finally:
             sender.join()
-        if fault:
-            raise fault
-        return made
+        return self._whole(made)
 
     def group(self, lines: list[str]) -> list[Made]:
         """Makes changes by one record of the log: after a crash all of them are there, or none."""
-        self._send(["begin", *lines, "end"])
+        self._send(self._begin(["begin", *lines, "end"]))
         self._expect("begun")
-        answers = [self._read() for _ in lines]
+        made = self._made_by(lines)
         self._expect("ended")
-        return [self._made(line, answer) for line, answer in zip(lines, answers)]
+        return self._whole(made)
 
     def get(self, row: int, column: int) -> Cell | None:
         """The newest write of a cell, or None where it has none."""
-        self._send([f"get {row} {column}"])
-        answer = self._read()
+        line = f"get {row} {column}"
+        answer = self._ask(line)
+        found = matched(NEWEST, answer)
+        if not found:
+            raise self._refusal(line, answer)
         if answer == "absent":
             return None
-        found = NEWEST.fullmatch(answer)
-        if not found:
-            raise self._refusal(f"get {row} {column}", answer)
         return Cell(row, column, int(found[2]), bytes.fromhex(found[1]) if found[1] else None)
 
     def since(self, commit: int) -> list[Cell]:
         """Each write of a commit above this one, in the order of commits. `Compacted` is raised where some of them are gone."""
-        self._send([f"since {commit}"])
-        cells = []
-        while (answer := self._read()) != "end":
-            found = CELL.fullmatch(answer)
-            if not found:
-                raise self._refusal(f"since {commit}", answer)
-            row, column, its = int(found[1]), int(found[2]), int(found[3])
-            cells.append(Cell(row, column, its, bytes.fromhex(found[4]) if found[4] else None))
-        return cells
+        found = self._ask_long(f"since {commit}", CELL)
+        return [Cell(int(it[1]), int(it[2]), int(it[3]), bytes.fromhex(it[4]) if it[4] else None) for it in found]
 
     def list(self) -> list[str]:
         """The lines of the report."""
-        return self._lines_of("list")
+        return [it[0] for it in self._ask_long("list", REPORT)]
 
     def stats(self) -> list[str]:
         """The lines on what each observer has done, and on the sizes of the log and of the table."""
-        return self._lines_of("stats")
+        return [it[0] for it in self._ask_long("stats", STATS)]
 
     def is_quiet(self) -> bool:
         """Whether nothing is left for the observers to do."""
-        self._send(["quiet?"])
-        return self._read() == "quiet"
+        answer = self._ask("quiet?")
+        if not matched(TO_DO, answer):
+            raise self._refusal("quiet?", answer)
+        return answer == "quiet"
 
     def compact(self) -> int:
         """Compacts the log, and returns how many versions its snapshot has. `NotCompacted` is raised where it can't be. Writes of
         before are gone for all clients of the table: their next `since` of an earlier commit raises `Compacted`."""
-        self._send(["compact"])
-        verb, _, versions = (answer := self._read()).partition(" ")
-        if verb != "compacted":
+        answer = self._ask("compact")
+        found = matched(COMPACTED, answer)
+        if not found:
             raise self._refusal("compact", answer)
-        return int(versions)
+        return int(found[1])
 
-    def _lines_of(self, question: str) -> list[str]:
-        """The lines of an answer, up to its `end`."""
-        self._send([question])
+    # a call begins, and is whole once it has all of its answers
+
+    def _begin(self, lines: list[str]) -> bytes:
+        """What is sent for these lines, whose answers are owed from now on."""
+        if any("\n" in line for line in lines):
+            raise ValueError("a line has a newline in it, and would be two")
+        if self._is_closed or self._is_owed:
+            raise Gone("the table was closed" if self._is_closed else "an earlier call didn't get all of its answers")
+        text = "".join(f"{line}\n" for line in lines).encode()
+        self._is_owed = True
+        return text
+
+    def _whole(self, made: list[Made | Exception]) -> list[Made]:
+        """The changes that were made, if all were, after the last of their answers."""
+        self._is_owed = False
+        for it in made:
+            if isinstance(it, Exception):
+                raise it
+        return made
+
+    def _opened(self) -> int:
+        self._is_owed = True
+        found = matched(OPENED, answer := self._read())
+        if not found:
+            raise self._unknown(answer)
+        self._is_owed = False
+        return int(found[1])
+
+    def _ask(self, line: str) -> str:
+        """The answer of a line that has one line."""
+        self._send(self._begin([line]))
+        answer = self._read()
+        self._is_owed = False
+        return answer
+
+    def _ask_long(self, line: str, shape: re.Pattern) -> list[re.Match]:
+        """The lines of an answer, which have this shape, up to its `end`."""
+        self._send(self._begin([line]))
         lines = []
         while (answer := self._read()) != "end":
-            if answer.startswith("refused "):
-                raise self._refusal(question, answer)
-            lines.append(answer)
+            found = matched(shape, answer)
+            if not found:
+                self._is_owed = bool(lines)
+                raise self._unknown(answer) if lines else self._refusal(line, answer)
+            lines.append(found)
+        self._is_owed = False
         return lines
 
-    def _send(self, lines) -> None:
+    # lines and answers
+
+    def _send(self, text: bytes) -> None:
         try:
-            self._lines.write("".join(f"{line}\n" for line in lines).encode())
+            self._lines.write(text)
             self._lines.flush()
         except ConnectionError:
             raise Gone("the program has ended") from None
 
     def _read(self) -> str:
-        answer = self._answers.readline()
+        try:
+            answer = self._answers.readline(LONGEST)
+        except ConnectionError:
+            # what was sent last wasn't read by the other side
+            answer = b""
         if not answer.endswith(b"\n"):
-            raise Gone("the program ended before it answered")
+            raise self._unknown(answer) if len(answer) == LONGEST else Gone("the program ended before it answered")
+        if not answer.isascii():
+            raise self._unknown(answer)
         return answer[:-1].decode()
 
-    def _expect(self, answer: str) -> None:
-        if (got := self._read()) != answer:
-            raise self._refusal(answer, got)
+    def _expect(self, wanted: str) -> None:
+        if (answer := self._read()) != wanted:
+            raise self._unknown(answer)
+
+    def _made_by(self, lines: list[str]) -> list[Made | Exception]:
+        """What was made by each of these lines, or why it wasn't."""
+        made = []
+        for line in lines:
+            try:
+                made.append(self._made(line, self._read()))
+            except (Refused, Unmade) as fault:
+                made.append(fault)
+        return made
 
     def _made(self, line: str, answer: str) -> Made:
-        found = MADE.fullmatch(answer)
-        if not found:
-            raise self._refusal(line, answer)
-        return Made(int(found[1]), int(found[2]) if found[2] else None)
+        if found := matched(MADE, answer):
+            return Made(int(found[1]), int(found[2]) if found[2] else None)
+        if found := matched(UNMADE, answer):
+            raise Unmade(int(found[1]))
+        raise self._refusal(line, answer)
 
-    @staticmethod
-    def _refusal(line: str, answer: str) -> Exception:
-        verb, _, rest = answer.partition(" ")
-        if verb == "refused":
-            code, _, begun = rest.partition(" ")
-            if begun:
-                return Compacted(int(code), line, int(begun))
-            return (NotCompacted if code == "78" else Refused)(int(code), line)
-        if verb == "unmade":
-            return Unmade(int(rest.removeprefix("commit ")))
-        return Gone(f"an answer that isn't known: {answer}")
+    def _refusal(self, line: str, answer: str) -> Exception:
+        """The fault of a line that has another answer than it asked for."""
+        found = matched(REFUSED, answer)
+        if not found:
+            return self._unknown(answer)
+        if found[1]:
+            return Compacted(77, line, int(found[1]))
+        return (NotCompacted if found[2] == "78" else Refused)(int(found[2]), line)
+
+    def _unknown(self, answer: str | bytes) -> Gone:
+        """The fault of what is no answer. Nothing after it can be an answer either."""
+        self._is_owed = True
+        self._lose()
+        if self._child:
+            self._child.kill()
+        return Gone(f"an answer that isn't known: {answer!r}")
+
+    def _lose(self) -> None:
+        """Lets nobody wait for the other side any longer."""
+        if self._end:
+            self._shut(socket.SHUT_RDWR)
+
+    def _shut(self, how: int) -> None:
+        """Ends the connection, unless another process than the table's was forked from it and has the same one."""
+        if os.getpid() == self._user:
+            with suppress(OSError):
+                self._end.shutdown(how)
