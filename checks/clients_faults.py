@@ -20,7 +20,8 @@ TOO_HIGH = 1 << 64
 
 # What is no answer to any line.
 NONE = (
-    b"", b"\n", b"made 2 runs 1", b"made\n", b"made 2\n", b"made 2 runs\n", b"made 2 runs 1 more\n", b"made 2 runs 1 \n", b" made 2 runs 1\n",
+    b"", b"\n", b"made 2 runs 1", b"made\n", b"made 2\n", b"made 2 runs\n", b"made 2 runs 1 more\n", b"made 2 runs 1 \n",
+    b" made 2 runs 1\n",
     b"made  2 runs 1\n", b"made -1 runs -1\n", b"made +2 runs 1\n", b"made 02 runs 1\n", b"made 2 unquiet 1\n", b"made 2 runs 1\r\n",
     b"made 2 runs %d\n" % TOO_HIGH, b"made %d unquiet\n" % TOO_HIGH, b"made " + b"9" * 400 + b" runs 1\n", b"made 2 runs 1\0\n",
     "made \u0662 runs 1\n".encode(), b"refused\n", b"refused x\n", b"refused 7\n", b"refused 770\n", b"refused 77\n", b"refused 77 x\n",
@@ -28,8 +29,8 @@ NONE = (
     b"unmade commit x\n", b"unmade commit %d\n" % TOO_HIGH, b"value 2 commit 4\n", b"value 2g commit 4\n", b"value 2A commit 4\n",
     b"value " + b"00" * 33 + b" commit 4\n", b"value  commit 4\n", b"value 2a commit\n", b"deleted\n", b"deleted commit x\n", b"absent x\n",
     b"quiet?\n", b"marks 1\n", b"marks 1 locks %d\n" % TOO_HIGH, b"compacted\n", b"compacted x\n", b"compacted %d\n" % TOO_HIGH,
-    b"cell 7 0 commit\n", b"cell 7 0 commit 2\n", b"cell 7 0 commit 2 value\n", b"cell %d 0 commit 2 deleted\n" % TOO_HIGH, b"runs copy\n",
-    b"stats copy runs 1\n", b"log x\n", b"entries\n", b"hello\n", b"\xff\n", b"x" * 5_000 + b"\n", b"x" * 5_000,
+    b"cell 7 0 commit\n", b"cell 7 0 commit 2\n", b"cell 7 0 commit 2 value\n", b"cell %d 0 commit 2 deleted\n" % TOO_HIGH,
+    b"runs copy\n", b"stats copy runs 1\n", b"log x\n", b"entries\n", b"hello\n", b"\xff\n", b"x" * 5_000 + b"\n", b"x" * 5_000,
 )  # fmt: skip
 
 # Each call of the client in Python, and answers that are none to it, though to others.
@@ -38,7 +39,10 @@ CALLS = {
     "changes": (lambda table: table.changes(["put 7 0 2a"] * 20_000), (b"absent\n", b"end\n", b"made 2 runs 1\nquiet\n")),
     "group": (lambda table: table.group(["put 7 0 2a"]), (b"made 2 runs 1\n", b"begun\nended\n", b"begun\nmade 2 runs 1\nmade 4 runs 1\n")),
     "get": (lambda table: table.get(7, 0), (b"made 2 runs 1\n", b"quiet\n", b"end\n", b"unmade commit 2\n")),
-    "since": (lambda table: table.since(0), (b"made 2 runs 1\n", b"runs copy 1\n", b"cell 7 0 commit 2 deleted\nquiet\n", b"cell 7 16 commit 2 deleted\n")),
+    "since": (
+        lambda table: table.since(0),
+        (b"made 2 runs 1\n", b"runs copy 1\n", b"cell 7 0 commit 2 deleted\nquiet\n", b"cell 7 16 commit 2 deleted\n"),
+    ),
     "list": (lambda table: table.list(), (b"made 2 runs 1\n", b"log 5\n", b"quiet\nrefused 70\n", b"quiet\n")),
     "stats": (lambda table: table.stats(), (b"made 2 runs 1\n", b"quiet\n", b"log 5\n")),
     "is_quiet": (lambda table: table.is_quiet(), (b"made 2 runs 1\n", b"absent\n", b"end\n", b"quiet 1\n")),
@@ -47,7 +51,8 @@ CALLS = {
 
 # Answers to the client in C, with the kind, the commit, the runs, the code and the first byte of its result.
 KNOWN = (
-    (b"made 2 runs 1", "0 2 1 0 00"), (b"made 18446744073709551615 unquiet", "1 18446744073709551615 0 0 00"), (b"unmade commit 0", "2 0 0 0 00"),
+    (b"made 2 runs 1", "0 2 1 0 00"), (b"made 18446744073709551615 unquiet", "1 18446744073709551615 0 0 00"),
+    (b"unmade commit 0", "2 0 0 0 00"),
     (b"refused 70", "3 0 0 70 00"), (b"refused 77 8", "3 8 0 77 00"), (b"value 2a commit 4", "4 4 0 0 2a"),
     (b"value " + b"f0" * 32 + b" commit 4", "4 4 0 0 f0"), (b"deleted commit 6", "5 6 0 0 00"), (b"absent", "6 0 0 0 00"),
     (b"compacted 5", "7 0 0 0 00"), (b"marks 1 locks 0", "7 0 0 0 00"), (b"cell 7 0 commit 2 value 2a", "7 0 0 0 00"),
@@ -134,7 +139,8 @@ def try_lines(program, folder):
     """Texts with a newline, wherever a caller hands one in."""
     both, log = "put 7 0 2a\nput 666 0 66", folder / "lines.log"
     calls = (
-        lambda it: it.change(both), lambda it: it.change("put 7 0 2a", "put 8 0 2b\n"), lambda it: it.change("put 7 0 2a", when=(7, 0, "0; put 6 0 66\n")),
+        lambda it: it.change(both), lambda it: it.change("put 7 0 2a", "put 8 0 2b\n"),
+        lambda it: it.change("put 7 0 2a", when=(7, 0, "0; put 6 0 66\n")),
         lambda it: it.changes(["put 7 0 2a", both]), lambda it: it.group(["put 7 0 2a", both]), lambda it: it.get("7 0\nget 8", 0),
         lambda it: it.since("0\nquiet?"),
     )  # fmt: skip

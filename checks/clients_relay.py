@@ -70,7 +70,7 @@ def try_flood(relay):
             answered += flood.read()[:5] == "made "
         sender.join()
     expect("changes of a flood", answered, sent)
-    at_least("changes of a flood", sent, 100)
+    at_least("changes of a flood", sent, 50)
 
 
 def try_endless(relay):
@@ -146,14 +146,17 @@ def try_parts(program, folder):
             client.end.shutdown(socket.SHUT_WR)
             answers = [client.read() for _ in range(8)]
             shapes = ["made", "begun", "made", "refused 76", "ended", "value 61", None, None]
-            expect("the answers of one that has ended its lines", [it and re.sub(r"^(made|value \w+) .*", r"\1", it) for it in answers], shapes)
+            kinds = [it and re.sub(r"^(made|value \w+) .*", r"\1", it) for it in answers]
+            expect("the answers of one that has ended its lines", kinds, shapes)
         with Client(relay) as client:
             found = [client.ask(f"get {row} 0") for row in range(1, 7)]
             expect("what is left of those that were cut off", [it.split(" ")[0] for it in found], ["absent"] * 4 + ["value"] * 2)
             expect("a line that isn't ended", client.ask("get 6 2"), "absent")
             long = "; ".join(f"put 9 {column} {'09' * 32}" for column in range(16)) + " " * 4_000
             client.send(b"begin\n" + long.encode() + b"\n\nput 9 0 09\nend\n")
-            expect("lines that are too long, and none", [client.ask(long)[:5], *(client.read()[:10] for _ in range(4))], ["begun", "refused 70", "refused 70", "made 8 run", "ended"])
+            answers = [client.ask(long), *(client.read() for _ in range(4))]
+            expect("a line in a group that is too long, and an empty one", answers[:3], ["begun", "refused 70", "refused 70"])
+            expect("the others then", (answers[3][:5], *answers[4:], client.read()), ("made ", "ended", "refused 70"))
         try_killed_clients(relay)
 
 
@@ -171,9 +174,9 @@ def try_killed_clients(relay):
             time.sleep(0.005 * (number % 4))
             running.kill()
     with Client(relay) as client:
-        for _ in range(2):
-            client.send(b"list\n")
-            rows = Counter(line.split(" ")[1] for line in iter(client.read, "end") if line.startswith("cell ") and int(line.split(" ")[1]) >= 10_000)
+        client.send(b"list\n")
+        cells = [line.split(" ") for line in iter(client.read, "end") if line.startswith("cell ")]
+        rows = Counter(row for _, row, *_ in cells if int(row) >= 10_000)
         expect("rows of lines that were cut off", {count for count in rows.values()} <= {16}, True)
         at_least("rows of clients that were killed", len(rows), KILLS)
 

@@ -20,7 +20,7 @@ COPY, NO_OBSERVERS = (TOP / f"examples/{name}.json" for name in ("copy", "no-obs
 # client waits at most.
 SECONDS, END, DELAY = 60, 20, 1.0
 # How long each attack goes on, how often the others have to be answered meanwhile, and how much memory the relay takes for it, in MiB.
-ATTACK, LEAST_ANSWERED, MOST_MEMORY = 1.5, 3, 64
+ATTACK, LEAST_ANSWERED, MOST_MEMORY = 1.2, 2, 64
 
 # A relay with other limits: words NAME=NUMBER before its own.
 LIMITED = """
@@ -39,15 +39,20 @@ runpy.run_path(sys.path[0] + "/relay", run_name="__main__")
 PROGRAM = """#!/usr/bin/env python3
 import os, sys, time
 kept = open(sys.argv[2], "wb", buffering=0)
+def say(text):
+    try:
+        os.write(1, text)
+    except BrokenPipeError:
+        pass
 time.sleep(float(sys.argv[1]))
-os.write(1, b"open 0\\n")
+say(b"open 0\\n")
 while some := os.read(0, 1 << 14):
     kept.write(some)
     for line in some.split(b"\\n")[:-1]:
         if line.startswith(b"list "):
-            os.write(1, (b"cell 1 0 commit 2 value 2a" + b"00" * 24 + b"\\n") * int(line[5:]) + b"end\\n")
+            say((b"cell 1 0 commit 2 value 2a" + b"00" * 24 + b"\\n") * int(line[5:]) + b"end\\n")
         else:
-            os.write(1, b"made 2 runs 0\\n")
+            say(b"made 2 runs 0\\n")
 open(sys.argv[2] + ".end", "wb").close()
 """
 
@@ -198,7 +203,8 @@ def undisturbed(name, relay):
             time.sleep(0.01)
         taken = relay.memory() - before
     at_least(f"how often others were answered, {name}", others.count, LEAST_ANSWERED)
-    expect(f"others that waited for {others.longest:.2f} s, and {calm.longest:.2f} s before, {name}", others.longest <= calm.longest + DELAY, True)
+    waited = f"others that waited for {others.longest:.2f} s, and {calm.longest:.2f} s before, {name}"
+    expect(waited, others.longest <= calm.longest + DELAY, True)
     expect(f"{taken:.0f} MiB that the relay took, {name}", taken <= MOST_MEMORY, True)
 
 

@@ -101,8 +101,8 @@ def matched(shape: re.Pattern, answer: str) -> re.Match | None:
 
 
 class Table:
-    """A table, by a pair of binary files: lines go to the first, and answers come from the second. `end` is the socket of the lines, if they
-    go to one, and `child` the program, if it was started here."""
+    """A table, by a pair of binary files: lines go to the first, and answers come from the second. `end` is the socket of the lines, if
+    they go to one, and `child` the program, if it was started here."""
 
     def __init__(self, lines, answers, child: subprocess.Popen | None = None, end: socket.socket | None = None) -> None:
         self._lines, self._answers, self._child, self._end = lines, answers, child, end

@@ -40,7 +40,7 @@ class Client:
     # what it sent that hasn't gone on, and what was answered that it hasn't taken
     held: bytearray = field(default_factory=bytearray)
     unread: bytearray = field(default_factory=bytearray)
-    # how many bytes its first line or group has, once that is whole; how many bytes were looked through for it, and how many lines these are
+    # how many bytes its first line or group has, once that is whole; how many were looked through for it, and how many lines these are
     first: int = 0
     seen: int = 0
     lines: int = 0
@@ -107,8 +107,8 @@ class Question:
 
 
 class Pace:
-    """How many operations may wait for their answers. The program answers one after another, so that each waits for all before it. The bound
-    is halved if one waited longer than SOON, and grows if one waited for half of that at most while others couldn't go on."""
+    """How many operations may wait for their answers. The program answers one after another, so that each waits for all before it. The
+    bound is halved if one waited longer than SOON, and grows if one waited for half of that at most while others couldn't go on."""
 
     def __init__(self) -> None:
         self.most, self.last_cut = LEAST_ASKED, 0.0

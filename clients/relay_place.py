@@ -39,7 +39,7 @@ class Place:
         return "a relay listens there already"
 
     def listen(self):
-        """A socket to which clients can connect. One that is left at the path is removed; nobody connects before it has its mode and group."""
+        """A socket to which clients can connect, none before it has its mode and its group. One that is left at the path is removed."""
         if self.path is None:
             return socket.socket(fileno=HANDED_OVER)
         if fault := self.fault():
