@@ -173,12 +173,19 @@ def try_rights(program, folder):
         expect(f"the status for {options}", relay.running.wait(SECONDS), 2)
 
 
+def try_no_program(folder):
+    relay = Relay(folder / "no-program", folder, "no-program").start()
+    expect("the status of a relay without a program", relay.running.wait(SECONDS), 1)
+    expect("what it wrote", relay.errors, f"relay: {folder / 'no-program'}: No such file or directory\n")
+
+
 def try_relay_ends(program, folder):
     (folder / "answering").write_text(PROGRAM)
     (folder / "answering").chmod(0o755)
     try_whole(folder)
     try_ends(program, folder)
     try_slow(folder)
+    try_no_program(folder)
     try_left(program, folder)
     try_in_the_way(program, folder)
     try_rights(program, folder)
