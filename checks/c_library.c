@@ -14,8 +14,9 @@
 
 enum { CANARY = 0xa5, THREADS = 8, ROUNDS = 500, DEEPEST = 127, MOST = 1 << 13 };
 
-/* What a thread gets: the stack that the header names, and the rest for this file's own arrays and what a sanitizer adds. */
-enum { STACK = 192 << 10 };
+/* What a thread gets: the stack that the header names, and the rest for this file's own arrays and what a sanitizer adds. What a call
+ * takes by itself, checks/c_stack.c measures. */
+enum { STACK = PERCOBPF_STACK_BYTES + (112 << 10) };
 
 static int met, faults;
 
@@ -497,9 +498,12 @@ static void *call_all(void *unused) {
     size_t count = bytes_of(READS EXIT, code);
     const char *manifest = MANIFEST(WATCH "," LOW);
     /* the deepest text that is read as JSON, which takes most of the stack */
-    char nested[2 * DEEPEST];
-    memset(nested, '[', DEEPEST);
-    memset(nested + DEEPEST, ']', DEEPEST);
+    char nested[6 * DEEPEST + 1];
+    for (int at = 0; at < DEEPEST; at++) {
+        memcpy(nested + 5 * at, "{\"a\":", 5);
+    }
+    memset(nested + 5 * DEEPEST, '1', 1);
+    memset(nested + 5 * DEEPEST + 1, '}', DEEPEST);
     wrong += percobpf_manifest(put(nested, sizeof nested), sizeof nested).code != 51;
     wrong += percobpf_replay(put(nested, sizeof nested), sizeof nested, NULL, 0, NULL, 0, 0, NULL, 0).needed != 17;
     struct percobpf_reached reached;

@@ -4,8 +4,8 @@
    Threads: the library has no state, takes no lock and starts no thread. Any thread may call any function at any time, but not from
    a signal handler, and not in the child of a fork of a process with threads, since each may call `malloc`.
 
-   Stack: a call takes 80 kB at most, `percobpf_replay` and `percobpf_manifest` of a manifest whose arrays are nested 127 deep; other
-   calls take half of that.
+   Stack: a call takes fewer than PERCOBPF_STACK_BYTES. `percobpf_manifest` and `percobpf_replay` take most, of a manifest whose arrays
+   or objects are nested 127 deep; other calls take a tenth of that at most. This is measured (checks/c_stack.c), and not proved.
 
    Memory: what a function is given stays the caller's, is only read during the call, and isn't kept. What it takes from `malloc` it
    gives back before it returns. There is nothing to open, to close or to free.
@@ -32,6 +32,9 @@ extern "C" {
 
 /* The version of this header. A library with another `interface` (`percobpf_version`) is not for it. */
 #define PERCOBPF_INTERFACE 1
+
+/* A call takes fewer bytes of stack than these 160 KiB. A thread with such a stack has room for any call of its first function. */
+#define PERCOBPF_STACK_BYTES 163840
 
 enum percobpf_kind {
     PERCOBPF_KIND_DONE = 0,         /* accepted, assembled, listed, replayed, or run to the end */
