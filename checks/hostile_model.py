@@ -1,0 +1,114 @@
+"""What `percobpf_keep` does with the observers of hostile_observers.py, as a plain model, for `checks/hostile`.
+
+It is written from docs/TABLE.md ("Workers") and docs/KEEPING.md alone: passes over the marked cells, of which so many are made after a
+change, with so many runs. Cells are rows with columns, in this order.
+"""
+from __future__ import annotations
+
+import heapq
+from dataclasses import dataclass, field
+
+from hostile_observers import MAX_PASSES, MAX_RUNS
+
+
+@dataclass
+class HostileTable:
+    """The commit of the newest write of each cell, and the cells whose newest write is a deletion; the marked cells; what each observer has
+    acknowledged; the clock; and of each observer how many runs are committed."""
+
+    observers: tuple
+    newest: dict = field(default_factory=dict)
+    deleted: set = field(default_factory=set)
+    marks: set = field(default_factory=set)
+    acknowledged: dict = field(default_factory=dict)
+    clock: int = 0
+    runs: list = field(default_factory=list)
+
+    def __post_init__(self):
+        self.runs = [0 for _ in self.observers]
+        columns = {it.column for it in self.observers}
+        self.of_column = {column: [at for at, it in enumerate(self.observers) if it.column == column] for column in columns}
+
+    def write(self, cells, is_deletion):
+        """A transaction that has begun commits these writes."""
+        self.clock += 1
+        if is_deletion:
+            self.deleted.update(cells)
+        else:
+            self.deleted.difference_update(cells)
+        for cell in cells:
+            self.newest[cell] = self.clock
+            if cell[1] in self.of_column:
+                self.marks.add(cell)
+
+    def is_behind(self, number, cell):
+        return self.newest[cell] > self.acknowledged.get((number, cell), 0)
+
+    def run(self, number, cell):
+        """A run of an observer on a marked cell. It is committed if the observer is behind. Answers the cells that it writes."""
+        self.clock += 1
+        if not self.is_behind(number, cell):
+            return []
+        observer, start = self.observers[number], self.clock
+        cells = observer.writes(cell[0])
+        self.write(cells, observer.deletes)
+        self.acknowledged[number, cell] = start
+        self.runs[number] += 1
+        if not any(self.is_behind(it, cell) for it in self.of_column[cell[1]]):
+            self.marks.discard(cell)
+        return cells
+
+    def pass_over(self, left):
+        """One pass, with so many runs at most. Answers how many were made, and whether it found a mark, or None where one more is due."""
+        ahead, made, last = [*self.marks], 0, None
+        heapq.heapify(ahead)
+        while ahead:
+            cell = heapq.heappop(ahead)
+            if cell not in self.marks or (last is not None and cell <= last):
+                continue
+            for number in self.of_column[cell[1]]:
+                if made == left:
+                    return made, None
+                made += 1
+                for other in self.run(number, cell):
+                    if other > cell and other in self.marks:
+                        heapq.heappush(ahead, other)
+            last = cell
+        return made, last is not None
+
+    def change(self, cell):
+        """A change of one cell, with what follows. Answers as the program does."""
+        self.clock += 1
+        self.write([cell], False)
+        commit, made, before = self.clock, 0, sum(self.runs)
+        for _ in range(MAX_PASSES):
+            runs, goes_on = self.pass_over(MAX_RUNS - made)
+            made += runs
+            if goes_on is None:
+                break
+            if not goes_on:
+                return f"made {commit} runs {sum(self.runs) - before}"
+        return f"made {commit} unquiet"
+
+    def quiet(self):
+        return f"marks {len(self.marks)} locks 0" if self.marks else "quiet"
+
+    def line(self, cell):
+        return f"cell {cell[0]} {cell[1]} commit {self.newest[cell]} {'deleted' if cell in self.deleted else 'value 2a'}"
+
+    def list(self):
+        runs = [f"runs {it.name} {count}" for it, count in zip(self.observers, self.runs)]
+        return [*map(self.line, sorted(self.newest)), *runs, self.quiet(), "end"]
+
+    def since_last(self):
+        """The writes of the last commit."""
+        last = max(self.newest.values())
+        return last - 1, [*(self.line(cell) for cell in sorted(it for it, commit in self.newest.items() if commit == last)), "end"]
+
+    def get(self, cell):
+        return f"{'deleted' if cell in self.deleted else 'value 2a'} commit {self.newest[cell]}"
+
+    def stats(self):
+        """How the lines of `stats` begin."""
+        of = zip(self.observers, self.runs)
+        return [f"stats {it.name} runs {count} nonzero {count if it.result else 0} conflicts 0 asks 0 instructions " for it, count in of]
