@@ -14,6 +14,8 @@ from logs import Snapshot, Version
 
 MOST_BYTES, MOST_CHANGES = 4096, 10_000
 OUT_OF_PLACE, TOO_MANY, GONE, NOT_COMPACTED = 76, 75, 77, 78
+# How many runs follow a change at most.
+MOST_RUNS = 100_000
 
 # the words of one line alone, without operands
 ALONE = ("list", "quiet?", "stats", "begin", "end", "compact")
@@ -144,7 +146,7 @@ class KeptTable:
         before = len(self.table.transactions)
         model.ended(model.change(self.table, 0, model.writes_of(line)))
         commit = self.table.clock
-        is_at_rest = model.passes(self.table, 0, self.observers)
+        is_at_rest = model.passes(self.table, 0, self.observers, MOST_RUNS)
         self.lines.append(line)
         after = list(self.table.transactions.values())[before + 1 :]
         return f"made {commit} runs {sum(it.phase == 'committed' for it in after)}" if is_at_rest else f"made {commit} unquiet"
@@ -215,7 +217,8 @@ class KeptTable:
         return len(known) - stayed, runs, had - stayed
 
     def observe_also(self, added):
-        """Gets observers after its own, and makes passes. Answers how many runs were committed."""
+        """Gets observers after its own, and makes passes, with a run more for each entry and each observer than after a change. Answers
+        how many runs were committed."""
         observers, table, before = [it for it, _ in added], self.table, len(self.table.transactions)
         self.observers, self.known = [*self.observers, *observers], [*self.known, *(its for _, its in added)]
         self.before += [0 for _ in added]
@@ -223,7 +226,7 @@ class KeptTable:
         table.counts += [model.Counts() for _ in added]
         columns = {it.column for it in observers}
         table.marks |= {cell for cell, its in table.records.items() if its and model.is_data(cell) and cell[1] in columns}
-        model.passes(table, 0, self.observers)
+        model.passes(table, 0, self.observers, MOST_RUNS + self.entries() * len(self.observers))
         return sum(it.phase == "committed" for it in list(table.transactions.values())[before:])
 
     def since(self, above):

@@ -3,8 +3,8 @@
 use Rattle.std.proofs.Common.{arith, ◌≡◌, ℕ, ◌+◌, ◌≤◌, List, [], ◌∷◌, ◌++◌, append_assoc, append-nil, refl, sym, ap, subst, ◌∙◌}
 use Rattle.pb_conversations.specs.Parts.{EndsIn}
 use Rattle.pb_conversations.proofs.OneOutcome.{EndsOn, last_part, part_first, end_goes_on, AreOne, HaveOneOutcome}
-use Rattle.pb_keeper.specs.Drains.{run_count}
-use Rattle.pb_keeper.proofs.RunCounts.{runs_append}
+use Rattle.pb_keeper.specs.Drains.{begun_count}
+use Rattle.pb_keeper.proofs.BegunRuns.{runs_append}
 use Rattle.pb_keeper.proofs.Wholes.{leads_parts, stays_sound}
 use Rattle.law_replays.specs.Words.{StateOf, JournalLeads, IsSoundTable, StepsKeepSound, Received, entries_by}
 
@@ -16,7 +16,7 @@ SeatLeads m said n = JournalLeads m (entries_by 0 said) n
 pub record IsLonger (said more : List Received) : Type 0 where
   pub rest : List Received
   pub said_is : said ≡ more ++ rest
-  pub some : 1 ≤ run_count rest
+  pub some : 1 ≤ begun_count rest
 
 -- they are the same, or one of them goes on after the other
 pub data AreCompared (said more : List Received) : Type 0 where
@@ -41,13 +41,13 @@ longer_before said more last l =
     record { rest = l.rest ++ last; said_is = ap (λ z. z ++ last) l.said_is ∙ append_assoc more l.rest last; some = omega (arith, counted, some) }
 
 -- where as many runs were begun, they are the same
-pub same_by_count : (said more : List Received) → AreCompared said more → run_count said ≡ run_count more → said ≡ more
+pub same_by_count : (said more : List Received) → AreCompared said more → begun_count said ≡ begun_count more → said ≡ more
 same_by_count said more (same e) count = e
-same_by_count said more (longer l) count = let all = ap run_count l.said_is ∙ runs_append more l.rest in let some = l.some in absurd (omega (arith, all, some, count))
-same_by_count said more (shorter l) count = let all = ap run_count l.said_is ∙ runs_append said l.rest in let some = l.some in absurd (omega (arith, all, some, count))
+same_by_count said more (longer l) count = let all = ap begun_count l.said_is ∙ runs_append more l.rest in let some = l.some in absurd (omega (arith, all, some, count))
+same_by_count said more (shorter l) count = let all = ap begun_count l.said_is ∙ runs_append said l.rest in let some = l.some in absurd (omega (arith, all, some, count))
 
-pub fewer_than : (said more : List Received) (n : ℕ) → IsLonger said more → run_count said ≤ n → run_count more ≡ n → ⊥
-fewer_than said more n l few count = let all = ap run_count l.said_is ∙ runs_append more l.rest in let some = l.some in omega (arith, all, some, few, count)
+pub fewer_than : (said more : List Received) (n : ℕ) → IsLonger said more → begun_count said ≤ n → begun_count more ≡ n → ⊥
+fewer_than said more n l few count = let all = ap begun_count l.said_is ∙ runs_append more l.rest in let some = l.some in omega (arith, all, some, few, count)
 
 -- of one table, the first words go on so after the second
 abbrev pub GoesOnAfter : (List Received → Type 0) → (List Received → Type 0) → Type 0

@@ -21,7 +21,7 @@ use Rattle.pb_keeper.specs.Leads.{IsEndedChange}
 use Rattle.pb_keeper.specs.Made.{IsMade}
 use Rattle.pb_keeper.specs.declared.passes.TheConstants.{MAX_RUNS}
 use Rattle.pb_keeper.proofs.Resting.{first_sound, marked_sound}
-use Rattle.pb_keeper.proofs.RunCounts.{run_is_one}
+use Rattle.pb_keeper.proofs.BegunRuns.{run_is_one}
 use Rattle.pb_keeper.proofs.Wholes.{leads_parts, stays_sound}
 use Rattle.law_worlds.proofs.Jobs.{run_computes_once}
 use Rattle.law_replays.proofs.CutOffs.{same, compared_after, dues_compare, fewer_than, longer_after, same_by_count, wholes_go_on, AreCompared, AreComparedOn, GoesOnAfter, IsLonger, SeatLeads}

@@ -7,14 +7,11 @@ use Rattle.pb_keeper.specs.Words.{Cell, Step, Answer, ObserverOf, Received, told
 use Rattle.pb_keeper.specs.Drains.{IsRunDue, AreRunsDue, IsMarkDue, IsPassDue, IsDrainDue, IsDrainWithin, within, cut_off}
 
 module _ {P : List Received → Type 0} (observers : List ObserverOf) (each : HoldsOfRuns observers P) where
-  alike : (a b : List Received) → a ≡ b → P b → P a
-  alike a b e p = subst P (sym e) p
-
   of_runs_due : (x : Cell) (said : List Received) → AreRunsDue observers x said → P said
-  of_runs_due x said r = of_end each.adds (of_turn observers each x) 0 said (λ i part due. alike part [] due.1 each.adds.nothing) r
+  of_runs_due x said r = of_end each.adds (of_turn observers each x) 0 said (λ i part due. subst P (sym due.1) each.adds.nothing) r
 
   of_mark_due : (after : Option Cell) (said : List Received) → IsMarkDue observers after said → P said
-  of_mark_due after said m = alike said _ m.said_is (each.adds.both (told (Step.NextMark after) (Answer.Marked m.x) ∷ []) m.more (each.mark after (Answer.Marked m.x)) (of_runs_due m.x m.more m.runs))
+  of_mark_due after said m = subst P (sym m.said_is) (each.adds.both (told (Step.NextMark after) (Answer.Marked m.x) ∷ []) m.more (each.mark after (Answer.Marked m.x)) (of_runs_due m.x m.more m.runs))
 
   of_pass_due : (count : ℕ) (said : List Received) → (count < MAX_PASSES) × IsPassDue observers said → P said
   of_pass_due count said p = of_end each.adds (of_mark observers each) None said of_mark_due p.1

@@ -1,9 +1,9 @@
 -- A walk from mark to mark ends: fewer runs may be made after a mark, or fewer cells come after it.
 use Rattle.std.proofs.Common.{arith, ◌≡◌, ℕ, ◌+◌, ◌-◌, ◌*◌, ◌^◌, ◌<◌, ◌≤◌, ◌⊎◌, inl, inr, Ordering, Option, Some, None, Less, IfSome}
 use Rattle.std.specs.Ordering.{nat_cmp, ordering_then}
-use Rattle.pb_base.specs.Cell.{cell_cmp, column_of, rank_of, row_of}
+use Rattle.pb_base.specs.Cell.{cell_cmp, rank_of}
 use Rattle.pb_store.specs.Contents.{ComesAfter}
-use Rattle.pb_keeper.specs.Words.{Cell}
+use Rattle.pb_keeper.specs.Words.{Cell, column_of, row_of}
 
 -- row, column and rank have 64 bits
 pub record Fits (x : Cell) : Type 0 where

@@ -12,7 +12,7 @@ use Rattle.pb_keeper.specs.Stats.{no_runs, added, Counted, RanAndDid}
 use Rattle.pb_keeper.specs.declared.stats.ObserverStats.{ObserverStats}
 use Rattle.pb_keeper.proofs.Counting.{count_append, not_counted, run_count}
 use Rattle.pb_keeper.proofs.Leading.{leads_none, leads_on}
-use Rattle.pb_keeper.proofs.RunCounts.{no_run_first, run_is_one, runs_append}
+use Rattle.pb_keeper.proofs.BegunRuns.{no_run_first, run_is_one, runs_append}
 use Rattle.pb_keeper.proofs.Statistics.{change_begins_none, counted_as, counted_none, counted_on, counted_one}
 
 pub any_on : {P Q : List Received → Type 0} {a b c : StateOf} → SaidLeads P a b → SaidLeads Q b c → SaidLeads IsAny a c

@@ -2,14 +2,13 @@
 use Rattle.std.proofs.Common.{arith, ◌≡◌, ◌≢◌, ℕ, ◌+◌, ◌-◌, ◌*◌, ◌<◌, ◌≤◌, Bool, true, false, if◌then◌else◌, List, length, Option, Some, None, IfNone, refl, sym, ap, subst, ◌∙◌, nat_lt, slice_get, option_map}
 use Rattle.std.proofs.lemmas.Option.{slice_get_within}
 use Rattle.pb_base.proofs.Logic.{none_some, same_some}
-use Rattle.pb_base.specs.declared.content.Revision.{Revision}
 use Rattle.pb_isa.specs.Slots.{slots}
 use Rattle.pb_txn.specs.Places.{declared_cells, place_after, step_at}
 use Rattle.pb_txn.specs.Plans as plans
 use Rattle.pb_txn.specs.Changes as changes
 use Rattle.pb_txn.specs.declared.place.PlanPlace.{PlanPlace}
 use Rattle.pb_notify.specs.Words.{Ask, JudgedOf, Position, acknowledged_in, old_at, record_by, tells_old, version_in}
-use Rattle.pb_notify.specs.Looks.{look_after, look_step, locked_after}
+use Rattle.pb_notify.specs.Looks.{look_after, locked_after}
 use Rattle.pb_notify.specs.Machines.{first_position}
 use Rattle.pb_notify.specs.Places.{after_acknowledgment, after_ask, after_begin, after_cell, after_plan, after_recall, by_outcome, if_found, if_recalled, locked_at, seen_so_far, ComesTo, goes, waits, declares, GoesOnFrom, IsToldAt, IsToldBy}
 use Rattle.pb_notify.specs.Places.{place_after as place_after_answer, step_at as step_at_place}
@@ -17,8 +16,8 @@ use Rattle.pb_notify.specs.Runs.{need_at}
 use Rattle.pb_notify.specs.declared.look.Look.{Look}
 use Rattle.pb_notify.specs.declared.look.Looked.{Looked}
 use Rattle.pb_notify.specs.declared.look.TheConstants.{MAX_LOCKED}
-use Rattle.pb_keeper.specs.Words.{Cell, Row, Ts, Seen, Step, Work, Answer, Declared, Received, CanAnswer, Writes, ChangeOf, PlanOf, Outcome, RunOf, RunPlace, Watch, JobEnd, Need, took, went, IsMove, IsPlanning, answered, next_of, run_job}
-use Rattle.pb_keeper.specs.Runs.{GoesOn, IsLate}
+use Rattle.pb_keeper.specs.Words.{Cell, Revision, Row, Ts, Seen, Step, Work, Answer, Declared, Received, CanAnswer, Writes, ChangeOf, PlanOf, Outcome, RunOf, RunPlace, Watch, JobEnd, Need, took, went, IsMove, IsPlanning, answered, next_of, run_job}
+use Rattle.pb_keeper.specs.Runs.{MovesOnce, HasPlanned}
 
 -- ---- a plan of so many cells
 
@@ -220,7 +219,7 @@ early_here j k l is sooner same = subst (GoesEarly j) (sym is) (record {
   early = sooner.early;
 })
 
-pub early_goes : (j k : RunOf) → GoesOn j k → (IsPlanning j.place → ⊥) → ((start : Ts) (what : Declared) → next_of k ≡ Some (Step.Declare start what) → ⊥) → GoesEarly j k
+pub early_goes : (j k : RunOf) → MovesOnce j k → (IsPlanning j.place → ⊥) → ((start : Ts) (what : Declared) → next_of k ≡ Some (Step.Declare start what) → ⊥) → GoesEarly j k
 early_goes j k goes_on early declares_not = by goes_on.0 goes_on.1 where
   by : (said : List Received) → IsMove run_job j k said → GoesEarly j k
   by said (took r next can hears) =
@@ -245,11 +244,11 @@ late_left j = late_at j.place
 
 pub record GoesLate (j k : RunOf) : Type 0 where
   pub fewer : late_left k < late_left j
-  pub late : IsLate k.place
+  pub late : HasPlanned k.place
 
 record IsLater (were : ℕ) (place : RunPlace) : Type 0 where
   pub fewer : late_at place < were
-  pub late : IsLate place
+  pub late : HasPlanned place
 
 late_plan : (r : ℕ) (p : PlanOf) (were : ℕ) → plan_left p + 2 < were → IsLater were (after_plan r p)
 late_plan r p were lt = by (plans.outcome_of p) where
@@ -259,7 +258,7 @@ late_plan r p were lt = by (plans.outcome_of p) where
   by (Some Outcome.Conflicted) = record { fewer = omega (arith, lt); late = tt }
   by (Some Outcome.Lost) = record { fewer = omega (arith, lt); late = tt }
 
-late_answer : (second : Bool) (locked o : ℕ) (row : Row) (column : ℕ) (place : RunPlace) (step : Step) (a : Answer) → step_at_place o row column place ≡ Some step → CanAnswer step a → IsLate place → IsLater (late_at place) (place_after_answer second locked place a)
+late_answer : (second : Bool) (locked o : ℕ) (row : Row) (column : ℕ) (place : RunPlace) (step : Step) (a : Answer) → step_at_place o row column place ≡ Some step → CanAnswer step a → HasPlanned place → IsLater (late_at place) (place_after_answer second locked place a)
 late_answer second locked o row column (RunPlace.Planning r p) step a next can late = late_plan r (plans.answered p a) _ (let lt = plan_goes p step a next can in omega (arith, lt))
 late_answer second locked o row column (RunPlace.Sweeping end) step a next can late = record { fewer = omega arith; late = tt }
 late_answer second locked o row column (RunPlace.Over end) step a next can late = absurd (none_some step next)
@@ -271,7 +270,7 @@ late_answer second locked o row column (RunPlace.Starting s seen) step a next ca
 late_answer second locked o row column (RunPlace.Computing s v) step a next can late = absurd late
 late_answer second locked o row column (RunPlace.Asking s v q look) step a next can late = absurd late
 
-late_computes_not : (place : RunPlace) → IsLate place → need_at place ≡ Need.Local → ⊥
+late_computes_not : (place : RunPlace) → HasPlanned place → need_at place ≡ Need.Local → ⊥
 late_computes_not (RunPlace.Planning r p) late e = absurd cc
 late_computes_not (RunPlace.Sweeping end) late e = absurd cc
 late_computes_not (RunPlace.Over end) late e = absurd cc
@@ -283,49 +282,13 @@ late_computes_not (RunPlace.Starting s seen) late e = absurd late
 late_computes_not (RunPlace.Computing s v) late e = absurd late
 late_computes_not (RunPlace.Asking s v q look) late e = absurd late
 
-pub late_goes : (j k : RunOf) → GoesOn j k → IsLate j.place → GoesLate j k
+pub late_goes : (j k : RunOf) → MovesOnce j k → HasPlanned j.place → GoesLate j k
 late_goes j k goes_on late = by goes_on.0 goes_on.1 where
   by : (said : List Received) → IsMove run_job j k said → GoesLate j k
   by said (took r next can hears) =
       let later = late_answer (tells_old j.watch.judged) j.locked j.watch.observer j.watch.row j.watch.column j.place r.step r.answer next can late in
       subst (GoesLate j) (sym hears.0) (record { fewer = later.fewer; late = later.late })
   by said (went computes) = absurd (late_computes_not j.place late computes.0)
-
--- ---- the step that declares
-
--- it is a plan's
-pub declares_in_plan : (j : RunOf) (start : Ts) (what : Declared) → next_of j ≡ Some (Step.Declare start what) → IsPlanning j.place
-declares_in_plan j start what next = at j.watch.observer j.watch.row j.watch.column j.place next where
-  looks_not : (s : Ts) (x : Cell) (t : Option Ts) (look : Look) → Some (look_step s x t look) ≡ Some (Step.Declare start what) → ⊥
-  looks_not s x None Look.Reading e = absurd cc
-  looks_not s x (Some t) Look.Reading e = absurd cc
-  looks_not s x t (Look.Clearing primary) e = absurd cc
-  looks_not s x t (Look.Settling primary) e = absurd cc
-  looks_not s x t Look.ClearingAgain e = absurd cc
-
-  at : (o : ℕ) (row : Row) (column : ℕ) (place : RunPlace) → step_at_place o row column place ≡ Some (Step.Declare start what) → IsPlanning place
-  at o row column RunPlace.Beginning e = absurd cc
-  at o row column (RunPlace.Observing s look) e = absurd (looks_not s _ None look e)
-  at o row column (RunPlace.Acknowledging s v look) e = absurd (looks_not s _ None look e)
-  at o row column (RunPlace.Recalling s seen look) e = absurd (looks_not s _ (Some seen.acknowledged) look e)
-  at o row column (RunPlace.Starting s seen) e = absurd cc
-  at o row column (RunPlace.Computing s v) e = absurd cc
-  at o row column (RunPlace.Asking s v q look) e = absurd (looks_not s _ None look e)
-  at o row column (RunPlace.Planning r p) e = tt
-  at o row column (RunPlace.Sweeping end) e = absurd cc
-  at o row column (RunPlace.Over end) e = absurd cc
-
-pub plan_is_late : (place : RunPlace) → IsPlanning place → IsLate place
-plan_is_late (RunPlace.Planning r p) is = tt
-plan_is_late RunPlace.Beginning is = absurd is
-plan_is_late (RunPlace.Observing s look) is = absurd is
-plan_is_late (RunPlace.Acknowledging s v look) is = absurd is
-plan_is_late (RunPlace.Recalling s seen look) is = absurd is
-plan_is_late (RunPlace.Starting s seen) is = absurd is
-plan_is_late (RunPlace.Computing s v) is = absurd is
-plan_is_late (RunPlace.Asking s v q look) is = absurd is
-plan_is_late (RunPlace.Sweeping end) is = absurd is
-plan_is_late (RunPlace.Over end) is = absurd is
 
 -- what holds where a call returned no end
 pub gone_on : {P : Type 0} (o : Option JobEnd) → ((end : JobEnd) → o ≢ Some end) → IfNone o P → P

@@ -6,8 +6,8 @@ use Rattle.pb_keeper.specs.declared.passes.PassEnd.{PassEnd}
 use Rattle.pb_keeper.specs.Stats.{starts_run}
 
 -- how many runs of observers were begun, however they ended
-abbrev pub run_count : List Received → ℕ
-run_count said = count_by (λ r. starts_run r.step) said
+abbrev pub begun_count : List Received → ℕ
+begun_count said = count_by (λ r. starts_run r.step) said
 
 -- a run of the observer of this number on the cell is due, and hasn't begun
 abbrev pub IsRunDue : List ObserverOf → Cell → ℕ → List Received → Type 0
@@ -34,14 +34,14 @@ IsDrainDue observers said = EndsIn (IsNextPass observers) (λ count part. (count
 
 -- a drain that makes so many runs at most: a whole one, or as many runs, where another is due
 pub data IsDrainWithin (observers : List ObserverOf) (bound : ℕ) (said : List Received) : Type 0 where
-  within : (drain : IsDrain observers said) → run_count said ≤ bound → IsDrainWithin observers bound said
-  cut_off : (due : IsDrainDue observers said) → run_count said ≡ bound → IsDrainWithin observers bound said
+  within : (drain : IsDrain observers said) → begun_count said ≤ bound → IsDrainWithin observers bound said
+  cut_off : (due : IsDrainDue observers said) → begun_count said ≡ bound → IsDrainWithin observers bound said
 
 -- ---- parts of it, on their way
 
 -- a conversation of this form in which so many runs were begun
 abbrev pub HasRuns : (List Received → Type 0) → ℕ → List Received → Type 0
-HasRuns P n said = P said × (run_count said ≡ n)
+HasRuns P n said = P said × (begun_count said ≡ n)
 
 -- the turn of an observer on the cell, or its run that is due
 abbrev pub IsTurnThat : List ObserverOf → Cell → ℕ → Bool → List Received → Type 0

@@ -7,12 +7,12 @@ abbrev pub IsFreshJob : RunOf → Type 0
 IsFreshJob job = (o : Watch) × (job ≡ fresh o)
 
 -- a run did an instruction, or its next step was answered
-abbrev pub GoesOn : RunOf → RunOf → Type 0
-GoesOn old new = (said : List Received) × IsMove run_job old new said
+abbrev pub MovesOnce : RunOf → RunOf → Type 0
+MovesOnce old new = (said : List Received) × IsMove run_job old new said
 
 -- its transaction's plan has begun, or the sweep after it, or the run is over
-abbrev pub IsLate : RunPlace → Type 0
-IsLate (RunPlace.Planning result plan) = Unit {0}
-IsLate (RunPlace.Sweeping end) = Unit {0}
-IsLate (RunPlace.Over end) = Unit {0}
-IsLate place = ⊥
+abbrev pub HasPlanned : RunPlace → Type 0
+HasPlanned (RunPlace.Planning result plan) = Unit {0}
+HasPlanned (RunPlace.Sweeping end) = Unit {0}
+HasPlanned (RunPlace.Over end) = Unit {0}
+HasPlanned place = ⊥

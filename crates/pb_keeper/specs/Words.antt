@@ -58,7 +58,7 @@ pub use Rattle.pb_notify.specs.declared.need.JobEnd.{JobEnd}
 pub use Rattle.pb_notify.specs.declared.need.Need.{Need}
 pub use Rattle.pb_notify.specs.declared.place.RunPlace.{RunPlace}
 pub use Rattle.pb_notify.specs.Places.{IsPlanning}
-pub use Rattle.pb_passes.specs.Passes.{AreAllRuns, ArePasses, AreRuns, HasColumn, IsDrain, IsJobOn, IsMarkRun, IsMarkless, IsNextPass, IsNextTurn, IsOfOther, IsPass, IsPassThat, IsRun, IsTurnOf, IsWalk}
+pub use Rattle.pb_passes.specs.Passes.{AreAllRuns, ArePasses, AreRuns, HasColumn, IsDrain, IsJobOn, IsMarkRun, IsMarkless, IsNextPass, IsNextTurn, IsOfOther, IsPass, IsRun, IsTurnOf, IsWalk}
 pub use Rattle.pb_passes.specs.declared.passes.TheConstants.{MAX_PASSES}
 pub use Rattle.pb_generations.specs.Chosen.{AreChosen, ChosenAreSound, IsChosenSnapshot, chosen_state, new_number, renumbered_said}
 pub use Rattle.pb_generations.specs.InTime.{ChangesAreInTime, MarksAreInTime, RunsAreInTime}

@@ -49,7 +49,7 @@ pub const MAX_RUNS: u64 = 100_000;
 // What the turn of an observer did, or those of all on a cell: how many runs were made, how many of them were committed, and
 // whether another was due when no more might be made.
 #[derive(Clone, Copy)]
-struct Ran {
+struct RunsMade {
     runs: u64,
     commits: u64,
     is_due: bool,
@@ -135,7 +135,7 @@ fn turn<T: Tablet>(
     place: usize,
     cell: &Cell,
     left: u64,
-) -> Result<Ran, Stopped>
+) -> Result<RunsMade, Stopped>
     requires { place < length state.old.observers }
     ensures ok { IfOk result (λ r. SaidLeads (Counted state.old.observers stats.old stats.new
         (CountsCommits (HasRuns (IsTurnThat state.old.observers cell.now place r.is_due) r.runs)
@@ -146,21 +146,21 @@ fn turn<T: Tablet>(
     ensures stops { WasKept state.old → IfErr result (λ e. IsStop e state.new) }
 {
     if !is_observer_of(state.observers(), place, cell) {
-        return Ok(Ran {
+        return Ok(RunsMade {
             runs: 0,
             commits: 0,
             is_due: false,
         });
     }
     if left == 0 {
-        return Ok(Ran {
+        return Ok(RunsMade {
             runs: 0,
             commits: 0,
             is_due: true,
         });
     }
     let commits = run_place(alloc, state, stats, place, cell)?;
-    Ok(Ran {
+    Ok(RunsMade {
         runs: 1,
         commits,
         is_due: false,
@@ -174,7 +174,7 @@ fn run_all<T: Tablet>(
     stats: &mut [ObserverStats],
     cell: &Cell,
     left: u64,
-) -> Result<Ran, Stopped>
+) -> Result<RunsMade, Stopped>
     ensures ok { IfOk result (λ r. SaidLeads (Counted state.old.observers stats.old stats.new
         (CountsCommits (HasRuns (AreRunsThat state.old.observers cell.now r.is_due) r.runs)
         r.commits)) state.old state.new) }
@@ -193,14 +193,14 @@ fn run_all<T: Tablet>(
         runs += turned.runs;
         commits = commits.saturating_add(turned.commits);
         if turned.is_due {
-            return Ok(Ran {
+            return Ok(RunsMade {
                 runs,
                 commits,
                 is_due: true,
             });
         }
     }
-    Ok(Ran {
+    Ok(RunsMade {
         runs,
         commits,
         is_due: false,

@@ -4,7 +4,7 @@ use Rattle.std.proofs.lemmas.Result.{err_from_is_err_and}
 use Rattle.pb_passes.proofs.Drains.{of_next_pass}
 use Rattle.pb_state.proofs.Outcomes.{err_always}
 use Rattle.pb_keeper.specs.Words.{Cell, ObserverOf, Received, EndsIn, ArePasses, IsNextPass, IsPass, MAX_PASSES, no_part}
-use Rattle.pb_keeper.specs.Drains.{run_count, within, cut_off, HasRuns, IsDrainDue, IsPassDue, IsPassWithEnd}
+use Rattle.pb_keeper.specs.Drains.{begun_count, within, cut_off, HasRuns, IsDrainDue, IsPassDue, IsPassWithEnd}
 use Rattle.pb_keeper.specs.Leads.{SaidLeads, IsAny}
 use Rattle.pb_keeper.specs.Made.{IsDrainThat}
 use Rattle.pb_keeper.specs.declared.passes.PassEnd.{PassEnd}

@@ -1,12 +1,12 @@
 use Rattle.pb_keeper.specs.Words.{RunOf, StateOf}
-use Rattle.pb_keeper.specs.Runs.{IsLate}
+use Rattle.pb_keeper.specs.Runs.{HasPlanned}
 use Rattle.pb_keeper.specs.Stats.{RanSoFar}
 use Rattle.pb_keeper.proofs.Turns.{late_left}
 use Rattle.pb_keeper.proofs.run.finish.Given as goal
 
 abbrev pub invariant-loop-end : goal.invariant-loop-end
 invariant-loop-end g l = record {
-  late : IsLate l.job.place;
+  late : HasPlanned l.job.place;
   on : (first : RunOf) (start : StateOf) → RanSoFar first l.initial.job l.initial.stats start l.initial.state → RanSoFar first l.job l.stats start l.state;
 }
 
