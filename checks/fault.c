@@ -6,6 +6,7 @@
 //
 // FAULT_TRACE names a file to which each call is written after it: `W AT HEX NAME`, `S 0 - NAME`, `T LENGTH - NAME`, and `R 0 FROM TO`
 // or `U 0 - NAME` of a rename or an unlink that was made. FAULT_MEANWHILE is a command that is run before the first lock is taken.
+// FAULT_SWAP is a file: before a call that gives a new log to somebody, by its name or its descriptor, its name becomes a link to that.
 #define _GNU_SOURCE
 #include <dlfcn.h>
 #include <errno.h>
@@ -16,6 +17,7 @@
 #include <stdio.h>
 #include <stdlib.h>
 #include <string.h>
+#include <sys/stat.h>
 #include <sys/types.h>
 #include <unistd.h>
 
@@ -149,6 +151,44 @@ int unlink(const char *name) {
     if (done == 0) write_line("U", 0, "-", name);
     if (!strcmp(kind, "after")) stop();
     return done;
+}
+
+// Puts a link in the place of a new log.
+static void swap(const char *name) {
+    const char *victim = getenv("FAULT_SWAP");
+    int (*real)(const char *) = dlsym(RTLD_NEXT, "unlink");
+    if (!victim || !strstr(name, "new")) return;
+    if (real(name) || symlink(victim, name)) abort();
+}
+
+static void swap_of(int fd) {
+    char link[64], name[PATH_MAX + 1] = "";
+    snprintf(link, sizeof link, "/proc/self/fd/%d", fd);
+    if (getenv("FAULT_SWAP") && readlink(link, name, PATH_MAX) > 0 && !strstr(name, " (deleted)")) swap(name);
+}
+
+int chown(const char *name, uid_t owner, gid_t group) {
+    int (*real)(const char *, uid_t, gid_t) = dlsym(RTLD_NEXT, "chown");
+    swap(name);
+    return real(name, owner, group);
+}
+
+int chmod(const char *name, mode_t mode) {
+    int (*real)(const char *, mode_t) = dlsym(RTLD_NEXT, "chmod");
+    swap(name);
+    return real(name, mode);
+}
+
+int fchown(int fd, uid_t owner, gid_t group) {
+    int (*real)(int, uid_t, gid_t) = dlsym(RTLD_NEXT, "fchown");
+    swap_of(fd);
+    return real(fd, owner, group);
+}
+
+int fchmod(int fd, mode_t mode) {
+    int (*real)(int, mode_t) = dlsym(RTLD_NEXT, "fchmod");
+    swap_of(fd);
+    return real(fd, mode);
 }
 
 int fcntl(int fd, int command, ...) {

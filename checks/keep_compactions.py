@@ -2,9 +2,11 @@
 
 - generations: a log that is compacted again and again answers as one that never is.
 - interrupted: at each call of a compaction that changes a file or a folder, the program is killed, or the call fails.
-- left: what a crash of the machine leaves of a new log is no obstacle to the next compaction, and nothing else that has its name is.
+- left: what a crash of the machine leaves of a new log is removed by the next compaction. What else has its name stays, and isn't in its
+  way. What tables beside a log have of compactions is tried by the names (keep_names.py).
 - snapshots: records of snapshots, with right sums, of which bytes are changed, or whose versions no table has.
-- refused: a table that isn't quiet, a log that another program has open, or that isn't there, a folder in the way, and a full disk.
+- refused: a table that isn't quiet, a log that another program has open, or that isn't there, folders at all names of a new log, and a
+  full disk.
 - meanwhile: another program opens the log while it is compacted.
 - sizes: a log that is compacted as it is opened, if it has so many bytes (`--compact-at`), and then served.
 
@@ -21,7 +23,7 @@ from pathlib import Path
 
 import logs
 from keep_ends import IN_USE, NO_SPACE, SmallDisk, expect
-from keep_room import NOT_QUIET, QUESTIONS, TOP, left_of, line_of, made_in, without_history
+from keep_room import NOT_QUIET, QUESTIONS, TOP, beside, free_names, left_of, line_of, made_in, new_names, take_names, without_history
 
 NO_FILE = "No such file or directory (os error 2)"
 KINDS = ("kill", "after", "torn", "short", "enospc", "eio")
@@ -105,8 +107,8 @@ def log_of(room, changes):
     return Log(before, after, {before: found, after: since}, len(changes), versions, answers)
 
 
-def goes_on(room, log, its, left):
-    """What is wrong with a log on which a compaction was begun, where this is left of it."""
+def goes_on(room, log, its, left, stays=()):
+    """What is wrong with a log on which a compaction was begun, where this is left of it. Files of these names stay beside it."""
     if left not in its.found:
         return f"another log of {len(left)} bytes"
     if (found := room.opened(log, its.manifest_of(left))) != its.found[left]:
@@ -114,7 +116,7 @@ def goes_on(room, log, its, left):
     changes, added = (its.changes, its.added) if left == its.before else (0, "")
     if (again := room.compact(log, its.manifest)) != compacted(changes, its.versions, added):
         return f"the next compaction: {again}"
-    if log.read_bytes() != its.after or left_of(log):
+    if log.read_bytes() != its.after or left_of(log) != sorted(stays):
         return f"the next compaction left {left_of(log)}, and {len(log.read_bytes())} bytes"
     answers = room.run(log, NEXT, its.manifest)
     return None if answers == its.next else f"what came after it: {answers}"
@@ -130,7 +132,7 @@ def interrupted(room, its, kind, at):
     wrong = None if is_said.get(status) else f"output {out!r}, {errors!r}"
     if status == 0 and left != its.after:
         wrong = "it has ended, and the log is as before"
-    if status == 1 and left_of(log) and "-new" not in errors:
+    if status == 1 and left_of(log) and "~new" not in errors:
         wrong = f"it has failed and left {left_of(log)}"
     wrong = wrong or goes_on(room, log, its, left)
     found = "compacted" if left == its.after else "as before"
@@ -161,7 +163,7 @@ def try_interrupted(room, its, pool):
 def read_trace(lines, log):
     """Nothing of the old log is written; all of the new one is on the disk when it takes the other's name, and its folder is synced
     after that."""
-    new, is_written, is_renamed, is_durable = f"{log}-new", False, False, False
+    new, is_written, is_renamed, is_durable = str(new_names(log)[0]), False, False, False
     for what, _, middle, name in (line.split(" ") for line in lines):
         if what in "WT":
             expect("the file that a compaction writes to", name, new)
@@ -182,32 +184,38 @@ def traced(room, its):
     came = room.compact(log, its.manifest, LD_PRELOAD=str(room.shim), FAULT_TRACE=str(trace))
     expect("a compaction", came, compacted(its.changes, its.versions, its.added))
     read_trace(trace.read_text().splitlines(), log)
-    return trace, f"{log}-new"
+    return trace, str(new_names(log)[0])
+
+
+def is_beginning(image):
+    """Whether each of the first bytes is that of a log, or 0: a gate, a length and a sum of any bytes, and the first words of a header."""
+    wanted = [logs.OPEN, *[None] * 12, *b"percobpf log "]
+    return all(own is None or byte in (0, own) for byte, own in zip(image, wanted))
 
 
 def left_over(room, its, job):
-    """What is wrong where a file of these bytes has the name of the new log."""
+    """What is wrong where files of these bytes have the name of the new log and of what stands beside it: they are gone after a
+    compaction where they may be the beginning of a log, and stay otherwise."""
     number, image = job
     log = room.log(f"left-{number}")
     log.write_bytes(its.before)
-    for ending in ("-new", "-new-wal"):
-        (log.parent / f"{log.name}{ending}").write_bytes(image)
-    return goes_on(room, log, its, its.before)
+    new = new_names(log)[0]
+    files = (new, beside(new))
+    for file in files:
+        file.write_bytes(image)
+    stays = () if is_beginning(image) else files
+    wrong = goes_on(room, log, its, its.before, [file.name for file in stays])
+    return wrong or ("other bytes" if any(file.read_bytes() != image for file in stays) else None)
 
 
 def try_left(room, its, images, pool):
-    """Compacts a log beside what is left of another compaction. Answers how many there were."""
-    others = [b"", b"\0", bytes(range(256)) * 9, its.before, its.after, its.after[:-1], logs.log_of([logs.header(b"{}")])]
+    """Compacts a log beside what is left of another compaction. Answers how many there were, and how many of them stayed."""
+    others = [b"", b"\0", bytes(range(256)) * 9, its.before, its.after, its.after[:-1], logs.log_of([logs.header(b"{}")]), b"a text", bytes(30)]
     jobs = list(enumerate([*others, *images]))
     for wrong in pool.map(lambda job: left_over(room, its, job), jobs):
         if wrong:
             sys.exit(f"keep: beside what is left of a compaction: {wrong}")
-    log, other = room.log("left-link"), room.log("other")
-    log.write_bytes(its.before)
-    other.write_bytes(b"of another")
-    (log.parent / f"{log.name}-new").symlink_to(other)
-    expect("a compaction beside a link", (goes_on(room, log, its, its.before), other.read_bytes()), (None, b"of another"))
-    return len(jobs) + 1
+    return len(jobs), sum(not is_beginning(image) for _, image in jobs)
 
 
 # Snapshots
@@ -404,8 +412,8 @@ def try_full(room, changes):
 
 
 def try_names(room, its):
-    """A log that ends in what a crash leaves of a change, one with other rights, one by a link, and one whose new log's name a folder
-    has."""
+    """A log that ends in what a crash leaves of a change, one with other rights, one by a link, and one whose new log finds no name
+    free."""
     log = room.log("torn")
     log.write_bytes(its.before + b"\x0b\0\0\0torn")
     expect("a log that ends in a part of a change", room.compact(log), compacted(its.changes, its.versions))
@@ -423,11 +431,9 @@ def try_names(room, its):
     expect("the link, and its log", (link.is_symlink(), log.is_symlink(), log.read_bytes()), (True, False, its.after))
     log = room.log("in-the-way")
     log.write_bytes(its.before)
-    folder = log.parent / f"{log.name}-new"
-    folder.mkdir()
-    status, out, errors = room.compact(log)
-    expect("a folder in the way", (status, out, len(errors.splitlines()), log.read_bytes()), (1, f"open {its.changes}\n", 1, its.before))
-    folder.rmdir()
+    sentence = take_names(log)
+    expect("folders in the way", (room.compact(log), log.read_bytes()), ((1, f"open {its.changes}\n", line_of(sentence)), its.before))
+    free_names(log)
     return 4
 
 
@@ -466,11 +472,10 @@ def try_sizes(room, its):
     size = int(next(line for line in room.run(log, ["stats"])[1] if line.startswith("log ")).split()[1])
     status, out, errors = room.run(log, ["quiet?"], options=from_size(size + 1))
     expect("a log of fewer bytes", (status, out, errors, log.read_bytes()), (0, [f"open {its.changes}", "quiet"], "", its.before))
-    folder = log.parent / f"{log.name}-new"
-    folder.mkdir()
-    status, out, errors = room.run(log, ["quiet?"], options=from_size(size))
-    expect("a folder in the way", (status, out, len(errors.splitlines()), log.read_bytes()), (1, [], 1, its.before))
-    folder.rmdir()
+    sentence = take_names(log)
+    served = room.run(log, ["quiet?"], options=from_size(size))
+    expect("folders in the way", (served, log.read_bytes()), ((1, [], line_of(sentence)), its.before))
+    free_names(log)
     with room.start(log, from_size(size)) as running:
         expect("a log of as many bytes", (running.stdout.readline(), log.read_bytes(), left_of(log)), (b"open 0\n", its.after, []))
         expect("a new log that is open", room.run(log, []), (1, [], line_of(f"{log}: {IN_USE}")))
@@ -499,7 +504,7 @@ def try_all(room, its, changes, images_of, chance, pool):
     met.update(try_interrupted(room, its, pool))
     trace, new = traced(room, its)
     images = [image for image, _ in images_of(trace, chance, new)]
-    met["beside what is left"] = try_left(room, its, images, pool)
+    met["beside what is left"], met["beside what stays"] = try_left(room, its, images, pool)
     met["snapshots reported"], met["snapshots read"] = try_snapshots(room, its, chance, pool)
     met["damaged logs reported"] = try_damage(room, log_of(room, changes[:2]), chance, pool)
     met["refused"] = try_refused(room, its)

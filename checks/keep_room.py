@@ -36,8 +36,8 @@ class Room:
 
     def log(self, name):
         path = self.folder / f"{name}.log"
-        for ending in ("", "-wal", "-new", "-new-wal"):
-            Path(f"{path}{ending}").unlink(missing_ok=True)
+        for each in (path, Path(f"{path}-wal"), *path.parent.glob(f"{path.name}.*~new*")):
+            each.unlink(missing_ok=True)
         return path
 
     def run_by(self, words):
@@ -116,9 +116,32 @@ def without_history(lines):
     return [line for line in without_size(lines) if not line.startswith("entries ")]
 
 
+def new_names(log):
+    """The names that the new log of a compaction may have: the first that is free is taken."""
+    return [log.parent / f"{log.name}.{number}~new" for number in range(1, 10)]
+
+
+def beside(path):
+    """The name of the file that stands beside a log while it is open."""
+    return path.parent / f"{path.name}-wal"
+
+
+def take_names(log):
+    """Has a folder at each name of a new log, and answers what a compaction reports then."""
+    for path in new_names(log):
+        path.mkdir()
+    return f"{log}: all names for a new log are taken"
+
+
+def free_names(log):
+    """Removes these folders."""
+    for path in new_names(log):
+        path.rmdir()
+
+
 def left_of(log):
-    """What stands in the folder of a log with the name of its new one."""
-    return sorted(each.name for each in log.parent.glob(f"{log.name}-new*"))
+    """What stands in the folder of a log with names of its new one."""
+    return sorted(each.name for each in log.parent.glob(f"{log.name}.*~new*"))
 
 
 def made_in(lines):

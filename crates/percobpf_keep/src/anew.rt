@@ -11,8 +11,7 @@ ghost use Rattle.pb_keep.specs.Waits.{IsWaiting};
 ghost use Rattle.pb_registry.specs.Judging.{ReadsManifest};
 
 use crate::compact::compact;
-use crate::file::open_file;
-use crate::names::{Names, names_of};
+use crate::names::{Location, open_at};
 use crate::table::{Kept, new_keeper, new_state, observers_of, open_log, short_text};
 use anyhow::{Result, bail};
 use pb_keeper::{places_of, split_known};
@@ -23,7 +22,11 @@ use sqlite_std_file::FileFrom;
 use std::alloc::Global;
 
 // The manifest that the log has, if it has one.
-fn manifest_of<D: Disk>(rt: &HostRuntime, log: &mut Log<D>, names: &Names) -> Result<Option<String>>
+fn manifest_of<D: Disk>(
+    rt: &HostRuntime,
+    log: &mut Log<D>,
+    location: &Location,
+) -> Result<Option<String>>
     requires usable { IsTrue (D.is_usable log.old.disk) }
     ensures usable { IsTrue (D.is_usable log.new.disk) }
     ensures restarted { Only (D.seen log.old.disk) (D.may_leave log.old.disk)
@@ -35,7 +38,7 @@ fn manifest_of<D: Disk>(rt: &HostRuntime, log: &mut Log<D>, names: &Names) -> Re
     };
     match String::from_utf8(bytes) {
         Ok(text) => Ok(Some(short_text(text)?)),
-        Err(_) => bail!("{}: its manifest is not text", names.log),
+        Err(_) => bail!("{}: its manifest is not text", location.log),
     }
 }
 
@@ -44,13 +47,13 @@ fn places_in(
     alloc: Global,
     keeper: &Kept,
     observers: &[Observer],
-    names: &Names,
+    location: &Location,
 ) -> Result<Vec<usize>>
     ensures { IfOk result (λ v. AreChosen v.items keeper.now.state.observers observers.now) }
 {
     match places_of(alloc, keeper.state.observers(), observers)? {
         Some(places) => Ok(places),
-        None => bail!("{}: two of its observers are the same", names.log),
+        None => bail!("{}: two of its observers are the same", location.log),
     }
 }
 
@@ -61,7 +64,7 @@ fn change_observers(
     keeper: &mut Kept,
     staying: Vec<Observer>,
     added: Vec<Observer>,
-    names: &Names,
+    location: &Location,
 ) -> Result<u64>
     requires few { length staying.items + length added.items ≤ MAX_OBSERVERS }
     requires new { (o : ObserverOf) → IsOneOf added.items o
@@ -71,7 +74,7 @@ fn change_observers(
     ensures observers { OnOk result
         (keeper.new.state.observers ≡ staying.items ++ added.items) }
 {
-    let places = places_in(alloc, keeper, &staying, names)?;
+    let places = places_in(alloc, keeper, &staying, location)?;
     let state = new_state(alloc, staying)?;
     Ok(keeper.change_observers(alloc, state, &places, added)?)
 }
@@ -82,7 +85,7 @@ fn observe_others(
     rt: &HostRuntime,
     keeper: &mut Kept,
     observers: Vec<Observer>,
-    names: &Names,
+    location: &Location,
 ) -> Result<()>
     requires few { length observers.items ≤ MAX_OBSERVERS }
     ensures log { keeper.new.log ≡ keeper.old.log }
@@ -95,7 +98,7 @@ fn observe_others(
     let before = keeper.state.observers().len();
     let (staying, added) = split_known(alloc, keeper.state.observers(), observers)?;
     let (count, gone) = (added.len(), before.saturating_sub(staying.len()));
-    let runs = change_observers(alloc, keeper, staying, added, names)?;
+    let runs = change_observers(alloc, keeper, staying, added, location)?;
     print!(rt; "added {count} runs {runs} gone {gone}\n")?;
     Ok(())
 }
@@ -117,18 +120,23 @@ fn are_all_in_order(places: &[usize], many: usize) -> bool
 }
 
 // Brings the observers of the table into the order of this manifest. It has the same ones, since others were added before.
-fn order_observers(alloc: Global, keeper: &mut Kept, manifest: &str, names: &Names) -> Result<()>
+fn order_observers(
+    alloc: Global,
+    keeper: &mut Kept,
+    manifest: &str,
+    location: &Location,
+) -> Result<()>
     ensures log { keeper.new.log ≡ keeper.old.log }
     ensures waiting { keeper.new.waiting ≡ keeper.old.waiting }
     ensures manifest { OnOk result
         (ReadsManifest manifest.now (Ok keeper.new.state.observers)) }
 {
     let observers = observers_of(alloc, manifest)?;
-    let places = places_in(alloc, keeper, &observers, names)?;
+    let places = places_in(alloc, keeper, &observers, location)?;
     if are_all_in_order(&places, keeper.state.observers().len()) {
         return Ok(());
     }
-    change_observers(alloc, keeper, observers, Vec::new(alloc), names)?;
+    change_observers(alloc, keeper, observers, Vec::new(alloc), location)?;
     Ok(())
 }
 
@@ -138,7 +146,7 @@ fn observe_manifest(
     keeper: &mut Kept,
     manifest: &str,
     observers: Option<Vec<Observer>>,
-    names: &Names,
+    location: &Location,
 ) -> Result<()>
     requires few { IfSome observers (λ v. length v.items ≤ MAX_OBSERVERS) }
     requires same { IfNone observers
@@ -150,8 +158,8 @@ fn observe_manifest(
 {
     match observers {
         Some(observers) => {
-            observe_others(rt, keeper, observers, names)?;
-            order_observers(rt.alloc(), keeper, manifest, names)
+            observe_others(rt, keeper, observers, location)?;
+            order_observers(rt.alloc(), keeper, manifest, location)
         }
         None => Ok(()),
     }
@@ -164,7 +172,7 @@ fn open_and_compact(
     own: &str,
     manifest: &str,
     observers: Option<Vec<Observer>>,
-    names: &Names,
+    location: &mut Location,
 ) -> Result<()>
     requires own { length own.now < 2 ^ 31 }
     requires short { length manifest.now < 2 ^ 31 }
@@ -180,8 +188,8 @@ fn open_and_compact(
 {
     let found = open_log(rt.alloc(), keeper, own)?;
     print!(rt; "open {found}\n")?;
-    observe_manifest(rt, keeper, manifest, observers, names)?;
-    match compact(rt, keeper, manifest, names)? {
+    observe_manifest(rt, keeper, manifest, observers, location)?;
+    match compact(rt, keeper, manifest, location)? {
         Ok(versions) => {
             print!(rt; "compacted {versions}\n")?;
             Ok(())
@@ -197,7 +205,7 @@ fn compact_file(
     own: &str,
     manifest: &str,
     observers: Option<Vec<Observer>>,
-    names: &Names,
+    location: &mut Location,
 ) -> Result<()>
     requires own { length own.now < 2 ^ 31 }
     requires short { length manifest.now < 2 ^ 31 }
@@ -208,7 +216,7 @@ fn compact_file(
     requires same { IfNone observers (own.now ≡ manifest.now) }
 {
     let mut keeper = new_keeper(rt.alloc(), own, disk)?;
-    let done = open_and_compact(rt, &mut keeper, own, manifest, observers, names);
+    let done = open_and_compact(rt, &mut keeper, own, manifest, observers, location);
     keeper.close();
     done
 }
@@ -218,9 +226,9 @@ fn compact_file(
 pub(crate) fn compact_alone(rt: &HostRuntime, manifest: &str, path: &str) -> Result<()>
     requires short { length manifest.now < 2 ^ 31 }
 {
-    let names = names_of(rt, path)?;
-    let mut log = Log::new(open_file(rt, names.log.as_str())?);
-    match manifest_of(rt, &mut log, &names)? {
+    let (mut location, db) = open_at(rt, path)?;
+    let mut log = Log::new(db);
+    match manifest_of(rt, &mut log, &location)? {
         Some(own) if own.as_str() != manifest => {
             let observers = observers_of(rt.alloc(), manifest)?;
             compact_file(
@@ -229,9 +237,9 @@ pub(crate) fn compact_alone(rt: &HostRuntime, manifest: &str, path: &str) -> Res
                 own.as_str(),
                 manifest,
                 Some(observers),
-                &names,
+                &mut location,
             )
         }
-        _ => compact_file(rt, log.disk, manifest, manifest, None, &names),
+        _ => compact_file(rt, log.disk, manifest, manifest, None, &mut location),
     }
 }

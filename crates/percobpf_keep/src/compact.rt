@@ -7,8 +7,9 @@ ghost use Rattle.pb_keep.specs.Anew.{BeginsAnew};
 ghost use Rattle.pb_keep.specs.Waits.{IsWaiting};
 ghost use Rattle.pb_registry.specs.Judging.{ReadsManifest};
 
-use crate::file::open_file;
-use crate::names::{Names, make_new_file, put_in_place, remove_new};
+use crate::file::LogFile;
+use crate::names::Location;
+use crate::new_file::{NewFile, make_new_file, remove_new};
 use crate::table::{Kept, new_keeper, open_log};
 use anyhow::{Result, bail};
 use pb_keep::{Keeper, SnapshotFault};
@@ -23,6 +24,8 @@ use std::mem;
 struct NewLog {
     // It has opened the new log.
     keeper: Kept,
+    // Its file.
+    file: LogFile,
     // How many versions the snapshot has.
     versions: usize,
 }
@@ -57,12 +60,13 @@ fn write_log<D: Disk + Drop>(
     }
 }
 
-// The same, in the file of the new log. Returns that log too.
+// The same, in the file of the new log, once this is locked and has the rights of the old one. Returns that log too.
 fn write_new(
     rt: &HostRuntime,
     keeper: &Kept,
     manifest: &str,
-    names: &Names,
+    old: &LogFile,
+    new: &NewFile,
 ) -> Result<Result<(Log<FileFrom<Unknown>>, usize), SnapshotFault>>
     requires short { length manifest.now < 2 ^ 31 }
     requires manifest { ReadsManifest manifest.now (Ok keeper.now.state.observers) }
@@ -72,8 +76,8 @@ fn write_new(
         (⟦<FileFrom<Unknown> as Disk>⟧.seen w.0.disk)
         (⟦<FileFrom<Unknown> as Disk>⟧.may_leave w.0.disk) w.0.end)) }
 {
-    make_new_file(rt, names)?;
-    let mut log = Log::new(open_file(rt, names.new.as_str())?);
+    let mut log = Log::new(new.open(rt)?);
+    new.give_as(old)?;
     match write_log(rt.alloc(), keeper, &mut log, manifest)? {
         Ok(versions) => Ok(Ok((log, versions))),
         Err(why) => Ok(Err(why)),
@@ -85,7 +89,8 @@ fn open_new<D: Disk + Drop>(
     rt: &HostRuntime,
     keeper: &mut Keeper<ListTablet, D>,
     manifest: &str,
-    names: &Names,
+    location: &Location,
+    new: &NewFile,
 ) -> Result<()>
     requires usable { IsTrue (D.is_usable keeper.old.log.disk) }
     requires restarted { Only (D.seen keeper.old.log.disk) (D.may_leave keeper.old.log.disk) }
@@ -101,20 +106,20 @@ fn open_new<D: Disk + Drop>(
     if open_log(rt.alloc(), keeper, manifest)? != 0 {
         bail!("the new log has changes");
     }
-    put_in_place(rt, names)
+    new.put_in_place(rt, location)
 }
 
 // Returns the keeper of the new log, which is open, and in the place of the old one.
-fn try_new(rt: &HostRuntime, manifest: &str, names: &Names) -> Result<Kept>
+fn try_new(rt: &HostRuntime, manifest: &str, location: &Location, new: &NewFile) -> Result<Kept>
     requires short { length manifest.now < 2 ^ 31 }
     ensures usable { IfOk result (λ k.
         IsTrue (⟦<FileFrom<Unknown> as Disk>⟧.is_usable k.log.disk)) }
     ensures waiting { IfOk result (λ k. IsWaiting k.waiting) }
     ensures manifest { IfOk result (λ k. ReadsManifest manifest.now (Ok k.state.observers)) }
 {
-    let db = open_file(rt, names.new.as_str())?;
+    let db = new.open(rt)?;
     let mut keeper = new_keeper(rt.alloc(), manifest, db)?;
-    match open_new(rt, &mut keeper, manifest, names) {
+    match open_new(rt, &mut keeper, manifest, location, new) {
         Ok(()) => Ok(keeper),
         Err(fault) => {
             keeper.close();
@@ -127,7 +132,7 @@ fn make_new(
     rt: &HostRuntime,
     keeper: &Kept,
     manifest: &str,
-    names: &Names,
+    location: &Location,
 ) -> Result<Result<NewLog, SnapshotFault>>
     requires short { length manifest.now < 2 ^ 31 }
     requires manifest { ReadsManifest manifest.now (Ok keeper.now.state.observers) }
@@ -137,13 +142,18 @@ fn make_new(
     ensures manifest { IfOk result (λ made. IfOk made (λ new.
         ReadsManifest manifest.now (Ok new.keeper.state.observers))) }
 {
+    let new = make_new_file(rt, location)?;
     // The log is closed before it is opened as any other.
-    let versions = match write_new(rt, keeper, manifest, names)? {
+    let versions = match write_new(rt, keeper, manifest, &location.file, &new)? {
         Ok((_log, versions)) => versions,
         Err(why) => return Ok(Err(why)),
     };
-    let keeper = try_new(rt, manifest, names)?;
-    Ok(Ok(NewLog { keeper, versions }))
+    let keeper = try_new(rt, manifest, location, &new)?;
+    Ok(Ok(NewLog {
+        keeper,
+        file: new.file,
+        versions,
+    }))
 }
 
 /// Puts a log that begins with a snapshot of the table in the place of its log, and goes on with the table that the new log has.
@@ -153,7 +163,7 @@ pub(crate) fn compact(
     rt: &HostRuntime,
     keeper: &mut Kept,
     manifest: &str,
-    names: &Names,
+    location: &mut Location,
 ) -> Result<Result<usize, SnapshotFault>>
     requires short { length manifest.now < 2 ^ 31 }
     requires usable { IsTrue (⟦<FileFrom<Unknown> as Disk>⟧.is_usable keeper.old.log.disk) }
@@ -165,22 +175,23 @@ pub(crate) fn compact(
     ensures manifest { OnOk result
         (ReadsManifest manifest.now (Ok keeper.new.state.observers)) }
 {
-    remove_new(rt, names)?;
-    let why = match make_new(rt, keeper, manifest, names) {
+    let why = match make_new(rt, keeper, manifest, location) {
         Ok(
             Ok(
                 NewLog {
                     keeper: new,
+                    file,
                     versions,
                 },
             ),
         ) => {
             mem::replace(keeper, new).close();
+            location.file = file;
             return Ok(Ok(versions));
         }
         Ok(Err(why)) => Ok(why),
         Err(fault) => Err(fault),
     };
-    remove_new(rt, names)?;
+    remove_new(rt, location.log.as_str())?;
     Ok(Err(why?))
 }

@@ -3,13 +3,81 @@ ghost use Rattle.std.specs.Prelude.{false, IfOk, IsTrue};
 ghost use Rattle.sqlite_std_file.specs.File.{IsFresh};
 
 use anyhow::{Result, bail};
+use os::RangeLock;
 use sqlite_disk::{Disk, Files, Unknown};
 use sqlite_std_file::{FileFrom, open};
 use std::fs::{self, File, OpenOptions};
 use std::io;
+use std::os::fd::AsRawFd;
 use std::os::unix::fs::{MetadataExt, OpenOptionsExt};
 
-// The file of this name, which is made where there is none. While it is open no other file gets its number.
+// The bytes that are locked while a log is open, from the first on, and how many: those that SQLite locks.
+const LOCKED_FROM: u64 = 1 << 30;
+
+const LOCKED: u64 = 512;
+
+/// By what a file is known while it is open, since no other file gets its number then.
+#[derive(Clone, Copy)]
+pub(crate) struct FileId {
+    device: u64,
+    number: u64,
+}
+
+impl FileId {
+    // That of this file.
+    fn of(file: &File) -> io::Result<FileId> {
+        let found = file.metadata()?;
+        Ok(FileId {
+            device: found.dev(),
+            number: found.ino(),
+        })
+    }
+
+    /// Whether the file has this name, itself and not by a link.
+    pub(crate) fn has_name(self, rt: &HostRuntime, path: &str) -> io::Result<bool> {
+        match fs::symlink_metadata(rt, path) {
+            Ok(found) => Ok(found.dev() == self.device && found.ino() == self.number),
+            Err(fault) if fault.kind() == io::ErrorKind::NotFound => Ok(false),
+            Err(fault) => Err(fault),
+        }
+    }
+}
+
+/// The file of a log, which is open for as long as this is there.
+#[derive(Drop)]
+pub(crate) struct LogFile {
+    pub file: File,
+    pub id: FileId,
+}
+
+impl LogFile {
+    /// This file, which was opened for reading and writing.
+    pub(crate) fn new(opened: File) -> io::Result<LogFile> {
+        let mut file = opened;
+        // What is written to a standard stream that was closed doesn't get into a log.
+        if file.as_raw_fd() <= 2 {
+            file = file.try_clone()?;
+        }
+        let id = FileId::of(&file)?;
+        Ok(LogFile { file, id })
+    }
+
+    /// Whether another opening of the file has the lock of a log. If none has, this one has it from then on.
+    pub(crate) fn is_locked(&self) -> io::Result<bool> {
+        let fd = self.file.as_raw_fd();
+        if os::try_lock_range(fd, RangeLock::Exclusive, LOCKED_FROM, LOCKED) == 0 {
+            return Ok(false);
+        }
+        let fault = io::Error::from_raw_os_error(os::errno());
+        if fault.kind() == io::ErrorKind::WouldBlock {
+            Ok(true)
+        } else {
+            Err(fault)
+        }
+    }
+}
+
+// The file of this name, which is made where there is none.
 fn hold(rt: &HostRuntime, path: &str) -> io::Result<File> {
     let mut options = OpenOptions::new();
     options.read(true).write(true);
@@ -25,12 +93,6 @@ fn hold(rt: &HostRuntime, path: &str) -> io::Result<File> {
     }
 }
 
-// Whether it still has this name.
-fn is_named(rt: &HostRuntime, file: &File, path: &str) -> io::Result<bool> {
-    let (held, named) = (file.metadata()?, fs::metadata(rt, path)?);
-    Ok(held.dev() == named.dev() && held.ino() == named.ino())
-}
-
 /// Makes the file of a log, where there is none.
 pub(crate) fn make_log(rt: &HostRuntime, path: &str) -> Result<()> {
     match hold(rt, path) {
@@ -39,23 +101,50 @@ pub(crate) fn make_log(rt: &HostRuntime, path: &str) -> Result<()> {
     }
 }
 
-/// The file of a log, with its lock.
-pub(crate) fn open_file(rt: &HostRuntime, path: &str) -> Result<FileFrom<Unknown>>
+/// The file that has this name itself, and not by a link.
+pub(crate) fn open_there(rt: &HostRuntime, path: &str) -> io::Result<LogFile> {
+    if !fs::symlink_metadata(rt, path)?.is_file() {
+        return Err(io::ErrorKind::Unsupported.into());
+    }
+    LogFile::new(OpenOptions::new().read(true).write(true).open(rt, path)?)
+}
+
+// Whether this file has this name, and the lock of a log by another opening.
+fn is_locked_there(rt: &HostRuntime, log: &LogFile, path: &str) -> io::Result<bool> {
+    Ok(log.id.has_name(rt, path)? && log.is_locked()?)
+}
+
+// Reports the name of a file whose place another one has taken, by what is so of it.
+fn refuse_other(path: &str, is_same: io::Result<bool>) -> Result<()> {
+    match is_same {
+        Ok(true) => Ok(()),
+        Ok(false) => bail!("{path}: another log was put in its place, start again"),
+        Err(fault) => bail!("{path}: {fault}"),
+    }
+}
+
+/// This file once more, with the lock of a log. It has this name.
+pub(crate) fn open_locked(rt: &HostRuntime, log: &LogFile, path: &str) -> Result<FileFrom<Unknown>>
     ensures usable { IfOk result (λ db. IsTrue (⟦<FileFrom<Unknown> as Disk>⟧.is_usable db)) }
     ensures fresh { IfOk result (λ db. IsFresh false db) }
 {
-    let held = match hold(rt, path) {
-        Ok(held) => held,
-        Err(fault) => bail!("{path}: {fault}"),
-    };
+    // So no link is followed that was put there before.
+    refuse_other(path, log.id.has_name(rt, path))?;
     let Files { log: _, db } = match open(rt, path, Unknown) {
         Ok(files) => files,
         Err(fault) => bail!("{path}: {fault}"),
     };
-    // A compaction may have put another file in its place before the lock was there, and none can from then on.
-    match is_named(rt, &held, path) {
-        Ok(true) => Ok(db),
-        Ok(false) => bail!("{path}: another log was put in its place, start again"),
+    // A compaction may have put another file in its place before the lock was there, and none can from then on. That this
+    // file is locked shows that it is the one that was opened.
+    refuse_other(path, is_locked_there(rt, log, path))?;
+    Ok(db)
+}
+
+/// Reports a file that no longer has this name.
+pub(crate) fn check_name(rt: &HostRuntime, id: FileId, path: &str) -> Result<()> {
+    match id.has_name(rt, path) {
+        Ok(true) => Ok(()),
+        Ok(false) => bail!("{path}: the log was removed, renamed or replaced"),
         Err(fault) => bail!("{path}: {fault}"),
     }
 }

@@ -13,8 +13,10 @@ mod anew;
 mod compact;
 mod file;
 mod names;
+mod new_file;
 mod service;
 mod table;
+mod watched;
 
 use anew::compact_alone;
 use anyhow::{Result, bail};

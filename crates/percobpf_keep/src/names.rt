@@ -1,87 +1,62 @@
-//! The names of a log and of the one that is put in its place, and what is done with the files of these names.
-use anyhow::{Result, bail};
-use std::fs::{self, OpenOptions};
-use std::io;
-use std::os::unix::fs::{MetadataExt, OpenOptionsExt, PermissionsExt, chown};
+//! Where a log is, and which names no table has.
+ghost use Rattle.std.specs.Prelude.{◌↔◌, false, IfOk, IsTrue, OnOk, string_bytes};
+ghost use Rattle.sqlite_std_file.specs.File.{IsFresh};
+ghost use Rattle.percobpf_keep.specs.Names.{IsReserved};
 
-/// The names of the files.
+use crate::file::{LogFile, open_locked, open_there};
+use anyhow::{Result, bail};
+use sqlite_disk::{Disk, Unknown};
+use sqlite_std_file::FileFrom;
+use std::fs;
+
+/// Where a log is.
 #[derive(Drop)]
-pub(crate) struct Names {
-    /// That of the log, with no link in it.
+pub(crate) struct Location {
+    /// Its name, with no link in it.
     pub log: String,
-    // Its folder.
-    folder: String,
-    /// That of the log that is put in its place.
-    pub new: String,
-    // That of a file which stands beside the new log while it is open.
-    beside: String,
+    /// Its folder.
+    pub folder: String,
+    /// Its file.
+    pub file: LogFile,
 }
 
-/// The names for the log of this path, which is there.
-pub(crate) fn names_of(rt: &HostRuntime, path: &str) -> Result<Names> {
+// Whether such a name is left to new logs, and to what stands beside these.
+fn is_reserved(path: &str) -> bool
+    ensures { IsTrue result ↔ IsReserved path.now }
+{
+    path.as_bytes().ends_with(b"~new") || path.as_bytes().ends_with(b"~new-wal")
+}
+
+/// Reports a name that no table has.
+pub(crate) fn refuse_reserved(path: &str) -> Result<()>
+    ensures { OnOk result (IsReserved path.now → ⊥) }
+{
+    if is_reserved(path) {
+        bail!("{path}: a name that ends in ~new or ~new-wal is left to compactions");
+    }
+    Ok(())
+}
+
+/// Where the log of this path is, which is there, and its file, locked.
+pub(crate) fn open_at(rt: &HostRuntime, path: &str) -> Result<(Location, FileFrom<Unknown>)>
+    ensures usable { IfOk result (λ at.
+        IsTrue (⟦<FileFrom<Unknown> as Disk>⟧.is_usable at.1)) }
+    ensures fresh { IfOk result (λ at. IsFresh false at.1) }
+    ensures free { IfOk result (λ at. IsReserved (string_bytes at.0.log) → ⊥) }
+{
     let mut real = match fs::canonicalize(rt, path) {
         Ok(real) => real,
         Err(fault) => bail!("{path}: {fault}"),
     };
     let alloc = rt.alloc();
     let log = String::from_str(alloc, real.as_str())?;
+    refuse_reserved(log.as_str())?;
     real.pop();
-    Ok(Names {
-        folder: String::from_str(alloc, real.as_str())?,
-        new: format!(in alloc; "{log}-new")?,
-        beside: format!(in alloc; "{log}-new-wal")?,
-        log,
-    })
-}
-
-// Removes a file, if it is there.
-fn remove(rt: &HostRuntime, path: &str) -> Result<()> {
-    match fs::remove_file(rt, path) {
-        Ok(()) => Ok(()),
-        Err(fault) if fault.kind() == io::ErrorKind::NotFound => Ok(()),
-        Err(fault) => bail!("{path}: {fault}"),
-    }
-}
-
-/// Removes what is left of a new log that isn't in the place of the old one.
-pub(crate) fn remove_new(rt: &HostRuntime, names: &Names) -> Result<()> {
-    remove(rt, names.new.as_str())?;
-    remove(rt, names.beside.as_str())
-}
-
-fn make_for_same(rt: &HostRuntime, names: &Names) -> io::Result<()> {
-    let old = fs::metadata(rt, names.log.as_str())?;
-    let mode = old.mode() & 0o777;
-    OpenOptions::new()
-        .write(true)
-        .create_new(true)
-        .mode(mode)
-        .open(rt, names.new.as_str())?;
-    // Only root sets another owner.
-    match chown(rt, names.new.as_str(), Some(old.uid()), Some(old.gid())) {
-        Err(fault) if fault.kind() != io::ErrorKind::PermissionDenied => return Err(fault),
-        _ => {}
-    }
-    fs::set_permissions(rt, names.new.as_str(), fs::Permissions::from_mode(mode))
-}
-
-/// Makes the file of the new log, for those who may read and write the old one.
-pub(crate) fn make_new_file(rt: &HostRuntime, names: &Names) -> Result<()> {
-    match make_for_same(rt, names) {
-        Ok(()) => Ok(()),
-        Err(fault) => bail!("{}: {fault}", names.new),
-    }
-}
-
-fn rename_new(rt: &HostRuntime, names: &Names) -> io::Result<()> {
-    fs::rename(rt, names.new.as_str(), names.log.as_str())?;
-    fs::File::open(rt, names.folder.as_str())?.sync_all()
-}
-
-/// Puts the new log in the place of the old one, waits until that is on the disk, and removes the file beside it.
-pub(crate) fn put_in_place(rt: &HostRuntime, names: &Names) -> Result<()> {
-    match rename_new(rt, names) {
-        Ok(()) => remove(rt, names.beside.as_str()),
-        Err(fault) => bail!("{}: {fault}", names.log),
-    }
+    let folder = String::from_str(alloc, real.as_str())?;
+    let file = match open_there(rt, log.as_str()) {
+        Ok(file) => file,
+        Err(fault) => bail!("{log}: {fault}"),
+    };
+    let db = open_locked(rt, &file, log.as_str())?;
+    Ok((Location { log, folder, file }, db))
 }

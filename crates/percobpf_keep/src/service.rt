@@ -7,15 +7,17 @@ ghost use Rattle.pb_keep.specs.Waits.{IsWaiting};
 ghost use Rattle.pb_registry.specs.Judging.{ReadsManifest};
 
 use crate::compact::compact;
-use crate::file::{make_log, open_file};
-use crate::names::{Names, names_of};
+use crate::file::make_log;
+use crate::names::{Location, open_at, refuse_reserved};
 use crate::table::{Kept, new_keeper, open_log};
+use crate::watched::WatchedOut;
 use anyhow::Result;
-use pb_base::{Out, Sink};
+use pb_base::Sink;
 use pb_keep::{Paused, serve};
 use sqlite_disk::{Disk, Unknown};
 use sqlite_std_file::FileFrom;
-use std::io::BufReader;
+use std::alloc::Global;
+use std::io::{BufReader, Write};
 use std::sync::Wait;
 
 // How many bytes are read at once at most, and so about how many may wait.
@@ -30,12 +32,12 @@ fn next_limit(least: u64, end: usize) -> u64 {
 }
 
 // Compacts the log, and writes the answer. Returns whether it is compacted.
-fn answer_compact<S: Sink>(
+fn answer_compact<W: Write + Drop>(
     rt: &HostRuntime,
     keeper: &mut Kept,
     manifest: &str,
-    names: &Names,
-    out: &mut S,
+    location: &mut Location,
+    out: &mut WatchedOut<'_, W>,
 ) -> Result<bool>
     requires short { length manifest.now < 2 ^ 31 }
     requires usable { IsTrue (⟦<FileFrom<Unknown> as Disk>⟧.is_usable keeper.old.log.disk) }
@@ -47,8 +49,9 @@ fn answer_compact<S: Sink>(
     ensures manifest { OnOk result
         (ReadsManifest manifest.now (Ok keeper.new.state.observers)) }
 {
-    match compact(rt, keeper, manifest, names)? {
+    match compact(rt, keeper, manifest, location)? {
         Ok(versions) => {
+            out.follow(location);
             let text = format!(in rt.alloc(); "compacted {versions}\n")?;
             out.write_all(text.as_bytes())?;
             Ok(true)
@@ -61,7 +64,12 @@ fn answer_compact<S: Sink>(
 }
 
 // Compacts a large log, or prints why its table can't be compacted. Returns whether it is compacted.
-fn compact_large(rt: &HostRuntime, keeper: &mut Kept, manifest: &str, names: &Names) -> Result<bool>
+fn compact_large(
+    rt: &HostRuntime,
+    keeper: &mut Kept,
+    manifest: &str,
+    location: &mut Location,
+) -> Result<bool>
     requires short { length manifest.now < 2 ^ 31 }
     requires usable { IsTrue (⟦<FileFrom<Unknown> as Disk>⟧.is_usable keeper.old.log.disk) }
     requires waiting { IsWaiting keeper.old.waiting }
@@ -72,24 +80,30 @@ fn compact_large(rt: &HostRuntime, keeper: &mut Kept, manifest: &str, names: &Na
     ensures manifest { OnOk result
         (ReadsManifest manifest.now (Ok keeper.new.state.observers)) }
 {
-    match compact(rt, keeper, manifest, names)? {
+    match compact(rt, keeper, manifest, location)? {
         Ok(_) => Ok(true),
         Err(why) => {
-            let _ = eprintln!(rt; "{}: not compacted: {why}", names.log);
+            let _ = eprintln!(rt; "{}: not compacted: {why}", location.log);
             Ok(false)
         }
     }
 }
 
-// Prints how many changes the log that was opened has, and serves lines until the input ends. Where a line asks for it, and where
-// the log has `first` bytes, it is compacted.
-fn serve_lines<R: Wait>(
+// Prints how many changes the log that was opened has.
+fn print_found<S: Sink>(alloc: Global, out: &mut S, found: u64) -> Result<()> {
+    let text = format!(in alloc; "open {found}\n")?;
+    out.write_all(text.as_bytes())?;
+    Ok(())
+}
+
+// Serves lines until the input ends. Where a line asks for it, and where the log has `first` bytes, it is compacted.
+fn serve_lines<R: Wait, W: Write + Drop>(
     waits: &R,
     rt: &HostRuntime,
     keeper: &mut Kept,
     manifest: &str,
-    names: &Names,
-    found: u64,
+    location: &mut Location,
+    out: &mut WatchedOut<'_, W>,
     least: u64,
     first: u64,
 ) -> Result<()>
@@ -99,17 +113,15 @@ fn serve_lines<R: Wait>(
     requires manifest { ReadsManifest manifest.now (Ok keeper.old.state.observers) }
 {
     let alloc = rt.alloc();
-    let mut out = Out::new(rt.stdout());
-    let text = format!(in alloc; "open {found}\n")?;
-    out.write_all(text.as_bytes())?;
     let mut input = BufReader::with_capacity(alloc, ROOM, rt.reader())?;
     let mut limit = first;
     for _pause in waits.forever() {
-        let is_done = match serve(waits, alloc, keeper, &mut input, &mut out, limit)? {
+        let is_done = match serve(waits, alloc, keeper, &mut input, out, limit)? {
             Paused::Ended => return Ok(()),
-            Paused::Asked => answer_compact(rt, keeper, manifest, names, &mut out)?,
+            Paused::Asked => answer_compact(rt, keeper, manifest, location, out)?,
             Paused::Large => {
-                compact_large(rt, keeper, manifest, names)?;
+                compact_large(rt, keeper, manifest, location)?;
+                out.follow(location);
                 true
             }
         };
@@ -121,12 +133,13 @@ fn serve_lines<R: Wait>(
 }
 
 // Opens the log, compacts it if it is large, and serves lines.
-fn open_and_serve<R: Wait>(
+fn open_and_serve<R: Wait, W: Write + Drop>(
     waits: &R,
     rt: &HostRuntime,
     keeper: &mut Kept,
     manifest: &str,
-    names: &Names,
+    location: &mut Location,
+    out: &mut WatchedOut<'_, W>,
     least: u64,
 ) -> Result<()>
     requires short { length manifest.now < 2 ^ 31 }
@@ -140,16 +153,19 @@ fn open_and_serve<R: Wait>(
 {
     let found = open_log(rt.alloc(), keeper, manifest)?;
     if (keeper.log.end as u64) < least {
-        return serve_lines(waits, rt, keeper, manifest, names, found, least, least);
+        print_found(rt.alloc(), out, found)?;
+        return serve_lines(waits, rt, keeper, manifest, location, out, least, least);
     }
     // A log that begins anew has no change.
-    let found = if compact_large(rt, keeper, manifest, names)? {
+    let found = if compact_large(rt, keeper, manifest, location)? {
         0
     } else {
         found
     };
+    out.follow(location);
+    print_found(rt.alloc(), out, found)?;
     let limit = next_limit(least, keeper.log.end);
-    serve_lines(waits, rt, keeper, manifest, names, found, least, limit)
+    serve_lines(waits, rt, keeper, manifest, location, out, least, limit)
 }
 
 /// Serves lines over the log, which is made where there is none. It is compacted where a line asks for it. Where it has at least
@@ -163,11 +179,20 @@ pub(crate) fn keep<R: Wait>(
 ) -> Result<()>
     requires short { length manifest.now < 2 ^ 31 }
 {
+    refuse_reserved(path)?;
     make_log(rt, path)?;
-    let names = names_of(rt, path)?;
-    let db = open_file(rt, names.log.as_str())?;
+    let (mut location, db) = open_at(rt, path)?;
+    let mut out = WatchedOut::new(rt, rt.stdout(), &location)?;
     let mut keeper = new_keeper(rt.alloc(), manifest, db)?;
-    let done = open_and_serve(waits, rt, &mut keeper, manifest, &names, least);
+    let done = open_and_serve(
+        waits,
+        rt,
+        &mut keeper,
+        manifest,
+        &mut location,
+        &mut out,
+        least,
+    );
     keeper.close();
-    done
+    out.end(done)
 }
