@@ -15,7 +15,6 @@ import fcntl
 import os
 import socket
 import stat
-import struct
 import subprocess
 from collections import Counter
 from contextlib import ExitStack
@@ -27,7 +26,7 @@ from keep_room import beside, left_of, line_of, new_names
 from left_out import note_left_out
 
 LOST = "the log was removed, renamed or replaced"
-RESERVED = "a name that ends in ~new or ~new-wal is left to compactions"
+RESERVED = "names ending in ~new or ~new-wal are reserved"
 
 # What the names of tables have after that of a log which is compacted, beside it. A table can't be served while another one has the name
 # that follows it in the second list, which that one's library opens.
@@ -37,9 +36,6 @@ NEAR = (("-new", "~", "~new1", ".1", ".1~new1", ".1-new", ".new", ".1~new.log"),
 ASKED = ("put 8 0 2b", "if 9 0 0; put 9 0 2b", "if 7 0 0; put 9 0 2b", "begin\nput 8 0 2b\nend", "no line\nput 8 0 2b", "compact")
 QUESTIONS = ("get 7 5", "quiet?", "no line")
 ANSWERS = [b"absent\n", b"quiet\n", b"refused 70\n"]
-
-# The bytes that a program locks while it has a log open.
-LOCKED_FROM, LOCKED = 1 << 30, 512
 
 # An owner and a group that nobody else has.
 OWNER, GROUP = 61_801, 61_802
@@ -158,8 +154,7 @@ def try_locked(room, its):
     for file in (new, beside(new)):
         file.write_bytes(its.after)
         with open(file, "r+b") as held:
-            lock = struct.pack("hhqqi", fcntl.F_WRLCK, os.SEEK_SET, LOCKED_FROM, LOCKED, 0)
-            fcntl.fcntl(held, fcntl.F_OFD_SETLK, lock)
+            fcntl.flock(held, fcntl.LOCK_EX)
             log.write_bytes(its.before)
             expect("a compaction beside a locked log", goes_on(room, log, its, its.before, [file.name]), None)
             expect("a locked log", file.read_bytes(), its.after)

@@ -3,18 +3,12 @@ ghost use Rattle.std.specs.Prelude.{false, IfOk, IsTrue};
 ghost use Rattle.sqlite_std_file.specs.File.{IsFresh};
 
 use anyhow::{Result, bail};
-use os::RangeLock;
 use sqlite_disk::{Disk, Files, Unknown};
 use sqlite_std_file::{FileFrom, open};
-use std::fs::{self, File, OpenOptions};
+use std::fs::{self, File, OpenOptions, TryLockError};
 use std::io;
 use std::os::fd::AsRawFd;
 use std::os::unix::fs::{MetadataExt, OpenOptionsExt};
-
-// The bytes that are locked while a log is open, from the first on, and how many: those that SQLite locks.
-const LOCKED_FROM: u64 = 1 << 30;
-
-const LOCKED: u64 = 512;
 
 /// By what a file is known while it is open, since no other file gets its number then.
 #[derive(Clone, Copy)]
@@ -62,17 +56,12 @@ impl LogFile {
         Ok(LogFile { file, id })
     }
 
-    /// Whether another opening of the file has the lock of a log. If none has, this one has it from then on.
+    /// Whether another program has this file as a log. If none has, this one has it from then on, for as long as this is there.
     pub(crate) fn is_locked(&self) -> io::Result<bool> {
-        let fd = self.file.as_raw_fd();
-        if os::try_lock_range(fd, RangeLock::Exclusive, LOCKED_FROM, LOCKED) == 0 {
-            return Ok(false);
-        }
-        let fault = io::Error::from_raw_os_error(os::errno());
-        if fault.kind() == io::ErrorKind::WouldBlock {
-            Ok(true)
-        } else {
-            Err(fault)
+        match self.file.try_lock() {
+            Ok(()) => Ok(false),
+            Err(TryLockError::WouldBlock) => Ok(true),
+            Err(TryLockError::Error(fault)) => Err(fault),
         }
     }
 }
@@ -109,9 +98,9 @@ pub(crate) fn open_there(rt: &HostRuntime, path: &str) -> io::Result<LogFile> {
     LogFile::new(OpenOptions::new().read(true).write(true).open(rt, path)?)
 }
 
-// Whether this file has this name, and the lock of a log by another opening.
-fn is_locked_there(rt: &HostRuntime, log: &LogFile, path: &str) -> io::Result<bool> {
-    Ok(log.id.has_name(rt, path)? && log.is_locked()?)
+// Whether this file has this name, and no other program has it as a log.
+fn is_own_there(rt: &HostRuntime, log: &LogFile, path: &str) -> io::Result<bool> {
+    Ok(log.id.has_name(rt, path)? && !log.is_locked()?)
 }
 
 // Reports the name of a file whose place another one has taken, by what is so of it.
@@ -134,9 +123,9 @@ pub(crate) fn open_locked(rt: &HostRuntime, log: &LogFile, path: &str) -> Result
         Ok(files) => files,
         Err(fault) => bail!("{path}: {fault}"),
     };
-    // A compaction may have put another file in its place before the lock was there, and none can from then on. That this
-    // file is locked shows that it is the one that was opened.
-    refuse_other(path, is_locked_there(rt, log, path))?;
+    // A compaction may have put another file in its place before the lock was there, and none can from then on. By the second
+    // lock, which is on this very file, others see that it is in use.
+    refuse_other(path, is_own_there(rt, log, path))?;
     Ok(db)
 }
 

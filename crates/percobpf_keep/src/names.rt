@@ -32,7 +32,7 @@ pub(crate) fn refuse_reserved(path: &str) -> Result<()>
     ensures { OnOk result (IsReserved path.now → ⊥) }
 {
     if is_reserved(path) {
-        bail!("{path}: a name that ends in ~new or ~new-wal is left to compactions");
+        bail!("{path}: names ending in ~new or ~new-wal are reserved");
     }
     Ok(())
 }
