@@ -4,6 +4,7 @@
 - in the way: what has a name of a new log and is none. It stays, and the new log gets the next name.
 - locked: what is left of a new log, and locked by a program, stays until it isn't.
 - reserved: no table has a name of a new log.
+- links: a log is opened where a link leads, and none is made there.
 - lost: a log that is removed, renamed or replaced while it is served. Its program answers no change from then on, and leaves what has
   the name as it is.
 - given: the rights and the owner of a log are those of the new one, and nobody else's file gets them.
@@ -190,6 +191,22 @@ def try_reserved(room, its):
     return 5 * len(names)
 
 
+# Links
+
+
+def try_links(room, its):
+    """Opens a log by a link, and where a link leads to nothing. Answers how many links there were."""
+    folder = room.folder / "links"
+    folder.mkdir()
+    log, link = folder / "table.log", folder / "link.log"
+    link.symlink_to(log)
+    refused = line_of(f"{link}: No such file or directory (os error 2)")
+    expect("a link to nothing", (room.run(link, ["list"]), os.listdir(folder)), ((1, [], refused), [link.name]))
+    log.write_bytes(its.before)
+    expect("a link to a log", room.opened(link), room.opened(log))
+    return 2
+
+
 # Lost
 
 
@@ -313,6 +330,6 @@ def try_closed(room, its):
 def try_all(room, its, pool):
     """Tries all of it, and answers what was met, in words and as numbers."""
     met = Counter({"tables near": try_near(room, its), "in the way": try_in_the_way(room, its), "locked beside": try_locked(room, its)})
-    met["names refused"], met["names lost"] = try_reserved(room, its), try_lost(room, its, pool)
+    met["names refused"], met["links"], met["names lost"] = try_reserved(room, its), try_links(room, its), try_lost(room, its, pool)
     met["swapped"], met["given"], met["closed"] = try_swapped(room, its), try_given(room, its), try_closed(room, its)
     return met

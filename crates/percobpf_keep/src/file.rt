@@ -66,18 +66,28 @@ impl LogFile {
     }
 }
 
-// The file of this name, which is made where there is none.
+// Makes the file of this name, where nothing has it, a link neither.
+fn make_there(rt: &HostRuntime, path: &str) -> io::Result<File> {
+    OpenOptions::new()
+        .read(true)
+        .write(true)
+        .create_new(true)
+        .mode(0o644)
+        .open(rt, path)
+}
+
+// The file of this name, which is made where there is none. None is made where a link leads.
 fn hold(rt: &HostRuntime, path: &str) -> io::Result<File> {
     let mut options = OpenOptions::new();
     options.read(true).write(true);
     match fs::metadata(rt, path) {
         Ok(found) if found.is_file() => options.open(rt, path),
         Ok(_) => Err(io::ErrorKind::Unsupported.into()),
-        // Another program may make it meanwhile.
-        Err(fault) if fault.kind() == io::ErrorKind::NotFound => options
-            .create(true)
-            .mode(0o644)
-            .open(rt, path),
+        Err(fault) if fault.kind() == io::ErrorKind::NotFound => match make_there(rt, path) {
+            // Another program has made it meanwhile, or a link leads to nothing, which is reported so.
+            Err(fault) if fault.kind() == io::ErrorKind::AlreadyExists => options.open(rt, path),
+            made => made,
+        },
         Err(fault) => Err(fault),
     }
 }
