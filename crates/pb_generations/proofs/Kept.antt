@@ -6,7 +6,7 @@ use Rattle.std.specs.Cmp.{nat_cmp_total}
 use Rattle.pb_generations.specs.Words.{Cell, Content, Revision, Entries, commit_lock, erase_lock, put_lock, IsVersion, NoVersion, data_at, lock_at, write_at, TransactionOf, Transactions}
 use Rattle.pb_history.proofs.Updates.{set2, at_place, set2_there, placed_or_before as placed, left_after_clearing as cleared}
 use Rattle.pb_history.proofs.ViewsAfter.{lock_after_commit, data_after_commit, write_after_commit, lock_after_back, data_after_back, write_after_back, lock_after_put, data_after_put, write_after_put}
-use Rattle.pb_generations.specs.Mirrored.{SameEntries, SameTransactions, IsLatePhase}
+use Rattle.pb_generations.specs.Mirrored.{SameEntries, SameTransactions, SameVersion, IsLatePhase}
 
 -- ---- transactions
 
@@ -37,18 +37,18 @@ with_both c whole kept s t m later phase = record {
 pub same_there : {A : Type 0} {f g : Cell → ℕ → A} → f ≡ g → (x : Cell) (s : ℕ) → f x s ≡ g x s
 same_there is x s = ap (λ h. h x s) is
 
--- what stands up to c decides the version there
-version_under : (c : ℕ) (e f : Entries) (x : Cell) (v : Revision) → ((d : ℕ) → d ≤ c → write_at f x d ≡ write_at e x d) → ((s : ℕ) → s ≤ c → data_at f x s ≡ data_at e x s)
-    → ((d s : ℕ) → d ≤ c → write_at e x d ≡ Some s → s ≤ c) → IsVersion e x c v → IsVersion f x c v
-version_under c e f x v w d early is = record {
+-- what stands up to u, and data of starts up to c, decide the version at u
+version_under : (c u : ℕ) (e f : Entries) (x : Cell) (v : Revision) → ((d : ℕ) → d ≤ u → write_at f x d ≡ write_at e x d) → ((s : ℕ) → s ≤ c → data_at f x s ≡ data_at e x s)
+    → ((d s : ℕ) → d ≤ u → write_at e x d ≡ Some s → s ≤ c) → IsVersion e x u v → IsVersion f x u v
+version_under c u e f x v w d early is = record {
   low = is.low;
   written = w v.commit.0 is.low ∙ is.written;
   content = d v.start.0 (early v.commit.0 v.start.0 is.low is.written) ∙ is.content;
-  newest = λ u above low. w u low ∙ is.newest u above low;
+  newest = λ n above low. w n low ∙ is.newest n above low;
 }
 
-none_under : (c : ℕ) (e f : Entries) (x : Cell) → ((d : ℕ) → d ≤ c → write_at f x d ≡ write_at e x d) → NoVersion e x c → NoVersion f x c
-none_under c e f x w is u low = w u low ∙ is u low
+none_under : (u : ℕ) (e f : Entries) (x : Cell) → ((d : ℕ) → d ≤ u → write_at f x d ≡ write_at e x d) → NoVersion e x u → NoVersion f x u
+none_under u e f x w is n low = w n low ∙ is n low
 
 -- both were changed above c alone, and alike
 record Alike (c : ℕ) (whole kept whole' kept' : Entries) : Type 0 where
@@ -62,30 +62,33 @@ record Alike (c : ℕ) (whole kept whole' kept' : Entries) : Type 0 where
   locks : (x : Cell) (s : ℕ) → lock_at kept' x s ≡ lock_at whole' x s
   late : (x : Cell) (s : ℕ) (p : Cell) → lock_at whole' x s ≡ Some p → c < s
 
--- then they are the same after it, and of no cell is the version at c another
-pub record Changes (c : ℕ) (whole whole' kept' : Entries) : Type 0 where
+-- then they are the same after it, of no cell is the version at c another, and where earlier versions are the same, they still are
+pub record Changes (c : ℕ) (whole kept whole' kept' : Entries) : Type 0 where
   pub same : SameEntries c whole' kept'
   pub versions : (x : Cell) (v : Revision) → IsVersion whole x c v ↔ IsVersion whole' x c v
+  pub before : (x : Cell) (u : ℕ) → u ≤ c → SameVersion u whole kept x → SameVersion u whole' kept' x
 
-changed : (c : ℕ) (whole kept whole' kept' : Entries) → SameEntries c whole kept → Alike c whole kept whole' kept' → Changes c whole whole' kept'
+changed : (c : ℕ) (whole kept whole' kept' : Entries) → SameEntries c whole kept → Alike c whole kept whole' kept' → Changes c whole kept whole' kept'
 changed c whole kept whole' kept' m a =
     let early : (x : Cell) (d s : ℕ) → d ≤ c → write_at whole' x d ≡ Some s → s ≤ c = λ x d s low is. m.early x d s low (sym (a.written x d low) ∙ is) in
     let kept_early : (x : Cell) (d s : ℕ) → d ≤ c → write_at kept' x d ≡ Some s → s ≤ c = λ x d s low is. m.kept_early x d s low (sym (a.kept_written x d low) ∙ is) in
-    let on : (x : Cell) (v : Revision) → IsVersion whole x c v → IsVersion whole' x c v = λ x v is. version_under c whole whole' x v (a.written x) (a.stored_early x) (m.early x) is in
-    let off : (x : Cell) (v : Revision) → IsVersion whole' x c v → IsVersion whole x c v = λ x v is. version_under c whole' whole x v (λ d low. sym (a.written x d low)) (λ s low. sym (a.stored_early x s low)) (early x) is in
-    let kept_on : (x : Cell) (v : Revision) → IsVersion kept x c v → IsVersion kept' x c v = λ x v is. version_under c kept kept' x v (a.kept_written x) (a.kept_stored x) (m.kept_early x) is in
-    let kept_off : (x : Cell) (v : Revision) → IsVersion kept' x c v → IsVersion kept x c v = λ x v is. version_under c kept' kept x v (λ d low. sym (a.kept_written x d low)) (λ s low. sym (a.kept_stored x s low)) (kept_early x) is in
+    let within : (u d : ℕ) → u ≤ c → d ≤ u → d ≤ c = λ u d under low. omega (arith, under, low) in
+    let on : (x : Cell) (u : ℕ) (v : Revision) → u ≤ c → IsVersion whole x u v → IsVersion whole' x u v = λ x u v under is. version_under c u whole whole' x v (λ d low. a.written x d (within u d under low)) (a.stored_early x) (λ d s low. m.early x d s (within u d under low)) is in
+    let off : (x : Cell) (u : ℕ) (v : Revision) → u ≤ c → IsVersion whole' x u v → IsVersion whole x u v = λ x u v under is. version_under c u whole' whole x v (λ d low. sym (a.written x d (within u d under low))) (λ s low. sym (a.stored_early x s low)) (λ d s low. early x d s (within u d under low)) is in
+    let kept_on : (x : Cell) (u : ℕ) (v : Revision) → u ≤ c → IsVersion kept x u v → IsVersion kept' x u v = λ x u v under is. version_under c u kept kept' x v (λ d low. a.kept_written x d (within u d under low)) (a.kept_stored x) (λ d s low. m.kept_early x d s (within u d under low)) is in
+    let kept_off : (x : Cell) (u : ℕ) (v : Revision) → u ≤ c → IsVersion kept' x u v → IsVersion kept x u v = λ x u v under is. version_under c u kept' kept x v (λ d low. sym (a.kept_written x d (within u d under low))) (λ s low. sym (a.kept_stored x s low)) (λ d s low. kept_early x d s (within u d under low)) is in
+    let before : (x : Cell) (u : ℕ) → u ≤ c → SameVersion u whole kept x → SameVersion u whole' kept' x = λ x u under were. record {
+      there = λ v. (λ is. kept_on x u v under ((were.there v).0 (off x u v under is)), λ is. on x u v under ((were.there v).1 (kept_off x u v under is)));
+      none = (
+        λ is. none_under u kept kept' x (λ d low. a.kept_written x d (within u d under low)) (were.none.0 (none_under u whole' whole x (λ d low. sym (a.written x d (within u d under low))) is)),
+        λ is. none_under u whole whole' x (λ d low. a.written x d (within u d under low)) (were.none.1 (none_under u kept' kept x (λ d low. sym (a.kept_written x d (within u d under low))) is)),
+      );
+    } in
     record {
       same = record {
-        versions = λ x. record {
-          there = λ v. (λ is. kept_on x v (((m.versions x).there v).0 (off x v is)), λ is. on x v (((m.versions x).there v).1 (kept_off x v is)));
-          none = (
-            λ is. none_under c kept kept' x (a.kept_written x) ((m.versions x).none.0 (none_under c whole' whole x (λ d low. sym (a.written x d low)) is)),
-            λ is. none_under c whole whole' x (a.written x) ((m.versions x).none.1 (none_under c kept' kept x (λ d low. sym (a.kept_written x d low)) is)),
-          );
-        };
+        versions = λ x. before x c (omega arith) (m.versions x);
         either = λ x. elim (m.either x) [
-          | inl v ↦ inl (v.0, on x v.0 v.1)
+          | inl v ↦ inl (v.0, on x c v.0 (omega arith) v.1)
           | inr none ↦ inr (none_under c whole whole' x (a.written x) none)
         ];
         early = early;
@@ -96,7 +99,8 @@ changed c whole kept whole' kept' m a =
         locks = a.locks;
         late = a.late;
       };
-      versions = λ x v. (on x v, off x v);
+      versions = λ x v. (on x c v (omega arith), off x c v (omega arith));
+      before = before;
     }
 
 module _ (c : ℕ) (whole kept : Entries) (m : SameEntries c whole kept) (x : Cell) (s : ℕ) (later : c < s) where
@@ -107,7 +111,7 @@ module _ (c : ℕ) (whole kept : Entries) (m : SameEntries c whole kept) (x : Ce
   both : {A : Type 0} (f g : Cell → ℕ → A) (t : ℕ) (v : A) (y : Cell) (u : ℕ) → f y u ≡ g y u → set2 f x t v y u ≡ set2 g x t v y u
   both f g t v y u is = ap (λ o. cond (at_place y u x t) v o) is
 
-  pub lock_put : (k : Content) (p : Cell) → Changes c whole (put_lock whole x s k p) (put_lock kept x s k p)
+  pub lock_put : (k : Content) (p : Cell) → Changes c whole kept (put_lock whole x s k p) (put_lock kept x s k p)
   lock_put k p = changed c whole kept (put_lock whole x s k p) (put_lock kept x s k p) m (record {
     written = λ y d low. same_there (write_after_put whole x s k p) y d;
     kept_written = λ y d low. same_there (write_after_put kept x s k p) y d;
@@ -123,7 +127,7 @@ module _ (c : ℕ) (whole kept : Entries) (m : SameEntries c whole kept) (x : Ce
     ];
   })
 
-  pub lock_committed : (d : ℕ) → c < d → Changes c whole (commit_lock whole x s d) (commit_lock kept x s d)
+  pub lock_committed : (d : ℕ) → c < d → Changes c whole kept (commit_lock whole x s d) (commit_lock kept x s d)
   lock_committed d late = changed c whole kept (commit_lock whole x s d) (commit_lock kept x s d) m (record {
     written = λ y u low. same_there (write_after_commit whole x s d) y u ∙ set2_there (write_at whole) x d (Some s) y u (apart y u d low late);
     kept_written = λ y u low. same_there (write_after_commit kept x s d) y u ∙ set2_there (write_at kept) x d (Some s) y u (apart y u d low late);
@@ -139,7 +143,7 @@ module _ (c : ℕ) (whole kept : Entries) (m : SameEntries c whole kept) (x : Ce
     late = λ y u q is. m.late y u q (cleared (lock_at whole) x s y u q (sym (same_there (lock_after_commit whole x s d) y u) ∙ is)).0;
   })
 
-  pub lock_erased : Changes c whole (erase_lock whole x s) (erase_lock kept x s)
+  pub lock_erased : Changes c whole kept (erase_lock whole x s) (erase_lock kept x s)
   lock_erased = changed c whole kept (erase_lock whole x s) (erase_lock kept x s) m (record {
     written = λ y u low. same_there (write_after_back whole x s) y u;
     kept_written = λ y u low. same_there (write_after_back kept x s) y u;

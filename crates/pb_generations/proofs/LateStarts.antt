@@ -3,10 +3,10 @@ use Rattle.std.proofs.Common.{◌≡◌, ℕ, ◌<◌, ◌≤◌, inl, inr, arit
 use Rattle.std.proofs.lemmas.Bool.{cases_lt, eqb-true}
 use Rattle.std.proofs.lemmas.Option.{none-some}
 use Rattle.std.specs.FinMap as map
-use Rattle.pb_generations.specs.Words.{Revision, Reason, is_unknown, commit_reasons, secondary_reasons, declare_reasons, prewrite_reasons, read_at_reasons, read_reasons, IsVersion, Reasons, first_reason, if_of_seat, is_out, no_seat, own_reasons, reasons_of, unstamped_reasons, StateOf, TransactionOf, StepCase, step_reason, Answer, Step, names_start, transaction_after}
+use Rattle.pb_generations.specs.Words.{Reason, is_unknown, commit_reasons, secondary_reasons, declare_reasons, prewrite_reasons, read_at_reasons, read_reasons, Reasons, first_reason, if_of_seat, is_out, no_seat, own_reasons, reasons_of, unstamped_reasons, StateOf, TransactionOf, StepCase, step_reason, Answer, Step, names_start, transaction_after}
 use Rattle.pb_history.proofs.Agreement.{got}
 use Rattle.pb_history.proofs.TransactionAfter.{case_tells}
-use Rattle.pb_generations.specs.LateSteps.{IsLateStep}
+use Rattle.pb_generations.specs.LateSteps.{NamesLate}
 
 -- transactions that had begun by c are of no seat of the table
 abbrev pub AreUnseated : ℕ → StateOf → Type 0
@@ -42,11 +42,6 @@ module _ (c : ℕ) (old : StateOf) (unseated : AreUnseated c old) (seat s : ℕ)
   late_start : first_reason (own_reasons old seat s why) ≡ None → c < s
   late_start is = of_seat (no_seat old seat) refl (map.get old.transactions s) refl is
 
--- a read at a timestamp is at or above the version at c
-abbrev pub ReadsLate : ℕ → StateOf → Step → Type 0
-ReadsLate c old (Step.ReadAt s x t) = c < s.0 → (v : Revision) → IsVersion old.entries x c v → v.commit.0 ≤ t.0
-ReadsLate c old _ = Unit {0}
-
 -- a step that is allowed is of a seat of the table
 seated_by : (b : Bool) (rs : Reasons) → first_reason ((Reason.NotOfSeat, b) ∷ rs) ≡ None → b ≡ false
 seated_by true rs is = absurd (refused is)
@@ -72,20 +67,20 @@ step_seated old seat (Step.NextMark after) is = seated_by (no_seat old seat) [] 
 step_seated old seat (Step.Sweep x) is = seated_by (no_seat old seat) [] is
 
 module _ (c : ℕ) (old : StateOf) (unseated : AreUnseated c old) (seat : ℕ) where
-  -- so what a step names is late, and it is where its read is
-  pub late_step : (step : Step) → ReadsLate c old step → step_reason old seat step ≡ None → IsLateStep c old step
-  late_step (Step.Begin work) reads is = tt
-  late_step (Step.Read s x) reads is = late_start c old unseated seat s.0 read_reasons is
-  late_step (Step.ReadAt s x t) reads is = let late = late_start c old unseated seat s.0 (read_at_reasons s.0 t.0) is in (late, reads late)
-  late_step (Step.Declare s what) reads is = late_start c old unseated seat s.0 (declare_reasons old.observers s.0 what) is
-  late_step (Step.Prewrite s x) reads is = late_start c old unseated seat s.0 (prewrite_reasons x) is
-  late_step (Step.Stamp s) reads is = late_start c old unseated seat s.0 unstamped_reasons (rest_allowed _ Reason.OutOfTimestamps (own_reasons old seat s.0 unstamped_reasons) is)
-  late_step (Step.CommitPrimary s) reads is = late_start c old unseated seat s.0 commit_reasons is
-  late_step (Step.CommitSecondary s x) reads is = late_start c old unseated seat s.0 (secondary_reasons x) is
-  late_step (Step.Settle x) reads is = tt
-  late_step (Step.Clear x) reads is = tt
-  late_step (Step.NextMark after) reads is = tt
-  late_step (Step.Sweep x) reads is = tt
+  -- so what a step names is late
+  pub late_names : (step : Step) → step_reason old seat step ≡ None → NamesLate c step
+  late_names (Step.Begin work) is = tt
+  late_names (Step.Read s x) is = late_start c old unseated seat s.0 read_reasons is
+  late_names (Step.ReadAt s x t) is = late_start c old unseated seat s.0 (read_at_reasons s.0 t.0) is
+  late_names (Step.Declare s what) is = late_start c old unseated seat s.0 (declare_reasons old.observers s.0 what) is
+  late_names (Step.Prewrite s x) is = late_start c old unseated seat s.0 (prewrite_reasons x) is
+  late_names (Step.Stamp s) is = late_start c old unseated seat s.0 unstamped_reasons (rest_allowed _ Reason.OutOfTimestamps (own_reasons old seat s.0 unstamped_reasons) is)
+  late_names (Step.CommitPrimary s) is = late_start c old unseated seat s.0 commit_reasons is
+  late_names (Step.CommitSecondary s x) is = late_start c old unseated seat s.0 (secondary_reasons x) is
+  late_names (Step.Settle x) is = tt
+  late_names (Step.Clear x) is = tt
+  late_names (Step.NextMark after) is = tt
+  late_names (Step.Sweep x) is = tt
 
   -- ---- and none comes to be of a seat
 
@@ -93,11 +88,11 @@ module _ (c : ℕ) (old : StateOf) (unseated : AreUnseated c old) (seat : ℕ) w
   apart u s low above = grind (arith, low, above)
 
   module _ (new : StateOf) (since : c ≤ old.clock) (u : ℕ) (low : u ≤ c) where
-    names_late : (step : Step) (answer : Answer) → IsLateStep c old step → StepCase old seat step answer new → names_start u step answer ≡ false
+    names_late : (step : Step) (answer : Answer) → NamesLate c step → StepCase old seat step answer new → names_start u step answer ≡ false
     names_late (Step.Begin work) (Answer.At s) late is = apart u s.0 low (omega (arith, is.fresh, since))
     names_late (Step.Begin work) answer late is = absurd is
     names_late (Step.Read s x) answer late is = apart u s.0 low late
-    names_late (Step.ReadAt s x t) answer late is = apart u s.0 low late.0
+    names_late (Step.ReadAt s x t) answer late is = apart u s.0 low late
     names_late (Step.Declare s what) answer late is = apart u s.0 low late
     names_late (Step.Prewrite s x) answer late is = apart u s.0 low late
     names_late (Step.Stamp s) answer late is = apart u s.0 low late
@@ -108,7 +103,7 @@ module _ (c : ℕ) (old : StateOf) (unseated : AreUnseated c old) (seat : ℕ) w
     names_late (Step.NextMark after) answer late is = refl
     names_late (Step.Sweep x) answer late is = refl
 
-    pub unseated_after : (step : Step) (answer : Answer) → IsLateStep c old step → StepCase old seat step answer new → (t : TransactionOf) → map.get new.transactions u ≡ Some t → new.seats ≤ t.seat
+    pub unseated_after : (step : Step) (answer : Answer) → NamesLate c step → StepCase old seat step answer new → (t : TransactionOf) → map.get new.transactions u ≡ Some t → new.seats ≤ t.seat
     unseated_after step answer late is t there =
         let same : got new u ≡ got old u = case_tells old seat new u step answer is ∙ ap (λ b. cond b (transaction_after old.observers seat step answer (got old u)) (got old u)) (names_late step answer late is) in
         omega (arith, unseated u t (sym same ∙ there) low, seats_stay old seat new step answer is)

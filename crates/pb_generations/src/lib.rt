@@ -48,8 +48,9 @@ pub fn old_may_be_dropped()
     sound_has_data();
 }
 
-/// A step of a carried table that names no transaction of before, and reads at no timestamp below the version that was kept, is
-/// one of the whole table, with the same answer.
+/// A step of a carried table that names no transaction of before, and reads at no timestamp for which what was kept doesn't serve,
+/// is one of the whole table, with the same answer. It serves at and above the version that was kept, and where the versions are
+/// the same.
 pub fn steps_carry_over()
     ensures { StepsCarryOver }
 {}

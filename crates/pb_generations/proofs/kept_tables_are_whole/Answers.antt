@@ -1,9 +1,10 @@
-use Rattle.std.proofs.Common.{◌≡◌, ℕ, ◌<◌, ◌≤◌, arith, Bool, true, false, not, cond, List, [], ◌∷◌, ◌++◌, length, Some, None, refl, sym, ap, subst, ◌∙◌, is_some, slice_get, option_map, append-nil, length-append}
+use Rattle.std.proofs.Common.{◌≡◌, ℕ, ◌<◌, ◌≤◌, arith, inl, inr, Bool, true, false, not, cond, List, [], ◌∷◌, ◌++◌, length, Some, None, refl, sym, ap, subst, ◌∙◌, is_some, slice_get, option_map, append-nil, length-append}
+use Rattle.std.proofs.lemmas.Bool.{cases_lt}
 use Rattle.std.proofs.lemmas.List.Elements.{filter-append}
 use Rattle.std.proofs.lemmas.Option.{none-some}
 use Rattle.std.specs.FinMap as map
 use Rattle.std.specs.Ordering.{nat_cmp}
-use Rattle.pb_generations.specs.Words.{cell_cmp, Cell, Revision, Row, ObserverOf, Entries, slot_at, slot_cmp, Sort, IsVersion, last_timestamp, lock_at, primary_of, start_of, write_at, StateOf, Transactions, opening, TableStep, Answer, Step, IsQuiet, IsLegal, SoundHasData, IsSoundTable, Entry, HasMoreObservers}
+use Rattle.pb_generations.specs.Words.{cell_cmp, Cell, Revision, Row, Ts, ObserverOf, Entries, stamp_of, slot_at, slot_cmp, Sort, IsVersion, last_timestamp, lock_at, primary_of, start_of, write_at, StateOf, Transactions, opening, TableStep, Answer, Step, IsQuiet, IsLegal, SoundHasData, IsSoundTable, Entry, HasMoreObservers}
 use Rattle.pb_history.proofs.Agreement.{Agrees}
 use Rattle.pb_history.proofs.JournalParts.{one_more}
 use Rattle.pb_history.proofs.JournalsAreSound.{legal_sound}
@@ -12,13 +13,13 @@ use Rattle.pb_history.proofs.TransactionAfter.{case_observers}
 use Rattle.pb_history.proofs.Updates.{none_if}
 use Rattle.pb_generations.specs.Chosen.{AreChosen, IsChosenSnapshot, chosen_state, new_number}
 use Rattle.pb_generations.specs.KeptTables.{IsKeptTable, opened, stepped, anew, chosen, AreCovered, IsStepOfJob, ReadsAcknowledged, StandsForAll}
-use Rattle.pb_generations.specs.LateSteps.{Carries, IsLateStep, NamesLate, StepsCarryOver}
+use Rattle.pb_generations.specs.LateSteps.{Carries, IsServedStep, NamesLate, ServesAt, StepsCarryOver}
 use Rattle.pb_generations.specs.LeftOut.{AnswersKnown, GoesWithOthers, LacksOthers, MarksMissNothing, NamesKnown, OthersAreNeverMissed, OthersAreNeverNamed, OthersMayBeLeftOut, SnapshotsServeWithoutOthers, is_known_cell, without_others}
 use Rattle.pb_generations.specs.Mirrored.{IsMirroredBy, QuietMirrorsItself, QuietCarriesOver, carried}
 use Rattle.pb_generations.specs.Renumbered.{IsRenumbered, JournalsMayBeRenumbered, renumbered_cell, renumbered_journal}
 use Rattle.pb_generations.specs.SameButMarks.{IsLegalButMarks, SameButMarks, is_of_marks, without_marks}
 use Rattle.pb_generations.specs.Snapshots.{AreEnded, IsSnapshotOf, SnapshotsCarryOver}
-use Rattle.pb_generations.proofs.AcknowledgedReads.{AcknowledgeLate, AreAcknowledgedAt, acknowledged_late}
+use Rattle.pb_generations.proofs.AcknowledgedReads.{AcknowledgeLate, AreAcknowledgedAt, acknowledged_at}
 use Rattle.pb_generations.proofs.ChosenAcknowledgments.{acknowledged_chosen}
 use Rattle.pb_generations.proofs.ChosenNumbers.{numbers_one_to_one, numbers_stand, renumbered_same}
 use Rattle.pb_generations.proofs.ChosenSnapshots.{chosen_covered, chosen_is_snapshot}
@@ -26,12 +27,18 @@ use Rattle.pb_generations.proofs.HistoryButMarks.{same_entry, same_on}
 use Rattle.pb_generations.proofs.JoinedJournals.{journal_observers}
 use Rattle.pb_generations.proofs.KnownEntries.{known_nothing}
 use Rattle.pb_generations.proofs.KnownMarks.{covered_acknowledges, covered_after, covered_marks, whole_unlocked}
-use Rattle.pb_generations.proofs.LateStarts.{AreUnseated, ReadsLate, late_step, unseated_after}
+use Rattle.pb_generations.proofs.LateStarts.{AreUnseated, late_names, unseated_after}
 use Rattle.pb_generations.proofs.LeanTables.{known_ack, lacks_at_clock, lean_record, lean_unlocked, lean_version, same_clock, version_there}
 use Rattle.pb_generations.proofs.kept_tables_are_whole.Goals as goal
 
--- What holds of each generation: what is stated, and that earlier transactions are of no seat, and that what the observers had
--- acknowledged when it began is at or above the versions there.
+-- for reads at what the observers had acknowledged at c, what was kept serves
+abbrev ServeAcknowledged : List ObserverOf → ℕ → Entries → Entries → Type 0
+ServeAcknowledged observers c whole kept =
+    (o : ℕ) (row : Row) (observer : ObserverOf) → slice_get observers o ≡ Some observer → (w : Revision) → IsVersion whole (Cell.Ack o row observer.column) c w
+    → ServesAt c whole kept (Cell.Data row observer.column) (stamp_of w.content).0
+
+-- What holds of each generation: what is stated, and that earlier transactions are of no seat, and that what was kept serves for
+-- reads at what the observers had acknowledged when it began.
 record Stands (observers gone : List ObserverOf) (seats clock c : ℕ) (journal : List Entry) (now : StateOf) : Type 0 where
   whole : StateOf
   lean : StateOf
@@ -43,7 +50,7 @@ record Stands (observers gone : List ObserverOf) (seats clock c : ℕ) (journal 
   now_is : now ≡ carried lean entries transactions
   observers_are : lean.observers ≡ observers
   unseated : AreUnseated c (carried lean entries transactions)
-  acknowledged : AreAcknowledgedAt observers c lean.entries
+  acknowledged : ServeAcknowledged observers c lean.entries entries
   covered : AreCovered observers lean.marks whole.entries
 
 -- the laws that it rests on
@@ -60,10 +67,10 @@ record Laws : Type 0 where
   renumber : JournalsMayBeRenumbered
   has : SoundHasData
 
--- a late step names no transaction of before
-late_names : (c : ℕ) (old : StateOf) (step : Step) → IsLateStep c old step → NamesLate c step
-late_names c old (Step.ReadAt s x t) late = late.0
-late_names c old _ late = late
+-- a step that names none and reads at no timestamp but such is served
+served : (c : ℕ) (whole : Entries) (old : StateOf) (step : Step) → NamesLate c step → ((s : Ts) (x : Cell) (t : Ts) → step ≡ Step.ReadAt s x t → ServesAt c whole old.entries x t.0) → IsServedStep c whole old step
+served c whole old (Step.ReadAt s x t) late reads = (late, reads s x t refl)
+served c whole old _ late reads = late
 
 -- a journal stays the same but for steps of marks where one of these is added
 same_with_mark : (a b : List Entry) (e : Entry) → is_of_marks e.step ≡ true → SameButMarks a b → SameButMarks a (b ++ e ∷ [])
@@ -111,7 +118,7 @@ module _ (laws : Laws) (observers : List ObserverOf) (seats clock : ℕ) (room :
     now_is = refl;
     observers_are = refl;
     unseated = λ u t there low. absurd (none-some t (sym (map.get-empty nat_cmp u) ∙ there));
-    acknowledged = λ o row observer there v w is acknowledged. absurd (no_record_at_first (Cell.Data row observer.column) v.commit.0 v.start.0 is.written);
+    acknowledged = λ o row observer there w is. absurd (no_record_at_first (Cell.Ack o row observer.column) w.commit.0 w.start.0 is.written);
     covered = λ o observer there row unmarked d u is. absurd (no_record_at_first (Cell.Data row observer.column) d u is);
   }
 
@@ -134,11 +141,7 @@ module _ (laws : Laws) (observers gone : List ObserverOf) (seats clock c : ℕ) 
   known_here : (o : ℕ) (observer : ObserverOf) (row : Row) → slice_get observers o ≡ Some observer → is_known_cell (length h.lean.observers) (Cell.Ack o row observer.column) ≡ true
   known_here o observer row there = subst (λ (os : List ObserverOf). is_known_cell (length os) (Cell.Ack o row observer.column) ≡ true) (sym h.observers_are) (known_ack observers o observer row observer.column there)
 
-  -- at each timestamp the same was acknowledged in the whole table
-  acknowledged_whole : (u : ℕ) → AreAcknowledgedAt observers u h.lean.entries → AreAcknowledgedAt observers u h.whole.entries
-  acknowledged_whole u acks o row observer there v w is acknowledged =
-      acks o row observer there v w (lean_version c gone h.whole h.lean h.lacks (Cell.Data row observer.column) refl u v is) (lean_version c gone h.whole h.lean h.lacks (Cell.Ack o row observer.column) (known_here o observer row there) u w acknowledged)
-
+  -- at each timestamp the same was acknowledged without those that are gone
   acknowledged_lean : (u : ℕ) → AreAcknowledgedAt observers u h.whole.entries → AreAcknowledgedAt observers u h.lean.entries
   acknowledged_lean u acks o row observer there v w is acknowledged =
       acks o row observer there v w (version_there c gone h.whole h.lean h.lacks (Cell.Data row observer.column) refl u v is) (version_there c gone h.whole h.lean h.lacks (Cell.Ack o row observer.column) (known_here o observer row there) u w acknowledged)
@@ -165,22 +168,30 @@ module _ (laws : Laws) (observers gone : List ObserverOf) (seats clock c : ℕ) 
   later o row observer there d s above is =
       h.mirrors.entries_are.starts (Cell.Ack o row observer.column) d s above (lean_record c gone h.whole h.lean h.lacks (Cell.Ack o row observer.column) (known_here o observer row there) d ∙ is)
 
-  -- the version at c of a cell that it reads so is that of the whole table
-  read_late : (s : ℕ) (x : Cell) (t : ℕ) → c < s → ReadsAcknowledged observers journal s x t → (v : Revision) → IsVersion kept.entries x c v → v.commit.0 ≤ t
-  read_late s x t late r v is =
-      acknowledged_late observers h.legal.past h.whole agrees sound c later (acknowledged_whole c h.acknowledged) s x t late (read_there s x t r) v
-      (version_there c gone h.whole h.lean h.lacks x (subst (λ (y : Cell). is_known_cell (length h.lean.observers) y ≡ true) (sym r.cell) refl) c v (((h.mirrors.entries_are.versions x).there v).1 is))
+  -- for what it reads so, what was kept serves
+  read_serves : (s : ℕ) (x : Cell) (t : ℕ) → c < s → ReadsAcknowledged observers journal s x t → ServesAt c h.lean.entries h.entries x t
+  read_serves s x t late r =
+      acknowledged_at observers h.legal.past h.whole agrees sound c later (ServesAt c h.lean.entries h.entries) (λ y u above. inl (λ v is. omega (arith, is.low, above)))
+      (λ o row observer there w is. h.acknowledged o row observer there w (lean_version c gone h.whole h.lean h.lacks (Cell.Ack o row observer.column) (known_here o observer row there) c w is))
+      s x t late (read_there s x t r)
 
-  reads_late : (step : Step) → IsStepOfJob observers journal step → ReadsLate c kept step
-  reads_late (Step.ReadAt s x t) job = λ late v is. read_late s.0 x t.0 late job v is
-  reads_late _ job = tt
+  reads_serve : (step : Step) → IsStepOfJob observers journal step → NamesLate c step → (s : Ts) (x : Cell) (t : Ts) → step ≡ Step.ReadAt s x t → ServesAt c h.lean.entries h.entries x t.0
+  reads_serve (Step.ReadAt s x t) job late s' x' t' is = subst (λ (k : Step). At k) is (read_serves s.0 x t.0 late job)
+    where
+      At : Step → Type 0
+      At (Step.ReadAt _ y u) = ServesAt c h.lean.entries h.entries y u.0
+      At _ = Unit {0}
+  reads_serve step job late s x t is = cc
 
   module _ (seat : ℕ) (step : Step) (answer : Answer) (new : StateOf) (job : IsStepOfJob observers journal step) (names : NamesKnown (length observers) step) (taken : TableStep kept seat step answer new) where
-    is_late : IsLateStep c kept step
-    is_late = late_step c kept h.unseated seat step (reads_late step job) taken.allowed
+    is_late : NamesLate c step
+    is_late = late_names c kept h.unseated seat step taken.allowed
 
-    one : Carries c h.lean seat step answer new
-    one = laws.steps c h.lean new h.entries h.transactions seat step answer h.mirrors is_late taken
+    is_served : IsServedStep c h.lean.entries kept step
+    is_served = served c h.lean.entries kept step is_late (reads_serve step job is_late)
+
+    one : Carries c h.lean h.entries seat step answer new
+    one = laws.steps c h.lean new h.entries h.transactions seat step answer h.mirrors is_served taken
 
     names_known : NamesKnown (length h.lean.observers) step
     names_known = subst (λ (os : List ObserverOf). NamesKnown (length os) step) (sym h.observers_are) names
@@ -190,14 +201,26 @@ module _ (laws : Laws) (observers gone : List ObserverOf) (seats clock c : ℕ) 
     answers_known = subst (λ (os : List ObserverOf). AnswersKnown (length os) answer) h.observers_are (laws.named c gone h.whole h.lean one.after seat step answer h.lacks names_known one.taken)
 
   module _ (e : Entry) (new : StateOf) (job : IsStepOfJob observers journal e.step) (names : NamesKnown (length observers) e.step) (taken : TableStep kept e.seat e.step e.answer new) where
-    abbrev by_lean : Carries c h.lean e.seat e.step e.answer new
+    abbrev by_lean : Carries c h.lean h.entries e.seat e.step e.answer new
     by_lean = one e.seat e.step e.answer new job names taken
 
-    abbrev late : IsLateStep c kept e.step
+    abbrev late : NamesLate c e.step
     late = is_late e.seat e.step e.answer new job names taken
 
     observers_stay : by_lean.after.observers ≡ h.lean.observers
     observers_stay = case_observers h.lean e.seat by_lean.after 0 e.step e.answer by_lean.taken.taken
+
+    -- the version that was kept at c is the same
+    version_before : (x : Cell) (v : Revision) → IsVersion by_lean.entries x c v → IsVersion h.entries x c v
+    version_before x v is = ((h.mirrors.entries_are.versions x).there v).0 ((by_lean.versions x v).1 (((by_lean.mirrors.entries_are.versions x).there v).1 is))
+
+    -- and for what it served it still does
+    still_serves : (x : Cell) (t : ℕ) → ServesAt c h.lean.entries h.entries x t → ServesAt c by_lean.after.entries by_lean.entries x t
+    still_serves x t (inl low) = inl (λ v is. low v (version_before x v is))
+    still_serves x t (inr same) = elim (cases_lt c t) [
+      | inl above ↦ inl (λ v is. omega (arith, is.low, above))
+      | inr under ↦ inr (by_lean.before x t under same)
+    ]
 
     -- with a whole table after it
     with_whole : (whole : StateOf) → IsLegalButMarks (observers ++ gone) seats clock (journal ++ e ∷ []) whole → LacksOthers c gone whole by_lean.after → AreCovered h.lean.observers by_lean.after.marks whole.entries
@@ -215,14 +238,14 @@ module _ (laws : Laws) (observers gone : List ObserverOf) (seats clock c : ℕ) 
           now_is = by_lean.new_is;
           observers_are = observers_stay ∙ h.observers_are;
           unseated = subst (AreUnseated c) by_lean.new_is unseated;
-          acknowledged = λ o row observer there v w is acknowledged. h.acknowledged o row observer there v w ((by_lean.versions (Cell.Data row observer.column) v).1 is) ((by_lean.versions (Cell.Ack o row observer.column) w).1 acknowledged);
+          acknowledged = λ o row observer there w is. still_serves (Cell.Data row observer.column) (stamp_of w.content).0 (h.acknowledged o row observer there w ((by_lean.versions (Cell.Ack o row observer.column) w).1 is));
           covered = subst (λ (os : List ObserverOf). AreCovered os by_lean.after.marks whole.entries) h.observers_are covered;
         }
 
     after_other : is_of_marks e.step ≡ false → Stands observers gone seats clock c (journal ++ e ∷ []) new
     after_other of =
         let goes : GoesWithOthers c gone h.whole e.seat e.step e.answer by_lean.after =
-        laws.missed c gone h.whole h.lean by_lean.after e.seat e.step e.answer h.lacks of (late_names c kept e.step late) (names_known e.seat e.step e.answer new job names taken) by_lean.taken in
+        laws.missed c gone h.whole h.lean by_lean.after e.seat e.step e.answer h.lacks of late (names_known e.seat e.step e.answer new job names taken) by_lean.taken in
         with_whole goes.after
         (record {
           past = h.legal.past ++ e ∷ [];
@@ -271,6 +294,7 @@ module _ (laws : Laws) (observers gone : List ObserverOf) (seats clock c : ℕ) 
     begun : (f : Entries) (ts : Transactions) → IsSnapshotOf kept f → AreEnded kept ts → Stands observers gone seats clock h.lean.clock journal (carried kept f ts)
     begun f ts snapshot ended =
         let lacks = lacks_at_clock c gone h.whole h.lean h.lacks laws.begin sound (λ x u fits. no_lock x u) in
+        let mirrors : IsMirroredBy h.lean.clock h.lean f ts = laws.serve (observers ++ gone) gone seats clock h.legal.past h.whole h.lean h.legal.legal (λ x u fits. no_lock x u) room_whole lacks f ts (laws.over c h.lean h.entries h.transactions h.mirrors f snapshot) (none_above ts ended) in
         record {
           whole = h.whole;
           lean = h.lean;
@@ -278,11 +302,11 @@ module _ (laws : Laws) (observers gone : List ObserverOf) (seats clock c : ℕ) 
           transactions = ts;
           legal = h.legal;
           lacks = subst (λ (n : ℕ). LacksOthers n gone h.whole h.lean) (sym same_clock_here) lacks;
-          mirrors = laws.serve (observers ++ gone) gone seats clock h.legal.past h.whole h.lean h.legal.legal (λ x u fits. no_lock x u) room_whole lacks f ts (laws.over c h.lean h.entries h.transactions h.mirrors f snapshot) (none_above ts ended);
+          mirrors = mirrors;
           now_is = refl;
           observers_are = h.observers_are;
           unseated = λ u t there low. (ended u t there).1;
-          acknowledged = acknowledged_lean h.lean.clock (subst (λ (n : ℕ). AreAcknowledgedAt observers n h.whole.entries) (sym same_clock_here) acknowledged_now);
+          acknowledged = λ o row observer there w is. inl (λ v kept_there. acknowledged_lean h.lean.clock (subst (λ (n : ℕ). AreAcknowledgedAt observers n h.whole.entries) (sym same_clock_here) acknowledged_now) o row observer there v w (((mirrors.entries_are.versions (Cell.Data row observer.column)).there v).1 kept_there) is);
           covered = h.covered;
         }
 
@@ -338,6 +362,9 @@ module _ (laws : Laws) (observers gone : List ObserverOf) (seats clock c : ℕ) 
       mirrors_moved = laws.serve others (observers ++ gone) seats clock moved.2.past whole lean moved.2.legal (λ x u fits. no_lock_moved x u) (subst (λ (n : ℕ). n < last_timestamp) (sym clock_moved) room) lacks_moved f ts snapshot_moved
           (λ s above. none_above ts ended s (subst (λ (n : ℕ). n < s) clock_moved above))
 
+      mirrors_here : IsMirroredBy h.lean.clock lean f ts
+      mirrors_here = subst (λ (n : ℕ). IsMirroredBy n lean f ts) clock_moved mirrors_moved
+
       covered_moved : AreCovered (front ++ added) new.marks whole.entries
       covered_moved = chosen_covered laws.has c gone h.whole h.lean kept whole places front added f ts new sound h.lacks h.mirrors refl are_lean moved.1 snapshot quiet covered_lean more
 
@@ -358,11 +385,11 @@ module _ (laws : Laws) (observers gone : List ObserverOf) (seats clock c : ℕ) 
         transactions = ts;
         legal = record { past = moved.2.past; same = moved.2.same ∙ renumbered_same number h.legal.past journal h.legal.same; legal = moved.2.legal };
         lacks = subst (λ (n : ℕ). LacksOthers n (observers ++ gone) whole lean) clock_moved lacks_moved;
-        mirrors = subst (λ (n : ℕ). IsMirroredBy n lean f ts) clock_moved mirrors_moved;
+        mirrors = mirrors_here;
         now_is = new_is;
         observers_are = refl;
         unseated = λ u t there low. omega (arith, (ended u t there).1, seats_moved);
-        acknowledged = acknowledged_moved;
+        acknowledged = λ o row observer there w is. inl (λ v kept_there. acknowledged_moved o row observer there v w (((mirrors_here.entries_are.versions (Cell.Data row observer.column)).there v).1 kept_there) is);
         covered = covered_moved;
       }
 

@@ -4,7 +4,7 @@ use Rattle.std.proofs.lemmas.Option.{none-some}
 use Rattle.std.specs.FinMap as map
 use Rattle.pb_generations.specs.Words.{Cell, Revision, Row, Ts, Reason, Entries, NoWriteOf, commit_reasons, CommitsSecondary, if_locked, secondary_reasons, commit_lock, commits, erase_lock, rolls_back, declare_reasons, AllUpToDate, IsUpToDate, SomeBehind, prewrite_reasons, put_lock, ReadsAbsent, ReadsFound, ReadsLocked, read_at_reasons, read_reasons, read_step, with_read, IsLockOn, IsNewestVersion, IsVersion, NoLock, NoLockUpTo, NoVersion, SomeLock, SomeWriteFrom, last_timestamp, lock_at, write_at, read_up_to, IsOwn, Reasons, first_reason, if_of_seat, is_out, no_seat, own_reasons, reasons_of, unstamped_reasons, StateOf, TransactionOf, Transactions, cells_of, new_transaction, with_transaction, StepCase, TableStep, step_reason, Phase, Answer, Step}
 use Rattle.pb_generations.specs.Mirrored.{IsMirroredBy, IsLatePhase, carried}
-use Rattle.pb_generations.specs.LateSteps.{IsLateStep, Carries}
+use Rattle.pb_generations.specs.LateSteps.{IsServedStep, ServesAt, Carries}
 use Rattle.pb_generations.proofs.VersionsAbove.{whole_version, whole_none}
 use Rattle.pb_generations.proofs.Kept.{with_both, lock_put, lock_committed, lock_erased}
 use Rattle.pb_generations.proofs.steps_carry_over.Goals as goal
@@ -12,9 +12,9 @@ use Rattle.pb_generations.proofs.steps_carry_over.Goals as goal
 module _ (c : ℕ) (whole : StateOf) (e : Entries) (ts : Transactions) (m : IsMirroredBy c whole e ts) where
   -- ---- what is read
 
-  -- a timestamp above c, or at or above the version that was kept, where there is one
+  -- a timestamp above c, or one for which what was kept serves
   abbrev Reaches : Cell → ℕ → Type 0
-  Reaches x u = (c < u) ⊎ ((v : Revision) → IsVersion e x c v → v.commit.0 ≤ u)
+  Reaches x u = (c < u) ⊎ ServesAt c whole.entries e x u
 
   version_above : (x : Cell) (u : ℕ) (v : Revision) → c < u → IsVersion e x u v → IsVersion whole.entries x u v
   version_above x u v later is = whole_version c whole.entries e m.entries_are x u (omega (arith, later)) v is
@@ -41,7 +41,8 @@ module _ (c : ℕ) (whole : StateOf) (e : Entries) (ts : Transactions) (m : IsMi
 
   version_of : (x : Cell) (u : ℕ) (v : Revision) → Reaches x u → IsVersion e x u v → IsVersion whole.entries x u v
   version_of x u v (inl later) is = version_above x u v later is
-  version_of x u v (inr reaches) is = elim (cases_lt c u) [
+  version_of x u v (inr (inr same)) is = (same.there v).1 is
+  version_of x u v (inr (inl reaches)) is = elim (cases_lt c u) [
     | inl later ↦ version_above x u v later is
     | inr low ↦ elim (m.entries_are.either x) [
       | inl w ↦ version_below x u v w.0 low w.1 (reaches w.0 (((m.entries_are.versions x).there w.0).0 w.1)) is
@@ -51,7 +52,8 @@ module _ (c : ℕ) (whole : StateOf) (e : Entries) (ts : Transactions) (m : IsMi
 
   none_of : (x : Cell) (u : ℕ) → Reaches x u → NoVersion e x u → NoVersion whole.entries x u
   none_of x u (inl later) is = none_above x u later is
-  none_of x u (inr reaches) is = elim (cases_lt c u) [
+  none_of x u (inr (inr same)) is = same.none.1 is
+  none_of x u (inr (inl reaches)) is = elim (cases_lt c u) [
     | inl later ↦ none_above x u later is
     | inr low ↦ elim (m.entries_are.either x) [
       | inl w ↦ let kept = ((m.entries_are.versions x).there w.0).0 w.1 in absurd (none-some w.0.start.0 (sym (is w.0.commit.0 (reaches w.0 kept)) ∙ kept.written))
@@ -94,10 +96,10 @@ module _ (c : ℕ) (whole : StateOf) (e : Entries) (ts : Transactions) (m : IsMi
 
   -- ---- what it leaves
 
-  stays : (seat : ℕ) (step : Step) (answer : Answer) (new : StateOf) → step_reason whole seat step ≡ None → StepCase whole seat step answer whole → new ≡ carried whole e ts → Carries c whole seat step answer new
-  stays seat step answer new allowed taken is = record { after = whole; entries = e; transactions = ts; taken = record { allowed = allowed; taken = taken }; mirrors = m; new_is = is; versions = λ x v. (λ is. is, λ is. is) }
+  stays : (seat : ℕ) (step : Step) (answer : Answer) (new : StateOf) → step_reason whole seat step ≡ None → StepCase whole seat step answer whole → new ≡ carried whole e ts → Carries c whole e seat step answer new
+  stays seat step answer new allowed taken is = record { after = whole; entries = e; transactions = ts; taken = record { allowed = allowed; taken = taken }; mirrors = m; new_is = is; versions = λ x v. (λ is. is, λ is. is); before = λ x u under same. same }
 
-  turns : (seat : ℕ) (step : Step) (answer : Answer) (new : StateOf) (s : ℕ) (t : TransactionOf) → c < s → IsLatePhase c t.phase → step_reason whole seat step ≡ None → StepCase whole seat step answer (with_transaction whole s t) → new ≡ with_transaction (carried whole e ts) s t → Carries c whole seat step answer new
+  turns : (seat : ℕ) (step : Step) (answer : Answer) (new : StateOf) (s : ℕ) (t : TransactionOf) → c < s → IsLatePhase c t.phase → step_reason whole seat step ≡ None → StepCase whole seat step answer (with_transaction whole s t) → new ≡ with_transaction (carried whole e ts) s t → Carries c whole e seat step answer new
   turns seat step answer new s t later phase allowed taken is = record {
     after = with_transaction whole s t;
     entries = e;
@@ -106,10 +108,11 @@ module _ (c : ℕ) (whole : StateOf) (e : Entries) (ts : Transactions) (m : IsMi
     mirrors = record { since = m.since; room = m.room; entries_are = m.entries_are; transactions_are = with_both c whole.transactions ts s t m.transactions_are later phase };
     new_is = is;
     versions = λ x v. (λ is. is, λ is. is);
+    before = λ x u under same. same;
   }
 
   -- a lock becomes a write record
-  commits_both : (seat : ℕ) (step : Step) (answer : Answer) (new : StateOf) (x : Cell) (s d : ℕ) → c < s → c < d → step_reason whole seat step ≡ None → StepCase whole seat step answer (commits whole x s d) → new ≡ commits (carried whole e ts) x s d → Carries c whole seat step answer new
+  commits_both : (seat : ℕ) (step : Step) (answer : Answer) (new : StateOf) (x : Cell) (s d : ℕ) → c < s → c < d → step_reason whole seat step ≡ None → StepCase whole seat step answer (commits whole x s d) → new ≡ commits (carried whole e ts) x s d → Carries c whole e seat step answer new
   commits_both seat step answer new x s d later late allowed taken is = record {
     after = commits whole x s d;
     entries = commit_lock e x s d;
@@ -118,9 +121,10 @@ module _ (c : ℕ) (whole : StateOf) (e : Entries) (ts : Transactions) (m : IsMi
     mirrors = record { since = m.since; room = m.room; entries_are = (lock_committed c whole.entries e m.entries_are x s later d late).same; transactions_are = m.transactions_are };
     new_is = is;
     versions = (lock_committed c whole.entries e m.entries_are x s later d late).versions;
+    before = (lock_committed c whole.entries e m.entries_are x s later d late).before;
   }
 
-  backs_both : (seat : ℕ) (step : Step) (answer : Answer) (new : StateOf) (x : Cell) (s : ℕ) → c < s → step_reason whole seat step ≡ None → StepCase whole seat step answer (rolls_back whole x s) → new ≡ rolls_back (carried whole e ts) x s → Carries c whole seat step answer new
+  backs_both : (seat : ℕ) (step : Step) (answer : Answer) (new : StateOf) (x : Cell) (s : ℕ) → c < s → step_reason whole seat step ≡ None → StepCase whole seat step answer (rolls_back whole x s) → new ≡ rolls_back (carried whole e ts) x s → Carries c whole e seat step answer new
   backs_both seat step answer new x s later allowed taken is = record {
     after = rolls_back whole x s;
     entries = erase_lock e x s;
@@ -129,6 +133,7 @@ module _ (c : ℕ) (whole : StateOf) (e : Entries) (ts : Transactions) (m : IsMi
     mirrors = record { since = m.since; room = m.room; entries_are = (lock_erased c whole.entries e m.entries_are x s later).same; transactions_are = m.transactions_are };
     new_is = is;
     versions = (lock_erased c whole.entries e m.entries_are x s later).versions;
+    before = (lock_erased c whole.entries e m.entries_are x s later).before;
   }
 
   -- ---- marks
@@ -180,7 +185,7 @@ module _ (c : ℕ) (whole : StateOf) (e : Entries) (ts : Transactions) (m : IsMi
   found : (seat : ℕ) (s : Ts) (x : Cell) (w : Option Ts) (v : Revision) (new : StateOf) → c < s.0 → Reaches x (read_up_to s.0 w)
       → step_reason whole seat (read_step s x w) ≡ None → ReadsFound (carried whole e ts) seat s.0 x w v new
       → ((n : StateOf) → ReadsFound whole seat s.0 x w v n → StepCase whole seat (read_step s x w) (Answer.Found v.start v.commit v.content) n)
-      → Carries c whole seat (read_step s x w) (Answer.Found v.start v.commit v.content) new
+      → Carries c whole e seat (read_step s x w) (Answer.Found v.start v.commit v.content) new
   found seat s x w v new later reaches allowed is case =
       turns seat (read_step s x w) (Answer.Found v.start v.commit v.content) new s.0 (with_read is.t x w (Answer.Found v.start v.commit v.content)) later (phase_of seat s.0 is.t later is.own) allowed
       (case _ (record { t = is.t; own = own_of seat s.0 is.t later is.own; reading = is.reading; in_time = is.in_time; unlocked = no_lock_to x _ is.unlocked; version = version_of x _ v reaches is.version; new_is = refl }))
@@ -189,7 +194,7 @@ module _ (c : ℕ) (whole : StateOf) (e : Entries) (ts : Transactions) (m : IsMi
   absent : (seat : ℕ) (s : Ts) (x : Cell) (w : Option Ts) (new : StateOf) → c < s.0 → Reaches x (read_up_to s.0 w)
       → step_reason whole seat (read_step s x w) ≡ None → ReadsAbsent (carried whole e ts) seat s.0 x w new
       → ((n : StateOf) → ReadsAbsent whole seat s.0 x w n → StepCase whole seat (read_step s x w) Answer.Absent n)
-      → Carries c whole seat (read_step s x w) Answer.Absent new
+      → Carries c whole e seat (read_step s x w) Answer.Absent new
   absent seat s x w new later reaches allowed is case =
       turns seat (read_step s x w) Answer.Absent new s.0 (with_read is.t x w Answer.Absent) later (phase_of seat s.0 is.t later is.own) allowed
       (case _ (record { t = is.t; own = own_of seat s.0 is.t later is.own; reading = is.reading; in_time = is.in_time; unlocked = no_lock_to x _ is.unlocked; none = none_of x _ reaches is.none; new_is = refl }))
@@ -198,7 +203,7 @@ module _ (c : ℕ) (whole : StateOf) (e : Entries) (ts : Transactions) (m : IsMi
   locked_read : (seat : ℕ) (s : Ts) (x : Cell) (w : Option Ts) (start : Ts) (primary : Cell) (new : StateOf) → c < s.0
       → step_reason whole seat (read_step s x w) ≡ None → ReadsLocked (carried whole e ts) seat s.0 x w (start.0, primary) new
       → (ReadsLocked whole seat s.0 x w (start.0, primary) whole → StepCase whole seat (read_step s x w) (Answer.Locked start primary) whole)
-      → Carries c whole seat (read_step s x w) (Answer.Locked start primary) new
+      → Carries c whole e seat (read_step s x w) (Answer.Locked start primary) new
   locked_read seat s x w start primary new later allowed is case =
       stays seat (read_step s x w) (Answer.Locked start primary) new allowed
       (case (record { t = is.t; own = own_of seat s.0 is.t later is.own; reading = is.reading; in_time = is.in_time; low = is.low; locked = sym (m.entries_are.locks x start.0) ∙ is.locked; newest = λ u above low. sym (m.entries_are.locks x u) ∙ is.newest u above low; new_is = refl }))
@@ -218,7 +223,7 @@ module _ (c : ℕ) (whole : StateOf) (e : Entries) (ts : Transactions) (m : IsMi
   ]
 
   secondary : (seat : ℕ) (s : Ts) (x : Cell) (new : StateOf) → c < s.0 → step_reason whole seat (Step.CommitSecondary s x) ≡ None → CommitsSecondary (carried whole e ts) seat s.0 x new
-      → (b : Bool) → is_some (lock_at e x s.0) ≡ b → Carries c whole seat (Step.CommitSecondary s x) Answer.Done new
+      → (b : Bool) → is_some (lock_at e x s.0) ≡ b → Carries c whole e seat (Step.CommitSecondary s x) Answer.Done new
   secondary seat s x new later allowed is true there =
       let late : c < is.c = subst (IsLatePhase c) is.committed (phase_of seat s.0 is.t later is.own) in
       commits_both seat (Step.CommitSecondary s x) Answer.Done new x s.0 is.c later late allowed
@@ -229,7 +234,7 @@ module _ (c : ℕ) (whole : StateOf) (e : Entries) (ts : Transactions) (m : IsMi
       (record { t = is.t; own = own_of seat s.0 is.t later is.own; c = is.c; committed = is.committed; declares = is.declares; new_is = sym (ap (λ (b : Bool). if_locked whole b x s.0 is.c) (same_some x s.0 false there)) })
       (is.new_is ∙ ap (λ (b : Bool). if_locked (carried whole e ts) b x s.0 is.c) there)
 
-  carry : (new : StateOf) (seat : ℕ) (step : Step) (answer : Answer) → IsLateStep c (carried whole e ts) step → TableStep (carried whole e ts) seat step answer new → Carries c whole seat step answer new
+  carry : (new : StateOf) (seat : ℕ) (step : Step) (answer : Answer) → IsServedStep c whole.entries (carried whole e ts) step → TableStep (carried whole e ts) seat step answer new → Carries c whole e seat step answer new
   carry new seat (Step.Begin work) (Answer.At s) late t =
       let is = t.taken in
       let above : c < s.0 = omega (arith, is.fresh, m.since) in
@@ -241,6 +246,7 @@ module _ (c : ℕ) (whole : StateOf) (e : Entries) (ts : Transactions) (m : IsMi
         mirrors = record { since = omega (arith, above); room = m.room; entries_are = m.entries_are; transactions_are = with_both c whole.transactions ts s.0 (new_transaction seat work) m.transactions_are above tt };
         new_is = is.new_is;
         versions = λ x v. (λ is. is, λ is. is);
+        before = λ x u under same. same;
       }
   carry new seat (Step.Read s x) (Answer.Locked start primary) late t = locked_read seat s x None start primary new late (allowed_own seat s.0 read_reasons late t.allowed) t.taken (λ k. k)
   carry new seat (Step.Read s x) (Answer.Found start commit content) late t = found seat s x None (record { start = start; commit = commit; content = content }) new late (inl late) (allowed_own seat s.0 read_reasons late t.allowed) t.taken (λ n k. k)
@@ -263,6 +269,7 @@ module _ (c : ℕ) (whole : StateOf) (e : Entries) (ts : Transactions) (m : IsMi
         mirrors = record { since = m.since; room = m.room; entries_are = (lock_put c whole.entries e m.entries_are x s.0 late is.content is.primary).same; transactions_are = with_both c whole.transactions ts s.0 done m.transactions_are late (phase_of seat s.0 is.t late is.own) };
         new_is = is.new_is;
         versions = (lock_put c whole.entries e m.entries_are x s.0 late is.content is.primary).versions;
+        before = (lock_put c whole.entries e m.entries_are x s.0 late is.content is.primary).before;
       }
   carry new seat (Step.Prewrite s x) Answer.Conflict late t =
       let is = t.taken in
@@ -284,6 +291,7 @@ module _ (c : ℕ) (whole : StateOf) (e : Entries) (ts : Transactions) (m : IsMi
         mirrors = record { since = omega (arith, above); room = m.room; entries_are = m.entries_are; transactions_are = with_both c whole.transactions ts s.0 stamped m.transactions_are late above };
         new_is = is.new_is;
         versions = λ x v. (λ is. is, λ is. is);
+        before = λ x u under same. same;
       }
   carry new seat (Step.CommitPrimary s) Answer.Committed late t =
       let is = t.taken in
@@ -297,6 +305,7 @@ module _ (c : ℕ) (whole : StateOf) (e : Entries) (ts : Transactions) (m : IsMi
         mirrors = record { since = m.since; room = m.room; entries_are = (lock_committed c whole.entries e m.entries_are is.primary s.0 late is.c above).same; transactions_are = with_both c whole.transactions ts s.0 done m.transactions_are late above };
         new_is = is.new_is;
         versions = (lock_committed c whole.entries e m.entries_are is.primary s.0 late is.c above).versions;
+        before = (lock_committed c whole.entries e m.entries_are is.primary s.0 late is.c above).before;
       }
   carry new seat (Step.CommitPrimary s) Answer.Lost late t =
       let is = t.taken in
@@ -338,6 +347,7 @@ module _ (c : ℕ) (whole : StateOf) (e : Entries) (ts : Transactions) (m : IsMi
         mirrors = record { since = m.since; room = m.room; entries_are = m.entries_are; transactions_are = m.transactions_are };
         new_is = is.new_is;
         versions = λ x v. (λ is. is, λ is. is);
+        before = λ x u under same. same;
       }
   carry new seat step answer late t = absurd t.taken
 
