@@ -1,8 +1,8 @@
 -- Parts that are cut off where a run is due, on one table: of two of them one goes on where the other was cut off, by a run at least, or they
 -- are the same; and whole ones go on so.
-use Rattle.std.proofs.Common.{arith, ◌≡◌, ℕ, ◌+◌, ◌≤◌, List, [], ◌∷◌, ◌++◌, append_assoc, append-nil, refl, sym, ap, subst, ◌∙◌}
+use Rattle.std.proofs.Common.{arith, ◌≡◌, ℕ, ◌≤◌, List, ◌++◌, append_assoc, sym, ap, subst, ◌∙◌}
 use Rattle.pb_conversations.specs.Parts.{EndsIn}
-use Rattle.pb_conversations.proofs.OneOutcome.{EndsOn, last_part, part_first, end_goes_on, AreOne, HaveOneOutcome}
+use Rattle.pb_conversations.proofs.OneOutcome.{EndsOn, last_part, part_first, end_goes_on, HaveOneOutcome}
 use Rattle.pb_keeper.specs.Drains.{begun_count}
 use Rattle.pb_keeper.proofs.BegunRuns.{runs_append}
 use Rattle.pb_keeper.proofs.Wholes.{leads_parts, stays_sound}

@@ -14,7 +14,7 @@ use Rattle.pb_conversations.proofs.OneOutcome.{EndsOn, last_part, part_first, en
 use Rattle.pb_txn.specs.Places.{declared_cells}
 use Rattle.pb_notify.specs.Conversations.{run_job}
 use Rattle.pb_passes.specs.Passes.{job_on}
-use Rattle.law_replays.specs.Words.{Writes, Cell, row_of, Ts, ObserverOf, Step, Answer, Work, Declared, StateOf, TableStep, HasMoreObservers, JournalLeads, IsSoundTable, OpeningIsSound, StepsKeepSound, Received, told, took, went, no_part, one_part, IsWhole, committed, prewrites, secondaries, Outcome, entries_by, Reaches, RunOf, Watch, fresh, need_of, next_of, watch_of, JobEnd, Need, IsRun, IsOfOther, IsTurnOf, AreRuns, AreAllRuns, IsMarkRun, IsMarkless, IsPass, IsNextPass, IsNextTurn, EndsDrain, HasColumn, IsDrain, MAX_PASSES, ChosenAreSound, LeftAreSound, MAX_RECORD_BYTES, EachHasOneMeaning, StepsHaveOneOutcome, MachinesAreLed, RunPlace}
+use Rattle.law_replays.specs.Words.{Writes, Cell, row_of, Ts, ObserverOf, Step, Answer, Work, Declared, StateOf, TableStep, HasMoreObservers, IsSoundTable, OpeningIsSound, StepsKeepSound, Received, told, took, went, no_part, one_part, IsWhole, committed, prewrites, secondaries, Outcome, Reaches, RunOf, Watch, fresh, need_of, next_of, watch_of, JobEnd, Need, IsRun, IsOfOther, IsTurnOf, AreRuns, AreAllRuns, IsMarkRun, IsMarkless, IsPass, IsNextPass, IsNextTurn, EndsDrain, HasColumn, IsDrain, MAX_PASSES, ChosenAreSound, LeftAreSound, MAX_RECORD_BYTES, EachHasOneMeaning, StepsHaveOneOutcome, MachinesAreLed, RunPlace}
 use Rattle.pb_keeper.specs.Drains.{within, cut_off, AreRunsDue, IsDrainDue, IsDrainWithin, IsMarkDue, IsPassDue, IsRunDue}
 use Rattle.pb_keeper.specs.Keeps.{AreMade}
 use Rattle.pb_keeper.specs.Leads.{IsEndedChange}
@@ -321,7 +321,7 @@ marked_once more old m n f g =
     f.is ∙ (λ i. record old { observers = old.observers ++ more; marks = marks i }) ∙ sym g.is
 
 pub caught_up_once : StepsHaveOneOutcome → StepsKeepSound → OpeningIsSound → LeftAreSound → ChosenAreSound → EachHasOneMeaning → MachinesAreLed → CatchingUpHasOneOutcome
-caught_up_once once keeps opens left chosen meaning led first changes old between a b places front more judged k quiet is f g bound =
+caught_up_once once keeps opens left chosen meaning led first changes old between a b places front more judged k is f g bound =
     let observers = front ++ more in
     let same = marked_once more between.state f.marked.state g.marked.state f.observed g.observed in
     let sound = marked_sound keeps opens left chosen k.past changes first old between a places front more k.began k.leads is f in
@@ -331,4 +331,4 @@ caught_up_once once keeps opens left chosen meaning led first changes old betwee
     sound f.drained.leads (subst (λ (z : StateOf). SeatLeads z g.drained.said b.state) (sym same) g.drained.leads)).table_is
   where
     observers_after : (m : StateOf) → HasMoreObservers more between.state m → m.observers ≡ front ++ more
-    observers_after m has = ap (λ (z : StateOf). z.observers) has.is ∙ ap (λ (z : StateOf). z.observers ++ more) is.is
+    observers_after m has = ap (λ (z : StateOf). z.observers) has.is ∙ ap (λ (z : StateOf). z.observers ++ more) is.marked.is

@@ -12,7 +12,6 @@ pub use Rattle.pb_steps.specs.declared.step.Answer.{Answer}
 pub use Rattle.pb_steps.specs.declared.step.Declared.{Declared}
 pub use Rattle.pb_steps.specs.declared.step.Step.{Step}
 pub use Rattle.pb_steps.specs.declared.step.Work.{Work}
-pub use Rattle.pb_history.specs.Handled.{IsQuiet}
 pub use Rattle.pb_history.specs.Journals.{JournalLeads}
 pub use Rattle.pb_history.specs.Laws.{OpeningIsSound, StepsHaveOneOutcome, StepsKeepSound}
 pub use Rattle.pb_history.specs.Sound.{IsSoundTable}

@@ -25,7 +25,7 @@ pub fn replay_has_one_outcome()
     machines_are_led();
 }
 
-/// Two tables that came from one, as it went on with some observers of a quiet table that keeps changes, got the same others, and
+/// Two tables that came from one, as it went on with some observers of a table that keeps changes, got the same others, and
 /// these caught up, are the same, if all programs are judged so.
 pub fn catching_up_has_one_outcome()
     ensures { CatchingUpHasOneOutcome }

@@ -1,4 +1,4 @@
--- Where acknowledgments are at or above the versions of their cells, so is what is read there later.
+-- What holds at what observers have acknowledged holds at what is read there later.
 use Rattle.std.proofs.Common.{◌≡◌, ℕ, ◌<◌, ◌≤◌, inl, inr, arith, List, Some, None, slice_get, sym, ap, subst}
 use Rattle.std.proofs.lemmas.Bool.{cases_lt}
 use Rattle.pb_generations.specs.Words.{Cell, Content, Revision, Row, Ts, ObserverOf, Entries, IsVersion, data_at, write_at, acknowledged_in, stamp_of, StateOf, Answer, Step, Has, IsEntry, IsSoundTable, reads_recorded, Entry, IsHeld}
@@ -7,12 +7,6 @@ use Rattle.pb_history.proofs.Updates.{none_if}
 use Rattle.pb_history.proofs.Acknowledgments.{stamp_stands}
 use Rattle.pb_history.proofs.Agreement.{Agrees, read_of, ts}
 use Rattle.pb_generations.specs.KeptTables.{ReadsAcknowledged}
-
--- what each observer has acknowledged of a cell of its column at c is at or above the version there
-abbrev pub AreAcknowledgedAt : List ObserverOf → ℕ → Entries → Type 0
-AreAcknowledgedAt observers c e =
-    (o : ℕ) (row : Row) (observer : ObserverOf) → slice_get observers o ≡ Some observer → (v w : Revision) → IsVersion e (Cell.Data row observer.column) c v → IsVersion e (Cell.Ack o row observer.column) c w
-    → v.commit.0 ≤ (stamp_of w.content).0
 
 -- ---- what is read later
 

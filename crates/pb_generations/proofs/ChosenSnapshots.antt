@@ -1,24 +1,26 @@
--- A snapshot for other observers is one of the renumbered table without those that are gone, and there each change is marked or
--- acknowledged.
-use Rattle.std.proofs.Common.{◌≡◌, ℕ, ◌<◌, ◌≤◌, Bool, true, false, nat_lt, List, ◌++◌, length, Option, Some, None, option_map, slice_get, refl, sym, ap, subst, ◌∙◌, arith, inl, inr}
-use Rattle.std.proofs.lemmas.Bool.{cases_lt}
+-- A snapshot for other observers shows what may be viewed of the renumbered table without those that are gone.
+use Rattle.std.proofs.Common.{◌≡◌, ◌⊎◌, ℕ, zero, ◌<◌, ◌≤◌, Bool, true, false, nat_lt, List, ◌++◌, length, Option, Some, None, option_map, slice_get, refl, sym, ap, subst, ◌∙◌, arith, inl, inr}
 use Rattle.std.proofs.lemmas.List.{length-append}
 use Rattle.std.proofs.lemmas.Option.{none-some, slice_get_cases, slice_get_within}
-use Rattle.pb_base.proofs.Logic.{not_both, one_value}
-use Rattle.pb_generations.specs.Words.{Cell, Revision, Row, ObserverOf, Entries, Marks, Sort, is_marked, IsVersion, data_at, data_of, start_of, write_at, StateOf, Transactions, IsQuiet, SoundHasData, IsSoundTable, HasMoreObservers}
-use Rattle.pb_history.proofs.MarksCover.{observed_one}
-use Rattle.pb_generations.specs.Chosen.{AreChosen, IsChosenSnapshot, chosen_cell, chosen_state, new_number, place_among, placed_after}
+use Rattle.pb_base.proofs.Logic.{not_both, one_value, same_some}
+use Rattle.pb_generations.specs.Words.{Cell, Content, Row, ObserverOf, Entries, Marks, Sort, is_marked, IsVersion, data_at, data_of, start_of, write_at, StateOf, Transactions}
+use Rattle.pb_history.proofs.Updates.{none_if}
+use Rattle.pb_generations.specs.Chosen.{AreChosen, IsChosenSnapshot, chosen_cell, new_number, place_among, placed_after}
 use Rattle.pb_generations.specs.KeptTables.{AreCovered}
 use Rattle.pb_generations.specs.LeftOut.{LacksOthers, is_known_cell, known_entries, without_others}
-use Rattle.pb_generations.specs.Mirrored.{IsMirroredBy, carried}
+use Rattle.pb_generations.specs.Mirrored.{IsMirroredBy, IsPartOf, SameVersion, SameVersionOn, carried}
 use Rattle.pb_generations.specs.Renumbered.{IsRenumbered, renumbered_cell}
-use Rattle.pb_generations.specs.Snapshots.{IsSnapshotOf}
-use Rattle.pb_generations.proofs.ChosenNumbers.{chosen_is_renumbered, place_found, place_is}
+use Rattle.pb_generations.specs.Snapshots.{AreAcknowledgedLate, IsViewedAt, ServeAcknowledged, ShowsViewed}
+use Rattle.pb_generations.proofs.ChosenNumbers.{chosen_is_renumbered, one_chosen, place_found, place_is}
 use Rattle.pb_generations.proofs.KnownEntries.{known_same, unknown_none}
-use Rattle.pb_generations.proofs.LongerLists.{either_list}
-use Rattle.pb_generations.proofs.NewestVersions.{newest_or_none}
-use Rattle.pb_generations.proofs.QuietTables.{no_record_above}
-use Rattle.pb_generations.proofs.VersionsAbove.{kept_version, whole_version}
+use Rattle.pb_generations.proofs.LongerLists.{either_list, stay_in_front}
+use Rattle.pb_generations.proofs.SameVersions.{same_back, same_on}
+use Rattle.pb_generations.proofs.ViewedVersions.{viewed_same, viewed_there}
+
+-- the number in an acknowledgment
+abbrev number_in : Cell → ℕ
+number_in (Cell.Data row column) = zero
+number_in (Cell.Ack o row column) = o
 
 -- ---- two cells
 
@@ -27,17 +29,15 @@ record SameOn (e : Entries) (x : Cell) (f : Entries) (y : Cell) : Type 0 where
   records : (d : ℕ) → write_at f y d ≡ write_at e x d
   stored : (s : ℕ) → data_at f y s ≡ data_at e x s
 
-same_back : (e : Entries) (x : Cell) (f : Entries) (y : Cell) → SameOn e x f y → SameOn f y e x
-same_back e x f y same = record { records = λ d. sym (same.records d); stored = λ s. sym (same.stored s) }
-
 -- so it has the same versions
-same_version : (e : Entries) (x : Cell) (f : Entries) (y : Cell) (c d : ℕ) → SameOn e x f y → c ≡ d → (v : Revision) → IsVersion e x c v → IsVersion f y d v
-same_version e x f y c d same clocks v is = subst (λ (n : ℕ). IsVersion f y n v) clocks (record {
-  low = is.low;
-  written = same.records v.commit.0 ∙ is.written;
-  content = same.stored v.start.0 ∙ is.content;
-  newest = λ n above low. same.records n ∙ is.newest n above low;
-})
+same_version : (e : Entries) (x : Cell) (f : Entries) (y : Cell) (t : ℕ) → SameOn e x f y → SameVersionOn t e x f y
+same_version e x f y t same = record {
+  there = λ v. (
+    λ is. record { low = is.low; written = same.records v.commit.0 ∙ is.written; content = same.stored v.start.0 ∙ is.content; newest = λ n above low. same.records n ∙ is.newest n above low },
+    λ is. record { low = is.low; written = sym (same.records v.commit.0) ∙ is.written; content = sym (same.stored v.start.0) ∙ is.content; newest = λ n above low. sym (same.records n) ∙ is.newest n above low },
+  );
+  none = (λ is n low. same.records n ∙ is n low, λ is n low. sym (same.records n) ∙ is n low);
+}
 
 -- a known cell stays as it was
 known_is_same : (n : ℕ) (e : Entries) (x : Cell) → is_known_cell n x ≡ true → SameOn e x (known_entries n e) x
@@ -45,9 +45,9 @@ known_is_same n e x known = record { records = λ d. ap start_of (known_same n e
 
 -- ---- the cells of those that stay
 
-module _ (c : ℕ) (gone : List ObserverOf) (whole lean now renumbered : StateOf) (places : List ℕ) (front added : List ObserverOf) (f : Entries) (lacks : LacksOthers c gone whole lean)
-    (m : IsMirroredBy c lean now.entries now.transactions) (now_is : now ≡ carried lean now.entries now.transactions) (chosen : AreChosen places lean.observers front)
-    (moved : IsRenumbered (new_number places (length (front ++ added))) whole renumbered) (is : IsChosenSnapshot places now f) where
+module _ (c : ℕ) (gone : List ObserverOf) (whole lean renumbered : StateOf) (kept : Entries) (ts : Transactions) (places : List ℕ) (front added : List ObserverOf) (f : Entries) (lacks : LacksOthers c gone whole lean)
+    (m : IsMirroredBy c lean kept ts) (serve : ServeAcknowledged lean.observers c lean.entries kept) (late : AreAcknowledgedLate lean.observers c lean) (chosen : AreChosen places lean.observers front)
+    (moved : IsRenumbered (new_number places (length (front ++ added))) whole renumbered) (is : IsChosenSnapshot places (carried lean kept ts) f) where
   abbrev size : ℕ
   size = length (front ++ added)
 
@@ -56,9 +56,6 @@ module _ (c : ℕ) (gone : List ObserverOf) (whole lean now renumbered : StateOf
 
   same_clock : lean.clock ≡ whole.clock
   same_clock = ap (λ (z : StateOf). z.clock) lacks.lean_is
-
-  now_clock : now.clock ≡ lean.clock
-  now_clock = ap (λ (z : StateOf). z.clock) now_is
 
   -- each is known in the old table
   known_before : (x y : Cell) → chosen_cell places x ≡ Some y → is_known_cell (length lean.observers) x ≡ true
@@ -121,79 +118,107 @@ module _ (c : ℕ) (gone : List ObserverOf) (whole lean now renumbered : StateOf
           (x.0, chosen_where x.0 (ap (is_known_cell size) (sym x.1) ∙ known) ∙ ap (λ (z : Cell). Some z) (sym x.1))
       by false not = absurd (none-some s (sym (ap start_of (unknown_none size renumbered.entries y Sort.Write d not)) ∙ there))
 
-  -- ---- the versions
+  -- what it shows
 
-  left_clock : lean.clock ≡ renumbered.clock
-  left_clock = same_clock ∙ sym moved.clock
+  left_clock : renumbered.clock ≡ lean.clock
+  left_clock = moved.clock ∙ sym same_clock
 
-  kept_there : (x y : Cell) (v : Revision) → chosen_cell places x ≡ Some y → IsVersion left y renumbered.clock v → IsVersion now.entries x now.clock v
-  kept_there x y v e there =
-      let old = same_version left y lean.entries x renumbered.clock lean.clock (same_back lean.entries x left y (left_same x y e)) (sym left_clock) v there in
-      subst (λ (n : ℕ). IsVersion now.entries x n v) (sym now_clock) (kept_version c lean.entries now.entries m.entries_are x lean.clock m.since v old)
+  -- what an acknowledgment of the new table was
+  of_ack : (x : Cell) (o : ℕ) (row : Row) (column : ℕ) → chosen_cell places x ≡ Some (Cell.Ack o row column) → (p : ℕ) × (x ≡ Cell.Ack p row column) × (place_among places p ≡ Some o)
+  of_ack (Cell.Data r k) o row column e = absurd cc
+  of_ack (Cell.Ack p r k) o row column e = by (place_among places p) refl e
+    where
+      by : (n : Option ℕ) → place_among places p ≡ n → option_map (λ n. Cell.Ack n r k) n ≡ Some (Cell.Ack o row column) → (q : ℕ) × (Cell.Ack p r k ≡ Cell.Ack q row column) × (place_among places q ≡ Some o)
+      by None there e = absurd (none-some (Cell.Ack o row column) e)
+      by (Some n) there e = let same = same_some (Cell.Ack n r k) (Cell.Ack o row column) e in (p, cc, there ∙ ap (λ (z : ℕ). Some z) (ap number_in same))
 
-  stands_there : (x y : Cell) (v : Revision) → chosen_cell places x ≡ Some y → IsVersion now.entries x now.clock v → IsVersion left y renumbered.clock v
-  stands_there x y v e there =
-      let old = whole_version c lean.entries now.entries m.entries_are x lean.clock m.since v (subst (λ (n : ℕ). IsVersion now.entries x n v) now_clock there) in
-      same_version lean.entries x left y lean.clock renumbered.clock (left_same x y e) left_clock v old
+  -- a cell is one of those that stay, or none of the table becomes it
+  from_cell : (y : Cell) → ((x : Cell) × (chosen_cell places x ≡ Some y)) ⊎ ((x : Cell) → chosen_cell places x ≡ Some y → ⊥)
+  from_cell (Cell.Data row column) = inl (Cell.Data row column, refl)
+  from_cell (Cell.Ack o row column) = elim (slice_get_cases places o).1 [
+    | inl p ↦ inl (Cell.Ack p.0 row column, ap (option_map (λ n. Cell.Ack n row column)) (place_found places o p.0 chosen.apart p.2))
+    | inr past ↦ inr (λ x becomes. let p = of_ack x o row column becomes in none-some p.0 (sym past.1 ∙ place_is places p.0 o p.2))
+  ]
 
-  is_snapshot : (marks : Marks) → IsSnapshotOf (without_others (front ++ added) renumbered marks) f
-  is_snapshot marks = record {
-    kept = λ y v there. let x = of_one y v.commit.0 v.start.0 there.written in is.kept x.0 y v x.1 (kept_there x.0 y v x.1 there);
-    only = λ y d s there. let k = is.only y d s there in (k.1, stands_there k.0 y k.1 k.2 k.3, k.4, k.5);
-    no_more = λ y s k there. let v = is.no_more y s k there in (v.1, stands_there v.0 y v.1 v.2 v.3, v.4);
+  -- what may be viewed of a cell may be viewed of it under its old name
+  viewed_before : (marks : Marks) (x y : Cell) (t : ℕ) → chosen_cell places x ≡ Some y → IsViewedAt (without_others (front ++ added) renumbered marks) y t → IsViewedAt lean x t
+  viewed_before marks x y t e (inl at) = inl (at ∙ left_clock)
+  viewed_before marks x y t e (inr a) =
+      let its_cell : x ≡ Cell.Data a.row a.observer.column = one_chosen places x (Cell.Data a.row a.observer.column) y e (ap (λ (z : Cell). Some z) (sym a.cell)) in
+      let z = of_one (Cell.Ack a.o a.row a.observer.column) a.w.commit.0 a.w.start.0 a.is.written in
+      let p = of_ack z.0 a.o a.row a.observer.column z.1 in
+      let its = chosen.each a.o p.0 (place_is places p.0 a.o p.2) in
+      let same : its.0 ≡ a.observer = one_value (slice_get (front ++ added) a.o) its.0 a.observer (stay_in_front front added a.o its.0 its.2) a.there in
+      let ack : chosen_cell places (Cell.Ack p.0 a.row a.observer.column) ≡ Some (Cell.Ack a.o a.row a.observer.column) = ap (option_map (λ n. Cell.Ack n a.row a.observer.column)) p.2 in
+      let version = ((same_version lean.entries (Cell.Ack p.0 a.row a.observer.column) left (Cell.Ack a.o a.row a.observer.column) renumbered.clock (left_same (Cell.Ack p.0 a.row a.observer.column) (Cell.Ack a.o a.row a.observer.column) ack)).there a.w).1 a.is in
+      inr (record {
+        o = p.0;
+        row = a.row;
+        observer = a.observer;
+        there = its.1 ∙ ap (λ (z : ObserverOf). Some z) same;
+        cell = its_cell;
+        w = a.w;
+        is = subst (λ (n : ℕ). IsVersion lean.entries (Cell.Ack p.0 a.row a.observer.column) n a.w) left_clock version;
+        stamp = a.stamp;
+      })
+
+  viewed : (marks : Marks) (y : Cell) (t : ℕ) → IsViewedAt (without_others (front ++ added) renumbered marks) y t → SameVersion t left f y
+  viewed marks y t at = elim (from_cell y) [
+    | inl x ↦
+        let before = viewed_before marks x.0 y t x.1 at in
+        same_on t left y lean.entries x.0 f y (same_back t lean.entries x.0 left y (same_version lean.entries x.0 left y t (left_same x.0 y x.1)))
+        (same_on t lean.entries x.0 kept x.0 f y (viewed_same c lean kept ts m serve late x.0 t before) (is.viewed x.0 y x.1 t (viewed_there c lean kept ts m serve late x.0 t before)))
+    | inr nothing ↦
+        let none_left : (d : ℕ) → write_at left y d ≡ None = λ d. none_if (write_at left y d) (λ s there. let x = of_one y d s there in nothing x.0 x.1) in
+        let none_there : (d : ℕ) → write_at f y d ≡ None = λ d. none_if (write_at f y d) (λ s there. let x = is.only y d s there in nothing x.0 x.1) in
+        record {
+          there = λ v. (λ here. absurd (none-some v.start.0 (sym (none_left v.commit.0) ∙ here.written)), λ here. absurd (none-some v.start.0 (sym (none_there v.commit.0) ∙ here.written)));
+          none = (λ _ d low. none_there d, λ _ d low. none_left d);
+        }
+  ]
+
+  shows : (marks : Marks) → ((x : Cell) (d s : ℕ) → write_at kept x d ≡ Some s → (d ≤ lean.clock) × (s ≤ lean.clock)) → ((x : Cell) (s : ℕ) (k : Content) → data_at kept x s ≡ Some k → s ≤ lean.clock)
+      → ShowsViewed (without_others (front ++ added) renumbered marks) f
+  shows marks records bound = record {
+    viewed = viewed marks;
+    by_then = λ y d s there. let x = is.only y d s there in let by = records x.0 d s x.2 in (omega (arith, by.0, left_clock), omega (arith, by.1, left_clock));
+    stored_by_then = λ y s k there. let x = is.no_more y s k there in let by = bound x.0 s k x.2 in omega (arith, by, left_clock);
     unlocked = is.unlocked;
   }
 
-  -- ---- what isn't marked
+  -- it has nothing of its own
+  has_nothing_more : IsPartOf lean.entries kept → IsPartOf left f
+  has_nothing_more within = record {
+    records = λ y d s there. let x = is.only y d s there in (left_same x.0 y x.1).records d ∙ within.records x.0 d s x.2;
+    stored = λ y s k there. let x = is.no_more y s k there in (left_same x.0 y x.1).stored s ∙ within.stored x.0 s k x.2;
+  }
 
-  module _ (law : SoundHasData) (sound : IsSoundTable whole) where
-    -- a data cell that was ever written has its newest version in the snapshot
-    written_there : (row : Row) (column d s : ℕ) → write_at whole.entries (Cell.Data row column) d ≡ Some s → (k : ℕ) × (u : ℕ) × (write_at f (Cell.Data row column) k ≡ Some u)
-    written_there row column d s there =
-        let x = Cell.Data row column in
-        elim (newest_or_none whole.entries (law whole sound).whole x whole.clock) [
-          | inl v ↦
-              let left_version = same_version lean.entries x left x lean.clock renumbered.clock (left_same x x refl) left_clock v.0 (same_version whole.entries x lean.entries x whole.clock lean.clock (lean_same x refl) (sym same_clock) v.0 v.1) in
-              (v.0.commit.0, v.0.start.0, (is.kept x x v.0 refl (kept_there x x v.0 refl left_version)).0)
-          | inr none ↦ absurd (none-some s (sym (elim (cases_lt whole.clock d) [ inl past ↦ no_record_above whole sound x d past | inr by_then ↦ none d by_then ]) ∙ there))
-        ]
+pub chosen_within : (c : ℕ) (gone : List ObserverOf) (whole lean renumbered : StateOf) (kept : Entries) (ts : Transactions) (places : List ℕ) (front added : List ObserverOf) (f : Entries) → LacksOthers c gone whole lean
+    → IsMirroredBy c lean kept ts → ServeAcknowledged lean.observers c lean.entries kept → AreAcknowledgedLate lean.observers c lean → AreChosen places lean.observers front
+    → IsRenumbered (new_number places (length (front ++ added))) whole renumbered → IsChosenSnapshot places (carried lean kept ts) f → IsPartOf lean.entries kept
+    → IsPartOf (known_entries (length (front ++ added)) renumbered.entries) f
+chosen_within c gone whole lean renumbered kept ts places front added f lacks m serve late chosen moved is = has_nothing_more c gone whole lean renumbered kept ts places front added f lacks m serve late chosen moved is
 
-    module _ (ts : Transactions) (new : StateOf) (quiet : IsQuiet now) (covered : AreCovered lean.observers now.marks whole.entries) (more : HasMoreObservers added (chosen_state now front f ts) new) where
-      -- one that stays has acknowledged it under its old number
-      stays_acknowledged : (o p : ℕ) (observer : ObserverOf) (row : Row) (d u : ℕ) → slice_get places o ≡ Some p → slice_get front o ≡ Some observer → write_at whole.entries (Cell.Data row observer.column) d ≡ Some u
-          → (k : ℕ) × (s : ℕ) × (write_at renumbered.entries (Cell.Ack o row observer.column) k ≡ Some s) × (d ≤ s)
-      stays_acknowledged o p observer row d u place there written =
-          let its = chosen.each o p place in
-          let same : its.0 ≡ observer = one_value (slice_get front o) its.0 observer its.2 there in
-          let by = covered p observer (its.1 ∙ ap (λ (z : ObserverOf). Some z) same) row (quiet.unmarked (Cell.Data row observer.column)) d u written in
-          let number : new_number places size p ≡ o = ap (placed_after size p) (place_found places o p chosen.apart place) in
-          (by.0, by.1, ap (λ (n : ℕ). write_at renumbered.entries (Cell.Ack n row observer.column) by.0) (sym number) ∙ moved.entries.records (Cell.Ack p row observer.column) by.0 ∙ by.2, by.3)
+pub chosen_shows : (c : ℕ) (gone : List ObserverOf) (whole lean renumbered : StateOf) (kept : Entries) (ts : Transactions) (marks : Marks) (places : List ℕ) (front added : List ObserverOf) (f : Entries) → LacksOthers c gone whole lean
+    → IsMirroredBy c lean kept ts → ServeAcknowledged lean.observers c lean.entries kept → AreAcknowledgedLate lean.observers c lean → AreChosen places lean.observers front
+    → IsRenumbered (new_number places (length (front ++ added))) whole renumbered → IsChosenSnapshot places (carried lean kept ts) f
+    → ((x : Cell) (d s : ℕ) → write_at kept x d ≡ Some s → (d ≤ lean.clock) × (s ≤ lean.clock)) → ((x : Cell) (s : ℕ) (k : Content) → data_at kept x s ≡ Some k → s ≤ lean.clock)
+    → ShowsViewed (without_others (front ++ added) renumbered marks) f
+chosen_shows c gone whole lean renumbered kept ts marks places front added f lacks m serve late chosen moved is = shows c gone whole lean renumbered kept ts places front added f lacks m serve late chosen moved is marks
 
-      -- and for one that comes it is marked
-      comes_marked : (q : ℕ) (observer : ObserverOf) (row : Row) (d u : ℕ) → slice_get added q ≡ Some observer → write_at whole.entries (Cell.Data row observer.column) d ≡ Some u → is_marked new.marks (Cell.Data row observer.column) ≡ true
-      comes_marked q observer row d u there written =
-          let here = written_there row observer.column d u written in
-          more.marked (Cell.Data row observer.column) here.0 here.1 (observed_one added q observer there) here.2
+-- ---- what is marked for the one list and for the other is for both
 
-      are_covered : AreCovered (front ++ added) new.marks renumbered.entries
-      are_covered o observer there row unmarked d u written =
-          let before = sym (moved.entries.records (Cell.Data row observer.column) d) ∙ written in
-          elim (either_list front added o observer there) [
-            | inl stays ↦ elim (slice_get_cases places o).1 [
-              | inl at ↦ stays_acknowledged o at.0 observer row d u at.2 stays before
-              | inr past ↦ absurd (omega (arith, past.0, chosen.as_many, slice_get_within front o observer stays))
-            ]
-            | inr comes ↦ absurd (not_both (is_marked new.marks (Cell.Data row observer.column)) (comes_marked comes.1 observer row d u comes.2 before) unmarked)
-          ]
-
-pub chosen_is_snapshot : (c : ℕ) (gone : List ObserverOf) (whole lean now renumbered : StateOf) (marks : Marks) (places : List ℕ) (front added : List ObserverOf) (f : Entries) → LacksOthers c gone whole lean
-    → IsMirroredBy c lean now.entries now.transactions → now ≡ carried lean now.entries now.transactions → AreChosen places lean.observers front → IsRenumbered (new_number places (length (front ++ added))) whole renumbered
-    → IsChosenSnapshot places now f → IsSnapshotOf (without_others (front ++ added) renumbered marks) f
-chosen_is_snapshot c gone whole lean now renumbered marks places front added f lacks m now_is chosen moved is = is_snapshot c gone whole lean now renumbered places front added f lacks m now_is chosen moved is marks
-
-pub chosen_covered : SoundHasData → (c : ℕ) (gone : List ObserverOf) (whole lean now renumbered : StateOf) (places : List ℕ) (front added : List ObserverOf) (f : Entries) (ts : Transactions) (new : StateOf) → IsSoundTable whole
-    → LacksOthers c gone whole lean → IsMirroredBy c lean now.entries now.transactions → now ≡ carried lean now.entries now.transactions → AreChosen places lean.observers front
-    → IsRenumbered (new_number places (length (front ++ added))) whole renumbered → IsChosenSnapshot places now f → IsQuiet now → AreCovered lean.observers now.marks whole.entries
-    → HasMoreObservers added (chosen_state now front f ts) new → AreCovered (front ++ added) new.marks renumbered.entries
-chosen_covered law c gone whole lean now renumbered places front added f ts new sound lacks m now_is chosen moved is quiet covered more =
-    are_covered c gone whole lean now renumbered places front added f lacks m now_is chosen moved is law sound ts new quiet covered more
+pub both_covered : (front added : List ObserverOf) (marks more : Marks) (e : Entries) → AreCovered front marks e → ((x : Cell) → is_marked marks x ≡ true → is_marked more x ≡ true)
+    → ((o : ℕ) (observer : ObserverOf) → slice_get added o ≡ Some observer → (row : Row) (d u : ℕ) → write_at e (Cell.Data row observer.column) d ≡ Some u → is_marked more (Cell.Data row observer.column) ≡ true)
+    → AreCovered (front ++ added) more e
+both_covered front added marks more e covered stays comes o observer there row off d u written = elim (either_list front added o observer there) [
+  | inl first ↦ covered o observer first row (still_off (Cell.Data row observer.column) off) d u written
+  | inr other ↦ absurd (not_both (is_marked more (Cell.Data row observer.column)) (comes other.1 observer other.2 row d u written) off)
+]
+  where
+    still_off : (x : Cell) → is_marked more x ≡ false → is_marked marks x ≡ false
+    still_off x off = by (is_marked marks x) (stays x)
+      where
+        by : (b : Bool) → (b ≡ true → is_marked more x ≡ true) → b ≡ false
+        by true so = absurd (not_both (is_marked more x) (so refl) off)
+        by false so = refl

@@ -1,12 +1,13 @@
 -- What stays of two tables of which one mirrors the other, where both are changed alike.
 use Rattle.std.proofs.Common.{◌≡◌, ◌↔◌, ◌⊎◌, ℕ, ◌<◌, ◌≤◌, inl, inr, sym, ◌∙◌, ap, subst, arith, Bool, true, false, cond, Option, Some, None}
+use Rattle.std.proofs.lemmas.Bool.{cases_lt}
 use Rattle.std.specs.FinMap as map
 use Rattle.std.specs.Ordering.{nat_cmp, eq_by_cmp}
 use Rattle.std.specs.Cmp.{nat_cmp_total}
 use Rattle.pb_generations.specs.Words.{Cell, Content, Revision, Entries, commit_lock, erase_lock, put_lock, IsVersion, NoVersion, data_at, lock_at, write_at, TransactionOf, Transactions}
 use Rattle.pb_history.proofs.Updates.{set2, at_place, set2_there, placed_or_before as placed, left_after_clearing as cleared}
 use Rattle.pb_history.proofs.ViewsAfter.{lock_after_commit, data_after_commit, write_after_commit, lock_after_back, data_after_back, write_after_back, lock_after_put, data_after_put, write_after_put}
-use Rattle.pb_generations.specs.Mirrored.{SameEntries, SameTransactions, SameVersion, IsLatePhase}
+use Rattle.pb_generations.specs.Mirrored.{IsPartOf, SameEntries, SameTransactions, SameVersion, IsLatePhase}
 
 -- ---- transactions
 
@@ -67,6 +68,7 @@ pub record Changes (c : ℕ) (whole kept whole' kept' : Entries) : Type 0 where
   pub same : SameEntries c whole' kept'
   pub versions : (x : Cell) (v : Revision) → IsVersion whole x c v ↔ IsVersion whole' x c v
   pub before : (x : Cell) (u : ℕ) → u ≤ c → SameVersion u whole kept x → SameVersion u whole' kept' x
+  pub within : IsPartOf whole kept → IsPartOf whole' kept'
 
 changed : (c : ℕ) (whole kept whole' kept' : Entries) → SameEntries c whole kept → Alike c whole kept whole' kept' → Changes c whole kept whole' kept'
 changed c whole kept whole' kept' m a =
@@ -101,6 +103,16 @@ changed c whole kept whole' kept' m a =
       };
       versions = λ x v. (on x c v (omega arith), off x c v (omega arith));
       before = before;
+      within = λ had. record {
+        records = λ x d s there. elim (cases_lt c d) [
+          | inl late ↦ sym (a.records x d late) ∙ there
+          | inr low ↦ a.written x d low ∙ had.records x d s (sym (a.kept_written x d low) ∙ there)
+        ];
+        stored = λ x s k there. elim (cases_lt c s) [
+          | inl late ↦ sym (a.stored x s late) ∙ there
+          | inr low ↦ a.stored_early x s low ∙ had.stored x s k (sym (a.kept_stored x s low) ∙ there)
+        ];
+      };
     }
 
 module _ (c : ℕ) (whole kept : Entries) (m : SameEntries c whole kept) (x : Cell) (s : ℕ) (later : c < s) where

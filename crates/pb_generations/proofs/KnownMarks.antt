@@ -1,15 +1,15 @@
 -- What a table without some of its observers shows of the whole one: where no lock stands in it, none does there; and with its marks,
 -- no change is left unmarked that isn't acknowledged.
-use Rattle.std.proofs.Common.{◌≡◌, ℕ, ◌<◌, Bool, true, false, ◌⊎◌, inl, inr, List, [], ◌∷◌, length, Option, Some, None, refl, sym, ap, subst, ◌∙◌, arith, cond, is_some}
-use Rattle.std.proofs.lemmas.Bool.{and_parts, cases_lt}
+use Rattle.std.proofs.Common.{◌≡◌, ℕ, ◌<◌, Bool, true, false, ◌⊎◌, inl, inr, List, [], ◌∷◌, length, Option, Some, None, refl, sym, ap, subst, ◌∙◌, cond, is_some}
+use Rattle.std.proofs.lemmas.Bool.{and_parts}
 use Rattle.std.proofs.lemmas.Option.{none-some, slice_get_within}
 use Rattle.std.specs.FinMap as map
 use Rattle.std.specs.Ordering.{eq_by_cmp}
-use Rattle.pb_generations.specs.Words.{Writes, content_in, primary_in, cell_cmp, Cell, Content, Revision, Row, ObserverOf, Entries, Marks, CommitsPrimary, CommitsSecondary, if_locked, commit_lock, AllUpToDate, is_marked, is_observed, with_mark, IsNewestVersion, IsVersion, last_timestamp, lock_at, write_at, StateOf, TransactionOf, StepCase, Answer, Step, IsSoundTable, declared_by, view_of, Entry}
+use Rattle.pb_generations.specs.Words.{Writes, content_in, primary_in, cell_cmp, Cell, Content, Revision, Row, ObserverOf, Entries, Marks, CommitsPrimary, CommitsSecondary, if_locked, commit_lock, AllUpToDate, is_marked, is_observed, with_mark, IsNewestVersion, last_timestamp, lock_at, write_at, StateOf, TransactionOf, StepCase, Answer, Step, IsSoundTable, declared_by, view_of, Entry}
 use Rattle.pb_base.proofs.Logic.{one_value}
 use Rattle.pb_history.proofs.Agreement.{Agrees}
 use Rattle.pb_history.proofs.LocksKeepSound.{write_on}
-use Rattle.pb_history.proofs.MarksCover.{acknowledged_by_then, marked_less, marked_now, marks_were, observed_one, up_to_date}
+use Rattle.pb_history.proofs.MarksCover.{marked_less, marked_now, marks_were, observed_one, up_to_date}
 use Rattle.pb_history.proofs.PhasesKeepSound.{committed_at, stamped_at}
 use Rattle.pb_history.proofs.StepsKeepSound.{phase_by, some_is}
 use Rattle.pb_history.proofs.Updates.{none_if, placed_or_before, same_cell, same_cell_is}
@@ -18,10 +18,8 @@ use Rattle.pb_generations.specs.KeptTables.{AreCovered}
 use Rattle.pb_generations.specs.LeftOut.{LacksOthers, are_known_writes, is_known_cell}
 use Rattle.pb_generations.specs.SameButMarks.{is_of_marks}
 use Rattle.pb_generations.proofs.LeanTables.{lean_lock, lean_record}
-use Rattle.pb_generations.proofs.AcknowledgedReads.{AreAcknowledgedAt}
 use Rattle.pb_generations.proofs.LeftOutDeclarations.{number_is_known}
 use Rattle.pb_generations.proofs.LeftOutSteps.{no_version, version_there}
-use Rattle.pb_generations.proofs.QuietTables.{no_record_above}
 
 -- ---- locks
 
@@ -44,7 +42,7 @@ module _ (c : ℕ) (gone : List ObserverOf) (whole lean : StateOf) (lacks : Lack
   declared_known s x k None late there is = absurd (none-some k is)
   declared_known s x k (Some t) late there is = known_write n t.declared x k (lacks.declared s t late there) is
 
-  newest_there : (x : Cell) → is_known_cell n x ≡ true → (v : Option Revision) → IsNewestVersion lean.entries x v → IsNewestVersion whole.entries x v
+  pub newest_there : (x : Cell) → is_known_cell n x ≡ true → (v : Option Revision) → IsNewestVersion lean.entries x v → IsNewestVersion whole.entries x v
   newest_there x known None is = no_version n whole.entries x known last_timestamp (subst (λ (z : StateOf). IsNewestVersion z.entries x None) lacks.lean_is is)
   newest_there x known (Some v) is = version_there n whole.entries x known last_timestamp v (subst (λ (z : StateOf). IsNewestVersion z.entries x (Some v)) lacks.lean_is is)
 
@@ -234,22 +232,3 @@ covered_after journal c gone whole lean after new seat step answer a sound lacks
 pub covered_marks : (journal : List Entry) (c : ℕ) (gone : List ObserverOf) (whole lean new : StateOf) (seat : ℕ) (step : Step) (answer : Answer) → Agrees journal whole → IsSoundTable whole → LacksOthers c gone whole lean
     → AreCovered lean.observers lean.marks whole.entries → is_of_marks step ≡ true → StepCase lean seat step answer new → AreCovered lean.observers new.marks whole.entries
 covered_marks journal c gone whole lean new seat step answer a sound lacks covered of is = marks_cover journal c gone whole lean a sound lacks covered seat step answer new of is
-
--- ---- where nothing is marked
-
--- the version at the clock is the newest
-newest_at_clock : (whole : StateOf) → IsSoundTable whole → whole.clock < last_timestamp → (x : Cell) (v : Revision) → IsVersion whole.entries x whole.clock v → IsVersion whole.entries x last_timestamp v
-newest_at_clock whole sound room x v is = record {
-  low = omega (arith, is.low, room);
-  written = is.written;
-  content = is.content;
-  newest = λ d above low. elim (cases_lt whole.clock d) [ inl past ↦ no_record_above whole sound x d past | inr by_then ↦ is.newest d above by_then ];
-}
-
--- what each observer has acknowledged of a cell at the clock is at or above the version there
-pub covered_acknowledges : (journal : List Entry) (observers : List ObserverOf) (marks : Marks) (whole : StateOf) → Agrees journal whole → IsSoundTable whole → AreCovered observers marks whole.entries
-    → ((x : Cell) → is_marked marks x ≡ false) → whole.clock < last_timestamp → AreAcknowledgedAt observers whole.clock whole.entries
-covered_acknowledges journal observers marks whole a sound covered unmarked room o row observer there v w is acknowledged =
-    let ack : Cell = Cell.Ack o row observer.column in
-    let by = covered o observer there row (unmarked (Cell.Data row observer.column)) v.commit.0 v.start.0 is.written in
-    acknowledged_by_then journal whole a sound o row observer.column v.commit.0 by.0 by.1 (Some w) (newest_at_clock whole sound room ack w acknowledged) by.2 by.3

@@ -1,11 +1,10 @@
 -- What a table without some of its observers has as the whole one does: what stands on known cells, and the clock.
-use Rattle.std.proofs.Common.{◌≡◌, ℕ, Bool, true, false, List, length, Some, None, slice_get, refl, sym, ap, subst, ◌∙◌, arith}
+use Rattle.std.proofs.Common.{◌≡◌, ℕ, true, List, length, Some, slice_get, sym, ap, subst, ◌∙◌, arith}
 use Rattle.std.proofs.lemmas.Option.{slice_get_within}
-use Rattle.pb_generations.specs.Words.{Cell, Revision, Row, ObserverOf, Entries, Sort, IsVersion, NoLock, data_at, data_of, lock_at, primary_of, write_at, StateOf, IsQuiet, IsSoundTable}
-use Rattle.pb_generations.specs.LeftOut.{LacksOthers, OthersMayBeLeftOut, is_known_cell, known_entries}
-use Rattle.pb_generations.proofs.KnownEntries.{known_same, unknown_none}
-use Rattle.pb_generations.proofs.LeftOutMirrors.{record_at, version_on, version_back}
-use Rattle.pb_generations.proofs.QuietTables.{no_lock_ever}
+use Rattle.pb_generations.specs.Words.{Cell, Content, Revision, Row, ObserverOf, Entries, Sort, IsVersion, data_at, data_of, lock_at, primary_of, write_at, StateOf}
+use Rattle.pb_generations.specs.LeftOut.{LacksOthers, is_known_cell, known_entries}
+use Rattle.pb_generations.proofs.KnownEntries.{known_same}
+use Rattle.pb_generations.proofs.LeftOutMirrors.{record_at, record_of, stored_of, version_on, version_back}
 
 -- an acknowledgment of one of these is known
 pub known_ack : (observers : List ObserverOf) (o : ℕ) (observer : ObserverOf) (row : Row) (column : ℕ) → slice_get observers o ≡ Some observer → is_known_cell (length observers) (Cell.Ack o row column) ≡ true
@@ -37,14 +36,9 @@ module _ (c : ℕ) (gone : List ObserverOf) (whole lean : StateOf) (lacks : Lack
     pub lean_lock : (s : ℕ) → lock_at lean.entries x s ≡ lock_at whole.entries x s
     lean_lock s = ap (λ (e : Entries). lock_at e x s) entries_are ∙ ap primary_of (known_same size whole.entries x Sort.Lock s known)
 
-  -- where the lean table is quiet it has no lock
-  pub lean_unlocked : IsSoundTable whole → IsQuiet lean → (x : Cell) (s : ℕ) → lock_at lean.entries x s ≡ None
-  lean_unlocked sound quiet x s = by (is_known_cell size x) refl
-    where
-      by : (b : Bool) → is_known_cell size x ≡ b → lock_at lean.entries x s ≡ None
-      by true known = lean_lock x known s ∙ no_lock_ever whole sound x (λ u fits. sym (lean_lock x known u) ∙ quiet.unlocked x u fits) s
-      by false not = ap (λ (e : Entries). lock_at e x s) entries_are ∙ ap primary_of (unknown_none size whole.entries x Sort.Lock s not)
+  -- what stands in it stands in the whole table
+  pub whole_record : (x : Cell) (d s : ℕ) → write_at lean.entries x d ≡ Some s → write_at whole.entries x d ≡ Some s
+  whole_record x d s there = record_of size whole.entries x d s (sym (ap (λ (e : Entries). write_at e x d) entries_are) ∙ there)
 
-  -- and it begins anew at its clock
-  pub lacks_at_clock : OthersMayBeLeftOut → IsSoundTable whole → ((x : Cell) → NoLock whole.entries x) → LacksOthers whole.clock gone whole lean
-  lacks_at_clock begin sound unlocked = subst (LacksOthers whole.clock gone whole) (sym lacks.lean_is) (begin lean.observers gone whole lean.marks sound unlocked lacks.observers)
+  pub whole_stored : (x : Cell) (s : ℕ) (k : Content) → data_at lean.entries x s ≡ Some k → data_at whole.entries x s ≡ Some k
+  whole_stored x s k there = stored_of size whole.entries x s k (sym (ap (λ (e : Entries). data_at e x s) entries_are) ∙ there)

@@ -1,15 +1,16 @@
 -- A table without some of its observers is mirrored by itself where the whole one is, and where no lock stands a snapshot serves for it.
-use Rattle.std.proofs.Common.{◌≡◌, ℕ, ◌<◌, ◌≤◌, Bool, true, false, List, length, Some, None, refl, sym, ap, subst, ◌∙◌, arith, inl, inr, ◌⊎◌, is_some}
+use Rattle.std.proofs.Common.{◌≡◌, ℕ, ◌<◌, ◌≤◌, Bool, true, false, List, length, Some, None, refl, sym, ap, subst, ◌∙◌, arith, inl, inr, ◌⊎◌}
 use Rattle.std.proofs.lemmas.Option.{none-some}
 use Rattle.std.specs.FinMap as map
-use Rattle.pb_generations.specs.Words.{cell_cmp, Cell, Content, Revision, ObserverOf, Entries, Marks, Sort, IsVersion, NoLock, NoVersion, data_at, data_of, lock_at, primary_of, start_of, write_at, StateOf, TransactionOf, Transactions, opening, IsQuiet, OpeningIsSound, SoundHasData, StepsKeepSound, IsSoundTable}
+use Rattle.pb_generations.specs.Words.{Cell, Content, Revision, ObserverOf, Entries, Marks, Sort, IsVersion, NoLock, NoVersion, data_at, data_of, lock_at, primary_of, start_of, write_at, StateOf, TransactionOf, Transactions, SoundHasData, IsSoundTable}
+use Rattle.pb_history.proofs.JournalsAreSound.{legal_sound}
 use Rattle.pb_history.proofs.Updates.{none_if}
 use Rattle.pb_generations.specs.Mirrored.{IsMirroredBy, SameEntries, QuietMirrorsItself}
-use Rattle.pb_generations.specs.Snapshots.{IsSnapshotOf}
-use Rattle.pb_generations.specs.LeftOut.{OthersMayBeLeftOut, MirrorsWithoutOthers, SnapshotsLeaveOut, SnapshotsServeWithoutOthers, is_known_cell, known_entries, without_others}
+use Rattle.pb_generations.specs.Snapshots.{ServeAcknowledged, ShowsViewed}
+use Rattle.pb_generations.specs.LeftOut.{OthersMayBeLeftOut, MirrorsWithoutOthers, SnapshotsServeWithoutOthers, is_known_cell, known_entries, without_others}
 use Rattle.pb_generations.proofs.KnownEntries.{known_same, unknown_none}
 use Rattle.pb_generations.proofs.QuietTables.{no_lock_ever, no_record_above}
-use Rattle.pb_generations.proofs.ServingSnapshots.{Bounded, led_bounded, opening_bounded, snapshot_serves}
+use Rattle.pb_generations.proofs.ServingSnapshots.{Bounded, legal_bounded, mirrors_itself, shown_serves}
 
 -- ---- the beginning
 
@@ -43,26 +44,11 @@ module _ (n : ℕ) (e : Entries) where
       by true known = sym (ap start_of (known_same n e x Sort.Write c known)) ∙ there
       by false not = absurd (none-some s (sym (ap start_of (unknown_none n e x Sort.Write c not)) ∙ there))
 
-  stored_of : (x : Cell) (s : ℕ) (k : Content) → data_at f x s ≡ Some k → data_at e x s ≡ Some k
+  pub stored_of : (x : Cell) (s : ℕ) (k : Content) → data_at f x s ≡ Some k → data_at e x s ≡ Some k
   stored_of x s k there = by (is_known_cell n x) refl
     where
       by : (b : Bool) → is_known_cell n x ≡ b → data_at e x s ≡ Some k
       by true known = sym (ap data_of (known_same n e x Sort.Data s known)) ∙ there
-      by false not = absurd (none-some k (sym (ap data_of (unknown_none n e x Sort.Data s not)) ∙ there))
-
-  -- what has a write record there is a known cell
-  known_by_record : (x : Cell) (c s : ℕ) → write_at f x c ≡ Some s → is_known_cell n x ≡ true
-  known_by_record x c s there = by (is_known_cell n x) refl
-    where
-      by : (b : Bool) → is_known_cell n x ≡ b → is_known_cell n x ≡ true
-      by true known = known
-      by false not = absurd (none-some s (sym (ap start_of (unknown_none n e x Sort.Write c not)) ∙ there))
-
-  known_by_data : (x : Cell) (s : ℕ) (k : Content) → data_at f x s ≡ Some k → is_known_cell n x ≡ true
-  known_by_data x s k there = by (is_known_cell n x) refl
-    where
-      by : (b : Bool) → is_known_cell n x ≡ b → is_known_cell n x ≡ true
-      by true known = known
       by false not = absurd (none-some k (sym (ap data_of (unknown_none n e x Sort.Data s not)) ∙ there))
 
   module _ (x : Cell) (known : is_known_cell n x ≡ true) where
@@ -116,36 +102,7 @@ pub mirrors_without_others : MirrorsWithoutOthers
 mirrors_without_others c gone whole lean lacks m =
     subst (λ (z : StateOf). IsMirroredBy c z z.entries z.transactions) (sym lacks.lean_is) (mirrors_lean lean.observers whole lean.marks c m)
 
--- ---- a snapshot
-
-module _ (front : List ObserverOf) (whole : StateOf) (marks : Marks) (e : Entries) (is : IsSnapshotOf whole e) where
-  abbrev size : ℕ
-  size = length front
-
-  abbrev kept : Entries
-  kept = known_entries size e
-
-  version_left : (x : Cell) (v : Revision) → is_known_cell size x ≡ true → IsVersion whole.entries x whole.clock v → IsVersion (known_entries size whole.entries) x whole.clock v
-  version_left x v known = version_on size whole.entries x known whole.clock v
-
-  kept_left : (x : Cell) (v : Revision) → IsVersion (known_entries size whole.entries) x whole.clock v → (write_at kept x v.commit.0 ≡ Some v.start.0) × (data_at kept x v.start.0 ≡ Some v.content)
-  kept_left x v there =
-      let known = known_by_record size whole.entries x v.commit.0 v.start.0 there.written in
-      let k = is.kept x v (version_back size whole.entries x known whole.clock v there) in
-      (record_at size e x known v.commit.0 ∙ k.0, stored_at size e x known v.start.0 ∙ k.1)
-
-  snapshot_left : IsSnapshotOf (without_others front whole marks) kept
-  snapshot_left = record {
-    kept = kept_left;
-    only = λ x d s there. let k = is.only x d s (record_of size e x d s there) in (k.0, version_left x k.0 (known_by_record size e x d s there) k.1, k.2, k.3);
-    no_more = λ x s k there. let v = is.no_more x s k (stored_of size e x s k there) in (v.0, version_left x v.0 (known_by_data size e x s k there) v.1, v.2);
-    unlocked = λ x s. none_if (lock_at kept x s) (λ p there. none-some p (sym (is.unlocked x s) ∙ lock_of size e x s p there));
-  }
-
-pub snapshots_leave_out : SnapshotsLeaveOut
-snapshots_leave_out c gone whole lean e lacks is = subst (λ (z : StateOf). IsSnapshotOf z (known_entries (length lean.observers) e)) (sym lacks.lean_is) (snapshot_left lean.observers whole lean.marks e is)
-
--- ---- a snapshot of it serves
+-- ---- what shows it serves
 
 module _ (front : List ObserverOf) (whole : StateOf) (marks : Marks) (sound : IsSoundTable whole) (bound : Bounded whole) (unlocked : (x : Cell) → NoLock whole.entries x)
     (begun : (s : ℕ) (t : TransactionOf) → map.get whole.transactions s ≡ Some t → s ≤ whole.clock) (m : IsMirroredBy whole.clock whole whole.entries whole.transactions) where
@@ -161,15 +118,12 @@ module _ (front : List ObserverOf) (whole : StateOf) (marks : Marks) (sound : Is
   no_record_left : (x : Cell) (d : ℕ) → whole.clock < d → write_at left.entries x d ≡ None
   no_record_left x d above = none_if (write_at left.entries x d) (λ s there. none-some s (sym (no_record_above whole sound x d above) ∙ record_of n whole.entries x d s there))
 
-  serves_left : (e : Entries) (ts : Transactions) → IsSnapshotOf left e → ((s : ℕ) → left.clock < s → map.get ts s ≡ None) → IsMirroredBy left.clock left e ts
-  serves_left e ts is none = snapshot_serves left e ts no_lock_left no_record_left (λ x s k there. bound x s k (stored_of n whole.entries x s k there)) begun (mirrors_lean front whole marks whole.clock m) is none
+  serves_left : (e : Entries) (ts : Transactions) → ShowsViewed left e → ((s : ℕ) → left.clock < s → map.get ts s ≡ None) → IsMirroredBy left.clock left e ts × ServeAcknowledged front left.clock left.entries e
+  serves_left e ts is none = shown_serves left e ts no_lock_left no_record_left (λ x s k there. bound x s k (stored_of n whole.entries x s k there)) begun (mirrors_lean front whole marks whole.clock m) is none
 
-pub snapshots_serve_without : StepsKeepSound → OpeningIsSound → SoundHasData → QuietMirrorsItself → SnapshotsServeWithoutOthers
-snapshots_serve_without steps opens law mirror observers gone seats clock journal whole lean legal unlocked room lacks =
-    let known = led_bounded steps law (opening observers seats clock) whole journal (opens observers seats clock legal.fits) (opening_bounded observers seats clock) legal.run in
-    let unmarked : StateOf = record whole { marks = map.empty } in
-    let quiet : IsQuiet unmarked = record { unmarked = λ x. ap is_some (map.get-empty cell_cmp x); unlocked = unlocked } in
-    let itself = mirror unmarked known.0 quiet room in
-    let m : IsMirroredBy whole.clock whole whole.entries whole.transactions = record { since = itself.since; room = itself.room; entries_are = itself.entries_are; transactions_are = itself.transactions_are } in
-    subst (λ (z : StateOf). (e : Entries) (ts : Transactions) → IsSnapshotOf z e → ((s : ℕ) → z.clock < s → map.get ts s ≡ None) → IsMirroredBy z.clock z e ts) (sym lacks.lean_is)
-    (serves_left lean.observers whole lean.marks known.0 known.1 unlocked (law whole known.0).begun m)
+pub shown_serves_without : SoundHasData → QuietMirrorsItself → SnapshotsServeWithoutOthers
+shown_serves_without law mirror observers gone seats clock journal whole lean legal unlocked room lacks =
+    let sound = legal_sound observers seats clock journal whole legal in
+    let bound = legal_bounded law observers seats clock journal whole legal in
+    subst (λ (z : StateOf). (e : Entries) (ts : Transactions) → ShowsViewed z e → ((s : ℕ) → z.clock < s → map.get ts s ≡ None) → IsMirroredBy z.clock z e ts × ServeAcknowledged z.observers z.clock z.entries e) (sym lacks.lean_is)
+    (serves_left lean.observers whole lean.marks sound bound unlocked (law whole sound).begun (mirrors_itself mirror whole sound unlocked room))

@@ -1,10 +1,8 @@
 -- What is left of the transactions of a snapshot makes it a sound table, and is of no seat.
-use Rattle.std.proofs.Common.{◌≡◌, ℕ, ◌<◌, ◌≤◌, inl, inr, refl, sym, ◌∙◌, ap, subst, arith, Some, None, is_some, option_map}
-use Rattle.std.proofs.lemmas.Bool.{cases_lt}
-use Rattle.std.proofs.lemmas.Option.{none-some}
+use Rattle.std.proofs.Common.{◌≡◌, ℕ, ◌<◌, ◌≤◌, ◌⊎◌, inl, inr, refl, sym, ◌∙◌, ap, subst, arith, Some, None, is_some, option_map}
 use Rattle.std.specs.FinMap as map
-use Rattle.pb_generations.specs.Words.{content_in, Cell, Content, Revision, Entries, IsVersion, data_at, lock_at, write_at, StateOf, TransactionOf, Transactions, is_in, Phase, RecordedRead, Has, IsCommittedAt, IsSoundTable, TableView, declared_by, prewritten_by, view_of, IsSnapshotView}
-use Rattle.pb_base.proofs.Logic.{one_value, same_some}
+use Rattle.pb_generations.specs.Words.{content_in, Cell, Content, Entries, data_at, lock_at, write_at, StateOf, TransactionOf, Transactions, is_in, Phase, RecordedRead, Has, IsCommittedAt, IsSoundTable, TableView, declared_by, prewritten_by, view_of, IsSnapshotView}
+use Rattle.pb_base.proofs.Logic.{same_some}
 use Rattle.pb_history.proofs.Agreement.{ts}
 use Rattle.pb_history.proofs.HistoryTold.{same_stamp}
 use Rattle.pb_generations.specs.Mirrored.{carried}
@@ -12,32 +10,17 @@ use Rattle.pb_generations.specs.Snapshots.{IsSnapshotOf, IsLeftOf, AreLeft, AreE
 use Rattle.pb_state.proofs.GotParts.{first_content, got_content, got_phase, got_prewritten, got_primary, got_read, value_there}
 use Rattle.pb_state.proofs.SnapshotViews.{snapshot_sound}
 
--- a cell has one version up to a timestamp
-no_newer : (e : Entries) (x : Cell) (n : ℕ) (v w : Revision) → IsVersion e x n v → IsVersion e x n w → w.commit.0 ≤ v.commit.0
-no_newer e x n v w a b = elim (cases_lt v.commit.0 w.commit.0) [
-  | inl above ↦ absurd (none-some w.start.0 (sym (a.newest w.commit.0 above b.low) ∙ b.written))
-  | inr fine ↦ fine
-]
-
-pub one_start : (e : Entries) (x : Cell) (n : ℕ) (v w : Revision) → IsVersion e x n v → IsVersion e x n w → v.start.0 ≡ w.start.0
-one_start e x n v w a b =
-    let same : v.commit.0 ≡ w.commit.0 = omega (arith, no_newer e x n v w a b, no_newer e x n w v b a) in
-    one_value _ v.start.0 w.start.0 a.written (ap (λ (k : ℕ). write_at e x k) same ∙ b.written)
-
 one_commit : (c d : ℕ) → Some (Phase.Committed (ts c)) ≡ Some (Phase.Committed (ts d)) → c ≡ d
 one_commit c d both = same_stamp (Phase.Committed (ts d)) c d (same_some _ _ (sym both)) (inr (inl refl))
 
 -- ---- its entries
 
--- of each write record the table has one on some cell, and its data stand beside it; a cell has one version at most, and no lock
+-- of each write record the table has one on some cell, and its data stand beside it; of two transactions with one on a cell, one was
+-- committed before the other began; and there is no lock
 pub record HaveVersions (whole : StateOf) (e : Entries) : Type 0 where
   pub written : (y : Cell) (c s : ℕ) → write_at e y c ≡ Some s → ((x : Cell) × (write_at whole.entries x c ≡ Some s)) × ((k : Content) × (data_at e y s ≡ Some k))
-  pub single : (y : Cell) (c s d u : ℕ) → write_at e y c ≡ Some s → write_at e y d ≡ Some u → s ≡ u
+  pub apart : (y : Cell) (c s d u : ℕ) → write_at e y c ≡ Some s → write_at e y d ≡ Some u → (s ≡ u → ⊥) → (c < u) ⊎ (d < s)
   pub unlocked : (y : Cell) (s : ℕ) → lock_at e y s ≡ None
-
--- a version of the table with this start and commit has its write record there
-pub version_record : (whole : StateOf) (x : Cell) (v : Revision) (c s : ℕ) → IsVersion whole.entries x whole.clock v → v.commit.0 ≡ c → v.start.0 ≡ s → write_at whole.entries x c ≡ Some s
-version_record whole x v c s is commit start = ap (λ (n : ℕ). write_at whole.entries x n) (sym commit) ∙ is.written ∙ ap (λ (n : ℕ). Some n) start
 
 module _ (whole : StateOf) (e : Entries) (had : Transactions) (sound : IsSoundTable whole) (snap : HaveVersions whole e) (left : AreLeft whole e had) where
   abbrev now : StateOf
@@ -112,7 +95,7 @@ module _ (whole : StateOf) (e : Entries) (had : Transactions) (sound : IsSoundTa
     stands = λ s c x k is content.
         let g = got_content now s x k content in
         ap (λ (n : ℕ). write_at e x n) (sym (at_commit s g.0 g.1 c is)) ∙ (((left.each s g.0 g.1).declared x k).0 g.2).0;
-    single = snap.single;
+    apart = snap.apart;
   }
 
   ended : AreEnded whole had
@@ -124,17 +107,12 @@ left_sound whole e had sound snap left = (snapshot_sound (view_of (carried whole
 
 -- ---- a snapshot
 
-snapshot_has : (whole : StateOf) (e : Entries) → IsSnapshotOf whole e → HaveVersions whole e
-snapshot_has whole e snap = record {
-  written = λ y c s is.
-      let k = snap.only y c s is in
-      ((y, version_record whole y k.0 c s k.1 k.2 k.3), (k.0.content, ap (λ (n : ℕ). data_at e y n) (sym k.3) ∙ (snap.kept y k.0 k.1).1));
-  single = λ y c s d u a b.
-      let p = snap.only y c s a in
-      let q = snap.only y d u b in
-      sym p.3 ∙ one_start whole.entries y whole.clock p.0 q.0 p.1 q.1 ∙ q.3;
+snapshot_has : (whole : StateOf) (e : Entries) → IsSoundTable whole → IsSnapshotOf whole e → HaveVersions whole e
+snapshot_has whole e sound snap = record {
+  written = λ y c s is. ((y, snap.within.records y c s is), snap.stored y c s is);
+  apart = λ y c s d u a b. sound.apart y c s d u (snap.within.records y c s a) (snap.within.records y d u b);
   unlocked = snap.unlocked;
 }
 
 pub left_are_sound : LeftAreSound
-left_are_sound whole e had sound snap left = left_sound whole e had sound (snapshot_has whole e snap) left
+left_are_sound whole e had sound snap left = left_sound whole e had sound (snapshot_has whole e sound snap) left

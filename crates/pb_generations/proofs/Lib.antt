@@ -1,11 +1,12 @@
 pub mod Kept
 pub mod VersionsAbove
+pub mod SameVersions
+pub mod ViewedVersions
 pub mod QuietTables
 pub mod LeftTransactions
 pub mod ChosenSound
 pub mod LateStarts
 pub mod AcknowledgedReads
-pub mod ChosenAcknowledgments
 pub mod NewestWrites
 pub mod SeatEntries
 pub mod LateNames
@@ -30,6 +31,7 @@ pub mod ServingSnapshots
 pub mod LeanTables
 pub mod LeftOutMirrors
 pub mod KnownMarks
+pub mod BehindMarks
 pub mod KnownJobs
 pub mod KeptJobs
 pub mod ChosenNumbers

@@ -1,12 +1,14 @@
 -- What a snapshot serves for: a table without locks, of which nothing is above its clock.
-use Rattle.std.proofs.Common.{◌≡◌, ℕ, ◌<◌, ◌≤◌, inl, inr, sym, ◌∙◌, ap, subst, arith, Bool, true, false, List, [], ◌∷◌, Some, None, is_some}
+use Rattle.std.proofs.Common.{◌≡◌, ℕ, ◌<◌, ◌≤◌, inl, inr, refl, sym, ◌∙◌, ap, subst, arith, Bool, true, false, List, [], ◌∷◌, Some, None, is_some}
 use Rattle.std.proofs.lemmas.Option.{none-some}
 use Rattle.std.specs.FinMap as map
-use Rattle.pb_generations.specs.Words.{Cell, Content, Revision, ObserverOf, Entries, slot_at, slot_cmp, Sort, if_locked, commits, rolls_back, IsVersion, data_at, data_of, lock_at, write_at, StateOf, TransactionOf, Transactions, opening, TableStep, Answer, Step, JournalLeads, SoundHasData, StepsKeepSound, IsSoundTable, KeepsData, Entry}
+use Rattle.pb_generations.specs.Words.{cell_cmp, Cell, Content, ObserverOf, Entries, Marks, slot_at, slot_cmp, Sort, if_locked, commits, rolls_back, NoLock, data_at, data_of, last_timestamp, lock_at, write_at, StateOf, TransactionOf, Transactions, opening, TableStep, Answer, Step, IsLegal, JournalLeads, SoundHasData, StepsKeepSound, IsSoundTable, KeepsData, Entry}
+use Rattle.pb_history.proofs.OpeningSound.{opening_sound}
+use Rattle.pb_history.proofs.StepsKeepSound.{steps_keep}
 use Rattle.pb_history.proofs.Updates.{placed_or_before as placed, left_after_clearing as cleared, none_if}
 use Rattle.pb_history.proofs.ViewsAfter.{data_after_commit, data_after_back, data_after_put}
-use Rattle.pb_generations.specs.Mirrored.{IsMirroredBy}
-use Rattle.pb_generations.specs.Snapshots.{IsSnapshotOf}
+use Rattle.pb_generations.specs.Mirrored.{IsMirroredBy, IsUnlocked, QuietMirrorsItself, unmarked}
+use Rattle.pb_generations.specs.Snapshots.{IsSnapshotOf, ServeAcknowledged, ShowsViewed}
 use Rattle.pb_generations.proofs.Kept.{same_there}
 
 -- ---- no data of a start above the clock
@@ -62,65 +64,69 @@ bounded old seat (Step.Sweep x) Answer.Done new keeps bound t = stays _ new t.ta
 bounded old seat step answer new keeps bound t = absurd t.taken
 
 -- nothing is above the clock as opened
-pub opening_bounded : (observers : List ObserverOf) (seats clock : ℕ) → Bounded (opening observers seats clock)
+opening_bounded : (observers : List ObserverOf) (seats clock : ℕ) → Bounded (opening observers seats clock)
 opening_bounded observers seats clock x s k there = absurd (none-some k (sym (ap data_of (map.get-empty slot_cmp (slot_at x Sort.Data s))) ∙ there))
 
 -- and a legal journal leads to a sound state of which that holds
-pub led_bounded : StepsKeepSound → SoundHasData → (old new : StateOf) (js : List Entry) → IsSoundTable old → Bounded old → JournalLeads old js new → IsSoundTable new × Bounded new
+led_bounded : StepsKeepSound → SoundHasData → (old new : StateOf) (js : List Entry) → IsSoundTable old → Bounded old → JournalLeads old js new → IsSoundTable new × Bounded new
 led_bounded steps law old new [] sound bound leads = (subst IsSoundTable (sym leads) sound, subst Bounded (sym leads) bound)
 led_bounded steps law old new (j ∷ js) sound bound leads =
     led_bounded steps law leads.0 new js (steps old j.seat j.step j.answer leads.0 sound leads.1) (bounded old j.seat j.step j.answer leads.0 (law old sound) bound leads.1) leads.2
 
+-- ---- a legal journal leads to a table without anything above its clock
+
+pub legal_bounded : SoundHasData → (observers : List ObserverOf) (seats clock : ℕ) (journal : List Entry) (whole : StateOf) → IsLegal observers seats clock journal whole → Bounded whole
+legal_bounded law observers seats clock journal whole legal =
+    (led_bounded steps_keep law (opening observers seats clock) whole journal (opening_sound observers seats clock legal.fits) (opening_bounded observers seats clock) legal.run).1
+
+-- and no write record there has a later commit or start
+pub record_by_clock : (whole : StateOf) → IsSoundTable whole → (x : Cell) (d s : ℕ) → write_at whole.entries x d ≡ Some s → (d ≤ whole.clock) × (s ≤ whole.clock)
+record_by_clock whole sound x d s there =
+    let b = sound.stamped s d (inr (sound.record_committed x d s there)) in
+    (b.1, omega (arith, b.0, b.1))
+
+-- a table without locks mirrors itself
+pub mirrors_itself : QuietMirrorsItself → (whole : StateOf) → IsSoundTable whole → ((x : Cell) → NoLock whole.entries x) → whole.clock < last_timestamp → IsMirroredBy whole.clock whole whole.entries whole.transactions
+mirrors_itself mirror whole sound unlocked room =
+    let itself = mirror (unmarked whole) (but_marks whole map.empty sound) (record { unmarked = λ x. ap is_some (map.get-empty cell_cmp x); unlocked = unlocked }) room in
+    record { since = itself.since; room = itself.room; entries_are = itself.entries_are; transactions_are = itself.transactions_are }
+  where
+    but_marks : (state : StateOf) (marks : Marks) → IsSoundTable state → IsSoundTable (record state { marks = marks })
+    but_marks state marks sound = sound
+
 -- ---- a snapshot serves
 
-module _ (whole : StateOf) (e : Entries) (ts : Transactions) (whole_lock : (x : Cell) (s : ℕ) → lock_at whole.entries x s ≡ None) (whole_record : (x : Cell) (d : ℕ) → whole.clock < d → write_at whole.entries x d ≡ None)
+-- it shows all that may be viewed, of a table without anything above its clock
+pub snapshot_shows : (old : StateOf) → ((x : Cell) (d s : ℕ) → write_at old.entries x d ≡ Some s → (d ≤ old.clock) × (s ≤ old.clock)) → Bounded old → (e : Entries) → IsSnapshotOf old e → ShowsViewed old e
+snapshot_shows old records bound e is = record {
+  viewed = is.viewed;
+  by_then = λ x d s here. records x d s (is.within.records x d s here);
+  stored_by_then = λ x s k here. bound x s k (is.within.stored x s k here);
+  unlocked = is.unlocked;
+}
+
+-- and what shows that serves
+module _ (whole : StateOf) (e : Entries) (ts : Transactions) (whole_lock : IsUnlocked whole) (whole_record : (x : Cell) (d : ℕ) → whole.clock < d → write_at whole.entries x d ≡ None)
     (bound : Bounded whole) (begun : (s : ℕ) (t : TransactionOf) → map.get whole.transactions s ≡ Some t → s ≤ whole.clock)
-    (m : IsMirroredBy whole.clock whole whole.entries whole.transactions) (is : IsSnapshotOf whole e) (none : (s : ℕ) → whole.clock < s → map.get ts s ≡ None) where
+    (m : IsMirroredBy whole.clock whole whole.entries whole.transactions) (is : ShowsViewed whole e) (none : (s : ℕ) → whole.clock < s → map.get ts s ≡ None) where
   kept_record : (x : Cell) (d : ℕ) → whole.clock < d → write_at e x d ≡ None
-  kept_record x d above = none_if (write_at e x d) (λ s there. let k = is.only x d s there in omega (arith, above, k.1.low, k.2))
+  kept_record x d above = none_if (write_at e x d) (λ s there. omega (arith, above, (is.by_then x d s there).0))
 
   kept_data : (x : Cell) (s : ℕ) → whole.clock < s → data_at e x s ≡ None
-  kept_data x s above = none_if (data_at e x s) (λ k there. let n = is.no_more x s k there in omega (arith, above, n.2, m.entries_are.early x n.0.commit.0 n.0.start.0 n.1.low n.1.written))
+  kept_data x s above = none_if (data_at e x s) (λ k there. omega (arith, above, is.stored_by_then x s k there))
 
   whole_data : (x : Cell) (s : ℕ) → whole.clock < s → data_at whole.entries x s ≡ None
   whole_data x s above = none_if (data_at whole.entries x s) (λ k there. omega (arith, above, bound x s k there))
 
-  there_on : (x : Cell) (v : Revision) → IsVersion whole.entries x whole.clock v → IsVersion e x whole.clock v
-  there_on x v there = record {
-    low = there.low;
-    written = (is.kept x v there).0;
-    content = (is.kept x v there).1;
-    newest = λ d above low. none_if (write_at e x d) (λ s here. let k = is.only x d s here in none-some k.0.start.0 (sym (there.newest d above low) ∙ ap (λ (n : ℕ). write_at whole.entries x n) (sym k.2) ∙ k.1.written));
-  }
-
-  there_back : (x : Cell) (v : Revision) → IsVersion e x whole.clock v → IsVersion whole.entries x whole.clock v
-  there_back x v here =
-      let k = is.only x v.commit.0 v.start.0 here.written in
-      record {
-        low = here.low;
-        written = ap (λ (n : ℕ). write_at whole.entries x n) (sym k.2) ∙ k.1.written ∙ ap (λ (n : ℕ). Some n) k.3;
-        content = ap (λ (n : ℕ). data_at whole.entries x n) (sym k.3) ∙ k.1.content ∙ sym (is.kept x k.0 k.1).1 ∙ ap (λ (n : ℕ). data_at e x n) k.3 ∙ here.content;
-        newest = λ d above low. k.1.newest d (omega (arith, above, k.2)) low;
-      }
-
-  pub snapshot_serves : IsMirroredBy whole.clock whole e ts
-  snapshot_serves = record {
+  mirrors : IsMirroredBy whole.clock whole e ts
+  mirrors = record {
     since = m.since;
     room = m.room;
     entries_are = record {
-      versions = λ x. record {
-        there = λ v. (there_on x v, there_back x v);
-        none = (
-          λ lacks d low. none_if (write_at e x d) (λ s here. let k = is.only x d s here in none-some k.0.start.0 (sym (lacks k.0.commit.0 k.1.low) ∙ k.1.written)),
-          λ lacks. elim (m.entries_are.either x) [
-            | inl v ↦ absurd (none-some v.0.start.0 (sym (lacks v.0.commit.0 v.1.low) ∙ (is.kept x v.0 v.1).0))
-            | inr none_there ↦ none_there
-          ],
-        );
-      };
+      versions = λ x. is.viewed x whole.clock (inl refl);
       either = m.entries_are.either;
       early = m.entries_are.early;
-      kept_early = λ x d s low here. let k = is.only x d s here in omega (arith, k.3, m.entries_are.early x k.0.commit.0 k.0.start.0 k.1.low k.1.written);
+      kept_early = λ x d s low here. (is.by_then x d s here).1;
       records = λ x d above. kept_record x d above ∙ sym (whole_record x d above);
       starts = m.entries_are.starts;
       stored = λ x s above. kept_data x s above ∙ sym (whole_data x s above);
@@ -132,3 +138,6 @@ module _ (whole : StateOf) (e : Entries) (ts : Transactions) (whole_lock : (x : 
       phases = m.transactions_are.phases;
     };
   }
+
+  pub shown_serves : IsMirroredBy whole.clock whole e ts × ServeAcknowledged whole.observers whole.clock whole.entries e
+  shown_serves = (mirrors, λ x t acknowledged. inr (is.viewed x t (inr acknowledged)))

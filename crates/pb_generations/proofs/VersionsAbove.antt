@@ -34,6 +34,12 @@ module _ (c : ℕ) (whole e : Entries) (m : SameEntries c whole e) (x : Cell) (u
   pub whole_version : (v : Revision) → IsVersion e x u v → IsVersion whole x u v
   whole_version v = version_on c u e whole x since (λ d late. sym (m.records x d late)) (λ d s late is. sym (m.stored x s (m.starts x d s late (sym (m.records x d late) ∙ is)))) v ((m.versions x).there v).1
 
+  pub kept_none : NoVersion whole x u → NoVersion e x u
+  kept_none is d low = elim (cases_lt c d) [
+    | inl past ↦ m.records x d past ∙ is d low
+    | inr by_then ↦ (m.versions x).none.0 (λ k early. is k (omega (arith, early, since))) d by_then
+  ]
+
   pub whole_none : NoVersion e x u → NoVersion whole x u
   whole_none is d low = elim (cases_lt c d) [
     | inl past ↦ sym (m.records x d past) ∙ is d low

@@ -1,11 +1,11 @@
--- A quiet table gets another list of observers: some of those that it has, in any order, and then others. Those that stay keep
+-- A table gets another list of observers where no lock stands on it: some of those that it has, in any order, and then others. Those that stay keep
 -- what they have acknowledged, under their new numbers. The acknowledgments of those that go aren't kept, so that one which
 -- comes back later is a new one.
 use Rattle.std.specs.Prelude.{◌≡◌, ℕ, ◌+◌, ◌==◌, cond, suc, zero, List, [], ◌∷◌, length, map as map_list, Option, Some, None, option_map, slice_get}
-use Rattle.pb_generations.specs.Words.{Cell, Content, Revision, ObserverOf, Entries, IsVersion, data_at, lock_at, write_at, StateOf, Transactions, IsSoundTable, Received}
-use Rattle.pb_generations.specs.Mirrored.{carried}
+use Rattle.pb_generations.specs.Words.{Cell, Content, ObserverOf, Entries, data_at, lock_at, write_at, StateOf, Transactions, IsSoundTable, Received}
+use Rattle.pb_generations.specs.Mirrored.{SameVersionOn, carried}
 use Rattle.pb_generations.specs.Renumbered.{renumbered_answer, renumbered_step}
-use Rattle.pb_generations.specs.Snapshots.{AreEnded, AreLeft}
+use Rattle.pb_generations.specs.Snapshots.{AreEnded, AreLeft, IsViewedAt}
 
 -- ---- which observers
 
@@ -27,14 +27,16 @@ abbrev pub chosen_cell : List ℕ → Cell → Option Cell
 chosen_cell places (Cell.Data row column) = Some (Cell.Data row column)
 chosen_cell places (Cell.Ack o row column) = option_map (λ n. Cell.Ack n row column) (place_among places o)
 
--- of each data cell, and of each acknowledgment of one that stays, the newest version alone; and no lock
+-- of each data cell, and of each acknowledgment of one that stays, the versions that may still be viewed; nothing else that the table
+-- doesn't have; and no lock
 pub record IsChosenSnapshot (places : List ℕ) (old : StateOf) (e : Entries) : Type 0 where
-  pub kept : (x y : Cell) (v : Revision) → chosen_cell places x ≡ Some y → IsVersion old.entries x old.clock v → (write_at e y v.commit.0 ≡ Some v.start.0) × (data_at e y v.start.0 ≡ Some v.content)
-  pub only : (y : Cell) (d s : ℕ) → write_at e y d ≡ Some s → (x : Cell) × (v : Revision) × (chosen_cell places x ≡ Some y) × IsVersion old.entries x old.clock v × (v.commit.0 ≡ d) × (v.start.0 ≡ s)
-  pub no_more : (y : Cell) (s : ℕ) (k : Content) → data_at e y s ≡ Some k → (x : Cell) × (v : Revision) × (chosen_cell places x ≡ Some y) × IsVersion old.entries x old.clock v × (v.start.0 ≡ s)
+  pub viewed : (x y : Cell) → chosen_cell places x ≡ Some y → (t : ℕ) → IsViewedAt old x t → SameVersionOn t old.entries x e y
+  pub only : (y : Cell) (d s : ℕ) → write_at e y d ≡ Some s → (x : Cell) × (chosen_cell places x ≡ Some y) × (write_at old.entries x d ≡ Some s)
+  pub no_more : (y : Cell) (s : ℕ) (k : Content) → data_at e y s ≡ Some k → (x : Cell) × (chosen_cell places x ≡ Some y) × (data_at old.entries x s ≡ Some k)
+  pub stored : (y : Cell) (d s : ℕ) → write_at e y d ≡ Some s → (k : Content) × (data_at e y s ≡ Some k)
   pub unlocked : (y : Cell) (s : ℕ) → lock_at e y s ≡ None
 
--- the quiet table with what was chosen in the place of what it has, and with these observers alone
+-- the table with what was chosen in the place of what it has, and with these observers alone
 abbrev pub chosen_state : StateOf → List ObserverOf → Entries → Transactions → StateOf
 chosen_state old front e ts = record (carried old e ts) { observers = front }
 

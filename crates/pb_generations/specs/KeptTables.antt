@@ -1,12 +1,12 @@
--- A table that is kept over any number of generations: it is opened, takes steps, and where it is quiet it may begin anew with a
--- snapshot of itself, also with another list of observers. What holds of one table's legal journal holds of the journal of all its
--- generations.
+-- A table that is kept over any number of generations: it is opened, takes steps, and where no lock stands on it it may begin anew with
+-- a snapshot of itself, also with another list of observers, and with a mark on each cell that one that stays isn't up to date on. What holds
+-- of one table's legal journal holds of the journal of all its generations.
 use Rattle.std.specs.Prelude.{◌≡◌, ℕ, ◌<◌, ◌≤◌, true, false, List, [], ◌∷◌, ◌++◌, length, Option, Some, None, slice_get}
-use Rattle.pb_generations.specs.Words.{Writes, Cell, Content, Revision, Row, ObserverOf, Entries, Marks, is_marked, IsNewestVersion, NoLock, data_at, last_timestamp, write_at, acknowledged_in, StateOf, Transactions, opening, TableStep, Answer, Step, Handles, IsQuiet, TellsOneHandler, Has, InHistory, IsEntry, IsSnapshot, Member, NoSnapshot, WritesTo, JournalLeads, WroteAt, TellsSnapshots, TellsTimestamps, Entry, Received, HasMoreObservers, ChangeOf, IsSomeChange, new_change, told, entries_by, Reaches, IsHeld, RunOf, fresh, next_of, watch_of}
+use Rattle.pb_generations.specs.Words.{Writes, Cell, Content, Revision, Row, ObserverOf, Entries, Marks, is_marked, IsNewestVersion, NoLock, data_at, last_timestamp, write_at, acknowledged_in, StateOf, Transactions, opening, TableStep, Answer, Step, Handles, IsQuiet, TellsOneHandler, Has, InHistory, IsEntry, IsSnapshot, Member, NoSnapshot, WritesTo, JournalLeads, WroteAt, TellsSnapshots, TellsTimestamps, Entry, Received, HasMoreObservers, IsMarkedBehind, ChangeOf, IsSomeChange, new_change, told, entries_by, Reaches, IsHeld, RunOf, fresh, next_of, watch_of}
 use Rattle.pb_txn.specs.Changes as changes
 use Rattle.pb_generations.specs.Chosen.{AreChosen, IsChosenSnapshot, chosen_state, new_number}
 use Rattle.pb_generations.specs.LeftOut.{AnswersKnown, LacksOthers, NamesKnown, is_known_cell}
-use Rattle.pb_generations.specs.Mirrored.{IsMirroredBy, carried}
+use Rattle.pb_generations.specs.Mirrored.{IsMirroredBy, IsUnlocked, IsPartOf, carried, unmarked}
 use Rattle.pb_generations.specs.Renumbered.{renumbered_journal}
 use Rattle.pb_generations.specs.SameButMarks.{IsLegalButMarks}
 use Rattle.pb_generations.specs.Snapshots.{AreEnded, IsSnapshotOf}
@@ -53,13 +53,13 @@ pub data IsKeptTable : List ObserverOf → List ObserverOf → ℕ → ℕ → �
   opened : (observers : List ObserverOf) (seats clock : ℕ) → clock < last_timestamp → IsKeptTable observers [] seats clock clock [] (opening observers seats clock)
   stepped : (observers gone : List ObserverOf) (seats clock c : ℕ) (journal : List Entry) (old : StateOf) (e : Entry) (new : StateOf) → IsKeptTable observers gone seats clock c journal old
       → IsStepOfJob observers journal e.step → NamesKnown (length observers) e.step → TableStep old e.seat e.step e.answer new → IsKeptTable observers gone seats clock c (journal ++ e ∷ []) new
-  anew : (observers gone : List ObserverOf) (seats clock c : ℕ) (journal : List Entry) (old : StateOf) (f : Entries) (ts : Transactions) → IsKeptTable observers gone seats clock c journal old
-      → IsQuiet old → old.clock < last_timestamp → IsSnapshotOf old f → AreEnded old ts → IsKeptTable observers gone seats clock old.clock journal (carried old f ts)
+  anew : (observers gone : List ObserverOf) (seats clock c : ℕ) (journal : List Entry) (old : StateOf) (f : Entries) (ts : Transactions) (new : StateOf) → IsKeptTable observers gone seats clock c journal old
+      → IsUnlocked old → old.clock < last_timestamp → IsSnapshotOf old f → AreEnded old ts → IsMarkedBehind (unmarked (carried old f ts)) new → IsKeptTable observers gone seats clock old.clock journal new
   -- the observers at these places stay, in this order, and after them come new ones, for which each cell of theirs that has a write
   -- record is marked; in the journal all have their new numbers. One that doesn't stay may be among the new ones.
-  chosen : (observers gone : List ObserverOf) (seats clock c : ℕ) (journal : List Entry) (old : StateOf) (places : List ℕ) (front added : List ObserverOf) (f : Entries) (ts : Transactions) (new : StateOf)
-      → IsKeptTable observers gone seats clock c journal old → IsQuiet old → old.clock < last_timestamp
-      → AreChosen places observers front → IsChosenSnapshot places old f → AreEnded old ts → HasMoreObservers added (chosen_state old front f ts) new
+  chosen : (observers gone : List ObserverOf) (seats clock c : ℕ) (journal : List Entry) (old : StateOf) (places : List ℕ) (front added : List ObserverOf) (f : Entries) (ts : Transactions) (between new : StateOf)
+      → IsKeptTable observers gone seats clock c journal old → IsUnlocked old → old.clock < last_timestamp
+      → AreChosen places observers front → IsChosenSnapshot places old f → AreEnded old ts → IsMarkedBehind (unmarked (chosen_state old front f ts)) between → HasMoreObservers added between new
       → IsKeptTable (front ++ added) (observers ++ gone) seats clock old.clock (renumbered_journal (new_number places (length (front ++ added))) journal) new
 
 -- a table that is kept stays one after such a conversation of a seat
@@ -98,13 +98,15 @@ AreCovered observers marks e =
     → (c u : ℕ) → write_at e (Cell.Data row observer.column) c ≡ Some u → (d : ℕ) × (s : ℕ) × (write_at e (Cell.Ack o row observer.column) d ≡ Some s) × (c ≤ s)
 
 -- But for steps of marks, the journal is a legal one of a whole table, which has also the observers that are gone. Without these, and
--- but for its marks, what is there now serves for it; and there no change is left unmarked that isn't acknowledged.
+-- but for its marks, what is there now serves for it, and has nothing of its own; and there no change is left unmarked that isn't
+-- acknowledged.
 pub record StandsForAll (observers gone : List ObserverOf) (seats clock c : ℕ) (journal : List Entry) (now : StateOf) : Type 0 where
   pub whole : StateOf
   pub legal : IsLegalButMarks (observers ++ gone) seats clock journal whole
   pub lean : StateOf
   pub lacks : LacksOthers c gone whole lean
   pub mirrors : IsMirroredBy c lean now.entries now.transactions
+  pub within : IsPartOf lean.entries now.entries
   pub now_is : now ≡ carried lean now.entries now.transactions
   pub observers_are : now.observers ≡ observers
   pub covered : AreCovered observers now.marks whole.entries

@@ -2,7 +2,7 @@
 -- came later, is one legal journal, of which all laws of journals hold as they stand.
 use Rattle.std.specs.Prelude.{◌≡◌, ℕ, ◌<◌, ◌≤◌, ◌↔◌, ◌⊎◌, List, [], ◌∷◌, ◌++◌}
 use Rattle.pb_generations.specs.Words.{Cell, Revision, ObserverOf, Entries, IsVersion, StateOf, Transactions, TableStep, Answer, Step, IsLegal, JournalLeads, Entry}
-use Rattle.pb_generations.specs.Mirrored.{IsMirroredBy, SameVersion, carried}
+use Rattle.pb_generations.specs.Mirrored.{IsMirroredBy, IsPartOf, SameVersion, carried}
 use Rattle.pb_generations.specs.SameButMarks.{IsLegalButMarks}
 
 -- the step names no transaction that had begun by c
@@ -31,7 +31,7 @@ IsServedStep c whole old (Step.ReadAt s x t) = NamesLate c (Step.ReadAt s x t) �
 IsServedStep c whole old step = NamesLate c step
 
 -- The whole table takes the step too, with the same answer. What the carried one leaves serves for what it leaves, of no cell
--- is the version at c another, and what was kept of earlier ones still is.
+-- is the version at c another, and what was kept of earlier ones still is, and has nothing of its own.
 pub record Carries (c : ℕ) (whole : StateOf) (e : Entries) (seat : ℕ) (step : Step) (answer : Answer) (new : StateOf) : Type 0 where
   pub after : StateOf
   pub entries : Entries
@@ -41,6 +41,7 @@ pub record Carries (c : ℕ) (whole : StateOf) (e : Entries) (seat : ℕ) (step 
   pub new_is : new ≡ carried after entries transactions
   pub versions : (x : Cell) (v : Revision) → IsVersion whole.entries x c v ↔ IsVersion after.entries x c v
   pub before : (x : Cell) (u : ℕ) → u ≤ c → SameVersion u whole.entries e x → SameVersion u after.entries entries x
+  pub within : IsPartOf whole.entries e → IsPartOf after.entries entries
 
 -- a step of a carried table that is served is one of the whole table
 abbrev pub StepsCarryOver : Type 0

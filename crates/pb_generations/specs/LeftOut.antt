@@ -8,7 +8,7 @@ use Rattle.pb_generations.specs.Words.{Writes, Cell, ObserverOf, Entries, Marks,
 use Rattle.pb_generations.specs.LateSteps.{NamesLate}
 use Rattle.pb_generations.specs.Mirrored.{IsMirroredBy}
 use Rattle.pb_generations.specs.SameButMarks.{is_of_marks}
-use Rattle.pb_generations.specs.Snapshots.{IsSnapshotOf}
+use Rattle.pb_generations.specs.Snapshots.{ServeAcknowledged, ShowsViewed}
 
 -- ---- what is left out
 
@@ -101,14 +101,10 @@ abbrev pub MirrorsWithoutOthers : Type 0
 MirrorsWithoutOthers =
     (c : ℕ) (gone : List ObserverOf) (whole lean : StateOf) → LacksOthers c gone whole lean → IsMirroredBy c whole whole.entries whole.transactions → IsMirroredBy c lean lean.entries lean.transactions
 
--- a snapshot of the table, but for what stands on cells of the others, is one of the table without them
-abbrev pub SnapshotsLeaveOut : Type 0
-SnapshotsLeaveOut =
-    (c : ℕ) (gone : List ObserverOf) (whole lean : StateOf) (e : Entries) → LacksOthers c gone whole lean → IsSnapshotOf whole e → IsSnapshotOf lean (known_entries (length lean.observers) e)
-
--- and a snapshot of that serves for it, if no lock stands in the table, and a legal journal led there
+-- and what shows all that may be viewed of it serves for it, if no lock stands in the table, and a legal journal led there
 abbrev pub SnapshotsServeWithoutOthers : Type 0
 SnapshotsServeWithoutOthers =
     (observers gone : List ObserverOf) (seats clock : ℕ) (journal : List Entry) (whole lean : StateOf) → IsLegal observers seats clock journal whole → ((x : Cell) → NoLock whole.entries x)
     → whole.clock < last_timestamp → LacksOthers whole.clock gone whole lean
-    → (e : Entries) (ts : Transactions) → IsSnapshotOf lean e → ((s : ℕ) → lean.clock < s → map.get ts s ≡ None) → IsMirroredBy lean.clock lean e ts
+    → (e : Entries) (ts : Transactions) → ShowsViewed lean e → ((s : ℕ) → lean.clock < s → map.get ts s ≡ None)
+    → IsMirroredBy lean.clock lean e ts × ServeAcknowledged lean.observers lean.clock lean.entries e

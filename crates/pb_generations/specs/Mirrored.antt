@@ -1,13 +1,22 @@
 -- What a table has to keep of its past so that no later step of a job shows a difference from the whole table: of each cell the
 -- version at a timestamp c, all that is later, and the locks. What is older may be dropped.
-use Rattle.std.specs.Prelude.{◌≡◌, ◌≢◌, ℕ, ◌<◌, ◌≤◌, ◌⊎◌, ◌↔◌, Some}
+use Rattle.std.specs.Prelude.{◌≡◌, ◌≢◌, ℕ, ◌<◌, ◌≤◌, ◌⊎◌, ◌↔◌, Some, None}
 use Rattle.std.specs.FinMap as map
-use Rattle.pb_generations.specs.Words.{Cell, Revision, Entries, slot_at, Sort, IsVersion, NoVersion, data_at, last_timestamp, lock_at, write_at, StateOf, TransactionOf, Transactions, Phase, IsQuiet, IsSoundTable}
+use Rattle.pb_generations.specs.Words.{Cell, Content, Revision, Entries, slot_at, Sort, IsVersion, NoVersion, data_at, last_timestamp, lock_at, write_at, StateOf, TransactionOf, Transactions, Phase, IsQuiet, IsSoundTable}
 
--- of x, the version with the greatest commit at most c is the same in both, or there is none in both
-pub record SameVersion (c : ℕ) (whole kept : Entries) (x : Cell) : Type 0 where
-  pub there : (v : Revision) → IsVersion whole x c v ↔ IsVersion kept x c v
-  pub none : NoVersion whole x c ↔ NoVersion kept x c
+-- the version of x in the first with the greatest commit at most t is that of y in the second, or neither has any
+pub record SameVersionOn (t : ℕ) (first : Entries) (x : Cell) (second : Entries) (y : Cell) : Type 0 where
+  pub there : (v : Revision) → IsVersion first x t v ↔ IsVersion second y t v
+  pub none : NoVersion first x t ↔ NoVersion second y t
+
+-- and so of one cell in both
+abbrev pub SameVersion : ℕ → Entries → Entries → Cell → Type 0
+SameVersion t whole kept x = SameVersionOn t whole x kept x
+
+-- what was kept is of the whole: it has no write record and no data of its own
+pub record IsPartOf (whole kept : Entries) : Type 0 where
+  pub records : (x : Cell) (d s : ℕ) → write_at kept x d ≡ Some s → write_at whole x d ≡ Some s
+  pub stored : (x : Cell) (s : ℕ) (k : Content) → data_at kept x s ≡ Some k → data_at whole x s ≡ Some k
 
 -- Of later commits and later starts the kept entries are the whole ones, locks are of later starts alone, and up to c they have
 -- the same versions. What they lack are earlier versions.
@@ -38,6 +47,14 @@ pub record SameTransactions (c : ℕ) (whole kept : Transactions) : Type 0 where
 -- the table with what was kept in the place of what it has: marks, observers, clock and seats are its own
 abbrev pub carried : StateOf → Entries → Transactions → StateOf
 carried whole entries transactions = record whole { entries = entries; transactions = transactions }
+
+-- the table without its marks
+abbrev pub unmarked : StateOf → StateOf
+unmarked state = record state { marks = map.empty }
+
+-- no lock stands on it
+abbrev pub IsUnlocked : StateOf → Type 0
+IsUnlocked state = (x : Cell) (s : ℕ) → lock_at state.entries x s ≡ None
 
 -- since c, these entries and transactions serve for those of the whole table
 pub record IsMirroredBy (c : ℕ) (whole : StateOf) (entries : Entries) (transactions : Transactions) : Type 0 where

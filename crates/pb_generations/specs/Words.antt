@@ -42,7 +42,7 @@ pub use Rattle.pb_steps.specs.declared.step.Work.{Work}
 pub use Rattle.pb_history.specs.Handled.{Handles, IsQuiet, TellsOneHandler}
 pub use Rattle.pb_history.specs.History.{Has, InHistory, IsEntry, IsSnapshot, Member, NoSnapshot, WritesTo}
 pub use Rattle.pb_history.specs.Journals.{IsLegal, JournalLeads}
-pub use Rattle.pb_history.specs.Laws.{OpeningIsSound, SoundHasData, StepsKeepSound, TransactionsAreTold}
+pub use Rattle.pb_history.specs.Laws.{SoundHasData, StepsKeepSound, TransactionsAreTold}
 pub use Rattle.pb_history.specs.Places.{entries_of}
 pub use Rattle.pb_history.specs.RecordsTold.{WroteAt}
 pub use Rattle.pb_history.specs.RunsTold.{IsAcknowledgedAt}
@@ -54,6 +54,7 @@ pub use Rattle.pb_history.specs.TransactionsTold.{BeginsOnce, TellsTransactions,
 pub use Rattle.pb_history.specs.Words.{Reply, Talk}
 pub use Rattle.pb_history.specs.declared.entry.Entry.{Entry}
 pub use Rattle.pb_history.specs.declared.entry.Received.{Received}
+pub use Rattle.pb_state.specs.MarkedBehind.{IsMarkedBehind}
 pub use Rattle.pb_state.specs.MoreObservers.{HasMoreObservers}
 pub use Rattle.pb_state.specs.SnapshotViews.{IsSnapshotView}
 pub use Rattle.pb_conversations.specs.Conversations.{IsConversation, JobOf, took, went}

@@ -1,9 +1,11 @@
 //! Generations of a table are one: what a table does that was carried over is what the whole table would have done.
 //!
-//! A table that outlives its process need not keep all that ever was written. Where it is quiet it
-//! can begin anew with a snapshot: the newest version of each cell, acknowledgments too. Its
-//! observers may be others then: some stay, in any order, and keep what they have acknowledged; some
-//! go, and theirs go with them; and for new ones all that was ever written is still to be handled.
+//! A table that outlives its process need not keep all that ever was written. Where no lock stands on it,
+//! it can begin anew with a snapshot: the newest version of each cell, acknowledgments too, and the
+//! versions at what observers have acknowledged, which they may still read as the values before. It is
+//! given a mark on each cell that one of them isn't up to date on. Its observers may be others then: some
+//! stay, in any order, and keep what they have acknowledged; some go, and theirs go with them; and
+//! for new ones all that was ever written is still to be handled.
 //! These laws state that no later step of a job shows a difference, so that the past and what comes
 //! later are one legal journal, and the promises of `pb_history` hold of all generations together. They
 //! follow from the definition of a step (`pb_steps`), from the laws of journals (`pb_history`), and
@@ -24,7 +26,7 @@ ghost use Rattle.pb_generations.specs.KnownSteps.{ChangesNameKnown, RunsNameKnow
 ghost use Rattle.pb_generations.specs.LateSteps.{GenerationsAreOne, StepsCarryOver};
 ghost use Rattle.pb_generations.specs.LeftOut.{MarksMissNothing, MirrorsWithoutOthers};
 ghost use Rattle.pb_generations.specs.LeftOut.{OthersAreNeverMissed, OthersAreNeverNamed, OthersMayBeLeftOut};
-ghost use Rattle.pb_generations.specs.LeftOut.{SameRefusals, SnapshotsLeaveOut, SnapshotsServeWithoutOthers};
+ghost use Rattle.pb_generations.specs.LeftOut.{SameRefusals, SnapshotsServeWithoutOthers};
 ghost use Rattle.pb_generations.specs.Mirrored.{OldMayBeDropped, QuietCarriesOver, QuietMirrorsItself};
 ghost use Rattle.pb_generations.specs.Renumbered.{JournalsMayBeRenumbered, RenumberedAreQuiet};
 ghost use Rattle.pb_generations.specs.Snapshots.{LeftAreSound};
@@ -32,7 +34,7 @@ ghost use Rattle.pb_generations.specs.Snapshots.{SnapshotsCarryOver, SnapshotsSe
 ghost use Rattle.pb_state.specs.SnapshotViews.{SnapshotsAreSound};
 
 use pb_history::{
-    handled_at_most_once, reads_tell_snapshots, sound_has_data, steps_keep_sound, timestamps_rise,
+    handled_at_most_once, reads_tell_snapshots, sound_has_data, timestamps_rise,
     transactions_are_told,
 };
 use pb_notify::jobs_are_allowed;
@@ -62,8 +64,8 @@ pub fn generations_are_one()
     steps_carry_over();
 }
 
-/// A snapshot of a quiet table serves for it, and a state may be opened with one: with what is left of the transactions that wrote
-/// its versions it is a sound table. So is what was chosen of one for other observers.
+/// A snapshot of a table without locks serves for it, and a state may be opened with one: with what is left of the transactions that
+/// wrote its versions it is a sound table. So is what was chosen of one for other observers.
 pub fn snapshots_serve()
     ensures serve { SnapshotsServe }
     ensures sound { SnapshotsAreSound }
@@ -72,10 +74,9 @@ pub fn snapshots_serve()
 {
     old_may_be_dropped();
     sound_has_data();
-    steps_keep_sound();
 }
 
-/// A snapshot of a carried table is one of the whole table, so that generations follow one another.
+/// What shows all that may still be viewed of a carried table shows it of the whole one, so that generations follow one another.
 pub fn snapshots_carry_over()
     ensures { SnapshotsCarryOver }
 {}
@@ -120,20 +121,17 @@ pub fn jobs_name_known_cells()
     plans_converse();
 }
 
-/// A table without some of its observers mirrors itself where the whole one does, and a snapshot of it serves for it. So it may
-/// begin a generation, although no legal journal has led to it. Its snapshot is that of the whole table, but for what the others
-/// have acknowledged.
+/// A table without some of its observers mirrors itself where the whole one does, and what shows all that may be viewed of it serves
+/// for it. So it may begin a generation, although no legal journal has led to it.
 pub fn snapshots_serve_without_others()
     ensures itself { MirrorsWithoutOthers }
-    ensures snapshots { SnapshotsLeaveOut }
     ensures serve { SnapshotsServeWithoutOthers }
 {
     old_may_be_dropped();
     sound_has_data();
-    steps_keep_sound();
 }
 
-/// A table that is opened, takes the steps of jobs, and where it is quiet begins anew with a snapshot, also with other observers, any
+/// A table that is opened, takes the steps of jobs, and where no lock stands begins anew with a snapshot, also with other observers, any
 /// number of times, stands for a whole table, which has the observers that are gone after its own. But for steps of marks, the
 /// journal of all its generations, with the numbers that observers have by now, is a legal one that leads to that. No lock that is
 /// answered to a job has an acknowledgment of an observer that is gone as its primary.

@@ -15,7 +15,7 @@ one_transaction : (state : StateOf) (seat s : ℕ) (t u : TransactionOf) → IsO
 one_transaction state seat s t u p q = one_value (map.get state.transactions s) t u p.there q.there
 
 -- a snapshot has one newest version of a cell
-one_version : (e : Entries) (x : Cell) (s : ℕ) (v w : Revision) → IsVersion e x s v → IsVersion e x s w → v ≡ w
+pub one_version : (e : Entries) (x : Cell) (s : ℕ) (v w : Revision) → IsVersion e x s v → IsVersion e x s w → v ≡ w
 one_version e x s v w p q = grind arith
 
 -- or none, and not both
@@ -42,7 +42,7 @@ one_mark : (marks : Marks) (after : Option Cell) (x y : Cell) → IsNextMark mar
 one_mark marks after x y p q = grind (arith, first_of_two)
 
 -- that an observer isn't up to date, and that all are, exclude each other
-behind_or_not : (observers : List ObserverOf) (e : Entries) (x : Cell) → SomeBehind observers e x → AllUpToDate observers e x → ⊥
+pub behind_or_not : (observers : List ObserverOf) (e : Entries) (x : Cell) → SomeBehind observers e x → AllUpToDate observers e x → ⊥
 behind_or_not observers e (Cell.Data row column) b all =
     let o = b.1.acknowledges in
     let u = all b.0 o.observer o.there o.observes b.1.version.commit.0 b.1.newest.low (ap is_some b.1.newest.written) in

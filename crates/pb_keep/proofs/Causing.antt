@@ -31,7 +31,6 @@ not_changed_for_memory waiting old new (CarryFault.NoMemory refused) h = tt
 not_changed_for_memory waiting old new CarryFault.NotAboveStart h = absurd h
 not_changed_for_memory waiting old new CarryFault.AboveLast h = absurd h
 not_changed_for_memory waiting old new CarryFault.OutOfOrder h = absurd h
-not_changed_for_memory waiting old new CarryFault.CellTwice h = absurd h
 not_changed_for_memory waiting old new CarryFault.NotItsContent h = absurd h
 not_changed_for_memory waiting old new CarryFault.NoItsObserver h = absurd h
 

@@ -2,7 +2,6 @@ pub mod Mapping
 pub mod Scripts
 pub mod Records
 pub mod Origins
-pub mod Quiet
 pub mod Added
 pub mod Putting
 pub mod Lasts

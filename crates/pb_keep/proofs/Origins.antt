@@ -23,6 +23,5 @@ module _ (observers : List ObserverOf) (bytes : List ℕ) (so : begins_as_snapsh
       where
         not_both : {b : Bool} → b ≡ true → b ≡ false → ⊥
         not_both e d = absurd cc
-    why_not_carried n CarryFault.CellTwice w = lacks_own (λ h. let f = h.in_order n w.0 w.1 in f.once w.2.0 w.2.1)
     why_not_carried n CarryFault.NotItsContent w = lacks_own (λ h. let f = h.in_order n w.0 w.1 in let e = f.its_content in let d = w.2 in absurd cc)
     why_not_carried n CarryFault.NoItsObserver w = lacks_own (λ h. let f = h.in_order n w.0 w.1 in let e = f.observed in let d = w.2 in absurd cc)

@@ -1,5 +1,5 @@
 -- What a script is read as that has these lines.
-use Rattle.std.proofs.Common.{◌≡◌, ℕ, ◌+◌, ◌≤◌, ◌<◌, Bool, true, false, List, [], ◌∷◌, ◌++◌, length, Ok, refl, arith, ◌||◌, ◌==◌, ◌∙◌, ap}
+use Rattle.std.proofs.Common.{◌≡◌, ℕ, ◌+◌, ◌≤◌, ◌<◌, Bool, true, false, List, [], ◌∷◌, ◌++◌, length, map, Ok, refl, arith, ◌||◌, ◌==◌, ◌∙◌, ap}
 use Rattle.std.specs.List.{list_any}
 use Rattle.std.proofs.lemmas.List.{append_assoc, append-nil, length_push}
 use Rattle.pb_reading.specs.Reading.{lines_of}
@@ -59,3 +59,8 @@ in_turn_are n before (l ∷ ls) (b ∷ bs) h le =
 -- the script of these lines is read as these changes
 pub script_is : (ls : List (List ℕ)) (bs : List Writes) → AreScriptLines ls bs → length bs ≤ MAX_CHANGES → script_of (script_lines ls) ≡ Ok bs
 script_is ls bs h le = rw (lines_are ls bs h) (in_turn_are 0 [] ls bs h (omega arith))
+
+-- a list of no items
+pub no_items : {A B : Type 0} (f : A → B) (xs : List A) → map f xs ≡ [] → xs ≡ []
+no_items f [] e = refl
+no_items f (x ∷ xs) e = absurd cc

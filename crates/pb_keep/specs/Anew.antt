@@ -1,18 +1,16 @@
--- A log that begins anew: with a snapshot of a quiet table, in the place of all that led to it.
+-- A log that begins anew: with a snapshot of the table, in the place of all that led to it.
 use Rattle.std.specs.Prelude.{◌≡◌, ◌≢◌, ℕ, ◌<◌, ◌≤◌, ◌^◌, false, List, [], length, Some}
-use Rattle.std.specs.FinMap as map
-use Rattle.pb_keep.specs.Words.{HasRecords, IsQuiet, IsSnapshotTaken, KeptTable, SnapshotOf, StateOf, WhyNotOpened, are_of_their_cells, last_timestamp, lock_count, snapshot_bytes}
+use Rattle.pb_keep.specs.Words.{HasRecords, IsSnapshotTaken, KeptTable, SnapshotOf, WhyNotOpened, are_of_their_cells, last_timestamp, snapshot_bytes}
 use Rattle.pb_keep.specs.declared.compact.SnapshotFault.{SnapshotFault}
 use Rattle.pb_keep.specs.declared.waiting.Waits.{Waits}
 use Rattle.pb_keep.specs.Kept.{origin_of, IsLogOf}
 
--- A log begins with a snapshot of this table, of so many versions, and has no change. The table is quiet, and has a timestamp left; so
--- one that is opened with this log begins the next generation.
+-- A log begins with a snapshot of this table, of so many versions, and has no change. The table has a timestamp left; so one that is
+-- opened with this log begins the next generation.
 pub record BeginsAnew (manifest : List ℕ) (table : KeptTable) (n : ℕ) (seen : List ℕ) (may_leave : List ℕ → Type 0) (end : ℕ) : Type 0 where
   pub snapshot : SnapshotOf
   pub taken : IsSnapshotTaken table snapshot
   pub log : IsLogOf (origin_of manifest (Some snapshot)) [] seen may_leave end
-  pub quiet : IsQuiet table.state
   pub room : table.state.clock < last_timestamp
   pub count : n ≡ length snapshot.cells
 
@@ -20,16 +18,12 @@ pub record BeginsAnew (manifest : List ℕ) (table : KeptTable) (n : ℕ) (seen 
 abbrev pub HasAmiss : KeptTable → (SnapshotOf → Type 0) → Type 0
 HasAmiss table P = (s : SnapshotOf) × IsSnapshotTaken table s × P s
 
--- a line waits, a cell is marked, or a lock stands
-abbrev pub IsLeftToDo : List Waits → StateOf → Type 0
-IsLeftToDo waiting state = waiting ≡ [] → map.len state.marks ≡ 0 → lock_count state.entries ≡ 0 → ⊥
-
 -- why none is begun, where these lines wait, this is the file of the new log, and so many calls of its disk had failed before and have
 -- failed now: a new log is never full, so that a fault of it is one with which a log isn't opened
 abbrev pub WhyNotAnew : List Waits → KeptTable → List ℕ → ℕ → ℕ → List ℕ → SnapshotFault → Type 0
 WhyNotAnew waiting table manifest before now file (SnapshotFault.NoMemory e) = Unit {0}
 WhyNotAnew waiting table manifest before now file (SnapshotFault.Log e) = WhyNotOpened manifest before now file e
-WhyNotAnew waiting table manifest before now file SnapshotFault.NotQuiet = IsLeftToDo waiting table.state
+WhyNotAnew waiting table manifest before now file SnapshotFault.LinesWait = waiting ≢ []
 WhyNotAnew waiting table manifest before now file SnapshotFault.NoTimestamp = table.state.clock ≡ last_timestamp
 WhyNotAnew waiting table manifest before now file SnapshotFault.NotNew = (records : List (List ℕ)) × (records ≢ []) × HasRecords manifest records file
 WhyNotAnew waiting table manifest before now file SnapshotFault.Unwritable = HasAmiss table (λ s. are_of_their_cells s.cells ≡ false)

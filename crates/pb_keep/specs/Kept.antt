@@ -1,6 +1,6 @@
 -- What the records of a log are: a snapshot, if it begins with one, and scripts, whose changes are made.
 use Rattle.std.specs.Prelude.{◌≡◌, ℕ, ◌-◌, ◌^◌, ◌==◌, min, Bool, true, false, List, [], ◌∷◌, ◌++◌, length, Option, Some, None, Result, Ok}
-use Rattle.pb_keep.specs.Words.{AreInOrder, FitsSnapshot, IsAtRest, IsCarriedOver, HasRecords, KeptTable, ObserverOf, SnapshotOf, Writes, header, opened_table, script_of, snapshot_bytes, ◌>>=◌}
+use Rattle.pb_keep.specs.Words.{AreInOrder, FitsSnapshot, IsAtRest, IsCarriedOver, IsMarkedBehind, HasRecords, KeptTable, ObserverOf, StateOf, SnapshotOf, Writes, header, opened_table, script_of, snapshot_bytes, ◌>>=◌}
 
 -- the changes of records, each of them a script, in order; or the fault of the first that is none
 unfoldable pub changes_of : List (List ℕ) → Result (List Writes) (ℕ × ℕ)
@@ -48,10 +48,11 @@ since_in (Some s) = s.clock
 abbrev pub kept_since : Origin → ℕ
 kept_since origin = since_in origin.snapshot
 
--- the table with which the first change finds itself: as opened, or as the snapshot has it
+-- the table with which the first change finds itself: as opened, or as the snapshot has it, with a mark on each cell that an observer
+-- isn't up to date on
 abbrev pub IsFirstOf : List ObserverOf → Option SnapshotOf → KeptTable → Type 0
 IsFirstOf observers None first = first ≡ opened_table observers
-IsFirstOf observers (Some s) first = IsCarriedOver observers 1 s.clock s.cells first.state × (first.stats ≡ s.stats)
+IsFirstOf observers (Some s) first = ((over : StateOf) × IsCarriedOver observers 1 s.clock s.cells over × IsMarkedBehind over first.state) × (first.stats ≡ s.stats)
 
 -- a table with these observers can begin with this snapshot, and this is its record
 pub record IsSnapshotFor (observers : List ObserverOf) (bytes : List ℕ) (s : SnapshotOf) : Type 0 where

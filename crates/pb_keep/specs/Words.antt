@@ -6,8 +6,8 @@ pub use Rattle.pb_base.specs.declared.limits.TheConstants.{MAX_CHANGES}
 pub use Rattle.pb_base.specs.declared.names.Ts.{Ts}
 pub use Rattle.pb_store.specs.Contents.{IsNextMark}
 pub use Rattle.pb_verify.specs.Observers.{ObserverOf}
-pub use Rattle.pb_history.specs.Handled.{IsQuiet}
 pub use Rattle.pb_state.specs.CarriedOver.{AreInOrder, IsCarriedOver}
+pub use Rattle.pb_state.specs.MarkedBehind.{IsMarkedBehind}
 pub use Rattle.pb_steps.specs.Readings.{last_timestamp, lock_count}
 pub use Rattle.pb_steps.specs.State.{StateOf}
 pub use Rattle.pb_reading.specs.Reading.{is_skipped, ◌>>=◌}

@@ -1,15 +1,13 @@
 //! A log that begins with a snapshot, in the place of all that led to it.
-ghost use Rattle.std.specs.Prelude.{◌≡◌, ◌<◌, ◌^◌, true, false, length, IfOk, IfErr, IsTrue};
+ghost use Rattle.std.specs.Prelude.{◌≡◌, ◌≢◌, ◌<◌, ◌^◌, [], true, false, length, IfOk, IfErr, IsTrue};
 ghost use Rattle.sqlite_disk.specs.Disk.{Only};
 ghost use Rattle.pb_keeper.specs.Stats.{kept_table};
-ghost use Rattle.pb_history.specs.Handled.{IsQuiet};
-ghost use Rattle.pb_keep.specs.Anew.{BeginsAnew, IsLeftToDo, WhyNotAnew};
+ghost use Rattle.pb_keep.specs.Anew.{BeginsAnew, WhyNotAnew};
 ghost use Rattle.pb_keep.specs.Changed.{why_refused, why_stopped};
 ghost use Rattle.pb_base.specs.Growths.{refused_growth};
 ghost use Rattle.pb_keep.specs.declared.compact.SnapshotFault.TheVariants as ends;
 
 use crate::keeper::Keeper;
-use pb_answers::is_quiet;
 use pb_base::NoMemory;
 use pb_keeper::Stopped;
 use pb_log::{Log, LogFault};
@@ -31,9 +29,9 @@ pub enum SnapshotFault {
     /// The new log failed.
     #[error("{0}")]
     Log(LogFault),
-    /// A cell is marked, a lock stands, or a line waits.
-    #[error("the table is not quiet")]
-    NotQuiet,
+    /// A line waits, whose change isn't in the table yet.
+    #[error("a line waits")]
+    LinesWait,
     /// The table has given out its last timestamp, so that none would be left for a change.
     #[error("no timestamp is left")]
     NoTimestamp,
@@ -89,17 +87,16 @@ impl From<Stopped> for SnapshotFault {
 }
 
 impl<T: Tablet, D: Disk + Drop> Keeper<T, D> {
-    // Whether nothing is left to do: no line waits, no cell is marked, and no lock stands.
-    pub(crate) fn is_idle(&self, alloc: Global) -> Result<bool, NoMemory>
-        ensures idle { IfOk result (λ b. b ≡ true → IsQuiet self.now.state) }
-        ensures busy { IfOk result (λ b. b ≡ false → IsLeftToDo self.now.waiting.items.items
-            self.now.state) }
+    // Whether no line waits.
+    pub(crate) fn is_idle(&self) -> bool
+        ensures idle { result ≡ true → self.now.waiting.items.items ≡ [] }
+        ensures busy { result ≡ false → self.now.waiting.items.items ≢ [] }
     {
-        Ok(self.waiting.items.is_empty() && is_quiet(alloc, &self.state)?)
+        self.waiting.items.is_empty()
     }
 
-    /// Begins a new log of this manifest with a snapshot of the table, which has to be quiet: the newest version of each cell.
-    /// Returns how many versions it has. The keeper's own log is left as it is. The caller has to
+    /// Begins a new log of this manifest with a snapshot of the table: the newest version of each cell, and all versions of the
+    /// cells that an observer isn't up to date on. Returns how many they are. The keeper's own log is left as it is. The caller has to
     /// give the manifest of the table's observers.
     pub fn snapshot_into<E: Disk + Drop>(
         &self,
@@ -120,8 +117,8 @@ impl<T: Tablet, D: Disk + Drop> Keeper<T, D> {
             manifest.now (E.faults log.old.disk) (E.faults log.new.disk)
             (E.seen log.old.disk) e) }
     {
-        if !self.is_idle(alloc)? {
-            return Err(SnapshotFault::NotQuiet);
+        if !self.is_idle() {
+            return Err(SnapshotFault::LinesWait);
         }
         if self.state.clock().0 == u64::MAX {
             return Err(SnapshotFault::NoTimestamp);

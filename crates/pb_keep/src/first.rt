@@ -49,6 +49,7 @@ fn begin_with<T: Tablet>(
         return Err(KeepFault::Snapshot);
     }
     state.carry_over(snapshot.clock, &snapshot.cells)?;
+    state.mark_behind()?;
     let clock = snapshot.clock;
     *stats = snapshot.stats;
     Ok(clock)

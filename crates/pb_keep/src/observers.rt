@@ -5,13 +5,12 @@ ghost use Rattle.pb_base.specs.Batch.{Writes};
 ghost use Rattle.pb_base.specs.declared.limits.TheConstants.{MAX_OBSERVERS};
 ghost use Rattle.pb_steps.specs.Readings.{last_timestamp};
 ghost use Rattle.pb_steps.specs.State.{opening};
-ghost use Rattle.pb_history.specs.Handled.{IsQuiet};
 ghost use Rattle.pb_generations.specs.Chosen.{AreChosen};
 ghost use Rattle.pb_keeper.specs.Keeps.{IsChosenOf, IsFirstTable, KeepsFrom};
 ghost use Rattle.pb_keeper.specs.Stats.{kept_table, KeptTable};
 ghost use Rattle.pb_verify.specs.Observers.{ObserverOf};
 ghost use Rattle.pb_keeper.specs.Choosing.{IsOneOf};
-ghost use Rattle.pb_keep.specs.Changed.{HasOtherObservers, IsNotQuiet, WhyNotChanged};
+ghost use Rattle.pb_keep.specs.Changed.{HasOtherObservers, SomeLineWaits, WhyNotChanged};
 
 use crate::compact::SnapshotFault;
 use crate::keeper::Keeper;
@@ -37,7 +36,6 @@ impl<T: Tablet, D: Disk + Drop> Keeper<T, D> {
         requires opened { state.old ≡ opening state.old.observers 1 0 }
         requires chosen { AreChosen places.now self.now.state.observers state.old.observers }
         requires few { length places.now ≤ MAX_OBSERVERS }
-        ensures quiet { OnOk result (IsQuiet self.now.state) }
         ensures room { OnOk result (self.now.state.clock < last_timestamp) }
         ensures observers { OnOk result (state.new.observers ≡ state.old.observers) }
         ensures chosen { (past changes : List Writes) (first : KeptTable)
@@ -55,8 +53,8 @@ impl<T: Tablet, D: Disk + Drop> Keeper<T, D> {
         // For the proof: what is chosen of a table that keeps changes begins another one, and no version of it is refused.
         chosen_begin();
         chosen_are_accepted();
-        if !self.is_idle(alloc)? {
-            return Err(SnapshotFault::NotQuiet);
+        if !self.is_idle() {
+            return Err(SnapshotFault::LinesWait);
         }
         if self.state.clock().0 == u64::MAX {
             return Err(SnapshotFault::NoTimestamp);
@@ -64,19 +62,20 @@ impl<T: Tablet, D: Disk + Drop> Keeper<T, D> {
         let snapshot = take_snapshot(alloc, &self.state, &self.stats)?;
         let chosen = choose_observers(alloc, &snapshot, places)?;
         state.carry_over(chosen.clock, &chosen.cells)?;
+        state.mark_behind()?;
         Ok(chosen.stats)
     }
 
     /// Goes on with the observers at these places, which keep what they have acknowledged, and then with others, and makes passes
     /// until these have handled all that was ever written to their columns, or so many passes or runs as may be made. Returns how
-    /// many runs were committed in these passes, by any observer. Whether a mark is left isn't returned: the next call that wants a
-    /// quiet table is refused then. The table has to be quiet. What its other observers have acknowledged isn't kept.
+    /// many runs were committed in these passes, by any observer. Whether a mark is left isn't returned. What is left to do where the
+    /// table isn't quiet is left to do still, but for observers that go. What these have acknowledged isn't kept.
     ///
     /// The state is empty, as opened with the observers that stay. It takes the place of the keeper's, which is closed. If the
     /// call fails before that, the given state is closed instead.
     ///
     /// The keeper's own log isn't of such a table. So only another change of observers, `snapshot_into` a log of the new manifest,
-    /// and `close` may follow; and where it fails otherwise than as `NotQuiet`, `close` alone.
+    /// and `close` may follow; and where it fails otherwise than as `LinesWait`, `close` alone.
     pub fn change_observers(
         &mut self,
         alloc: Global,
@@ -105,11 +104,11 @@ impl<T: Tablet, D: Disk + Drop> Keeper<T, D> {
             → KeepsFrom first changes (kept_table self.old.state self.old.stats.items)
             → OnOk result (IsFirstTable (past ++ changes)
             (kept_table self.new.state self.new.stats.items)) }
-        // Nothing else is touched, and nothing at all where it isn't quiet.
+        // Nothing else is touched, and nothing at all where a line waits.
         ensures log { self.new.log ≡ self.old.log }
         ensures waiting { self.new.waiting ≡ self.old.waiting }
         ensures since { self.new.since ≡ self.old.since }
-        ensures same { IfErr result (λ e. IsNotQuiet e → self.new ≡ self.old) }
+        ensures same { IfErr result (λ e. SomeLineWaits e → self.new ≡ self.old) }
         // A fault has its cause.
         ensures cause { (past changes : List Writes) (first : KeptTable)
             → IsFirstTable past first

@@ -1,14 +1,13 @@
 -- A transaction that is alone on a table without locks commits, and leaves none.
 use Rattle.std.proofs.Common.{arith, ◌≡◌, ℕ, ◌<◌, ◌⊎◌, Bool, true, false, cond, inl, inr, List, [], ◌∷◌, ◌++◌, Option, Some, None, refl, sym, ap, subst, ◌∙◌, is_some, option_map, ◌==◌}
 use Rattle.std.proofs.lemmas.Bool.{eq-eqb, false_from_ne_true, true≢false}
-use Rattle.pb_keeper.specs.Words.{Writes, content_in, primary_in, Cell, Content, Ts, Entries, is_reading, lock_at, write_at, commit_lock, Prewrites, Conflicts, put_lock, is_early, Declares, Stamps, CommitsPrimary, Loses, CommitsSecondary, if_locked, IsOwn, StateOf, TransactionOf, cells_of, is_in, StepCase, step_reason, Phase, Step, Answer, Declared, Has, IsSoundTable, prewritten_by, declared_by, names_start, transaction_after}
+use Rattle.pb_keeper.specs.Words.{Writes, content_in, primary_in, Cell, Content, Ts, Entries, is_reading, lock_at, write_at, commit_lock, Prewrites, Conflicts, put_lock, is_early, Declares, Stamps, CommitsPrimary, Loses, CommitsSecondary, if_locked, IsOwn, StateOf, TransactionOf, cells_of, is_in, StepCase, step_reason, Phase, Step, Answer, Declared, Has, IsSoundTable, prewritten_by, declared_by, names_start, transaction_after, IsUnlocked}
 use Rattle.pb_base.proofs.Logic.{none_some}
 use Rattle.pb_history.proofs.StepsKeepSound.{some_is}
 use Rattle.pb_history.proofs.Agreement.{got}
 use Rattle.pb_history.proofs.TransactionAfter.{case_tells}
 use Rattle.pb_history.proofs.Updates.{same_cell, same_cell_is, same_cell_itself, at_place, set2, set2_here, placed_or_before, left_after_clearing, has_front, has_last, has_more}
 use Rattle.pb_history.proofs.ViewsAfter.{lock_after_put, write_after_put, lock_after_commit}
-use Rattle.pb_keeper.specs.Stops.{IsUnlocked}
 
 either_some : {A : Type 0} (b : Bool) (x : A) (o : Option A) → is_some o ≡ true → is_some (cond b (Some x) o) ≡ true
 either_some true x o e = refl

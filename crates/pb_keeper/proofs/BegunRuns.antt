@@ -1,10 +1,10 @@
 -- How many runs were begun in a conversation: one in each run, and none in what else is asked.
-use Rattle.std.proofs.Common.{arith, ◌≡◌, ℕ, ◌+◌, Bool, true, false, cond, List, [], ◌∷◌, ◌++◌, Option, refl, ap, ◌∙◌, zero-add}
+use Rattle.std.proofs.Common.{◌≡◌, ℕ, ◌+◌, false, cond, List, [], ◌∷◌, ◌++◌, refl, ap, ◌∙◌, zero-add}
 use Rattle.std.proofs.lemmas.List.Sums.{sum_by-append, sum_by-cons}
 use Rattle.pb_keeper.specs.Words.{Cell, ObserverOf, Step, Answer, Received, told, IsRun}
 use Rattle.pb_keeper.specs.Drains.{begun_count}
 use Rattle.pb_keeper.specs.Stats.{starts_run}
-use Rattle.pb_keeper.proofs.EachStep.{AreWithin, IsWithin, each_as}
+use Rattle.pb_keeper.proofs.EachStep.{IsWithin, each_as}
 use Rattle.pb_keeper.proofs.Following.{IsOfOneRun, run_is_of_one}
 use Rattle.pb_keeper.proofs.Statistics.{BeginNoRun, within_begins_none}
 

@@ -1,10 +1,10 @@
 -- What holds of each run and of each look for a mark, of nothing, and of two parts where it holds of each, holds of a drain that makes so
 -- many runs at most.
-use Rattle.std.proofs.Common.{◌≡◌, ◌<◌, ℕ, List, [], ◌∷◌, Option, None, sym, subst}
+use Rattle.std.proofs.Common.{◌<◌, ℕ, List, [], ◌∷◌, Option, None, sym, subst}
 use Rattle.pb_conversations.proofs.Joining.{of_end}
 use Rattle.pb_passes.proofs.Drains.{HoldsOfRuns, of_turn, of_mark, of_next_pass, of_drain}
 use Rattle.pb_keeper.specs.Words.{Cell, Step, Answer, ObserverOf, Received, told, MAX_PASSES}
-use Rattle.pb_keeper.specs.Drains.{IsRunDue, AreRunsDue, IsMarkDue, IsPassDue, IsDrainDue, IsDrainWithin, within, cut_off}
+use Rattle.pb_keeper.specs.Drains.{AreRunsDue, IsMarkDue, IsPassDue, IsDrainDue, IsDrainWithin, within, cut_off}
 
 module _ {P : List Received → Type 0} (observers : List ObserverOf) (each : HoldsOfRuns observers P) where
   of_runs_due : (x : Cell) (said : List Received) → AreRunsDue observers x said → P said

@@ -5,7 +5,7 @@ use Rattle.std.specs.Ordering.{nat_cmp}
 use Rattle.std.specs.Cmp.{unsigned_tied, nat_cmp_total}
 use Rattle.std.proofs.lemmas.Bool.{eqb-true, eq-eqb}
 use Rattle.pb_passes.proofs.Drains.{HoldsOfRuns}
-use Rattle.pb_keeper.specs.Words.{Writes, Ts, Meant, ObserverOf, Begins, read_step, write_at, StateOf, TransactionOf, phase_in, new_transaction, StepCase, Phase, Step, Answer, Work, JournalLeads, StepsKeepSound, OpeningIsSound, IsSoundTable, IsCommittedAt, view_of, Received, names_start, committed_phase, transaction_after, told, Outcome, entries_by, its_begin, IsRunConversation, absent, clean, ran, conflicted, blocked, Watch, JobEnd, ChosenAreSound, LeftAreSound}
+use Rattle.pb_keeper.specs.Words.{Writes, Ts, Meant, ObserverOf, Begins, read_step, StateOf, TransactionOf, phase_in, new_transaction, StepCase, Phase, Step, Answer, Work, JournalLeads, StepsKeepSound, OpeningIsSound, IsSoundTable, IsCommittedAt, view_of, Received, names_start, committed_phase, transaction_after, told, Outcome, entries_by, its_begin, IsRunConversation, absent, clean, ran, conflicted, blocked, Watch, JobEnd, ChosenAreSound, LeftAreSound}
 use Rattle.pb_notify.specs.Forms.{lost as lost_run}
 use Rattle.pb_history.proofs.Agreement.{got}
 use Rattle.pb_history.proofs.StepsKeepSound.{some_is}
@@ -244,7 +244,7 @@ module _ (keeps : StepsKeepSound) (opens : OpeningIsSound) (left : LeftAreSound)
 
   first_follow : (past : List Writes) (first : KeptTable) → IsFirstTable past first → Follow first.state
   first_follow past first (opened observers) = λ s c u stamped there low. absurd (let no : false ≡ true = ap has_transaction (sym (finite.get-empty nat_cmp u)) ∙ there in cc)
-  first_follow past first (anew before changes start old new began k quiet room is stats) =
+  first_follow past first (anew before changes start old new began k room is stats) =
       let sound = from_sound keeps opens left chosen before changes start old began k in
       let was = from_follow before changes start old began (first_follow before start began) k in
       left_follow old.state first.state (at_snapshot old.state first.state sound is) was
@@ -252,10 +252,8 @@ module _ (keeps : StepsKeepSound) (opens : OpeningIsSound) (left : LeftAreSound)
       at_snapshot : (old new : StateOf) → IsSoundTable old → IsAnew old new → ComeFrom old new
       at_snapshot old new sound is s t e =
           let l = is.left.each s t e in
-          let v = is.snapshot.only l.some.0 l.commit.0 s l.some.1 in
-          let stands = v.1.written in
-          (l.commit, l.phase, sound.record_committed l.some.0 l.commit.0 s (ap (write_at old.entries l.some.0) (sym v.2) ∙ stands ∙ ap Some v.3))
-  first_follow past first (changed before changes start old between new places front more began k quiet room is up) =
+          (l.commit, l.phase, sound.record_committed l.some.0 l.commit.0 s (is.snapshot.within.records l.some.0 l.commit.0 s l.some.1))
+  first_follow past first (changed before changes start old between new places front more began k room is up) =
       let sound = from_sound keeps opens left chosen before changes start old began k in
       let was = from_follow before changes start old began (first_follow before start began) k in
       of_drain_within up.marked.state.observers (parts_follow keeps up.marked.state.observers) up.bound up.drained.said up.drained.form.form up.marked.state first.state
@@ -266,8 +264,7 @@ module _ (keeps : StepsKeepSound) (opens : OpeningIsSound) (left : LeftAreSound)
       at_choice old new sound is s t e =
           let l = is.left.each s t e in
           let v = is.snapshot.only l.some.0 l.commit.0 s l.some.1 in
-          let stands = v.3.written in
-          (l.commit, l.phase, sound.record_committed v.0 l.commit.0 s (ap (write_at old.state.entries v.0) (sym v.4) ∙ stands ∙ ap Some v.5))
+          (l.commit, l.phase, sound.record_committed v.0 l.commit.0 s v.2)
 
   pub kept_follow : KeptFollowOneAnother
   kept_follow first changes table k s c u d earlier later low =

@@ -2,7 +2,7 @@
 use Rattle.std.proofs.Common.{arith, ◌≡◌, ℕ, ◌<◌, List, [], ◌∷◌, ◌++◌, ◌+◌, length, slice_index_or, Some, slice_get, refl, sym, ap, subst, ◌∙◌}
 use Rattle.std.proofs.lemmas.List.{append_assoc, append-nil, length-append, length-map, length-replicate}
 use Rattle.std.proofs.lemmas.Option.{slice_get_within}
-use Rattle.pb_keeper.specs.Words.{Writes, Ts, ObserverOf, last_timestamp, StateOf, IsQuiet, StepsKeepSound, OpeningIsSound, IsSoundTable, Received, entries_by, HasMoreObservers, AreChosen, ChosenAreSound, new_number, renumbered_said, IsKeptTable, opened as opened_kept, anew as anew_kept, chosen as chosen_kept, RunsKeepTables, WholeChangesKeepTables, MarksKeepTables, LeftAreSound, no_part, one_part}
+use Rattle.pb_keeper.specs.Words.{Writes, Ts, ObserverOf, last_timestamp, StateOf, StepsKeepSound, OpeningIsSound, IsSoundTable, Received, entries_by, HasMoreObservers, IsUnlocked, AreChosen, ChosenAreSound, new_number, renumbered_said, IsKeptTable, opened as opened_kept, anew as anew_kept, chosen as chosen_kept, RunsKeepTables, WholeChangesKeepTables, MarksKeepTables, LeftAreSound, no_part, one_part}
 use Rattle.pb_generations.proofs.ChosenNumbers.{said_renumbered}
 use Rattle.pb_keeper.specs.Drains.{IsDrainWithin}
 use Rattle.pb_keeper.specs.Leads.{SaidLeads}
@@ -18,7 +18,7 @@ use Rattle.pb_keeper.proofs.KeptTables.{change_leaves, parts_leave}
 use Rattle.pb_keeper.proofs.Leading.{leads_none, leads_on, leads_observers}
 use Rattle.pb_keeper.proofs.NoConflicts.{counts_none, parts_meet_none, change_meets_none}
 use Rattle.pb_keeper.proofs.Parting.{made_begins, stats_parted, stats_of_none}
-use Rattle.pb_keeper.proofs.Resting.{first_sound, first_free, from_sound, marked_free, marked_sound}
+use Rattle.pb_keeper.proofs.Resting.{first_sound, first_free, from_free, from_sound, marked_free, marked_sound}
 use Rattle.pb_keeper.proofs.Statistics.{counted_none, counted_on, plus_assoc, plus_none}
 
 -- one more change
@@ -88,16 +88,16 @@ module _ (keeps : StepsKeepSound) (opens : OpeningIsSound) (left : LeftAreSound)
       are = g.form.grows w.total w.are;
     }
 
-  -- where such a table is quiet and gets other observers it is kept over generations still
+  -- where such a table gets other observers it is kept over generations still
   kept_chosen : (observers gone : List ObserverOf) (c : ℕ) (said : List Received) (old between : KeptTable) (marked : StateOf) (places : List ℕ) (front more : List ObserverOf) → IsKeptTable observers gone 1 0 c (entries_by 0 said) old.state
-      → old.state.observers ≡ observers → IsSoundTable old.state → IsQuiet old.state → old.state.clock < last_timestamp → IsChosenOf places front old between → HasMoreObservers more between.state marked
+      → old.state.observers ≡ observers → IsSoundTable old.state → IsUnlocked old.state → old.state.clock < last_timestamp → IsChosenOf places front old between → HasMoreObservers more between.state marked
       → IsKeptTable (front ++ more) (observers ++ gone) 1 0 old.state.clock (entries_by 0 (renumbered_said (new_number places (length (front ++ more))) said)) marked
-  kept_chosen observers gone c said old between marked places front more k same sound quiet room is has =
+  kept_chosen observers gone c said old between marked places front more k same sound free room is has =
       let number = new_number places (length (front ++ more)) in
       let ended = (chosen places front old.state between.state.entries between.state.transactions sound is.are is.snapshot is.left).1 in
       subst (λ es. IsKeptTable (front ++ more) (observers ++ gone) 1 0 old.state.clock es marked) (sym (said_renumbered number 0 said))
-      (chosen_kept observers gone 1 0 c (entries_by 0 said) old.state places front more between.state.entries between.state.transactions marked k quiet room
-      (subst (λ l. AreChosen places l front) same is.are) is.snapshot ended (subst (λ (z : StateOf). HasMoreObservers more z marked) is.is has))
+      (chosen_kept observers gone 1 0 c (entries_by 0 said) old.state places front more between.state.entries between.state.transactions between.state marked k free room
+      (subst (λ l. AreChosen places l front) same is.are) is.snapshot ended is.marked has)
 
   first_whole : (past : List Writes) (first : KeptTable) → IsFirstTable past first → IsWholeTable first.state.observers past first
   first_whole past first (opened observers) = record {
@@ -111,7 +111,7 @@ module _ (keeps : StepsKeepSound) (opens : OpeningIsSound) (left : LeftAreSound)
     as_many = length-replicate (length observers) no_runs;
     are = λ o lt. none_counted (length observers) o;
   }
-  first_whole past first (anew before changes start old new began k quiet room is stats) =
+  first_whole past first (anew before changes start old new began k room is stats) =
       over (whole_on start.state.observers before changes start old began refl (first_whole before start began) k)
     where
       over : IsWholeTable start.state.observers (before ++ changes) old → IsWholeTable first.state.observers (before ++ changes) first
@@ -119,20 +119,21 @@ module _ (keeps : StepsKeepSound) (opens : OpeningIsSound) (left : LeftAreSound)
           let sound = from_sound keeps opens left chosen before changes start old began k in
           let ended = (left old.state first.state.entries first.state.transactions sound is.snapshot is.left).1 in
           let observers = start.state.observers in
-          let same : first.state.observers ≡ observers = ap (λ (z : StateOf). z.observers) is.is ∙ leads_observers start.state old.state k in
+          let same : first.state.observers ≡ observers = ap (λ (z : StateOf). z.observers) is.marked.is ∙ leads_observers start.state old.state k in
           subst (λ (l : List ObserverOf). IsWholeTable l (before ++ changes) first) (sym same) (record {
             gone = w.gone;
             said = w.said;
             total = w.total;
             made = w.made;
             c = old.state.clock;
-            kept = subst (λ (z : StateOf). IsKeptTable observers w.gone 1 0 old.state.clock (entries_by 0 w.said) z) (sym is.is)
-                (anew_kept observers w.gone 1 0 w.c (entries_by 0 w.said) old.state first.state.entries first.state.transactions w.kept quiet room is.snapshot ended);
+            kept =
+                anew_kept observers w.gone 1 0 w.c (entries_by 0 w.said) old.state first.state.entries first.state.transactions first.state w.kept
+                (from_free keeps opens left chosen before changes start old began (first_free keeps opens left chosen before start began) k) room is.snapshot ended is.marked;
             clean = w.clean;
             as_many = ap length stats ∙ w.as_many;
             are = subst (AreKeptStats w.total) (sym stats) w.are;
           })
-  first_whole past first (changed before changes start old between new places front more began k quiet room is up) =
+  first_whole past first (changed before changes start old between new places front more began k room is up) =
       over (whole_on start.state.observers before changes start old began refl (first_whole before start began) k)
     where
       observers : List ObserverOf
@@ -142,7 +143,7 @@ module _ (keeps : StepsKeepSound) (opens : OpeningIsSound) (left : LeftAreSound)
       was = leads_observers start.state old.state k
 
       same : up.marked.state.observers ≡ observers
-      same = ap (λ (z : StateOf). z.observers) up.observed.is ∙ ap (λ (z : StateOf). z.observers ++ more) is.is
+      same = ap (λ (z : StateOf). z.observers) up.observed.is ∙ ap (λ (z : StateOf). z.observers ++ more) is.marked.is
 
       drain : SaidLeads (Counted observers up.marked.stats first.stats (IsDrainWithin observers up.bound)) up.marked.state first.state
       drain = subst (λ (l : List ObserverOf). SaidLeads (Counted l up.marked.stats first.stats (IsDrainWithin l up.bound)) up.marked.state first.state) same up.drained
@@ -159,7 +160,8 @@ module _ (keeps : StepsKeepSound) (opens : OpeningIsSound) (left : LeftAreSound)
             made = observers_changed start.state.observers w.gone front more places up.bound (before ++ changes) w.said drain.said w.total drain.form.total w.made (subst (λ l. AreChosen places l front) was is.are) drain.form.form drain.form.did;
             c = old.state.clock;
             kept = of_drain_within observers (parts_leave observers runs marks) up.bound drain.said drain.form.form (start.state.observers ++ w.gone) old.state.clock said up.marked.state first.state
-                (kept_chosen start.state.observers w.gone w.c w.said old between up.marked.state places front more w.kept was (from_sound keeps opens left chosen before changes start old began k) quiet room is up.observed) drain.leads;
+                (kept_chosen start.state.observers w.gone w.c w.said old between up.marked.state places front more w.kept was (from_sound keeps opens left chosen before changes start old began k)
+                (from_free keeps opens left chosen before changes start old began (first_free keeps opens left chosen before start began) k) room is up.observed) drain.leads;
             clean = λ o.
                 let earlier = none_of_any w.total w.clean (slice_get places o) in
                 let met = (of_drain_within observers (parts_meet_none keeps observers) up.bound drain.said drain.form.form).1 up.marked.state first.state
@@ -178,14 +180,15 @@ module _ (keeps : StepsKeepSound) (opens : OpeningIsSound) (left : LeftAreSound)
   kept_before first changes table k = let w = kept_is_whole first changes table k in record { observers = first.state.observers; gone = w.gone; c = w.c; said = w.said; kept = w.kept }
 
   -- also where it has got other observers
-  pub kept_marked : (past changes : List Writes) (first old between : KeptTable) (marked : StateOf) (places : List ℕ) (front more : List ObserverOf) → IsFirstTable past first → KeepsFrom first changes old → IsQuiet old.state
+  pub kept_marked : (past changes : List Writes) (first old between : KeptTable) (marked : StateOf) (places : List ℕ) (front more : List ObserverOf) → IsFirstTable past first → KeepsFrom first changes old
       → old.state.clock < last_timestamp → IsChosenOf places front old between → HasMoreObservers more between.state marked → WasKept marked
-  kept_marked past changes first old between marked places front more began k quiet room is has =
+  kept_marked past changes first old between marked places front more began k room is has =
       let w = whole_on first.state.observers past changes first old began refl (first_whole past first began) k in
       record {
         observers = front ++ more;
         gone = first.state.observers ++ w.gone;
         c = old.state.clock;
         said = renumbered_said (new_number places (length (front ++ more))) w.said;
-        kept = kept_chosen first.state.observers w.gone w.c w.said old between marked places front more w.kept (leads_observers first.state old.state k) (from_sound keeps opens left chosen past changes first old began k) quiet room is has;
+        kept = kept_chosen first.state.observers w.gone w.c w.said old between marked places front more w.kept (leads_observers first.state old.state k) (from_sound keeps opens left chosen past changes first old began k)
+            (from_free keeps opens left chosen past changes first old began (first_free keeps opens left chosen past first began) k) room is has;
       }

@@ -17,8 +17,9 @@ use Rattle.pb_keeper.proofs.Wholes.{leads_parts}
 pub kept_observers : (observers gone : List ObserverOf) (seats clock c : ℕ) (journal : List Entry) (now : StateOf) → IsKeptTable observers gone seats clock c journal now → now.observers ≡ observers
 kept_observers observers gone seats clock c journal now (opened l n t room) = refl
 kept_observers observers gone seats clock c journal now (stepped l h n t d g before e new k job known step) = case_observers before e.seat now 0 e.step e.answer step.taken ∙ kept_observers l h n t d g before k
-kept_observers observers gone seats clock c journal now (anew l h n t d g old f ts k quiet room snapshot ended) = kept_observers l h n t d g old k
-kept_observers observers gone seats clock c journal now (chosen l h n t d g old places front added f ts new k quiet room are snapshot ended has) = ap (λ (z : StateOf). z.observers) has.is
+kept_observers observers gone seats clock c journal now (anew l h n t d g old f ts new k free room snapshot ended marked) = ap (λ (z : StateOf). z.observers) marked.is ∙ kept_observers l h n t d g old k
+kept_observers observers gone seats clock c journal now (chosen l h n t d g old places front added f ts between new k free room are snapshot ended marked has) =
+    ap (λ (z : StateOf). z.observers) has.is ∙ ap (λ (z : StateOf). z.observers ++ added) marked.is
 
 -- a conversation after which a table is kept that was kept before it
 abbrev pub LeavesKept : List ObserverOf → List Received → Type 0

@@ -2,11 +2,10 @@
 use Rattle.std.proofs.Common.{arith, ◌≡◌, ℕ, ◌==◌, Bool, true, false, cond, List, [], ◌∷◌, ◌++◌, Option, None, refl, sym, ap, subst, ◌∙◌}
 use Rattle.std.proofs.lemmas.Bool.{true≢false}
 use Rattle.pb_passes.proofs.Drains.{HoldsOfRuns}
-use Rattle.pb_keeper.specs.Words.{Writes, Cell, Ts, ObserverOf, Meant, StateOf, Step, Answer, Declared, JournalLeads, StepsKeepSound, IsSoundTable, Received, told, IsWhole, committed, conflicted_first, conflicted_later, lost, prewrites, Outcome, entries_by, took, went, no_part, one_part, Reaches, its_begin, IsRunConversation, absent, clean, ran, conflicted, blocked, RunOf, Watch, JobEnd}
+use Rattle.pb_keeper.specs.Words.{Writes, Cell, Ts, ObserverOf, Meant, StateOf, Step, Answer, Declared, JournalLeads, StepsKeepSound, IsSoundTable, Received, told, IsWhole, committed, conflicted_first, conflicted_later, lost, prewrites, Outcome, entries_by, took, went, no_part, one_part, Reaches, its_begin, IsRunConversation, absent, clean, ran, conflicted, blocked, RunOf, Watch, JobEnd, IsUnlocked}
 use Rattle.pb_notify.specs.Forms.{lost as lost_run}
 use Rattle.pb_keeper.specs.Leads.{IsEndedChange}
 use Rattle.pb_keeper.specs.Stats.{no_runs, end_stats, instructions_in, AreStatsOf, nothing_said, other_step, one_run}
-use Rattle.pb_keeper.specs.Stops.{IsUnlocked}
 use Rattle.pb_keeper.specs.declared.stats.ObserverStats.{ObserverStats}
 use Rattle.pb_keeper.proofs.EachStep.{AreEach, each_as, each_first, each_last, each_on, each_prewrite, each_secondary}
 use Rattle.pb_keeper.proofs.Resting.{Rests, change_rests, parts_rest}

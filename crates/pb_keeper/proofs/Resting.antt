@@ -2,10 +2,9 @@
 use Rattle.std.proofs.Common.{arith, ℕ, List, [], ◌∷◌, refl, sym, ap, subst, ◌∙◌}
 use Rattle.std.specs.FinMap as finite
 use Rattle.pb_passes.proofs.Drains.{HoldsOfRuns}
-use Rattle.pb_keeper.specs.Words.{Writes, slot_cmp, slot_at, Sort, lock_at, primary_of, StateOf, opening, Step, ObserverOf, StepsKeepSound, OpeningIsSound, IsSoundTable, Received, told, HasMoreObservers, ChosenAreSound, LeftAreSound, Outcome}
+use Rattle.pb_keeper.specs.Words.{Writes, slot_cmp, slot_at, Sort, lock_at, primary_of, StateOf, opening, Step, ObserverOf, StepsKeepSound, OpeningIsSound, IsSoundTable, Received, told, HasMoreObservers, IsMarkedBehind, IsUnlocked, carried, chosen_state, unmarked, ChosenAreSound, LeftAreSound, Outcome}
 use Rattle.pb_keeper.specs.Leads.{IsEndedChange}
 use Rattle.pb_keeper.specs.Stats.{KeptTable}
-use Rattle.pb_keeper.specs.Stops.{IsUnlocked}
 use Rattle.pb_keeper.specs.Keeps.{CatchesUp, IsChosenOf, IsFirstTable, opened, anew, changed, Keeps, KeepsFrom, KeptIsUnlocked}
 use Rattle.pb_keeper.proofs.BoundedDrains.{of_drain_within}
 use Rattle.pb_keeper.proofs.EachPart.{of_all}
@@ -31,7 +30,11 @@ module _ (keeps : StepsKeepSound) where
 opening_free : (observers : List ObserverOf) → IsUnlocked (opening observers 1 0)
 opening_free observers x u = ap primary_of (finite.get-empty slot_cmp (slot_at x Sort.Lock u))
 
--- more observers change nothing of what is sound, and leave no lock
+-- nor do marks change what is sound
+marks_sound : (old new : StateOf) → IsMarkedBehind (unmarked old) new → IsSoundTable old → IsSoundTable new
+marks_sound old new marked sound = subst IsSoundTable (sym marked.is) sound
+
+-- more observers change nothing of it either, and leave no lock
 more_sound : (more : List ObserverOf) (old new : StateOf) → HasMoreObservers more old new → IsSoundTable old → IsSoundTable new
 more_sound more old new has sound = subst IsSoundTable (sym has.is) sound
 
@@ -41,14 +44,14 @@ more_free more old new has free x u = ap (λ (z : StateOf). lock_at z.entries x 
 module _ (keeps : StepsKeepSound) (opens : OpeningIsSound) (left : LeftAreSound) (chosen : ChosenAreSound) where
   -- as a sound table goes on with the observers that stay, it is sound
   chosen_sound : (places : List ℕ) (front : List ObserverOf) (old new : KeptTable) → IsChosenOf places front old new → IsSoundTable old.state → IsSoundTable new.state
-  chosen_sound places front old new is sound = subst IsSoundTable (sym is.is) (chosen places front old.state new.state.entries new.state.transactions sound is.are is.snapshot is.left).0
+  chosen_sound places front old new is sound = marks_sound (chosen_state old.state front new.state.entries new.state.transactions) new.state is.marked (chosen places front old.state new.state.entries new.state.transactions sound is.are is.snapshot is.left).0
 
   -- as a generation begins, a table is sound
   pub first_sound : (past : List Writes) (first : KeptTable) → IsFirstTable past first → IsSoundTable first.state
   first_sound past first (opened observers) = opens observers 1 0 (grind arith)
-  first_sound past first (anew before changes start old new began leads quiet room is stats) =
-      subst IsSoundTable (sym is.is) (left old.state first.state.entries first.state.transactions (stays_sound keeps start.state old.state leads.said (first_sound before start began) leads.leads) is.snapshot is.left).0
-  first_sound past first (changed before changes start old between new places front more began leads quiet room is up) =
+  first_sound past first (anew before changes start old new began leads room is stats) =
+      marks_sound (carried old.state first.state.entries first.state.transactions) first.state is.marked (left old.state first.state.entries first.state.transactions (stays_sound keeps start.state old.state leads.said (first_sound before start began) leads.leads) is.snapshot is.left).0
+  first_sound past first (changed before changes start old between new places front more began leads room is up) =
       stays_sound keeps up.marked.state first.state up.drained.said
       (more_sound more between.state up.marked.state up.observed
       (chosen_sound places front old between is (stays_sound keeps start.state old.state leads.said (first_sound before start began) leads.leads))) up.drained.leads
@@ -65,15 +68,15 @@ module _ (keeps : StepsKeepSound) (opens : OpeningIsSound) (left : LeftAreSound)
   pub marked_free : (old between new : KeptTable) (places : List ℕ) (front more : List ObserverOf) → IsChosenOf places front old between → (up : CatchesUp more between new) → IsUnlocked up.marked.state
   marked_free old between new places front more is up = more_free more between.state up.marked.state up.observed is.snapshot.unlocked
 
-  from_free : (past changes : List Writes) (first table : KeptTable) → IsFirstTable past first → IsUnlocked first.state → KeepsFrom first changes table → IsUnlocked table.state
+  pub from_free : (past changes : List Writes) (first table : KeptTable) → IsFirstTable past first → IsUnlocked first.state → KeepsFrom first changes table → IsUnlocked table.state
   from_free past changes first table began free k =
       of_all first.state.observers (parts_rest keeps first.state.observers) (change_rests keeps) changes k.said k.form.form first.state table.state (first_sound past first began) free k.leads
 
   -- nor does one as it begins
   pub first_free : (past : List Writes) (first : KeptTable) → IsFirstTable past first → IsUnlocked first.state
   first_free past first (opened observers) = opening_free observers
-  first_free past first (anew before changes start old new began leads quiet room is stats) = is.snapshot.unlocked
-  first_free past first (changed before changes start old between new places front more began leads quiet room is up) =
+  first_free past first (anew before changes start old new began leads room is stats) = is.snapshot.unlocked
+  first_free past first (changed before changes start old between new places front more began leads room is up) =
       of_drain_within up.marked.state.observers (parts_rest keeps up.marked.state.observers) up.bound up.drained.said up.drained.form.form up.marked.state first.state
       (marked_sound before changes start old between new places front more began leads is up) (marked_free old between new places front more is up) up.drained.leads
 

@@ -2,12 +2,11 @@
 use Rattle.std.proofs.Common.{arith, ◌≡◌, ℕ, ◌<◌, Bool, true, false, inr, List, [], ◌∷◌, ◌++◌, Option, Some, None, refl, sym, ap, subst, ◌∙◌}
 use Rattle.std.proofs.lemmas.List.{append_assoc, append-nil}
 use Rattle.std.proofs.lemmas.Bool.{true≢false}
-use Rattle.pb_keeper.specs.Words.{Writes, Cell, Revision, Ts, Talk, Entries, Meant, Begins, read_step, lock_at, write_at, IsLockOn, StateOf, StepCase, Seen, Step, Work, Answer, Declared, JournalLeads, StepsKeepSound, IsSoundTable, Received, told, IsWhole, committed, conflicted_first, conflicted_later, lost, prewrites, secondaries, Outcome, entries_by, IsRound, cleared, settled, AreRounds, at_first, one_more, IsLooked, IsObserved, IsAcknowledged, IsRecalled, AreAsked, dirty, asked, its_begin, LooksFrom, at_cell, at_acknowledgment, at_old, at_ask, IsRunConversation, absent, clean, ran, conflicted, blocked, Watch, JobEnd}
+use Rattle.pb_keeper.specs.Words.{Writes, Cell, Revision, Ts, Talk, Entries, Meant, Begins, read_step, lock_at, write_at, IsLockOn, StateOf, StepCase, Seen, Step, Work, Answer, Declared, JournalLeads, StepsKeepSound, IsSoundTable, Received, told, IsWhole, committed, conflicted_first, conflicted_later, lost, prewrites, secondaries, Outcome, entries_by, IsRound, cleared, settled, AreRounds, at_first, one_more, IsLooked, IsObserved, IsAcknowledged, IsRecalled, AreAsked, dirty, asked, its_begin, LooksFrom, at_cell, at_acknowledgment, at_old, at_ask, IsRunConversation, absent, clean, ran, conflicted, blocked, Watch, JobEnd, IsUnlocked}
 use Rattle.pb_notify.specs.Forms.{lost as lost_run}
 use Rattle.pb_history.proofs.Updates.{none_if}
 use Rattle.pb_keeper.specs.Leads.{SaidLeads, IsEndedChange}
 use Rattle.pb_keeper.specs.Stats.{starts_run}
-use Rattle.pb_keeper.specs.Stops.{IsUnlocked}
 use Rattle.pb_conversations.proofs.Joining.{Adds}
 use Rattle.pb_keeper.proofs.EachStep.{AreEach, each_last, each_on}
 use Rattle.pb_keeper.proofs.Alone.{IsAlone, AreLeft, declared_alone, prewritten_alone, meets_nothing, stamped_alone, loses_not, committed_alone, secondary_alone}

@@ -1,12 +1,11 @@
--- A table that is kept over generations: it is opened with nothing in it, or begins anew from a quiet one, also with other observers,
+-- A table that is kept over generations: it is opened with nothing in it, or begins anew from another one, also with other observers,
 -- and then these changes led to it, and nothing else.
 use Rattle.std.specs.Prelude.{◌≡◌, ℕ, ◌<◌, List, [], ◌∷◌, ◌++◌, length, slice_get}
-use Rattle.pb_keeper.specs.Words.{Writes, Ts, ObserverOf, last_timestamp, StateOf, opening, IsQuiet, IsCommittedAt, view_of, Received, IsOfParts, entries_by, HasMoreObservers, AreChosen, IsChosenSnapshot, chosen_state, new_number, renumbered_said, IsKeptTable, carried, AreLeft, IsSnapshotOf}
+use Rattle.pb_keeper.specs.Words.{Writes, Ts, ObserverOf, last_timestamp, StateOf, opening, IsCommittedAt, view_of, Received, IsOfParts, entries_by, HasMoreObservers, IsMarkedBehind, AreChosen, IsChosenSnapshot, chosen_state, new_number, renumbered_said, IsKeptTable, IsUnlocked, carried, unmarked, AreLeft, IsSnapshotOf}
 use Rattle.pb_keeper.specs.Drains.{IsDrainWithin}
 use Rattle.pb_keeper.specs.Leads.{SaidLeads}
 use Rattle.pb_keeper.specs.Made.{IsMade}
 use Rattle.pb_keeper.specs.Stats.{AreKeptStats, AreStatsOf, Counted, KeptTable, chosen_stats, first_stats, kept_table, no_runs, total_at, sum_of}
-use Rattle.pb_keeper.specs.Stops.{IsUnlocked}
 use Rattle.pb_keeper.specs.declared.stats.ObserverStats.{ObserverStats}
 
 -- the next change was made, with the drain that follows it
@@ -30,17 +29,18 @@ KeepsFrom first changes table = SaidLeads (Counted first.state.observers first.s
 abbrev pub opened_table : List ObserverOf → KeptTable
 opened_table observers = kept_table (opening observers 1 0) (first_stats observers)
 
--- carried over from a quiet table: what stands is a snapshot of it, with what is left of its transactions
+-- carried over from a table: what stands is a snapshot of it, with what is left of its transactions, and a mark on each cell that an
+-- observer isn't up to date on
 pub record IsAnew (old new : StateOf) : Type 0 where
-  pub is : new ≡ carried old new.entries new.transactions
+  pub marked : IsMarkedBehind (unmarked (carried old new.entries new.transactions)) new
   pub snapshot : IsSnapshotOf old new.entries
   pub left : AreLeft old new.entries new.transactions
 
--- a quiet table goes on with the observers at these places: what stands is a snapshot of their cells, with what is left of its
--- transactions, and the stats are theirs
+-- a table goes on with the observers at these places: what stands is a snapshot of their cells, with what is left of its transactions,
+-- and a mark on each cell that one of them isn't up to date on; and the stats are theirs
 pub record IsChosenOf (places : List ℕ) (front : List ObserverOf) (old new : KeptTable) : Type 0 where
   pub are : AreChosen places old.state.observers front
-  pub is : new.state ≡ chosen_state old.state front new.state.entries new.state.transactions
+  pub marked : IsMarkedBehind (unmarked (chosen_state old.state front new.state.entries new.state.transactions)) new.state
   pub snapshot : IsChosenSnapshot places old.state new.state.entries
   pub left : AreLeft old.state new.state.entries new.state.transactions
   pub stats_are : new.stats ≡ chosen_stats places old.stats
@@ -57,10 +57,10 @@ pub record CatchesUp (more : List ObserverOf) (old new : KeptTable) : Type 0 whe
 -- a table as a generation begins with it, and the changes of all generations before
 pub data IsFirstTable : List Writes → KeptTable → Type 0 where
   opened : (observers : List ObserverOf) → IsFirstTable [] (opened_table observers)
-  anew : (past changes : List Writes) (first old new : KeptTable) → IsFirstTable past first → KeepsFrom first changes old → IsQuiet old.state → old.state.clock < last_timestamp
+  anew : (past changes : List Writes) (first old new : KeptTable) → IsFirstTable past first → KeepsFrom first changes old → old.state.clock < last_timestamp
       → IsAnew old.state new.state → new.stats ≡ old.stats → IsFirstTable (past ++ changes) new
   -- with the observers at these places, and then others, which caught up
-  changed : (past changes : List Writes) (first old between new : KeptTable) (places : List ℕ) (front more : List ObserverOf) → IsFirstTable past first → KeepsFrom first changes old → IsQuiet old.state
+  changed : (past changes : List Writes) (first old between new : KeptTable) (places : List ℕ) (front more : List ObserverOf) → IsFirstTable past first → KeepsFrom first changes old
       → old.state.clock < last_timestamp → IsChosenOf places front old between → CatchesUp more between new → IsFirstTable (past ++ changes) new
 
 -- a table of the generation that begins with the first: these changes were made since

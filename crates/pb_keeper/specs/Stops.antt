@@ -1,7 +1,7 @@
 -- Why a change is left: a table that is kept over generations refuses its only seat a timestamp, where none is left, and nothing
 -- else.
-use Rattle.std.specs.Prelude.{◌≡◌, ℕ, ◌<◌, ◌^◌, List, Some, None, slice_get}
-use Rattle.pb_keeper.specs.Words.{Cell, Row, Reason, ObserverOf, last_timestamp, lock_at, StateOf, step_reason, Step, Received, entries_by, RunOf, watch_of, fresh, IsKeptTable}
+use Rattle.std.specs.Prelude.{◌≡◌, ℕ, ◌<◌, ◌^◌, List, Some, slice_get}
+use Rattle.pb_keeper.specs.Words.{Row, Reason, ObserverOf, last_timestamp, StateOf, step_reason, Step, Received, entries_by, RunOf, watch_of, fresh, IsKeptTable}
 use Rattle.pb_keeper.specs.declared.change.Stopped.{Stopped}
 
 -- the table is kept over generations, of which the last began at c, by what its only seat said since it was opened, with the numbers that
@@ -12,10 +12,6 @@ pub record WasKept (state : StateOf) : Type 0 where
   pub c : ℕ
   pub said : List Received
   pub kept : IsKeptTable observers gone 1 0 c (entries_by 0 said) state
-
--- no lock stands in the table
-abbrev pub IsUnlocked : StateOf → Type 0
-IsUnlocked state = (x : Cell) (start : ℕ) → lock_at state.entries x start ≡ None
 
 -- a step was left for want of memory, or for the reason that the table has to refuse it
 abbrev pub IsLeftFor : StateOf → Step → Stopped → Type 0

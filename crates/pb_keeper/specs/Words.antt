@@ -33,7 +33,6 @@ pub use Rattle.pb_steps.specs.declared.step.Answer.{Answer}
 pub use Rattle.pb_steps.specs.declared.step.Declared.{Declared}
 pub use Rattle.pb_steps.specs.declared.step.Step.{Step}
 pub use Rattle.pb_steps.specs.declared.step.Work.{Work}
-pub use Rattle.pb_history.specs.Handled.{IsQuiet}
 pub use Rattle.pb_history.specs.History.{Has}
 pub use Rattle.pb_history.specs.Journals.{JournalLeads}
 pub use Rattle.pb_history.specs.Laws.{OpeningIsSound, StepsKeepSound}
@@ -42,6 +41,7 @@ pub use Rattle.pb_history.specs.TableView.{declared_by, prewritten_by, view_of}
 pub use Rattle.pb_history.specs.TransactionsTold.{committed_phase, names_start, transaction_after}
 pub use Rattle.pb_history.specs.declared.entry.Entry.{Entry}
 pub use Rattle.pb_history.specs.declared.entry.Received.{Received}
+pub use Rattle.pb_state.specs.MarkedBehind.{IsMarkedBehind}
 pub use Rattle.pb_state.specs.MoreObservers.{HasMoreObservers}
 pub use Rattle.pb_conversations.specs.Conversations.{IsMove, took, went}
 pub use Rattle.pb_conversations.specs.Parts.{IsOfParts, EndsIn, no_part, one_part}
@@ -63,5 +63,5 @@ pub use Rattle.pb_passes.specs.declared.passes.TheConstants.{MAX_PASSES}
 pub use Rattle.pb_generations.specs.Chosen.{AreChosen, ChosenAreSound, IsChosenSnapshot, chosen_state, new_number, renumbered_said}
 pub use Rattle.pb_generations.specs.InTime.{ChangesAreInTime, MarksAreInTime, RunsAreInTime}
 pub use Rattle.pb_generations.specs.KeptTables.{IsKeptTable, MarksKeepTables, RunsKeepTables, WholeChangesKeepTables, anew, chosen, opened, stepped}
-pub use Rattle.pb_generations.specs.Mirrored.{carried}
+pub use Rattle.pb_generations.specs.Mirrored.{IsUnlocked, carried, unmarked}
 pub use Rattle.pb_generations.specs.Snapshots.{AreLeft, IsSnapshotOf, LeftAreSound}

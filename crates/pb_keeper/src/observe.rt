@@ -2,7 +2,6 @@
 ghost use Rattle.std.specs.Prelude.{◌≡◌, ◌<◌, ◌≤◌, ◌+◌, ◌++◌, List, None, true, ℕ, length, IfOk, IfErr, OnOk};
 ghost use Rattle.pb_base.specs.Batch.{Writes};
 ghost use Rattle.pb_base.specs.declared.limits.TheConstants.{MAX_OBSERVERS};
-ghost use Rattle.pb_history.specs.Handled.{IsQuiet};
 ghost use Rattle.pb_state.specs.MoreObservers.{HasMoreObservers};
 ghost use Rattle.pb_steps.specs.Readings.{last_timestamp};
 ghost use Rattle.pb_store.specs.Contents.{IsNextMark};
@@ -54,7 +53,7 @@ pub fn catching_up_bound(entries: usize, observers: usize) -> u64
 /// have handled all that was ever written to their columns, or so many passes as may be made, or so many runs, where another is
 /// due. It returns what these did.
 ///
-/// The table is one that goes on with the observers that stay of a quiet one, in their new order, before anything else is done
+/// The table is one that goes on with the observers that stay of another one, in their new order, before anything else is done
 /// with it: all of them stay where observers are only added.
 ///
 /// Where it fails, some cells may be marked, and the table serves for nothing more.
@@ -76,20 +75,18 @@ pub fn observe_also<T: Tablet>(
         × (d.rests ≡ comes_to_rest u.drained.form.form)) }
     // Where it rests no cell is marked.
     ensures quiet { IfOk result (λ d. d.rests ≡ true → IsNextMark state.new.marks None None) }
-    // From what was chosen of a quiet table that keeps changes it is a generation's beginning,
+    // From what was chosen of a table that keeps changes it is a generation's beginning,
     // after all of them.
     ensures begins { (past changes : List Writes) (first old : KeptTable) (places : List ℕ)
         (front : List ObserverOf) → IsFirstTable past first
-        → KeepsFrom first changes old → IsQuiet old.state
-        → old.state.clock < last_timestamp
+        → KeepsFrom first changes old → old.state.clock < last_timestamp
         → IsChosenOf places front old (kept_table state.old stats.old.items)
         → OnOk result (IsFirstTable (past ++ changes)
         (kept_table state.new stats.new.items)) }
     // Then it conflicts with nothing.
     ensures stops { (past changes : List Writes) (first old : KeptTable) (places : List ℕ)
         (front : List ObserverOf) → IsFirstTable past first
-        → KeepsFrom first changes old → IsQuiet old.state
-        → old.state.clock < last_timestamp
+        → KeepsFrom first changes old → old.state.clock < last_timestamp
         → IsChosenOf places front old (kept_table state.old stats.old.items)
         → IfErr result (λ e. IsStop e state.new) }
 {

@@ -7,6 +7,6 @@ pub mod VersionWalks
 pub mod Places
 pub mod ChosenCells
 pub mod ChosenWalks
-pub mod QuietBegins
+pub mod CarriedSnapshots
 pub mod Beginning
 pub mod TakenOrder

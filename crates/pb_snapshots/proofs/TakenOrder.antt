@@ -8,21 +8,22 @@ use Rattle.std.specs.Ordering.{eq_by_cmp, is_lt, nat_cmp, ordering_then}
 use Rattle.std.proofs.lemmas.Bool.{cases_Bool, cases_lt, eq-eqb}
 use Rattle.std.proofs.lemmas.Option.{slice_get_cases}
 use Rattle.pb_base.proofs.Logic.{and_true, below_true, same_some}
-use Rattle.pb_snapshots.specs.Words.{Writes, content_in, is_batch, is_data_write, cell_cmp, cell_cmp-IsAntisymmetric, Cell, Content, Revision, Row, Ts, Entries, Sort, ObserverOf, acknowledgment, IsVersion, NoLock, last_timestamp, write_at, StateOf, phase_in, Phase, Work, Has, InHistory, Member, OpeningIsSound, RunsAreTold, ScriptsWriteBatches, StepsKeepSound, IsObserverRun, IsCommittedAt, IsSoundTable, view_of, Entry, entries_by, AreChosen, ChosenAreSound, chosen_cell, KeptTablesAreWhole, NewestInAll, StandsForAll, is_known_cell, known_entries, LeftAreSound, AreInOrder, IsAmiss, MayFollow, comes_before, has_its_observer, is_content_of, is_of_column, is_stamp_of, CarryFault, Keeps, KeptFollowOneAnother, KeptIsUnlocked, KeptIsWhole, KeptTable}
+use Rattle.pb_snapshots.specs.Words.{Writes, content_in, is_batch, is_data_write, cell_cmp, cell_cmp-IsAntisymmetric, Cell, Content, Revision, Row, Ts, Entries, Sort, ObserverOf, acknowledgment, write_at, StateOf, phase_in, Phase, Work, Has, Member, OpeningIsSound, RunsAreTold, ScriptsWriteBatches, StepsKeepSound, IsObserverRun, IsCommittedAt, IsSoundTable, view_of, Entry, entries_by, AreChosen, ChosenAreSound, chosen_cell, KeptTablesAreWhole, is_known_cell, known_entries, LeftAreSound, AreInOrder, IsAmiss, MayFollow, comes_before, has_its_observer, is_content_of, is_of_column, is_stamp_of, CarryFault, Keeps, KeptFollowOneAnother, KeptIsWhole, KeptTable}
 use Rattle.pb_history.proofs.DeclaredCells.{batch_plain, run_plain}
-use Rattle.pb_history.proofs.Updates.{none_if}
-use Rattle.pb_generations.proofs.HistoryButMarks.{same_member}
+use Rattle.pb_history.proofs.JournalsAreSound.{legal_sound}
+use Rattle.pb_history.proofs.SnapshotsTold.{content_in_view, written_by}
+use Rattle.pb_history.proofs.StepsAgree.{legal_agrees}
 use Rattle.pb_generations.proofs.KnownEntries.{unknown_none}
+use Rattle.pb_generations.proofs.LeanTables.{whole_record, whole_stored}
 use Rattle.pb_generations.proofs.LongerLists.{stay_in_front}
 use Rattle.pb_keeper.proofs.Leading.{leads_observers}
 use Rattle.pb_keeper.proofs.Resting.{kept_sound}
 use Rattle.pb_snapshots.specs.Chosen.{ChosenAreAccepted, IsChosenFrom}
 use Rattle.pb_snapshots.specs.Snapshot.{SnapshotOf}
-use Rattle.pb_snapshots.specs.Taken.{IsSnapshotTaken}
+use Rattle.pb_snapshots.specs.Taken.{IsSnapshotTaken, IsTakenOf}
 use Rattle.pb_snapshots.specs.TakenOrder.{IsForMemory, TakenAreAccepted, TakenAreInOrder}
-use Rattle.pb_snapshots.specs.VersionWalks.{start_cmp, start_of_version}
-use Rattle.pb_snapshots.proofs.ChosenCells.{content_stays, observer_stays, one_cell}
-use Rattle.pb_snapshots.proofs.VersionWalks.{not_below_itself, one_version}
+use Rattle.pb_snapshots.specs.VersionWalks.{commit_cmp, commit_of_version}
+use Rattle.pb_snapshots.proofs.ChosenCells.{content_stays, observer_stays}
 
 -- ---- an ordered list
 
@@ -53,7 +54,7 @@ below_at cmp key (x ∷ xs) (suc n) c d rising is (inr h) = below_at cmp key xs 
 
 -- ---- the order of versions
 
-less_parts : (a b : Ts × Cell) → start_cmp a b ≡ Less → (a.0.0 < b.0.0) ⊎ ((a.0.0 ≡ b.0.0) × (cell_cmp a.1 b.1 ≡ Less))
+less_parts : (a b : Ts × Cell) → commit_cmp a b ≡ Less → (a.0.0 < b.0.0) ⊎ ((a.0.0 ≡ b.0.0) × (cell_cmp a.1 b.1 ≡ Less))
 less_parts a b e = elim (less_of _ _ e) [
   | inl less ↦ inl (below _ _ less)
   | inr p ↦ inr (nat_cmp-IsAntisymmetric _ _ p.0, p.1)
@@ -133,7 +134,6 @@ none_amiss (CarryFault.NoMemory m) observers last before next may amiss = tt
 none_amiss CarryFault.NotAboveStart observers last before next may amiss = let above = may.above in omega (arith, above, amiss)
 none_amiss CarryFault.AboveLast observers last before next may amiss = let low = may.by_then in omega (arith, low, amiss)
 none_amiss CarryFault.OutOfOrder observers last before next may amiss = true_is_false (may.in_order amiss.0 amiss.1) amiss.2
-none_amiss CarryFault.CellTwice observers last before next may amiss = may.once amiss.0 amiss.1
 none_amiss CarryFault.NotItsContent observers last before next may amiss = true_is_false may.its_content amiss
 none_amiss CarryFault.NoItsObserver observers last before next may amiss = true_is_false may.observed amiss
 
@@ -156,91 +156,79 @@ own_of_first observers gone (Cell.Ack o row column) v known own =
 
 -- ---- a kept table
 
-module _ (keeps : StepsKeepSound) (opens : OpeningIsSound) (left : LeftAreSound) (sound_chosen : ChosenAreSound) (follow : KeptFollowOneAnother) (unlocked : KeptIsUnlocked) (whole : KeptIsWhole) (newest : NewestInAll)
+module _ (keeps : StepsKeepSound) (opens : OpeningIsSound) (left : LeftAreSound) (sound_chosen : ChosenAreSound) (follow : KeptFollowOneAnother) (whole : KeptIsWhole)
     (wholes : KeptTablesAreWhole) (runs : RunsAreTold) (scripts : ScriptsWriteBatches) where
   module _ (first : KeptTable) (changes : List Writes) (table : KeptTable) (k : Keeps first changes table) where
     sound : IsSoundTable table.state
     sound = kept_sound keeps opens left sound_chosen first changes table k
 
-    -- a version at the clock is of a committed transaction
-    committed : (x : Cell) (v : Revision) → IsVersion table.state.entries x table.state.clock v → IsCommittedAt (view_of table.state) v.start.0 v.commit.0
+    -- what is taken is of a committed transaction
+    committed : (x : Cell) (v : Revision) → IsTakenOf table.state x v → IsCommittedAt (view_of table.state) v.start.0 v.commit.0
     committed x v is = sound.record_committed x v.commit.0 v.start.0 is.written
 
-    above : (x : Cell) (v : Revision) → IsVersion table.state.entries x table.state.clock v → v.start.0 < v.commit.0
+    above : (x : Cell) (v : Revision) → IsTakenOf table.state x v → v.start.0 < v.commit.0
     above x v is = (sound.stamped v.start.0 v.commit.0 (inr (committed x v is))).0
 
-    -- and it is the newest
-    is_newest : (x : Cell) (v : Revision) → IsVersion table.state.entries x table.state.clock v → IsVersion table.state.entries x last_timestamp v
-    is_newest x v is = record {
-      low = let low = is.low in let small = sound.small in omega (arith, low, small);
-      written = is.written;
-      content = is.content;
-      newest = λ c higher low. elim (cases_lt table.state.clock c) [
-        | inl later ↦ none_if (write_at table.state.entries x c) (λ s e.
-            let most = (sound.stamped s c (inr (sound.record_committed x c s e))).1 in
-            omega (arith, most, later))
-        | inr by_then ↦ is.newest c higher by_then
-      ];
-    }
-
-    -- its cell is one of the table's observers
-    is_known : (x : Cell) (v : Revision) → IsVersion table.state.entries x table.state.clock v → (gone : List ObserverOf) (c : ℕ) (journal : List Entry) → StandsForAll first.state.observers gone 1 0 c journal table.state
-        → is_known_cell (length first.state.observers) x ≡ true
-    is_known x v is gone c journal stands =
-        let lean = stands.lean in
-        let same : lean.observers ≡ first.state.observers = sym (ap (λ (z : StateOf). z.observers) stands.now_is) ∙ stands.observers_are in
-        let written : write_at lean.entries x v.commit.0 ≡ Some v.start.0 = elim (cases_lt c v.commit.0) [
-          | inl later ↦ sym (stands.mirrors.entries_are.records x v.commit.0 later) ∙ is.written
-          | inr by_then ↦
-              let since : c ≤ table.state.clock = subst (λ (n : ℕ). c ≤ n) (sym (ap (λ (z : StateOf). z.clock) stands.now_is)) stands.mirrors.since in
-              let its : IsVersion table.state.entries x c v = record { low = by_then; written = is.written; content = is.content; newest = λ d higher low. is.newest d higher (omega (arith, low, since)) } in
-              (((stands.mirrors.entries_are.versions x).there v).1 its).written
-        ] in
-        subst (λ (l : List ObserverOf). is_known_cell (length l) x ≡ true) same
-        (known_if lean.observers stands.whole.entries x v.commit.0 v.start.0 (sym (ap (λ (z : StateOf). write_at z.entries x v.commit.0) stands.lacks.lean_is) ∙ written))
-
-    is_own : (x : Cell) (v : Revision) → IsVersion table.state.entries x table.state.clock v → IsOwnVersion first.state.observers x v
+    -- it is a write of the whole history, and so one of its own cell
+    is_own : (x : Cell) (v : Revision) → IsTakenOf table.state x v → IsOwnVersion first.state.observers x v
     is_own x v is =
         let observers = first.state.observers in
         let w = whole first changes table k in
         let all = observers ++ w.gone in
         let journal = entries_by 0 w.said in
-        let free : NoLock table.state.entries x = λ u low. unlocked first changes table k x u in
         let stands = wholes observers w.gone 1 0 w.c journal table.state w.kept in
-        let known = is_known x v is w.gone w.c journal stands in
-        let write = newest observers w.gone 1 0 w.c journal table.state w.kept x (Some v) known free (is_newest x v is) in
-        let m = write.m in
         let past = stands.legal.past in
-        let h : InHistory all past m = same_member all journal past (sym stands.legal.same) m write.in_history in
-        let same : stands.whole.observers ≡ all = stands.lacks.observers ∙ ap (λ (l : List ObserverOf). l ++ w.gone) (sym (ap (λ (z : StateOf). z.observers) stands.now_is) ∙ stands.observers_are) in
-        let there : InHistory stands.whole.observers past m = subst (λ (l : List ObserverOf). InHistory l past m) (sym same) h in
-        let one = own stands.whole.observers past m x v write.start_is write.writes m.work refl ((scripts all 1 0 past stands.whole stands.legal.legal).batch m there) (λ o row. (runs all 1 0 past stands.whole stands.legal.legal).run m o row there) in
+        let agrees = legal_agrees all 1 0 past stands.whole stands.legal.legal in
+        let its_sound = legal_sound all 1 0 past stands.whole stands.legal.legal in
+        let in_lean = stands.within.records x v.commit.0 v.start.0 is.written in
+        let record_there = whole_record w.c w.gone stands.whole stands.lean stands.lacks x v.commit.0 v.start.0 in_lean in
+        let stored_there = whole_stored w.c w.gone stands.whole stands.lean stands.lacks x v.start.0 v.content (stands.within.stored x v.start.0 v.content is.content) in
+        let same_front : stands.lean.observers ≡ observers = sym (ap (λ (z : StateOf). z.observers) stands.now_is) ∙ stands.observers_are in
+        let known : is_known_cell (length observers) x ≡ true =
+        subst (λ (l : List ObserverOf). is_known_cell (length l) x ≡ true) same_front
+        (known_if stands.lean.observers stands.whole.entries x v.commit.0 v.start.0 (sym (ap (λ (z : StateOf). write_at z.entries x v.commit.0) stands.lacks.lean_is) ∙ in_lean)) in
+        let write = written_by past stands.whole agrees its_sound x v.commit.0 v.start.0 record_there in
+        let m = write.m in
+        let writes : content_in m.writes x ≡ Some v.content =
+        sym (content_in_view past stands.whole agrees its_sound m write.in_history x)
+        ∙ ap (λ (n : ℕ). (view_of stands.whole).content n x) write.start_is
+        ∙ sym (its_sound.record_data x v.commit.0 v.start.0 record_there)
+        ∙ stored_there in
+        let same : stands.whole.observers ≡ all = stands.lacks.observers ∙ ap (λ (l : List ObserverOf). l ++ w.gone) same_front in
+        let one = own stands.whole.observers past m x v write.start_is writes m.work refl ((scripts all 1 0 past stands.whole stands.legal.legal).batch m write.in_history)
+        (λ o row. (runs all 1 0 past stands.whole stands.legal.legal).run m o row write.in_history) in
         own_of_first observers w.gone x v known (subst (λ (l : List ObserverOf). IsOwnVersion l x v) same one)
 
-    -- versions whose cells became these, no two of them one, are in order
-    module _ (becomes : Cell → Option Cell) (one_cell : (x y z : Cell) → becomes x ≡ Some z → becomes y ≡ Some z → x ≡ y) (list : List ObserverOf)
+    -- versions whose cells became these are in order
+    module _ (becomes : Cell → Option Cell) (list : List ObserverOf)
         (stays_own : (x y : Cell) (v : Revision) → becomes x ≡ Some y → IsOwnVersion first.state.observers x v → IsOwnVersion list y v)
-        (last : ℕ) (cells : List (Cell × Revision)) (clock : last ≡ table.state.clock) (each : (y : Cell) (v : Revision) → Has cells (y, v) → (x : Cell) × (becomes x ≡ Some y) × IsVersion table.state.entries x table.state.clock v)
-        (rising : IsStrictlySortedBy start_cmp (map start_of_version cells)) where
-      comes : (d c : Cell × Revision) → Has cells d → Has cells c → (d.1.start.0 < c.1.start.0) ⊎ ((d.1.start.0 ≡ c.1.start.0) × (cell_cmp d.0 c.0 ≡ Less)) → comes_before d c ≡ true
+        (last : ℕ) (cells : List (Cell × Revision)) (clock : last ≡ table.state.clock) (each : (y : Cell) (v : Revision) → Has cells (y, v) → (x : Cell) × (becomes x ≡ Some y) × IsTakenOf table.state x v)
+        (rising : IsStrictlySortedBy commit_cmp (map commit_of_version cells)) where
+      comes : (d c : Cell × Revision) → Has cells d → Has cells c → (d.1.commit.0 < c.1.commit.0) ⊎ ((d.1.commit.0 ≡ c.1.commit.0) × (cell_cmp d.0 c.0 ≡ Less)) → comes_before d c ≡ true
       comes d c before its (inl low) =
           let x = each d.0 d.1 before in
           let y = each c.0 c.1 its in
-          or_below _ d.1.commit.0 c.1.start.0 (follow first changes table k d.1.start.0 d.1.commit.0 c.1.start.0 c.1.commit.0 (committed x.0 d.1 x.2) (committed y.0 c.1 y.2) low)
+          let first_is = committed x.0 d.1 x.2 in
+          let second_is = committed y.0 c.1 y.2 in
+          elim (cases_lt d.1.start.0 c.1.start.0) [
+            | inl earlier ↦ or_below _ d.1.commit.0 c.1.start.0 (follow first changes table k d.1.start.0 d.1.commit.0 c.1.start.0 c.1.commit.0 first_is second_is earlier)
+            | inr not_earlier ↦ elim (cases_lt c.1.start.0 d.1.start.0) [
+              | inl later ↦
+                  let after = follow first changes table k c.1.start.0 c.1.commit.0 d.1.start.0 d.1.commit.0 second_is first_is later in
+                  let up = above x.0 d.1 x.2 in
+                  absurd (omega (arith, after, up, low))
+              | inr not_later ↦
+                  let same : d.1.start.0 ≡ c.1.start.0 = omega (arith, not_earlier, not_later) in
+                  let commits = one_commit d.1.commit.0 c.1.commit.0 (phase_in table.state c.1.start.0) (sym (ap (phase_in table.state) same) ∙ first_is) second_is in
+                  absurd (omega (arith, commits, low))
+            ]
+          ]
       comes d c before its (inr same) =
           let x = each d.0 d.1 before in
           let y = each c.0 c.1 its in
-          let commits = one_commit d.1.commit.0 c.1.commit.0 (phase_in table.state c.1.start.0) (sym (ap (phase_in table.state) same.0) ∙ committed x.0 d.1 x.2) (committed y.0 c.1 y.2) in
-          λ i. (eq-eqb d.1.start.0 c.1.start.0 same.0 i && (eq-eqb d.1.commit.0 c.1.commit.0 commits i && is_lt (same.1 i))) || nat_lt d.1.commit.0 c.1.start.0
-
-      -- of a cell there is one
-      once : (n : ℕ) (c : Cell × Revision) → slice_get cells n ≡ Some c → (v : Revision) → Has (take n cells) (c.0, v) → ⊥
-      once n c is v before =
-          let x = each c.0 v (has_taken cells n (c.0, v) before) in
-          let y = each c.0 c.1 (has_got cells n c is) in
-          let there : IsVersion table.state.entries y.0 table.state.clock v = subst (λ (z : Cell). IsVersion table.state.entries z table.state.clock v) (one_cell x.0 y.0 c.0 x.1 y.1) x.2 in
-          let less = below_at start_cmp start_of_version cells n c (c.0, v) rising is before in
-          not_below_itself (c.1.start, c.0) (subst (λ (w : Revision). start_cmp (w.start, c.0) (c.1.start, c.0) ≡ Less) (one_version table.state.entries y.0 table.state.clock v c.1 there y.2) less)
+          let commit : c.1.commit.0 ≡ d.1.commit.0 = sym same.0 in
+          let starts = sound.one_stamp d.1.start.0 c.1.start.0 d.1.commit.0 (inr (committed x.0 d.1 x.2)) (inr (subst (IsCommittedAt (view_of table.state) c.1.start.0) commit (committed y.0 c.1 y.2))) in
+          λ i. (eq-eqb d.1.start.0 c.1.start.0 starts i && (eq-eqb d.1.commit.0 c.1.commit.0 same.0 i && is_lt (same.1 i))) || nat_lt d.1.commit.0 c.1.start.0
 
       in_order : AreInOrder list last cells
       in_order n c is =
@@ -250,8 +238,7 @@ module _ (keeps : StepsKeepSound) (opens : OpeningIsSound) (left : LeftAreSound)
           record {
             above = above x.0 c.1 x.2;
             by_then = subst (λ (z : ℕ). c.1.commit.0 ≤ z) (sym clock) x.2.low;
-            in_order = λ d before. comes d c (has_taken cells n d before) has (less_parts (start_of_version d) (start_of_version c) (below_at start_cmp start_of_version cells n c d rising is before));
-            once = once n c is;
+            in_order = λ d before. comes d c (has_taken cells n d before) has (less_parts (commit_of_version d) (commit_of_version c) (below_at commit_cmp commit_of_version cells n c d rising is before));
             its_content = its.0;
             observed = its.1;
           }
@@ -259,19 +246,19 @@ module _ (keeps : StepsKeepSound) (opens : OpeningIsSound) (left : LeftAreSound)
   pub taken_are_in_order : TakenAreInOrder
   taken_are_in_order first changes table s k taken rising =
       let stays_own : (x y : Cell) (v : Revision) → Some x ≡ Some y → IsOwnVersion first.state.observers x v → IsOwnVersion first.state.observers y v = λ x y v same its. subst (λ (z : Cell). IsOwnVersion first.state.observers z v) (same_some x y same) its in
-      in_order first changes table k Some (λ x y z a b. same_some x y (a ∙ sym b)) first.state.observers stays_own s.clock s.cells taken.clock (λ y v has. (y, refl, taken.each y v has)) rising
+      in_order first changes table k Some first.state.observers stays_own s.clock s.cells taken.clock (λ y v has. (y, refl, taken.each y v has)) rising
 
   pub taken_are_accepted : TakenAreAccepted
   taken_are_accepted first changes table s k taken rising n e why = none_amiss e first.state.observers s.clock (take n s.cells) why.0 (taken_are_in_order first changes table s k taken rising n why.0 why.1) why.2
 
   chosen_are_in_order : (first : KeptTable) (changes : List Writes) (table : KeptTable) (s u : SnapshotOf) (places : List ℕ) (front : List ObserverOf) → Keeps first changes table → AreChosen places table.state.observers front
-      → IsSnapshotTaken table s → IsChosenFrom places s u → IsStrictlySortedBy start_cmp (map start_of_version u.cells) → AreInOrder front u.clock u.cells
+      → IsSnapshotTaken table s → IsChosenFrom places s u → IsStrictlySortedBy commit_cmp (map commit_of_version u.cells) → AreInOrder front u.clock u.cells
   chosen_are_in_order first changes table s u places front k are taken from rising =
       let same : table.state.observers ≡ first.state.observers = leads_observers first.state table.state k.leads in
       let chosen : AreChosen places first.state.observers front = subst (λ (l : List ObserverOf). AreChosen places l front) same are in
       let stays_own : (x y : Cell) (v : Revision) → chosen_cell places x ≡ Some y → IsOwnVersion first.state.observers x v → IsOwnVersion front y v =
       λ x y v stays its. (content_stays places first.state.observers front chosen x y v stays its.0, observer_stays places first.state.observers front chosen x y stays its.1) in
-      in_order first changes table k (chosen_cell places) (one_cell places) front stays_own u.clock u.cells (from.clock ∙ taken.clock)
+      in_order first changes table k (chosen_cell places) front stays_own u.clock u.cells (from.clock ∙ taken.clock)
       (λ y v has. let x = from.each y v has in (x.0, x.1, taken.each x.0 v x.2)) rising
 
   pub chosen_are_accepted : ChosenAreAccepted

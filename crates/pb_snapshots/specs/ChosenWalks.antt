@@ -5,9 +5,9 @@ use Rattle.std.specs.BTreeMap.{BTreeMap}
 use Rattle.pb_snapshots.specs.Words.{Cell, Revision, Ts, Has, chosen_cell}
 use Rattle.pb_snapshots.specs.VersionWalks.{AreListed, HasNoted}
 
--- a cell has one of these versions at most of one start
-abbrev pub HaveOneOfEachStart : List (Cell × Revision) → Type 0
-HaveOneOfEachStart cells = (x : Cell) (v w : Revision) → Has cells (x, v) → Has cells (x, w) → v.start ≡ w.start → v ≡ w
+-- a cell has one of these versions at most of one commit
+abbrev pub HaveOneOfEachCommit : List (Cell × Revision) → Type 0
+HaveOneOfEachCommit cells = (x : Cell) (v w : Revision) → Has cells (x, v) → Has cells (x, w) → v.commit ≡ w.commit → v ≡ w
 
 -- one of these versions, under the number that its observer will have
 abbrev pub IsOfChosen : List ℕ → List (Cell × Revision) → Cell → Revision → Type 0

@@ -2,8 +2,8 @@ pub mod Words
 pub mod Snapshot
 pub mod Reading
 pub mod RecordLaws
-pub mod VersionWalks
 pub mod Taken
+pub mod VersionWalks
 pub mod Beginnings
 pub mod TakenOrder
 pub mod Chosen

@@ -8,9 +8,9 @@ ghost use Rattle.pb_history.specs.History.{Has};
 ghost use Rattle.pb_generations.specs.Chosen.{chosen_cell, place_among};
 ghost use Rattle.pb_keeper.specs.Stats.{chosen_stats};
 ghost use Rattle.pb_snapshots.specs.Chosen.{IsChosenFrom};
-ghost use Rattle.pb_snapshots.specs.ChosenWalks.{HaveOneOfEachStart, AreChosenVersions, HasChosen};
+ghost use Rattle.pb_snapshots.specs.ChosenWalks.{HaveOneOfEachCommit, AreChosenVersions, HasChosen};
 ghost use Rattle.pb_snapshots.specs.Snapshot.{snapshot_value};
-ghost use Rattle.pb_snapshots.specs.VersionWalks.{start_cmp, start_of_version, version_listed};
+ghost use Rattle.pb_snapshots.specs.VersionWalks.{commit_cmp, commit_of_version, version_listed};
 
 use crate::snapshot::Snapshot;
 use crate::taking::listed;
@@ -55,24 +55,24 @@ fn note_chosen(
     version: &(Cell, Revision),
 ) -> Result<(), NoMemory>
     requires { length places.now ≤ MAX_OBSERVERS }
-    ensures { OnOk result ((cells rest : List (Cell × Revision)) → HaveOneOfEachStart cells
+    ensures { OnOk result ((cells rest : List (Cell × Revision)) → HaveOneOfEachCommit cells
         → Has cells version.now → HasChosen places.now cells (version.now ∷ rest) versions.old
         → HasChosen places.now cells rest versions.new) }
 {
     let Some(cell) = chosen_cell(places, &version.0) else {
         return Ok(());
     };
-    versions.insert((version.1.start, cell), version.1)?;
+    versions.insert((version.1.commit, cell), version.1)?;
     Ok(())
 }
 
-// The versions that are chosen of these. They are kept by starts and cells, in which order a snapshot lists them.
+// The versions that are chosen of these. They are kept by commits and cells, in which order a snapshot lists them.
 fn chosen_versions(
     alloc: Global,
     cells: &[(Cell, Revision)],
     places: &[usize],
 ) -> Result<BTreeMap<(Ts, Cell), Revision>, NoMemory>
-    requires rising { IsStrictlySortedBy start_cmp (map start_of_version cells.now) }
+    requires rising { IsStrictlySortedBy commit_cmp (map commit_of_version cells.now) }
     requires few { length places.now ≤ MAX_OBSERVERS }
     ensures { IfOk result (λ m. AreChosenVersions places.now cells.now
         (map version_listed m.entries)) }
@@ -101,20 +101,21 @@ fn chosen_stats(
 
 /// What is chosen of a snapshot for the observers at these places of its list, in this order: the acknowledgments of those that
 /// stay under their new numbers, all data, and their stats. The acknowledgments of others aren't kept. As those of the
-/// snapshot, its versions come by rising starts, and by rising cells within one start.
+/// snapshot, its versions come by rising commits, and by rising cells within one commit.
 ///
-/// Of the snapshot of a quiet table a state goes on with them ([`chosen_begin`](crate::chosen_begin)).
+/// Of the snapshot of a kept table a state goes on with them ([`chosen_begin`](crate::chosen_begin)).
 pub fn choose_observers(
     alloc: Global,
     snapshot: &Snapshot,
     places: &[usize],
 ) -> Result<Snapshot, NoMemory>
-    requires rising { IsStrictlySortedBy start_cmp (map start_of_version snapshot.now.cells.items) }
+    requires rising { IsStrictlySortedBy commit_cmp
+        (map commit_of_version snapshot.now.cells.items) }
     requires few { length places.now ≤ MAX_OBSERVERS }
     ensures chosen { IfOk result (λ u. IsChosenFrom places.now (snapshot_value snapshot.now)
         (snapshot_value u)) }
-    ensures rising { IfOk result (λ u. IsStrictlySortedBy start_cmp
-        (map start_of_version u.cells.items)) }
+    ensures rising { IfOk result (λ u. IsStrictlySortedBy commit_cmp
+        (map commit_of_version u.cells.items)) }
 {
     let versions = chosen_versions(alloc, &snapshot.cells, places)?;
     let cells = listed(alloc, &versions)?;

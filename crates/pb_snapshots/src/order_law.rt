@@ -2,7 +2,7 @@
 ghost use Rattle.pb_snapshots.specs.Chosen.{ChosenAreAccepted};
 ghost use Rattle.pb_snapshots.specs.TakenOrder.{TakenAreAccepted, TakenAreInOrder};
 
-use pb_generations::{kept_tables_are_whole, promises_hold_over_generations, snapshots_serve};
+use pb_generations::{kept_tables_are_whole, snapshots_serve};
 use pb_history::{runs_are_told, scripts_write_batches, steps_keep_sound};
 use pb_keeper::tables_keep_their_changes;
 
@@ -13,7 +13,6 @@ pub fn taken_are_in_order()
     ensures accepted { TakenAreAccepted }
 {
     kept_tables_are_whole();
-    promises_hold_over_generations();
     runs_are_told();
     scripts_write_batches();
     snapshots_serve();
@@ -21,12 +20,11 @@ pub fn taken_are_in_order()
     tables_keep_their_changes();
 }
 
-/// Nor does it refuse what is chosen of them for the observers that stay, by rising starts and by rising cells within one start.
+/// Nor does it refuse what is chosen of them for the observers that stay, by rising commits and by rising cells within one commit.
 pub fn chosen_are_accepted()
     ensures { ChosenAreAccepted }
 {
     kept_tables_are_whole();
-    promises_hold_over_generations();
     runs_are_told();
     scripts_write_batches();
     snapshots_serve();

@@ -1,14 +1,16 @@
-//! How a snapshot is taken: the newest version of each cell, in the order in which a state takes them over.
-ghost use Rattle.std.specs.Prelude.{◌≡◌, ◌∷◌, IfOk, OnOk, List, MatchOption, map};
+//! How a snapshot is taken: the newest version of each cell, and all versions of the cells that an observer isn't up to date on, in the order
+//! in which a state takes them over.
+ghost use Rattle.std.specs.Prelude.{◌≡◌, ◌∷◌, IfOk, OnOk, List, MatchBool, MatchOption, map};
 ghost use Rattle.std.specs.List.Sorted.{IsStrictlySortedBy};
+ghost use Rattle.pb_base.specs.declared.content.Revision.{Revision};
 ghost use Rattle.pb_store.specs.declared.slot.Item.{Item};
 ghost use Rattle.pb_store.specs.declared.slot.Slot.{Slot};
 ghost use Rattle.pb_steps.specs.Readings.{data_at};
 ghost use Rattle.pb_keeper.specs.Stats.{kept_table};
 ghost use Rattle.pb_snapshots.specs.Snapshot.{snapshot_value};
-ghost use Rattle.pb_snapshots.specs.Taken.{IsSnapshotTaken};
-ghost use Rattle.pb_snapshots.specs.VersionWalks.{AreVersions, HasVersions, IsVersionIn, NoVersionIn};
-ghost use Rattle.pb_snapshots.specs.VersionWalks.{start_cmp, start_of_version, version_listed};
+ghost use Rattle.pb_snapshots.specs.Taken.{IsLastRecord, IsSnapshotTaken};
+ghost use Rattle.pb_snapshots.specs.VersionWalks.{AreTakenVersions, HasTaken, IsTakenIn, StandsIn};
+ghost use Rattle.pb_snapshots.specs.VersionWalks.{commit_cmp, commit_of_version, version_listed};
 
 use crate::snapshot::Snapshot;
 use pb_base::{Cell, Content, NoMemory, Revision, Ts};
@@ -33,61 +35,82 @@ fn content_at<T: Tablet>(table: &Table<T>, cell: &Cell, start: Ts) -> Option<Con
     }
 }
 
-// The version that a slot has the record of, if it is the newest of its cell up to a commit. In every state a write record has
-// its data, but callers of `State` don't know that: a record without them makes no version.
+// The version that a slot has the record of, if its commit isn't above the last. In every state a write record has its data, but
+// callers of `State` don't know that: a record without them makes no version.
 fn version_in<T: Tablet>(table: &Table<T>, last: Ts, slot: &Slot) -> Option<Revision>
-    ensures { MatchOption result (NoVersionIn table.now.contents.entries last.0 slot.now)
-        (IsVersionIn table.now.contents.entries last.0 slot.now) }
+    ensures { MatchOption result
+        ((v : Revision) → StandsIn table.now.contents.entries last.0 slot.now v → ⊥)
+        (StandsIn table.now.contents.entries last.0 slot.now) }
 {
-    if slot.sort != Sort::Write {
+    if slot.sort != Sort::Write || slot.ts > last {
         return None;
     }
-    let Some((commit, Item::Write(start))) = table.newest(slot.cell, Sort::Write, last) else {
+    let Some(Item::Write(start)) = table.get(*slot) else {
         return None;
     };
-    if commit != slot.ts {
-        return None;
-    }
     let content = content_at(table, &slot.cell, start)?;
     Some(Revision {
         start,
-        commit,
+        commit: slot.ts,
         content,
     })
 }
 
-// Notes the version that a slot has the record of.
+// Whether no record of a cell has a later commit, up to the last.
+fn is_last<T: Tablet>(table: &Table<T>, cell: &Cell, commit: Ts, last: Ts) -> bool
+    ensures { MatchBool result
+        (IsLastRecord table.now.contents.entries last.0 cell.now commit.0)
+        (IsLastRecord table.now.contents.entries last.0 cell.now commit.0 → ⊥) }
+{
+    match table.newest(*cell, Sort::Write, last) {
+        Some((newest, _)) => newest <= commit,
+        None => true,
+    }
+}
+
+// The version that a slot has the record of, if a snapshot takes it.
+fn taken_in<T: Tablet>(state: &State<T>, slot: &Slot) -> Option<Revision>
+    ensures { MatchOption result
+        ((v : Revision) → IsTakenIn state.now slot.now v → ⊥)
+        (IsTakenIn state.now slot.now) }
+{
+    let version = version_in(state.table(), state.clock(), slot)?;
+    if is_last(state.table(), &slot.cell, slot.ts, state.clock()) || state.is_behind(&slot.cell) {
+        Some(version)
+    } else {
+        None
+    }
+}
+
+// Notes the version that a slot has the record of, if it is taken.
 fn note_version<T: Tablet>(
     versions: &mut BTreeMap<(Ts, Cell), Revision>,
-    table: &Table<T>,
-    last: Ts,
+    state: &State<T>,
     slot: &Slot,
 ) -> Result<(), NoMemory>
     ensures { OnOk result ((item : Item) (rest : List (Slot × Item))
-        → HasVersions table.now.contents.entries last.0 ((slot.now, item) ∷ rest) versions.old
-        → HasVersions table.now.contents.entries last.0 rest versions.new) }
+        → HasTaken state.now ((slot.now, item) ∷ rest) versions.old
+        → HasTaken state.now rest versions.new) }
 {
-    let Some(version) = version_in(table, last, slot) else {
+    let Some(version) = taken_in(state, slot) else {
         return Ok(());
     };
-    versions.insert((version.start, slot.cell), version)?;
+    versions.insert((version.commit, slot.cell), version)?;
     Ok(())
 }
 
-// The newest version of each cell up to a commit, in one walk over the entries. They are kept by starts and cells, in which
-// order a snapshot lists them.
-fn versions_up_to<T: Tablet>(
+// The versions that a snapshot takes, in one walk over the entries. They are kept by commits and cells, in which order a snapshot
+// lists them.
+fn taken_versions<T: Tablet>(
     alloc: Global,
-    table: &Table<T>,
-    last: Ts,
+    state: &State<T>,
 ) -> Result<BTreeMap<(Ts, Cell), Revision>, NoMemory>
-    ensures { IfOk result (λ m. AreVersions table.now.contents.entries last.0
-        (map version_listed m.entries)) }
+    ensures { IfOk result (λ m. AreTakenVersions state.now (map version_listed m.entries)) }
 {
     let mut versions = BTreeMap::new(alloc);
     let mut after = None;
-    while let Some((slot, _)) = table.next_entry(after) {
-        note_version(&mut versions, table, last, &slot)?;
+    while let Some((slot, _)) = state.table().next_entry(after) {
+        note_version(&mut versions, state, &slot)?;
         after = Some(slot);
     }
     Ok(versions)
@@ -107,23 +130,11 @@ pub(crate) fn listed(
     Ok(cells)
 }
 
-// The newest version of each cell up to a commit, acknowledgments too.
-fn newest_versions<T: Tablet>(
-    alloc: Global,
-    table: &Table<T>,
-    last: Ts,
-) -> Result<Vec<(Cell, Revision)>, NoMemory>
-    ensures { IfOk result (λ v. AreVersions table.now.contents.entries last.0 v.items) }
-{
-    let versions = versions_up_to(alloc, table, last)?;
-    let cells = listed(alloc, &versions)?;
-    Ok(cells)
-}
-
-/// A snapshot of a table, with what the runs of its observers did. Its versions come by rising starts, and by rising cells
-/// within one start, as a state takes them over.
+/// A snapshot of a table, with what the runs of its observers did. Its versions come by rising commits, and by rising cells
+/// within one commit, as a state takes them over.
 ///
-/// It has no locks and no marks, so that it stands for a quiet table alone ([`snapshots_begin`](crate::snapshots_begin)).
+/// It has no locks and no marks, so that it stands for a table without locks alone, which gets a mark on each cell that an observer
+/// isn't up to date on ([`snapshots_begin`](crate::snapshots_begin)).
 pub fn take_snapshot<T: Tablet>(
     alloc: Global,
     state: &State<T>,
@@ -131,10 +142,11 @@ pub fn take_snapshot<T: Tablet>(
 ) -> Result<Snapshot, NoMemory>
     ensures taken { IfOk result (λ s. IsSnapshotTaken (kept_table state.now stats.now)
         (snapshot_value s)) }
-    ensures rising { IfOk result (λ s. IsStrictlySortedBy start_cmp
-        (map start_of_version s.cells.items)) }
+    ensures rising { IfOk result (λ s. IsStrictlySortedBy commit_cmp
+        (map commit_of_version s.cells.items)) }
 {
-    let cells = newest_versions(alloc, state.table(), state.clock())?;
+    let versions = taken_versions(alloc, state)?;
+    let cells = listed(alloc, &versions)?;
     let stats = stats.to_vec(alloc)?;
     Ok(Snapshot {
         clock: state.clock(),

@@ -1,5 +1,5 @@
 -- A state that begins with versions in their order is sound.
-use Rattle.std.proofs.Common.{arith, ◌≡◌, ℕ, ◌<◌, ◌≤◌, ◌^◌, List, Some, is_some, option_map, refl, sym, ap, ◌∙◌, subst}
+use Rattle.std.proofs.Common.{arith, ◌≡◌, ℕ, ◌<◌, ◌≤◌, ◌^◌, inl, inr, List, Some, is_some, option_map, refl, sym, ap, ◌∙◌, subst}
 use Rattle.std.specs.FinMap as map
 use Rattle.pb_history.specs.TableView.{view_of, declared_by, prewritten_by}
 use Rattle.pb_state.specs.Words.{Cell, Revision, Ts, ObserverOf, Phase, StateOf, TransactionOf, Has, IsCommittedAt, IsSoundTable, TableView, content_in, data_at, is_in, write_at}
@@ -106,10 +106,14 @@ module _ (observers : List ObserverOf) (seats last : ℕ) (cells : CellVersions)
         let y = at_commit s d is in
         let same : w.0.commit.0 ≡ d = are.one_commit (x, w.0) (y.x, y.w) w.1 y.has (w.2 ∙ sym y.start) ∙ y.commit in
         ap (λ n. write_at state.entries x n) (sym same) ∙ (carried.entries_are.kept x w.0 w.1).0 ∙ ap (λ n. Some n) w.2;
-    single = λ x c s d u a b.
+    apart = λ x c s d u a b differ.
         let p = written_by x c s a in
         let q = written_by x d u b in
-        sym p.start ∙ ap (λ (w : Revision). w.start.0) (are.once x p.w q.w p.has q.has) ∙ q.start;
+        elim (are.serial (x, p.w) (x, q.w) p.has q.has) [
+          | inl same ↦ absurd (differ (sym p.start ∙ same ∙ q.start))
+          | inr (inl before) ↦ let at = p.commit in let start = q.start in inl (omega (arith, before, at, start))
+          | inr (inr before) ↦ let at = q.commit in let start = p.start in inr (omega (arith, before, at, start))
+        ];
   }
 
   pub carried_sound : IsSoundTable state

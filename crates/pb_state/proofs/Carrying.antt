@@ -1,5 +1,5 @@
 -- A state that has begun with versions has, with one that may come next put, begun with that too.
-use Rattle.std.proofs.Common.{arith, ◌≡◌, ℕ, ◌⊎◌, inl, inr, Bool, true, false, cond, ◌||◌, List, [], ◌∷◌, ◌++◌, Option, Some, None, is_some, refl, sym, ap, ◌∙◌, subst}
+use Rattle.std.proofs.Common.{arith, ◌≡◌, ℕ, ◌<◌, ◌⊎◌, inl, inr, Bool, true, false, cond, ◌||◌, List, [], ◌∷◌, ◌++◌, Option, Some, None, is_some, refl, sym, ap, ◌∙◌, subst}
 use Rattle.std.proofs.lemmas.Option.{none-some}
 use Rattle.std.specs.FinMap as map
 use Rattle.std.specs.Ordering.{is_eq, eq_by_cmp, nat_cmp}
@@ -10,7 +10,7 @@ use Rattle.pb_history.proofs.Updates.{changed_or_before, has_front, has_last, ha
 use Rattle.pb_history.proofs.ViewsAfter.{field_at, insert_other, insert_same}
 use Rattle.pb_state.specs.Words.{Cell, Content, Revision, Entries, Item, ObserverOf, Sort, StateOf, TransactionOf, Transactions, Writes, Has, cell_cmp, cell_cmp_total, content_in, data_at, data_of, is_in, lock_at, opening, primary_of, slot_at, slot_cmp, start_of, write_at}
 use Rattle.pb_state.specs.CarriedOver.{CellVersions, AreLeftOver, AreVersionsBy, HoldsVersions, IsCarriedOver, IsLeftOver, IsOrBeganLast, MayFollow, left_over_by, put_version, state_with_version}
-use Rattle.pb_state.proofs.VersionOrder.{begins_before}
+use Rattle.pb_state.proofs.VersionOrder.{begins_before, committed_before}
 
 -- ---- writes with one more
 
@@ -62,12 +62,16 @@ is_in_more (p ∷ ps) x y = ap (λ b. eq_by_cmp cell_cmp p y || b) (is_in_more p
 
 -- ---- one version more
 
-module _ (cells : CellVersions) (x : Cell) (v : Revision) (once : (w : Revision) → Has cells (x, w) → ⊥) where
+-- each version before of its cell has a start and a commit below its own
+abbrev IsNewestOf : CellVersions → Cell → Revision → Type 0
+IsNewestOf cells x v = (w : Revision) → Has cells (x, w) → (w.start.0 < v.start.0) × (w.commit.0 < v.commit.0)
+
+module _ (cells : CellVersions) (x : Cell) (v : Revision) (newest : IsNewestOf cells x v) where
   abbrev more : CellVersions
   more = cells ++ (x, v) ∷ []
 
-  apart : (y : Cell) (w : Revision) → Has cells (y, w) → y ≡ x → ⊥
-  apart y w there same = once w (subst (λ (z : Cell). Has cells (z, w)) same there)
+  below : (y : Cell) (w : Revision) → Has cells (y, w) → y ≡ x → (w.start.0 < v.start.0) × (w.commit.0 < v.commit.0)
+  below y w there same = newest w (subst (λ (z : Cell). Has cells (z, w)) same there)
 
   module _ (e : Entries) (h : HoldsVersions cells e) where
     abbrev after : Entries
@@ -91,8 +95,8 @@ module _ (cells : CellVersions) (x : Cell) (v : Revision) (once : (w : Revision)
     stands_there : (y : Cell) (w : Revision) → Has cells (y, w) → Stands (y, w)
     stands_there y w there =
         let k = h.kept y w there in (
-          ap (λ f. f y w.commit.0) write_after ∙ set2_there (write_at e) x v.commit.0 (Some v.start.0) y w.commit.0 (λ same _. apart y w there same) ∙ k.0,
-          ap (λ f. f y w.start.0) data_after ∙ set2_there (data_at e) x v.start.0 (Some v.content) y w.start.0 (λ same _. apart y w there same) ∙ k.1,
+          ap (λ f. f y w.commit.0) write_after ∙ set2_there (write_at e) x v.commit.0 (Some v.start.0) y w.commit.0 (λ same at. let low = (below y w there same).1 in omega (arith, low, at)) ∙ k.0,
+          ap (λ f. f y w.start.0) data_after ∙ set2_there (data_at e) x v.start.0 (Some v.content) y w.start.0 (λ same at. let low = (below y w there same).0 in omega (arith, low, at)) ∙ k.1,
         )
 
     holds_more : HoldsVersions more after
@@ -143,7 +147,7 @@ module _ (cells : CellVersions) (x : Cell) (v : Revision) (once : (w : Revision)
     }
     is_left (Some t) there =
         let k = left.each v.start.0 t there in
-        let new : content_in t.declared x ≡ None = none_if _ (λ l is. let w = (k.declared x l).0 is in once w.0 w.1) in
+        let new : content_in t.declared x ≡ None = none_if _ (λ l is. let w = (k.declared x l).0 is in let low = (newest w.0 w.1).0 in let at = w.2 in omega (arith, low, at)) in
         record {
           commit = k.commit;
           phase = k.phase;
@@ -207,12 +211,19 @@ module _ (cells : CellVersions) (x : Cell) (v : Revision) (once : (w : Revision)
 
 -- ---- over a state
 
-module _ (observers others : List ObserverOf) (seats last : ℕ) (cells : CellVersions) (old : StateOf) (c : IsCarriedOver observers seats last cells old) (x : Cell) (v : Revision) (may : MayFollow others last cells (x, v)) where
+module _ (observers others : List ObserverOf) (seats last : ℕ) (cells : CellVersions) (old : StateOf) (c : IsCarriedOver observers seats last cells old) (x : Cell) (v : Revision) (may : MayFollow others last cells (x, v)) (are : AreVersionsBy last cells) where
+  newest : IsNewestOf cells x v
+  newest w has =
+      let before = committed_before x w v (may.in_order (x, w) has) in
+      let above = are.above (x, w) has in
+      let low = may.above in
+      (omega (arith, before, above), omega (arith, before, low))
+
   pub carried_more : IsCarriedOver observers seats last (cells ++ (x, v) ∷ []) (state_with_version old x v)
   carried_more = record {
-    entries_are = holds_more cells x v may.once old.entries c.entries_are;
+    entries_are = holds_more cells x v newest old.entries c.entries_are;
     transactions_are = subst (λ n. AreLeftOver n (cells ++ (x, v) ∷ []) (state_with_version old x v).transactions) c.seats_are
-        (left_more cells x v may.once old.seats old.transactions (subst (λ n. AreLeftOver n cells old.transactions) (sym c.seats_are) c.transactions_are));
+        (left_more cells x v newest old.seats old.transactions (subst (λ n. AreLeftOver n cells old.transactions) (sym c.seats_are) c.transactions_are));
     marks_are = c.marks_are;
     observers_are = c.observers_are;
     clock_is = c.clock_is;
@@ -220,8 +231,8 @@ module _ (observers others : List ObserverOf) (seats last : ℕ) (cells : CellVe
   }
 
   -- the version's transaction is one that is left, or began after all of them
-  pub began_last : AreVersionsBy last cells → IsOrBeganLast old.transactions v.start.0
-  began_last are none s t there =
+  pub began_last : IsOrBeganLast old.transactions v.start.0
+  began_last none s t there =
       let k = c.transactions_are.each s t there in
       let y : Cell × Revision = (k.some.0, k.some.1) in
       let above = are.above y k.some.2 in

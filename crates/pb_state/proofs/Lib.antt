@@ -8,6 +8,7 @@ pub mod ItsDeclaration
 pub mod ReadsTaken
 pub mod EntryWalks
 mod MoreMarks
+mod MarkedBehind
 pub mod Walks
 mod Walking
 mod SameCells

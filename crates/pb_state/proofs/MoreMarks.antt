@@ -1,13 +1,13 @@
 -- A walk over the entries marks each observed cell that has a write record.
-use Rattle.std.proofs.Common.{◌≡◌, ℕ, ◌⊎◌, inl, inr, true, false, cond, List, [], ◌∷◌, ◌++◌, Some, is_some, OnErr, OnOk, Ok, Err, refl, sym, ap, ◌∙◌, subst}
+use Rattle.std.proofs.Common.{◌≡◌, ℕ, ◌⊎◌, inl, inr, true, false, cond, drop, slice_get, List, [], ◌∷◌, ◌++◌, Option, None, Some, is_some, OnErr, OnOk, Ok, Err, refl, sym, ap, ◌∙◌, subst}
 use Rattle.std.specs.FinMap as map
 use Rattle.std.specs.declared.result.Result.{Result}
-use Rattle.pb_base.proofs.Logic.{not_both}
 use Rattle.pb_history.proofs.Updates.{same_cell, same_cell_is, same_cell_itself}
 use Rattle.pb_state.specs.Keeping.{parts_as_state}
-use Rattle.pb_state.specs.Words.{Cell, Entries, IsSoundTable, Item, Marks, ObserverOf, Slot, Sort, StateOf, TableOf, Transactions, Ts, cell_cmp_total, is_marked, is_observed, slot_at, start_of, write_at}
-use Rattle.pb_state.specs.MoreObservers.{AddsMarks, AreMarkedBefore, HasMoreMarks, HasMoreObservers, is_write_record, with_record_mark}
-use Rattle.pb_state.proofs.EntryWalks.{here_or_left, record_there}
+use Rattle.pb_state.specs.Words.{Cell, Entries, IsSoundTable, Item, Marks, ObserverOf, Slot, Sort, StateOf, TableOf, Transactions, Ts, cell_cmp_total, entries_after, is_marked, is_observed, slot_at, start_of, write_at}
+use Rattle.pb_state.specs.MoreMarks.{AddsMarks, AreMarkedBefore, WasWritten, IsMarkedBy, is_write_record}
+use Rattle.pb_state.specs.MoreObservers.{HasMoreMarks, HasMoreObservers}
+use Rattle.pb_state.proofs.EntryWalks.{first_and_rest, here_or_left, none_left, record_there, stands_there}
 
 -- ---- write records
 
@@ -47,42 +47,42 @@ module _ (marks : Marks) (x : Cell) where
 
 -- ---- the walk
 
-module _ (observers : List ObserverOf) (e : Entries) where
+module _ (P : Cell → Type 0) (e : Entries) where
   -- before it nothing is marked, and each record is left
-  pub none_met : (marks : Marks) → AreMarkedBefore observers e (map.entries e) marks marks
+  pub none_met : (marks : Marks) → AreMarkedBefore P e (map.entries e) marks marks
   none_met marks = record {
     adds = record { kept = λ x m. m; only = λ x m. inl m };
     marked = λ x c s o w. inr (ap is_some (sym (map.get-entries e (slot_at x Sort.Write c))) ∙ record_there (map.get e (slot_at x Sort.Write c)) s w);
   }
 
-  module _ (slot : Slot) (item : Item) (stands : map.get e slot ≡ Some item) (rest : List (Slot × Item)) (old now : Marks) (so : AreMarkedBefore observers e ((slot, item) ∷ rest) old now) where
+  module _ (slot : Slot) (item : Item) (stands : map.get e slot ≡ Some item) (rest : List (Slot × Item)) (old now : Marks) (so : AreMarkedBefore P e ((slot, item) ∷ rest) old now) where
     -- an entry where the record of a cell stands is one
     at_record : (x : Cell) (c s : ℕ) → slot ≡ slot_at x Sort.Write c → write_at e x c ≡ Some s → is_write_record slot.sort item ≡ true
     at_record x c s here w =
         subst (λ (q : Slot). is_write_record q.sort item ≡ true) (sym here) (record_is item s (sym (ap start_of (ap (map.get e) (sym here) ∙ stands)) ∙ w))
 
-    -- one that is none of an observed cell is passed over
-    passed : (is_write_record slot.sort item ≡ true → is_observed observers slot.cell ≡ true → ⊥) → AreMarkedBefore observers e rest old now
+    -- one that is none of such a cell is passed over
+    passed : (is_write_record slot.sort item ≡ true → P slot.cell → ⊥) → AreMarkedBefore P e rest old now
     passed other = record {
       adds = so.adds;
       marked = λ x c s o w. elim (so.marked x c s o w) [
         | inl m ↦ inl m
         | inr l ↦ elim (here_or_left slot item (slot_at x Sort.Write c) rest l) [
-          | inl here ↦ absurd (other (at_record x c s here w) (subst (λ (q : Slot). is_observed observers q.cell ≡ true) (sym here) o))
+          | inl here ↦ absurd (other (at_record x c s here w) (subst (λ (q : Slot). P q.cell) (sym here) o))
           | inr left ↦ inr left
         ]
       ];
     }
 
-    -- one of an observed cell marks it
-    marks_it : is_write_record slot.sort item ≡ true → is_observed observers slot.cell ≡ true → AreMarkedBefore observers e rest old (map.insert now slot.cell tt)
-    marks_it is observed = record {
+    -- one of such a cell marks it
+    marks_it : is_write_record slot.sort item ≡ true → P slot.cell → AreMarkedBefore P e rest old (map.insert now slot.cell tt)
+    marks_it is so_is = record {
       adds = record {
         kept = λ x m. marked_still now slot.cell x (so.adds.kept x m);
         only = λ x m. elim (marked_before now slot.cell x m) [
           | inl here ↦
               let r = is_record e slot.cell slot.sort slot.ts item stands is in
-              inr (subst (λ (y : Cell). (is_observed observers y ≡ true) × ((c : ℕ) × (s : ℕ) × (write_at e y c ≡ Some s))) (sym here) (observed, (slot.ts.0, r.0, r.1)))
+              inr (subst (λ (y : Cell). P y × WasWritten e y) (sym here) (so_is, (slot.ts.0, r.0, r.1)))
           | inr was ↦ so.adds.only x was
         ];
       };
@@ -95,26 +95,36 @@ module _ (observers : List ObserverOf) (e : Entries) where
       ];
     }
 
-    pub one_met : AreMarkedBefore observers e rest old (with_record_mark observers now slot item)
-    one_met =
-        elim (is_write_record slot.sort item) as (λ b. is_write_record slot.sort item ≡ b → AreMarkedBefore observers e rest old (cond b (cond (is_observed observers slot.cell) (map.insert now slot.cell tt) now) now)) [
-          | true ↦ λ is.
-              elim (is_observed observers slot.cell) as (λ d. is_observed observers slot.cell ≡ d → AreMarkedBefore observers e rest old (cond d (map.insert now slot.cell tt) now)) [
-                | true ↦ λ o. marks_it is o
-                | false ↦ λ o. passed (λ _ t. not_both _ t o)
-              ] refl
-          | false ↦ λ is. passed (λ t _. not_both _ t is)
-        ] refl
+    one_met : (new : Marks) → IsMarkedBy P slot item now new → AreMarkedBefore P e rest old new
+    one_met new (inl is) = subst (AreMarkedBefore P e rest old) (sym is.2) (marks_it is.0 is.1)
+    one_met new (inr is) = subst (AreMarkedBefore P e rest old) (sym is.1) (passed is.0)
+
+  module _ (d : Entries) (same : d ≡ e) (after : Option Slot) (old now : Marks) (so : AreMarkedBefore P e (entries_after after (map.entries e)) old now) where
+    -- after one entry more, by which a cell may be marked
+    pub one_passed : (x : Slot × Item) (new : Marks) → Some x ≡ slice_get (entries_after after (map.entries d)) 0
+        → entries_after (Some x.0) (map.entries d) ≡ drop 1 (entries_after after (map.entries d))
+        → IsMarkedBy P x.0 x.1 now new → AreMarkedBefore P e (entries_after (Some x.0) (map.entries e)) old new
+    one_passed x new is more by =
+        let first : Some x ≡ slice_get (entries_after after (map.entries e)) 0 = subst (λ (f : Entries). Some x ≡ slice_get (entries_after after (map.entries f)) 0) same is in
+        let left = entries_after (Some x.0) (map.entries e) in
+        let rest : left ≡ drop 1 (entries_after after (map.entries e)) = subst (λ (f : Entries). entries_after (Some x.0) (map.entries f) ≡ drop 1 (entries_after after (map.entries f))) same more in
+        one_met x.0 x.1 (stands_there e after x first) left old now (subst (λ (xs : List (Slot × Item)). AreMarkedBefore P e xs old now) (first_and_rest _ left x first rest) so) new by
+
+    -- after the last one
+    pub all_passed : None ≡ slice_get (entries_after after (map.entries d)) 0 → AreMarkedBefore P e [] old now
+    all_passed is =
+        let none : entries_after after (map.entries e) ≡ [] = none_left _ (subst (λ (f : Entries). None ≡ slice_get (entries_after after (map.entries f)) 0) same is) in
+        subst (λ (xs : List (Slot × Item)). AreMarkedBefore P e xs old now) none so
 
 -- ---- the state
 
 -- no entry is left of none
-marked_or_left : {A : Type 0} → A ⊎ (false ≡ true) → A
+pub marked_or_left : {A : Type 0} → A ⊎ (false ≡ true) → A
 marked_or_left (inl a) = a
 marked_or_left (inr h) = absurd cc
 
 module _ (table table' : TableOf) (observers observers' : List ObserverOf) (clock seats : ℕ) (ts : Transactions) (more : List ObserverOf) (entries : table'.contents.entries ≡ table.contents.entries) where
-  pub more_marks : observers' ≡ observers → AddsMarks more table.contents.entries table.contents.marks table'.contents.marks
+  pub more_marks : observers' ≡ observers → AddsMarks (λ x. is_observed more x ≡ true) table.contents.entries table.contents.marks table'.contents.marks
       → (old : StateOf) → parts_as_state table observers clock seats ts ≡ old → HasMoreMarks more old (parts_as_state table' observers' clock seats ts)
   more_marks same adds old view = subst (λ (z : StateOf). HasMoreMarks more z (parts_as_state table' observers' clock seats ts)) view (record {
     is = λ i. record { entries = entries i; marks = table'.contents.marks; observers = same i; clock = clock; seats = seats; transactions = ts };
@@ -122,7 +132,7 @@ module _ (table table' : TableOf) (observers observers' : List ObserverOf) (cloc
     only = adds.only;
   })
 
-  pub more_observers : observers' ≡ observers ++ more → AreMarkedBefore more table.contents.entries [] table.contents.marks table'.contents.marks
+  pub more_observers : observers' ≡ observers ++ more → AreMarkedBefore (λ x. is_observed more x ≡ true) table.contents.entries [] table.contents.marks table'.contents.marks
       → (old : StateOf) → parts_as_state table observers clock seats ts ≡ old → HasMoreObservers more old (parts_as_state table' observers' clock seats ts)
   more_observers joined so old view = subst (λ (z : StateOf). HasMoreObservers more z (parts_as_state table' observers' clock seats ts)) view (record {
     is = λ i. record { entries = entries i; marks = table'.contents.marks; observers = joined i; clock = clock; seats = seats; transactions = ts };

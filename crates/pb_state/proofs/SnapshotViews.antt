@@ -50,7 +50,7 @@ module _ (v : TableView) (m : IsSnapshotView v) where
     record_data = λ x c s is. let k = (m.written x c s is).1 in k.2 ∙ sym k.1;
     record_unlocked = λ x c s is. m.unlocked x s;
     behind_lock = λ x s p c u is _. absurd (locked x s p is);
-    apart = λ x c s d u a b differ. absurd (differ (m.single x c s d u a b));
+    apart = m.apart;
     stands = λ s c x k is content. inl (m.stands s c x k is content);
     primary_stands = λ s c p is primary. let k = m.primary s p primary in m.stands s c p k.0 is k.1;
     read_begun = λ s r is. absurd (m.unread s r is);

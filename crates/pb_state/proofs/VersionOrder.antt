@@ -1,5 +1,6 @@
 -- What the order of versions shows of two of them, and of one more.
-use Rattle.std.proofs.Common.{arith, ◌≡◌, ℕ, ◌+◌, ◌-◌, ◌<◌, ◌≤◌, ◌⊎◌, inl, inr, Bool, true, false, ◌&&◌, ◌||◌, nat_lt, List, [], ◌∷◌, ◌++◌, length, take, Some, slice_get, sym, ap, ◌∙◌, subst, Ordering, Less, MatchBool}
+use Rattle.std.proofs.Common.{arith, ◌≡◌, ℕ, ◌+◌, ◌-◌, ◌<◌, ◌≤◌, ◌⊎◌, inl, inr, Bool, true, false, ◌&&◌, ◌||◌, nat_lt, List, [], ◌∷◌, ◌++◌, length, take, Some, slice_get, sym, ap, ◌∙◌, subst, Ordering, Less, Equal, MatchBool}
+use Rattle.std.specs.Cmp.{tied_itself}
 use Rattle.std.specs.Ordering.{is_lt}
 use Rattle.std.proofs.lemmas.Bool.{cases_lt, eqb-true, eq-eqb}
 use Rattle.std.proofs.lemmas.List.{length_push}
@@ -70,6 +71,23 @@ same_start a b p above same = elim (before_by a b p) [
   | inr x ↦ absurd (omega (arith, x, above, same))
 ]
 
+-- of one cell it was committed before the other began
+pub committed_before : (x : Cell) (v w : Revision) → comes_before (x, v) (x, w) ≡ true → v.commit.0 < w.start.0
+committed_before x v w p = elim (before_by (x, v) (x, w) p) [
+  | inl same ↦ absurd (not_itself (cell_cmp x x) (tied_itself cell_cmp_total x) same.cell)
+  | inr before ↦ before
+]
+  where
+    not_itself : (o : Ordering) → o ≡ Equal → o ≡ Less → ⊥
+    not_itself o p q = cc
+
+-- it is of the same transaction, or of one that was committed before the other began
+in_series : (a b : Version) → comes_before a b ≡ true → (a.1.start.0 ≡ b.1.start.0) ⊎ (a.1.commit.0 < b.1.start.0)
+in_series a b p = elim (before_by a b p) [
+  | inl same ↦ inl same.start
+  | inr before ↦ inr before
+]
+
 -- what comes before began with the other at the latest
 pub begins_before : (a b : Version) → comes_before a b ≡ true → a.1.start.0 < a.1.commit.0 → (a.1.start.0 ≡ b.1.start.0) ⊎ (a.1.start.0 < b.1.start.0)
 begins_before a b p above = elim (before_by a b p) [
@@ -100,7 +118,8 @@ no_versions last = record {
   by_then = λ c h. absurd h;
   one_commit = λ c d h _ _. absurd h;
   one_start = λ c d h _ _. absurd h;
-  once = λ x v w h _. absurd h;
+  serial = λ c d h _. absurd h;
+  once = λ x v w h _ _. absurd h;
   latest = λ c is. absurd (grind (arith, is));
 }
 
@@ -142,14 +161,36 @@ module _ (observers : List ObserverOf) (last : ℕ) (cells : CellVersions) (c : 
         | inr q ↦ are.one_start d e p q same
       ]
     ];
-    once = λ x v w h g. elim (has_more cells c (x, v) h) [
+    serial = λ d e h g. elim (has_more cells c d h) [
+      | inl p ↦ elim (has_more cells c e g) [
+        | inl q ↦ inl (ap (λ (z : Version). z.1.start.0) (sym p ∙ q))
+        | inr q ↦ elim (in_series e d (subst (λ (z : Version). comes_before e z ≡ true) p (may.in_order e q))) [
+          | inl same ↦ inl (sym same)
+          | inr before ↦ inr (inr before)
+        ]
+      ]
+      | inr p ↦ elim (has_more cells c e g) [
+        | inl q ↦ elim (in_series d e (subst (λ (z : Version). comes_before d z ≡ true) q (may.in_order d p))) [
+          | inl same ↦ inl same
+          | inr before ↦ inr (inl before)
+        ]
+        | inr q ↦ are.serial d e p q
+      ]
+    ];
+    once = λ x v w h g same. elim (has_more cells c (x, v) h) [
       | inl p ↦ elim (has_more cells c (x, w) g) [
         | inl q ↦ ap (λ (z : Version). z.1) (sym p ∙ q)
-        | inr q ↦ absurd (may.once w (subst (λ (z : Version). Has cells (z.0, w)) (sym p) q))
+        | inr q ↦
+            let before = committed_before x w v (subst (λ (z : Version). comes_before (x, w) z ≡ true) p (may.in_order (x, w) q)) in
+            let above = are.above (x, w) q in
+            absurd (omega (arith, before, above, same))
       ]
       | inr p ↦ elim (has_more cells c (x, w) g) [
-        | inl q ↦ absurd (may.once v (subst (λ (z : Version). Has cells (z.0, v)) (sym q) p))
-        | inr q ↦ are.once x v w p q
+        | inl q ↦
+            let before = committed_before x v w (subst (λ (z : Version). comes_before (x, v) z ≡ true) q (may.in_order (x, v) p)) in
+            let above = are.above (x, v) p in
+            absurd (omega (arith, before, above, same))
+        | inr q ↦ are.once x v w p q same
       ]
     ];
     latest = λ d is.

@@ -41,7 +41,6 @@ pub record MayFollow (observers : List ObserverOf) (last : ℕ) (before : CellVe
   pub above : next.1.start.0 < next.1.commit.0
   pub by_then : next.1.commit.0 ≤ last
   pub in_order : (c : Cell × Revision) → Has before c → comes_before c next ≡ true
-  pub once : (v : Revision) → Has before (next.0, v) → ⊥
   pub its_content : is_content_of next.0 next.1 ≡ true
   pub observed : has_its_observer observers next.0 ≡ true
 
@@ -55,7 +54,6 @@ IsAmiss observers last before next (CarryFault.NoMemory _) = Unit {0}
 IsAmiss observers last before next CarryFault.NotAboveStart = next.1.commit.0 ≤ next.1.start.0
 IsAmiss observers last before next CarryFault.AboveLast = last < next.1.commit.0
 IsAmiss observers last before next CarryFault.OutOfOrder = (c : Cell × Revision) × Has before c × (comes_before c next ≡ false)
-IsAmiss observers last before next CarryFault.CellTwice = (v : Revision) × Has before (next.0, v)
 IsAmiss observers last before next CarryFault.NotItsContent = is_content_of next.0 next.1 ≡ false
 IsAmiss observers last before next CarryFault.NoItsObserver = has_its_observer observers next.0 ≡ false
 
@@ -69,7 +67,6 @@ carry_code (CarryFault.NoMemory _) = 1
 carry_code CarryFault.NotAboveStart = 100
 carry_code CarryFault.AboveLast = 101
 carry_code CarryFault.OutOfOrder = 102
-carry_code CarryFault.CellTwice = 103
 carry_code CarryFault.NotItsContent = 104
 carry_code CarryFault.NoItsObserver = 105
 
@@ -77,14 +74,15 @@ carry_code CarryFault.NoItsObserver = 105
 abbrev pub IsLatest : CellVersions → Cell × Revision → Type 0
 IsLatest cells c = Has cells c × ((d : Cell × Revision) → Has cells d → (d ≡ c) ⊎ (comes_before d c ≡ true))
 
--- what comes of the order: commits above their starts and at most the last timestamp, a start and a commit that
--- go together, of each cell one version, and the last version after all others
+-- what comes of the order: commits above their starts and at most the last timestamp, one transaction after the other, of each
+-- cell one version by a transaction, and the last version after all others
 pub record AreVersionsBy (last : ℕ) (cells : CellVersions) : Type 0 where
   pub above : (c : Cell × Revision) → Has cells c → c.1.start.0 < c.1.commit.0
   pub by_then : (c : Cell × Revision) → Has cells c → c.1.commit.0 ≤ last
   pub one_commit : (c d : Cell × Revision) → Has cells c → Has cells d → c.1.start.0 ≡ d.1.start.0 → c.1.commit.0 ≡ d.1.commit.0
   pub one_start : (c d : Cell × Revision) → Has cells c → Has cells d → c.1.commit.0 ≡ d.1.commit.0 → c.1.start.0 ≡ d.1.start.0
-  pub once : (x : Cell) (v w : Revision) → Has cells (x, v) → Has cells (x, w) → v ≡ w
+  pub serial : (c d : Cell × Revision) → Has cells c → Has cells d → (c.1.start.0 ≡ d.1.start.0) ⊎ ((c.1.commit.0 < d.1.start.0) ⊎ (d.1.commit.0 < c.1.start.0))
+  pub once : (x : Cell) (v w : Revision) → Has cells (x, v) → Has cells (x, w) → v.start.0 ≡ w.start.0 → v ≡ w
   pub latest : (c : Cell × Revision) → slice_get cells (length cells - 1) ≡ Some c → IsLatest cells c
 
 -- ---- what stands then

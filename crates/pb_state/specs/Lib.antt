@@ -7,4 +7,6 @@ pub mod Admitted
 pub mod Lending
 pub mod CarriedOver
 pub mod SnapshotViews
+pub mod MoreMarks
 pub mod MoreObservers
+pub mod MarkedBehind

@@ -1,10 +1,11 @@
 //! Observers come after those that a table has. What was written before is marked for them, since no step marks it again.
-ghost use Rattle.std.specs.Prelude.{◌≡◌, ◌≤◌, ◌+◌, [], length, OnOk, OnErr};
+ghost use Rattle.std.specs.Prelude.{◌≡◌, ◌≤◌, ◌+◌, [], true, length, OnOk, OnErr};
 ghost use Rattle.std.specs.FinMap as map;
 ghost use Rattle.pb_base.specs.declared.limits.TheConstants.{MAX_OBSERVERS};
 ghost use Rattle.pb_store.specs.Contents.{Contents, AreEdits, after_edits};
-ghost use Rattle.pb_state.specs.MoreObservers.{AddsMarks, AreMarkedBefore, HasMoreMarks, HasMoreObservers};
-ghost use Rattle.pb_state.specs.MoreObservers.{is_write_record, with_record_mark};
+ghost use Rattle.pb_steps.specs.Marks.{is_observed};
+ghost use Rattle.pb_state.specs.MoreMarks.{is_write_record, AddsMarks, AreMarkedBefore, IsMarkedBy};
+ghost use Rattle.pb_state.specs.MoreObservers.{HasMoreMarks, HasMoreObservers};
 
 use crate::commit::is_observed;
 use crate::parts::Parts;
@@ -13,7 +14,7 @@ use pb_store::{Edit, Item, Slot, Sort, Table, Tablet};
 use pb_verify::Observer;
 
 // Whether an entry is a write record. That a slot has an item of its sort is nothing that callers of a table know.
-fn is_write_record(sort: Sort, item: &Item) -> bool
+pub(crate) fn is_write_record(sort: Sort, item: &Item) -> bool
     ensures { result ≡ is_write_record sort item.now }
 {
     match item {
@@ -25,7 +26,8 @@ fn is_write_record(sort: Sort, item: &Item) -> bool
     }
 }
 
-fn mark_edits(cell: &Cell) -> [Edit; 1]
+// Marks a cell.
+pub(crate) fn mark_edits(cell: &Cell) -> [Edit; 1]
     ensures edits { AreEdits result }
     ensures marked { (c : Contents) → after_edits result c
         ≡ record c { marks = map.insert c.marks cell.now tt } }
@@ -40,9 +42,9 @@ fn mark_record<T: Tablet>(
     slot: &Slot,
     item: &Item,
 ) -> Result<(), NoMemory>
-    ensures ok { OnOk result (table.new.contents ≡ record table.old.contents {
-      marks = with_record_mark observers.now table.old.contents.marks slot.now item.now;
-    }) }
+    ensures entries { table.new.contents.entries ≡ table.old.contents.entries }
+    ensures ok { OnOk result (IsMarkedBy (λ x. is_observed observers.now x ≡ true) slot.now
+        item.now table.old.contents.marks table.new.contents.marks) }
     ensures err { OnErr result (table.new.contents ≡ table.old.contents) }
 {
     if is_write_record(slot.sort, item) && is_observed(observers, &slot.cell) {
@@ -55,10 +57,10 @@ fn mark_record<T: Tablet>(
 // Marks each observed cell that has a write record, in one walk over the entries.
 fn mark_records<T: Tablet>(table: &mut Table<T>, observers: &[Observer]) -> Result<(), NoMemory>
     ensures entries { table.new.contents.entries ≡ table.old.contents.entries }
-    ensures ok { OnOk result (AreMarkedBefore observers.now table.old.contents.entries []
-        table.old.contents.marks table.new.contents.marks) }
-    ensures err { OnErr result (AddsMarks observers.now table.old.contents.entries
-        table.old.contents.marks table.new.contents.marks) }
+    ensures ok { OnOk result (AreMarkedBefore (λ x. is_observed observers.now x ≡ true)
+        table.old.contents.entries [] table.old.contents.marks table.new.contents.marks) }
+    ensures err { OnErr result (AddsMarks (λ x. is_observed observers.now x ≡ true)
+        table.old.contents.entries table.old.contents.marks table.new.contents.marks) }
 {
     let mut after = None;
     while let Some((slot, item)) = table.next_entry(after) {

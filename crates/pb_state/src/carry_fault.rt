@@ -16,8 +16,6 @@ pub enum CarryFault {
     /// It is of the start of one before, but has another commit, or its cell isn't above; or its start isn't above the
     /// commit of one before.
     OutOfOrder,
-    /// A version before is of the same cell.
-    CellTwice,
     /// A stamp in a data cell, or in an acknowledgment anything but the stamp of its own start.
     NotItsContent,
     /// An acknowledgment of an observer that there isn't, or of another column than that one's.
@@ -42,7 +40,6 @@ impl CarryFault {
             CarryFault::NotAboveStart => 100,
             CarryFault::AboveLast => 101,
             CarryFault::OutOfOrder => 102,
-            CarryFault::CellTwice => 103,
             CarryFault::NotItsContent => 104,
             CarryFault::NoItsObserver => 105,
         }

@@ -4,12 +4,12 @@ ghost use Rattle.pb_store.specs.Contents.{Contents, AreEdits, after_edits};
 ghost use Rattle.pb_steps.specs.State.{opening};
 ghost use Rattle.pb_history.specs.History.{Has};
 ghost use Rattle.pb_history.specs.Sound.{IsSoundTable};
-ghost use Rattle.pb_state.specs.CarriedOver.{AreInOrder, AreVersionsBy, HoldsVersions, IsAmiss, IsCarriedOver, IsLatest, IsOrBeganLast, MayFollow, WhyNotCarried};
+ghost use Rattle.pb_state.specs.CarriedOver.{AreInOrder, AreVersionsBy, IsAmiss, IsCarriedOver, IsLatest, IsOrBeganLast, MayFollow, WhyNotCarried};
 ghost use Rattle.pb_state.specs.CarriedOver.{comes_before, has_its_observer, is_content_of, is_of_column, is_stamp_of, put_version, state_with_version};
 
 use crate::carry_fault::CarryFault;
 use crate::parts::Parts;
-use crate::readings::{is_written, slot_of};
+use crate::readings::slot_of;
 use crate::transaction::Transaction;
 use pb_base::{Cell, Column, Content, NoMemory, ObserverNo, Revision, Ts};
 use pb_store::{Edit, Item, Sort, Table, Tablet};
@@ -91,14 +91,12 @@ fn has_its_observer(observers: &[Observer], cell: &Cell) -> bool
 }
 
 // Why a version can't come next after those before it, by the first reason that applies.
-fn admit_version<T: Tablet>(
-    table: &Table<T>,
+fn admit_version(
     observers: &[Observer],
     last: Ts,
     before: &[(Cell, Revision)],
     next: &(Cell, Revision),
 ) -> Result<(), CarryFault>
-    requires held { HoldsVersions before.now table.now.contents.entries }
     requires ordered { AreVersionsBy last.0 before.now }
     ensures ok { OnOk result (MayFollow observers.now last.0 before.now next.now) }
     ensures err { IfErr result (IsAmiss observers.now last.0 before.now next.now) }
@@ -112,9 +110,6 @@ fn admit_version<T: Tablet>(
     }
     if !comes_last(before, next) {
         return Err(CarryFault::OutOfOrder);
-    }
-    if is_written(table, cell, Ts(0)) {
-        return Err(CarryFault::CellTwice);
     }
     if !is_content_of(cell, version) {
         return Err(CarryFault::NotItsContent);
@@ -169,7 +164,7 @@ impl<T: Tablet> Parts<T> {
         self.clock = last.0;
         for place in 0..cells.len() {
             let next = &cells[place];
-            admit_version(&self.table, &self.observers, last, &cells[..place], next)?;
+            admit_version(&self.observers, last, &cells[..place], next)?;
             self.put_version(&next.0, &next.1)?;
         }
         Ok(())

@@ -22,6 +22,7 @@ mod commit;
 mod commit_primary;
 mod commit_secondary;
 mod declare;
+mod mark_behind;
 mod next_mark;
 mod observed;
 mod parts;

@@ -36,8 +36,9 @@ impl<T: Tablet> Model for State<T> {
 }
 
 impl<T: Tablet> State<T> {
-    ghost use Rattle.std.specs.Prelude.{◌≤◌, ◌<◌, ◌+◌, ◌^◌, OnOk, OnErr, IfOk, IfErr, None, true, Some, option_map, length, take, ℕ, if◌then◌else◌};
+    ghost use Rattle.std.specs.Prelude.{◌≤◌, ◌<◌, ◌+◌, ◌^◌, OnOk, OnErr, IfOk, IfErr, MatchBool, None, true, Some, option_map, length, take, ℕ, if◌then◌else◌};
     ghost use Rattle.std.specs.FinMap as map;
+    ghost use Rattle.pb_steps.specs.Marks.{AllUpToDate, SomeBehind};
     ghost use Rattle.pb_base.specs.Reasons.{refusal_by, memory_refusal};
     ghost use Rattle.pb_base.specs.declared.refusal.Reason.TheVariants as reasons;
     ghost use Rattle.pb_store.specs.Contents.{nothing, is_nothing};
@@ -47,6 +48,7 @@ impl<T: Tablet> State<T> {
     ghost use Rattle.pb_steps.specs.Steps.{step_reason, TableStep};
     ghost use Rattle.pb_state.specs.Admitted.{Admits, TellsAdmission, step_admitted};
     ghost use Rattle.pb_state.specs.CarriedOver.{AreInOrder, IsCarriedOver, WhyNotCarried};
+    ghost use Rattle.pb_state.specs.MarkedBehind.{HasSomeMarked, IsMarkedBehind};
     ghost use Rattle.pb_state.specs.MoreObservers.{HasMoreMarks, HasMoreObservers};
 
     /// A state over an empty table, with seats numbered from 0 and the last timestamp given out. It has no entry, no mark
@@ -103,6 +105,25 @@ impl<T: Tablet> State<T> {
         ensures err { OnErr result (HasMoreMarks more.items self.old self.new) }
     {
         self.parts.add_observers(more)
+    }
+
+    /// Marks each cell that an observer isn't up to date on: its newest commit is above what that has acknowledged. So a table that
+    /// begins without the marks that it had goes on with what is left to do. It is no step.
+    ///
+    /// Refused for memory, some of these cells may be marked.
+    pub fn mark_behind(&mut self) -> Result<(), NoMemory>
+        ensures ok { OnOk result (IsMarkedBehind self.old self.new) }
+        ensures err { OnErr result (HasSomeMarked self.old self.new) }
+    {
+        self.parts.mark_behind()
+    }
+
+    /// Whether an observer isn't up to date on a cell: the newest commit is above what that has acknowledged.
+    pub fn is_behind(&self, cell: &Cell) -> bool
+        ensures { MatchBool result (SomeBehind self.now.observers self.now.entries cell.now)
+            (AllUpToDate self.now.observers self.now.entries cell.now) }
+    {
+        self.parts.is_behind(cell)
     }
 
     /// The last timestamp given out.

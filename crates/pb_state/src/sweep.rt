@@ -108,7 +108,7 @@ fn is_any_late<T: Tablet>(
 
 // Whether an observer isn't up to date on the cell. The newest commit is enough, since one that has
 // acknowledged it has acknowledged all before.
-fn is_behind<T: Tablet>(table: &Table<T>, observers: &[Observer], cell: &Cell) -> bool
+pub(crate) fn is_behind<T: Tablet>(table: &Table<T>, observers: &[Observer], cell: &Cell) -> bool
     requires data_stands { HasData table.now.contents.entries }
     requires numbered { length observers.now ≤ MAX_OBSERVERS }
     ensures { MatchBool result

@@ -34,7 +34,7 @@ struct NewLog {
 fn is_refused(fault: &SnapshotFault) -> bool {
     matches!(
         fault,
-        SnapshotFault::NotQuiet | SnapshotFault::NoTimestamp | SnapshotFault::TooLarge
+        SnapshotFault::LinesWait | SnapshotFault::NoTimestamp | SnapshotFault::TooLarge
     )
 }
 

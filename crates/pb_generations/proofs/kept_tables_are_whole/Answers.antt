@@ -4,10 +4,11 @@ use Rattle.std.proofs.lemmas.List.Elements.{filter-append}
 use Rattle.std.proofs.lemmas.Option.{none-some}
 use Rattle.std.specs.FinMap as map
 use Rattle.std.specs.Ordering.{nat_cmp}
-use Rattle.pb_generations.specs.Words.{cell_cmp, Cell, Revision, Row, Ts, ObserverOf, Entries, stamp_of, slot_at, slot_cmp, Sort, IsVersion, last_timestamp, lock_at, primary_of, start_of, write_at, StateOf, Transactions, opening, TableStep, Answer, Step, IsQuiet, IsLegal, SoundHasData, IsSoundTable, Entry, HasMoreObservers}
+use Rattle.pb_generations.specs.Words.{cell_cmp, Cell, Content, Revision, Row, Ts, ObserverOf, Entries, stamp_of, is_marked, slot_at, slot_cmp, Sort, IsVersion, data_at, last_timestamp, lock_at, primary_of, start_of, write_at, StateOf, Transactions, opening, TableStep, Answer, Step, IsQuiet, IsLegal, HasData, SoundHasData, IsSoundTable, Entry, HasMoreObservers, IsMarkedBehind}
 use Rattle.pb_history.proofs.Agreement.{Agrees}
 use Rattle.pb_history.proofs.JournalParts.{one_more}
 use Rattle.pb_history.proofs.JournalsAreSound.{legal_sound}
+use Rattle.pb_history.proofs.MarksCover.{observed_one, stamp_is}
 use Rattle.pb_history.proofs.StepsAgree.{legal_agrees}
 use Rattle.pb_history.proofs.TransactionAfter.{case_observers}
 use Rattle.pb_history.proofs.Updates.{none_if}
@@ -15,27 +16,24 @@ use Rattle.pb_generations.specs.Chosen.{AreChosen, IsChosenSnapshot, chosen_stat
 use Rattle.pb_generations.specs.KeptTables.{IsKeptTable, opened, stepped, anew, chosen, AreCovered, IsStepOfJob, ReadsAcknowledged, StandsForAll}
 use Rattle.pb_generations.specs.LateSteps.{Carries, IsServedStep, NamesLate, ServesAt, StepsCarryOver}
 use Rattle.pb_generations.specs.LeftOut.{AnswersKnown, GoesWithOthers, LacksOthers, MarksMissNothing, NamesKnown, OthersAreNeverMissed, OthersAreNeverNamed, OthersMayBeLeftOut, SnapshotsServeWithoutOthers, is_known_cell, without_others}
-use Rattle.pb_generations.specs.Mirrored.{IsMirroredBy, QuietMirrorsItself, QuietCarriesOver, carried}
+use Rattle.pb_generations.specs.Mirrored.{IsMirroredBy, IsUnlocked, IsPartOf, QuietMirrorsItself, SameVersion, carried, unmarked}
 use Rattle.pb_generations.specs.Renumbered.{IsRenumbered, JournalsMayBeRenumbered, renumbered_cell, renumbered_journal}
 use Rattle.pb_generations.specs.SameButMarks.{IsLegalButMarks, SameButMarks, is_of_marks, without_marks}
-use Rattle.pb_generations.specs.Snapshots.{AreEnded, IsSnapshotOf, SnapshotsCarryOver}
-use Rattle.pb_generations.proofs.AcknowledgedReads.{AcknowledgeLate, AreAcknowledgedAt, acknowledged_at}
-use Rattle.pb_generations.proofs.ChosenAcknowledgments.{acknowledged_chosen}
+use Rattle.pb_generations.specs.Snapshots.{AreAcknowledgedLate, AreEnded, IsSnapshotOf, ServeAcknowledged, ShowsViewed, SnapshotsCarryOver}
+use Rattle.pb_generations.proofs.AcknowledgedReads.{AcknowledgeLate, acknowledged_at}
+use Rattle.pb_generations.proofs.BehindMarks.{marked_covered, written_there}
 use Rattle.pb_generations.proofs.ChosenNumbers.{numbers_one_to_one, numbers_stand, renumbered_same}
-use Rattle.pb_generations.proofs.ChosenSnapshots.{chosen_covered, chosen_is_snapshot}
+use Rattle.pb_generations.proofs.ChosenSnapshots.{both_covered, chosen_shows, chosen_within}
 use Rattle.pb_generations.proofs.HistoryButMarks.{same_entry, same_on}
 use Rattle.pb_generations.proofs.JoinedJournals.{journal_observers}
 use Rattle.pb_generations.proofs.KnownEntries.{known_nothing}
-use Rattle.pb_generations.proofs.KnownMarks.{covered_acknowledges, covered_after, covered_marks, whole_unlocked}
+use Rattle.pb_generations.proofs.KnownMarks.{covered_after, covered_marks, whole_unlocked}
 use Rattle.pb_generations.proofs.LateStarts.{AreUnseated, late_names, unseated_after}
-use Rattle.pb_generations.proofs.LeanTables.{known_ack, lacks_at_clock, lean_record, lean_unlocked, lean_version, same_clock, version_there}
+use Rattle.pb_generations.proofs.LeanTables.{known_ack, lean_record, lean_version, same_clock, version_there, whole_record, whole_stored}
+use Rattle.pb_generations.proofs.LongerLists.{stay_in_front}
+use Rattle.pb_generations.proofs.SameVersions.{same_later}
+use Rattle.pb_generations.proofs.ServingSnapshots.{legal_bounded, record_by_clock, snapshot_shows}
 use Rattle.pb_generations.proofs.kept_tables_are_whole.Goals as goal
-
--- for reads at what the observers had acknowledged at c, what was kept serves
-abbrev ServeAcknowledged : List ObserverOf → ℕ → Entries → Entries → Type 0
-ServeAcknowledged observers c whole kept =
-    (o : ℕ) (row : Row) (observer : ObserverOf) → slice_get observers o ≡ Some observer → (w : Revision) → IsVersion whole (Cell.Ack o row observer.column) c w
-    → ServesAt c whole kept (Cell.Data row observer.column) (stamp_of w.content).0
 
 -- What holds of each generation: what is stated, and that earlier transactions are of no seat, and that what was kept serves for
 -- reads at what the observers had acknowledged when it began.
@@ -47,6 +45,7 @@ record Stands (observers gone : List ObserverOf) (seats clock c : ℕ) (journal 
   legal : IsLegalButMarks (observers ++ gone) seats clock journal whole
   lacks : LacksOthers c gone whole lean
   mirrors : IsMirroredBy c lean entries transactions
+  within : IsPartOf lean.entries entries
   now_is : now ≡ carried lean entries transactions
   observers_are : lean.observers ≡ observers
   unseated : AreUnseated c (carried lean entries transactions)
@@ -56,7 +55,6 @@ record Stands (observers gone : List ObserverOf) (seats clock c : ℕ) (journal 
 -- the laws that it rests on
 record Laws : Type 0 where
   itself : QuietMirrorsItself
-  quiet : QuietCarriesOver
   steps : StepsCarryOver
   over : SnapshotsCarryOver
   begin : OthersMayBeLeftOut
@@ -115,10 +113,11 @@ module _ (laws : Laws) (observers : List ObserverOf) (seats clock : ℕ) (room :
     legal = record { past = []; same = refl; legal = legal_first (observers ++ []) };
     lacks = lacks_at_first;
     mirrors = laws.itself start (legal_sound observers seats clock [] start (legal_first observers)) quiet_at_first room;
+    within = record { records = λ x d s there. there; stored = λ x s k there. there };
     now_is = refl;
     observers_are = refl;
     unseated = λ u t there low. absurd (none-some t (sym (map.get-empty nat_cmp u) ∙ there));
-    acknowledged = λ o row observer there w is. absurd (no_record_at_first (Cell.Ack o row observer.column) w.commit.0 w.start.0 is.written);
+    acknowledged = λ x t a. absurd (no_record_at_first (Cell.Ack a.o a.row a.observer.column) a.w.commit.0 a.w.start.0 a.is.written);
     covered = λ o observer there row unmarked d u is. absurd (no_record_at_first (Cell.Data row observer.column) d u is);
   }
 
@@ -140,11 +139,6 @@ module _ (laws : Laws) (observers gone : List ObserverOf) (seats clock c : ℕ) 
   -- an acknowledgment of one of the observers is known, as is each data cell
   known_here : (o : ℕ) (observer : ObserverOf) (row : Row) → slice_get observers o ≡ Some observer → is_known_cell (length h.lean.observers) (Cell.Ack o row observer.column) ≡ true
   known_here o observer row there = subst (λ (os : List ObserverOf). is_known_cell (length os) (Cell.Ack o row observer.column) ≡ true) (sym h.observers_are) (known_ack observers o observer row observer.column there)
-
-  -- at each timestamp the same was acknowledged without those that are gone
-  acknowledged_lean : (u : ℕ) → AreAcknowledgedAt observers u h.whole.entries → AreAcknowledgedAt observers u h.lean.entries
-  acknowledged_lean u acks o row observer there v w is acknowledged =
-      acks o row observer there v w (version_there c gone h.whole h.lean h.lacks (Cell.Data row observer.column) refl u v is) (version_there c gone h.whole h.lean h.lacks (Cell.Ack o row observer.column) (known_here o observer row there) u w acknowledged)
 
   -- ---- a step
 
@@ -172,7 +166,8 @@ module _ (laws : Laws) (observers gone : List ObserverOf) (seats clock c : ℕ) 
   read_serves : (s : ℕ) (x : Cell) (t : ℕ) → c < s → ReadsAcknowledged observers journal s x t → ServesAt c h.lean.entries h.entries x t
   read_serves s x t late r =
       acknowledged_at observers h.legal.past h.whole agrees sound c later (ServesAt c h.lean.entries h.entries) (λ y u above. inl (λ v is. omega (arith, is.low, above)))
-      (λ o row observer there w is. h.acknowledged o row observer there w (lean_version c gone h.whole h.lean h.lacks (Cell.Ack o row observer.column) (known_here o observer row there) c w is))
+      (λ o row observer there w is. h.acknowledged (Cell.Data row observer.column) (stamp_of w.content).0
+      (record { o = o; row = row; observer = observer; there = there; cell = refl; w = w; is = lean_version c gone h.whole h.lean h.lacks (Cell.Ack o row observer.column) (known_here o observer row there) c w is; stamp = refl }))
       s x t late (read_there s x t r)
 
   reads_serve : (step : Step) → IsStepOfJob observers journal step → NamesLate c step → (s : Ts) (x : Cell) (t : Ts) → step ≡ Step.ReadAt s x t → ServesAt c h.lean.entries h.entries x t.0
@@ -235,10 +230,12 @@ module _ (laws : Laws) (observers gone : List ObserverOf) (seats clock c : ℕ) 
           legal = legal;
           lacks = lacks;
           mirrors = by_lean.mirrors;
+          within = by_lean.within h.within;
           now_is = by_lean.new_is;
           observers_are = observers_stay ∙ h.observers_are;
           unseated = subst (AreUnseated c) by_lean.new_is unseated;
-          acknowledged = λ o row observer there w is. still_serves (Cell.Data row observer.column) (stamp_of w.content).0 (h.acknowledged o row observer there w ((by_lean.versions (Cell.Ack o row observer.column) w).1 is));
+          acknowledged = λ x t a. still_serves x t (h.acknowledged x t
+              (record { o = a.o; row = a.row; observer = a.observer; there = a.there; cell = a.cell; w = a.w; is = (by_lean.versions (Cell.Ack a.o a.row a.observer.column) a.w).1 a.is; stamp = a.stamp }));
           covered = subst (λ (os : List ObserverOf). AreCovered os by_lean.after.marks whole.entries) h.observers_are covered;
         }
 
@@ -267,53 +264,124 @@ module _ (laws : Laws) (observers gone : List ObserverOf) (seats clock c : ℕ) 
       | false ↦ after_other
     ] refl
 
-  -- ---- where it is quiet
+  -- ---- where no lock stands
 
-  module _ (quiet : IsQuiet kept) (room : kept.clock < last_timestamp) where
-    quiet_lean : IsQuiet h.lean
-    quiet_lean = (laws.quiet c h.lean h.entries h.transactions h.mirrors).0 quiet
+  -- what was kept is of no later commit or start
+  kept_record : (x : Cell) (d s : ℕ) → write_at h.entries x d ≡ Some s → (d ≤ h.lean.clock) × (s ≤ h.lean.clock)
+  kept_record x d s there = elim (cases_lt c d) [
+    | inl later ↦
+        let in_lean = sym (h.mirrors.entries_are.records x d later) ∙ there in
+        let by = record_by_clock h.whole sound x d s (whole_record c gone h.whole h.lean h.lacks x d s in_lean) in
+        let clock = same_clock c gone h.whole h.lean h.lacks in
+        (omega (arith, by.0, clock), omega (arith, by.1, clock))
+    | inr early ↦
+        let start = h.mirrors.entries_are.kept_early x d s early there in
+        let since = h.mirrors.since in
+        (omega (arith, early, since), omega (arith, start, since))
+  ]
 
-    no_lock : (x : Cell) (s : ℕ) → lock_at h.whole.entries x s ≡ None
-    no_lock = whole_unlocked c gone h.whole h.lean sound h.lacks (lean_unlocked c gone h.whole h.lean h.lacks sound quiet_lean)
+  kept_stored : (x : Cell) (s : ℕ) (k : Content) → data_at h.entries x s ≡ Some k → s ≤ h.lean.clock
+  kept_stored x s k there = elim (cases_lt c s) [
+    | inl later ↦
+        let in_lean = sym (h.mirrors.entries_are.stored x s later) ∙ there in
+        let by = legal_bounded laws.has (observers ++ gone) seats clock h.legal.past h.whole h.legal.legal x s k (whole_stored c gone h.whole h.lean h.lacks x s k in_lean) in
+        let same = same_clock c gone h.whole h.lean h.lacks in
+        omega (arith, by, same)
+    | inr early ↦ let since = h.mirrors.since in omega (arith, early, since)
+  ]
+
+  -- it serves at what observers had acknowledged, and what they acknowledged since is later
+  serve_lean : ServeAcknowledged h.lean.observers c h.lean.entries h.entries
+  serve_lean = subst (λ (os : List ObserverOf). ServeAcknowledged os c h.lean.entries h.entries) (sym h.observers_are) h.acknowledged
+
+  late_lean : AreAcknowledgedLate h.lean.observers c h.lean
+  late_lean o row observer there w is above =
+      let ack : Cell = Cell.Ack o row observer.column in
+      let its : slice_get observers o ≡ Some observer = subst (λ (os : List ObserverOf). slice_get os o ≡ Some observer) h.observers_are there in
+      let version = version_there c gone h.whole h.lean h.lacks ack (known_here o observer row its) h.lean.clock w is in
+      let start = later o row observer its w.commit.0 w.start.0 above version.written in
+      let stamp = stamp_is h.legal.past h.whole agrees sound o row observer.column h.lean.clock w version in
+      omega (arith, start, stamp)
+
+  module _ (unlocked : IsUnlocked kept) (room : kept.clock < last_timestamp) where
+    no_lock : IsUnlocked h.whole
+    no_lock = whole_unlocked c gone h.whole h.lean sound h.lacks (λ x s. sym (h.mirrors.entries_are.locks x s) ∙ unlocked x s)
 
     same_clock_here : h.lean.clock ≡ h.whole.clock
     same_clock_here = same_clock c gone h.whole h.lean h.lacks
 
+    same_seats_here : h.lean.seats ≡ h.whole.seats
+    same_seats_here = ap (λ (z : StateOf). z.seats) h.lacks.lean_is
+
     room_whole : h.whole.clock < last_timestamp
     room_whole = subst (λ (n : ℕ). n < last_timestamp) same_clock_here room
 
-    acknowledged_now : AreAcknowledgedAt observers h.whole.clock h.whole.entries
-    acknowledged_now = covered_acknowledges h.legal.past observers h.lean.marks h.whole agrees sound h.covered quiet.unmarked room_whole
+    -- no transaction of it began later
+    none_above : (ts : Transactions) → AreEnded kept ts → (s : ℕ) → h.whole.clock < s → map.get ts s ≡ None
+    none_above ts ended s above = none_if (map.get ts s) (λ t there. let by = (ended s t there).0 in omega (arith, above, by, same_clock_here))
+
+    has_data : (f : Entries) → ((x : Cell) (s : ℕ) → lock_at f x s ≡ None) → ((x : Cell) (d s : ℕ) → write_at f x d ≡ Some s → (k : Content) × (data_at f x s ≡ Some k)) → HasData f
+    has_data f none stored = record {
+      locked = λ x s p there. absurd (none-some p (sym (none x s) ∙ there));
+      written = λ x d s there. ap is_some (stored x d s there).1;
+    }
 
     -- ---- a new generation
 
-    -- it has no transaction that began later
-    none_above : (ts : Transactions) → AreEnded kept ts → (s : ℕ) → h.lean.clock < s → map.get ts s ≡ None
-    none_above ts ended s above = none_if (map.get ts s) (λ t there. omega (arith, above, (ended s t there).0))
+    module _ (f : Entries) (ts : Transactions) (new : StateOf) (snapshot : IsSnapshotOf kept f) (ended : AreEnded kept ts) (behind : IsMarkedBehind (unmarked (carried kept f ts)) new) where
+      abbrev marked : StateOf
+      marked = without_others h.lean.observers h.whole new.marks
 
-    begun : (f : Entries) (ts : Transactions) → IsSnapshotOf kept f → AreEnded kept ts → Stands observers gone seats clock h.lean.clock journal (carried kept f ts)
-    begun f ts snapshot ended =
-        let lacks = lacks_at_clock c gone h.whole h.lean h.lacks laws.begin sound (λ x u fits. no_lock x u) in
-        let mirrors : IsMirroredBy h.lean.clock h.lean f ts = laws.serve (observers ++ gone) gone seats clock h.legal.past h.whole h.lean h.legal.legal (λ x u fits. no_lock x u) room_whole lacks f ts (laws.over c h.lean h.entries h.transactions h.mirrors f snapshot) (none_above ts ended) in
-        record {
-          whole = h.whole;
-          lean = h.lean;
-          entries = f;
-          transactions = ts;
-          legal = h.legal;
-          lacks = subst (λ (n : ℕ). LacksOthers n gone h.whole h.lean) (sym same_clock_here) lacks;
-          mirrors = mirrors;
-          now_is = refl;
-          observers_are = h.observers_are;
-          unseated = λ u t there low. (ended u t there).1;
-          acknowledged = λ o row observer there w is. inl (λ v kept_there. acknowledged_lean h.lean.clock (subst (λ (n : ℕ). AreAcknowledgedAt observers n h.whole.entries) (sym same_clock_here) acknowledged_now) o row observer there v w (((mirrors.entries_are.versions (Cell.Data row observer.column)).there v).1 kept_there) is);
-          covered = h.covered;
-        }
+      lacks_marked : LacksOthers h.whole.clock gone h.whole marked
+      lacks_marked = laws.begin h.lean.observers gone h.whole new.marks sound (λ x u fits. no_lock x u) h.lacks.observers
+
+      shows_lean : ShowsViewed h.lean f
+      shows_lean = laws.over c h.lean h.entries h.transactions h.mirrors serve_lean late_lean f (snapshot_shows kept kept_record kept_stored f snapshot)
+
+      shows_marked : ShowsViewed marked f
+      shows_marked =
+          subst (λ (z : StateOf). ShowsViewed (record z { marks = new.marks }) f) h.lacks.lean_is
+          (record { viewed = shows_lean.viewed; by_then = shows_lean.by_then; stored_by_then = shows_lean.stored_by_then; unlocked = shows_lean.unlocked })
+
+      served_marked : IsMirroredBy h.whole.clock marked f ts × ServeAcknowledged h.lean.observers h.whole.clock marked.entries f
+      served_marked = laws.serve (observers ++ gone) gone seats clock h.legal.past h.whole marked h.legal.legal (λ x u fits. no_lock x u) room_whole lacks_marked f ts shows_marked (none_above ts ended)
+
+      within_lean : IsPartOf h.lean.entries f
+      within_lean = record {
+        records = λ x d s there. h.within.records x d s (snapshot.within.records x d s there);
+        stored = λ x s k there. h.within.stored x s k (snapshot.within.stored x s k there);
+      }
+
+      within_marked : IsPartOf marked.entries f
+      within_marked = subst (λ (z : StateOf). IsPartOf z.entries f) h.lacks.lean_is within_lean
+
+      covered_marked : AreCovered h.lean.observers new.marks h.whole.entries
+      covered_marked =
+          marked_covered h.legal.past h.whole.clock gone h.whole marked agrees sound lacks_marked f (has_data f snapshot.unlocked snapshot.stored)
+          (λ x. same_later h.whole.clock marked.entries f served_marked.0.entries_are x last_timestamp (omega (arith, room_whole))) h.lean.observers
+          (λ o observer row column there. known_ack h.lean.observers o observer row column there) new.marks behind.marked
+
+      begun : Stands observers gone seats clock h.lean.clock journal new
+      begun = subst (λ (n : ℕ). Stands observers gone seats clock n journal new) (sym same_clock_here) (record {
+        whole = h.whole;
+        lean = marked;
+        entries = f;
+        transactions = ts;
+        legal = h.legal;
+        lacks = lacks_marked;
+        mirrors = served_marked.0;
+        within = within_marked;
+        now_is = behind.is ∙ (λ i. record { entries = f; marks = new.marks; observers = h.lean.observers; clock = same_clock_here i; seats = same_seats_here i; transactions = ts });
+        observers_are = h.observers_are;
+        unseated = λ u t there low. let by = (ended u t there).1 in omega (arith, by, same_seats_here);
+        acknowledged = subst (λ (os : List ObserverOf). ServeAcknowledged os h.whole.clock marked.entries f) h.observers_are served_marked.1;
+        covered = subst (λ (os : List ObserverOf). AreCovered os new.marks h.whole.entries) h.observers_are covered_marked;
+      })
 
     -- ---- other observers
 
-    module _ (places : List ℕ) (front added : List ObserverOf) (f : Entries) (ts : Transactions) (new : StateOf) (are : AreChosen places observers front) (snapshot : IsChosenSnapshot places kept f) (ended : AreEnded kept ts)
-        (more : HasMoreObservers added (chosen_state kept front f ts) new) where
+    module _ (places : List ℕ) (front added : List ObserverOf) (f : Entries) (ts : Transactions) (between new : StateOf) (are : AreChosen places observers front) (snapshot : IsChosenSnapshot places kept f) (ended : AreEnded kept ts)
+        (behind : IsMarkedBehind (unmarked (chosen_state kept front f ts)) between) (more : HasMoreObservers added between new) where
       abbrev number : ℕ → ℕ
       number = new_number places (length (front ++ added))
 
@@ -335,6 +403,9 @@ module _ (laws : Laws) (observers gone : List ObserverOf) (seats clock c : ℕ) 
       sound_moved : IsSoundTable whole
       sound_moved = legal_sound others seats clock moved.2.past whole moved.2.legal
 
+      agrees_moved : Agrees moved.2.past whole
+      agrees_moved = legal_agrees others seats clock moved.2.past whole moved.2.legal
+
       no_lock_moved : (x : Cell) (s : ℕ) → lock_at whole.entries x s ≡ None
       no_lock_moved x s = none_if (lock_at whole.entries x s) (λ p there.
           let y = moved.1.entries.no_more_locks x s p there in
@@ -355,43 +426,64 @@ module _ (laws : Laws) (observers gone : List ObserverOf) (seats clock c : ℕ) 
       are_lean : AreChosen places h.lean.observers front
       are_lean = subst (λ (os : List ObserverOf). AreChosen places os front) (sym h.observers_are) are
 
-      snapshot_moved : IsSnapshotOf lean f
-      snapshot_moved = chosen_is_snapshot c gone h.whole h.lean kept whole new.marks places front added f h.lacks h.mirrors refl are_lean moved.1 snapshot
+      shows_moved : ShowsViewed lean f
+      shows_moved = chosen_shows c gone h.whole h.lean whole h.entries h.transactions new.marks places front added f h.lacks h.mirrors serve_lean late_lean are_lean moved.1 snapshot kept_record kept_stored
 
-      mirrors_moved : IsMirroredBy whole.clock lean f ts
-      mirrors_moved = laws.serve others (observers ++ gone) seats clock moved.2.past whole lean moved.2.legal (λ x u fits. no_lock_moved x u) (subst (λ (n : ℕ). n < last_timestamp) (sym clock_moved) room) lacks_moved f ts snapshot_moved
-          (λ s above. none_above ts ended s (subst (λ (n : ℕ). n < s) clock_moved above))
+      within_moved : IsPartOf lean.entries f
+      within_moved = chosen_within c gone h.whole h.lean whole h.entries h.transactions places front added f h.lacks h.mirrors serve_lean late_lean are_lean moved.1 snapshot h.within
 
-      mirrors_here : IsMirroredBy h.lean.clock lean f ts
-      mirrors_here = subst (λ (n : ℕ). IsMirroredBy n lean f ts) clock_moved mirrors_moved
+      room_moved : whole.clock < last_timestamp
+      room_moved = subst (λ (n : ℕ). n < last_timestamp) (sym clock_moved) room
+
+      served_moved : IsMirroredBy whole.clock lean f ts × ServeAcknowledged (front ++ added) whole.clock lean.entries f
+      served_moved =
+          laws.serve others (observers ++ gone) seats clock moved.2.past whole lean moved.2.legal (λ x u fits. no_lock_moved x u) room_moved lacks_moved f ts shows_moved
+          (λ s above. none_above ts ended s (omega (arith, above, clock_moved, same_clock_here)))
+
+      same_moved : (x : Cell) → SameVersion last_timestamp lean.entries f x
+      same_moved x = same_later whole.clock lean.entries f served_moved.0.entries_are x last_timestamp (omega (arith, room_moved))
+
+      has_moved : HasData f
+      has_moved = has_data f snapshot.unlocked snapshot.stored
+
+      known_moved : (o : ℕ) (observer : ObserverOf) (row : Row) (column : ℕ) → slice_get front o ≡ Some observer → is_known_cell (length (front ++ added)) (Cell.Ack o row column) ≡ true
+      known_moved o observer row column there = known_ack (front ++ added) o observer row column (stay_in_front front added o observer there)
+
+      -- for one that comes each change is marked
+      comes_marked : (o : ℕ) (observer : ObserverOf) → slice_get added o ≡ Some observer → (row : Row) (d u : ℕ) → write_at whole.entries (Cell.Data row observer.column) d ≡ Some u → is_marked new.marks (Cell.Data row observer.column) ≡ true
+      comes_marked o observer there row d u written =
+          let low = (record_by_clock whole sound_moved (Cell.Data row observer.column) d u written).0 in
+          let v = written_there moved.2.past whole.clock (observers ++ gone) whole lean agrees_moved sound_moved lacks_moved f has_moved same_moved front known_moved row observer.column d (omega (arith, low, room_moved)) (ap is_some written) in
+          more.marked (Cell.Data row observer.column) v.0.commit.0 v.0.start.0 (observed_one added o observer there) (ap (λ (z : StateOf). write_at z.entries (Cell.Data row observer.column) v.0.commit.0) behind.is ∙ v.1.written)
 
       covered_moved : AreCovered (front ++ added) new.marks whole.entries
-      covered_moved = chosen_covered laws.has c gone h.whole h.lean kept whole places front added f ts new sound h.lacks h.mirrors refl are_lean moved.1 snapshot quiet covered_lean more
-
-      acknowledged_moved : AreAcknowledgedAt (front ++ added) h.lean.clock lean.entries
-      acknowledged_moved o row observer there v w is acknowledged =
-          acknowledged_chosen places observers front added h.whole whole h.lean.clock are moved.1 (subst (λ (n : ℕ). AreAcknowledgedAt observers n h.whole.entries) (sym same_clock_here) acknowledged_now) o row observer there v w
-          (version_there whole.clock (observers ++ gone) whole lean lacks_moved (Cell.Data row observer.column) refl h.lean.clock v is)
-          (version_there whole.clock (observers ++ gone) whole lean lacks_moved (Cell.Ack o row observer.column) (known_ack (front ++ added) o observer row observer.column there) h.lean.clock w acknowledged)
+      covered_moved =
+          both_covered front added between.marks new.marks whole.entries
+          (marked_covered moved.2.past whole.clock (observers ++ gone) whole lean agrees_moved sound_moved lacks_moved f has_moved same_moved front known_moved between.marks behind.marked)
+          more.kept comes_marked
 
       new_is : new ≡ carried lean f ts
-      new_is = more.is ∙ (λ i. record { entries = f; marks = new.marks; observers = front ++ added; clock = sym clock_moved i; seats = sym seats_moved i; transactions = ts })
+      new_is =
+          more.is
+          ∙ ap (λ (z : StateOf). record z { observers = z.observers ++ added; marks = new.marks }) behind.is
+          ∙ (λ i. record { entries = f; marks = new.marks; observers = front ++ added; clock = sym clock_moved i; seats = sym seats_moved i; transactions = ts })
 
       with_others : Stands (front ++ added) (observers ++ gone) seats clock h.lean.clock (renumbered_journal number journal) new
-      with_others = record {
+      with_others = subst (λ (n : ℕ). Stands (front ++ added) (observers ++ gone) seats clock n (renumbered_journal number journal) new) clock_moved (record {
         whole = whole;
         lean = lean;
         entries = f;
         transactions = ts;
         legal = record { past = moved.2.past; same = moved.2.same ∙ renumbered_same number h.legal.past journal h.legal.same; legal = moved.2.legal };
-        lacks = subst (λ (n : ℕ). LacksOthers n (observers ++ gone) whole lean) clock_moved lacks_moved;
-        mirrors = mirrors_here;
+        lacks = lacks_moved;
+        mirrors = served_moved.0;
+        within = within_moved;
         now_is = new_is;
         observers_are = refl;
         unseated = λ u t there low. omega (arith, (ended u t there).1, seats_moved);
-        acknowledged = λ o row observer there w is. inl (λ v kept_there. acknowledged_moved o row observer there v w (((mirrors_here.entries_are.versions (Cell.Data row observer.column)).there v).1 kept_there) is);
+        acknowledged = served_moved.1;
         covered = covered_moved;
-      }
+      })
 
 module _ (laws : Laws) where
   stands : (observers gone : List ObserverOf) (seats clock c : ℕ) (journal : List Entry) (now : StateOf) → IsKeptTable observers gone seats clock c journal now → Stands observers gone seats clock c journal now
@@ -399,15 +491,15 @@ module _ (laws : Laws) where
   stands observers gone seats clock c journal now (stepped _ _ _ _ g before old e new kept job names step) =
       let h = stands observers gone seats clock c before old kept in
       next laws observers gone seats clock c before old h e now job names (subst (λ (s : StateOf). TableStep s e.seat e.step e.answer now) h.now_is step)
-  stands observers gone seats clock c journal now (anew _ _ _ _ g before old f ts kept quiet room snapshot ended) =
+  stands observers gone seats clock c journal now (anew _ _ _ _ g before old f ts new kept unlocked room snapshot ended behind) =
       let h = stands observers gone seats clock g journal old kept in
-      subst (λ (s : StateOf). IsQuiet s → s.clock < last_timestamp → IsSnapshotOf s f → AreEnded s ts → Stands observers gone seats clock s.clock journal (carried s f ts)) (sym h.now_is)
-      (λ q r s d. begun laws observers gone seats clock g journal old h q r f ts s d) quiet room snapshot ended
-  stands observers gone seats clock c journal now (chosen few left _ _ g before old places front added f ts new kept quiet room are snapshot ended more) =
+      subst (λ (s : StateOf). IsUnlocked s → s.clock < last_timestamp → IsSnapshotOf s f → AreEnded s ts → IsMarkedBehind (unmarked (carried s f ts)) now → Stands observers gone seats clock s.clock journal now) (sym h.now_is)
+      (λ u r s d b. begun laws observers gone seats clock g journal old h u r f ts now s d b) unlocked room snapshot ended behind
+  stands observers gone seats clock c journal now (chosen few left _ _ g before old places front added f ts between new kept unlocked room are snapshot ended behind more) =
       let h = stands few left seats clock g before old kept in
-      subst (λ (s : StateOf). IsQuiet s → s.clock < last_timestamp → IsChosenSnapshot places s f → AreEnded s ts → HasMoreObservers added (chosen_state s front f ts) now
+      subst (λ (s : StateOf). IsUnlocked s → s.clock < last_timestamp → IsChosenSnapshot places s f → AreEnded s ts → IsMarkedBehind (unmarked (chosen_state s front f ts)) between
       → Stands (front ++ added) (few ++ left) seats clock s.clock (renumbered_journal (new_number places (length (front ++ added))) before) now) (sym h.now_is)
-      (λ q r s d m. with_others laws few left seats clock g before old h q r places front added f ts now are s d m) quiet room snapshot ended more
+      (λ u r s d b. with_others laws few left seats clock g before old h u r places front added f ts between now are s d b more) unlocked room snapshot ended behind
 
 whole_of : (observers gone : List ObserverOf) (seats clock c : ℕ) (journal : List Entry) (now : StateOf) → Stands observers gone seats clock c journal now → StandsForAll observers gone seats clock c journal now
 whole_of observers gone seats clock c journal now h = record {
@@ -416,6 +508,7 @@ whole_of observers gone seats clock c journal now h = record {
   lean = h.lean;
   lacks = h.lacks;
   mirrors = subst (λ (s : StateOf). IsMirroredBy c h.lean s.entries s.transactions) (sym h.now_is) h.mirrors;
+  within = subst (λ (s : StateOf). IsPartOf h.lean.entries s.entries) (sym h.now_is) h.within;
   now_is = subst (λ (s : StateOf). s ≡ carried h.lean s.entries s.transactions) (sym h.now_is) refl;
   observers_are = ap (λ (s : StateOf). s.observers) h.now_is ∙ h.observers_are;
   covered = subst (λ (s : StateOf). AreCovered observers s.marks h.whole.entries) (sym h.now_is) h.covered;
@@ -424,7 +517,6 @@ whole_of observers gone seats clock c journal now h = record {
 laws_of : goal.After-steps_carry_over → Laws
 laws_of c = record {
   itself = c.old_may_be_dropped.ensures.itself;
-  quiet = c.old_may_be_dropped.ensures.quiet;
   steps = c.steps_carry_over.ensures;
   over = c.snapshots_carry_over.ensures;
   begin = c.others_may_be_left_out.ensures.begin;

@@ -1,20 +1,23 @@
-use Rattle.pb_generations.specs.Words.{opening, OpeningIsSound, SoundHasData, StepsKeepSound}
+use Rattle.pb_generations.specs.Words.{SoundHasData}
 use Rattle.pb_generations.specs.Mirrored.{QuietMirrorsItself}
 use Rattle.pb_generations.specs.Snapshots.{SnapshotsServe}
-use Rattle.pb_generations.proofs.QuietTables.{no_lock_at, no_record_above}
-use Rattle.pb_generations.proofs.ServingSnapshots.{led_bounded, opening_bounded, snapshot_serves}
+use Rattle.pb_history.proofs.JournalsAreSound.{legal_sound}
+use Rattle.pb_generations.proofs.QuietTables.{no_lock_ever, no_record_above}
+use Rattle.pb_generations.proofs.ServingSnapshots.{legal_bounded, mirrors_itself, record_by_clock, shown_serves, snapshot_shows}
 use Rattle.pb_state.proofs.SnapshotViews.{snapshot_sound}
 use Rattle.pb_generations.proofs.ChosenSound.{chosen_are_sound}
 use Rattle.pb_generations.proofs.LeftTransactions.{left_are_sound}
 use Rattle.pb_generations.proofs.snapshots_serve.Goals as goal
 
-serve : StepsKeepSound → OpeningIsSound → SoundHasData → QuietMirrorsItself → SnapshotsServe
-serve steps opens law mirror observers seats clock journal whole legal quiet room e ts is none =
-    let known = led_bounded steps law (opening observers seats clock) whole journal (opens observers seats clock legal.fits) (opening_bounded observers seats clock) legal.run in
-    snapshot_serves whole e ts (λ x s. no_lock_at whole known.0 x quiet s) (λ x d above. no_record_above whole known.0 x d above) known.1 (law whole known.0).begun (mirror whole known.0 quiet room) is none
+serve : SoundHasData → QuietMirrorsItself → SnapshotsServe
+serve law mirror observers seats clock journal whole legal unlocked room e ts is none =
+    let sound = legal_sound observers seats clock journal whole legal in
+    let bound = legal_bounded law observers seats clock journal whole legal in
+    shown_serves whole e ts (λ x s. no_lock_ever whole sound x (unlocked x) s) (λ x d above. no_record_above whole sound x d above) bound (law whole sound).begun (mirrors_itself mirror whole sound unlocked room)
+    (snapshot_shows whole (record_by_clock whole sound) bound e is) none
 
 pub returns-clause-serve : goal.returns-clause-serve
-returns-clause-serve c = serve c.steps_keep_sound.ensures.step c.steps_keep_sound.ensures.opening c.sound_has_data.ensures c.old_may_be_dropped.ensures.itself
+returns-clause-serve c = serve c.sound_has_data.ensures c.old_may_be_dropped.ensures.itself
 
 pub returns-clause-sound : goal.returns-clause-sound
 returns-clause-sound c = snapshot_sound

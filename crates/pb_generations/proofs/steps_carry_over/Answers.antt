@@ -1,11 +1,10 @@
 use Rattle.std.proofs.Common.{if◌then◌else◌, ◌≡◌, ◌⊎◌, ℕ, ◌<◌, ◌≤◌, inl, inr, refl, sym, ◌∙◌, ap, subst, arith, Bool, true, false, [], ◌∷◌, ◌++◌, Option, Some, None, is_some}
 use Rattle.std.proofs.lemmas.Bool.{cases_lt}
-use Rattle.std.proofs.lemmas.Option.{none-some}
 use Rattle.std.specs.FinMap as map
 use Rattle.pb_generations.specs.Words.{Cell, Revision, Row, Ts, Reason, Entries, NoWriteOf, commit_reasons, CommitsSecondary, if_locked, secondary_reasons, commit_lock, commits, erase_lock, rolls_back, declare_reasons, AllUpToDate, IsUpToDate, SomeBehind, prewrite_reasons, put_lock, ReadsAbsent, ReadsFound, ReadsLocked, read_at_reasons, read_reasons, read_step, with_read, IsLockOn, IsNewestVersion, IsVersion, NoLock, NoLockUpTo, NoVersion, SomeLock, SomeWriteFrom, last_timestamp, lock_at, write_at, read_up_to, IsOwn, Reasons, first_reason, if_of_seat, is_out, no_seat, own_reasons, reasons_of, unstamped_reasons, StateOf, TransactionOf, Transactions, cells_of, new_transaction, with_transaction, StepCase, TableStep, step_reason, Phase, Answer, Step}
-use Rattle.pb_generations.specs.Mirrored.{IsMirroredBy, IsLatePhase, carried}
+use Rattle.pb_generations.specs.Mirrored.{IsMirroredBy, IsLatePhase, SameVersion, carried}
 use Rattle.pb_generations.specs.LateSteps.{IsServedStep, ServesAt, Carries}
-use Rattle.pb_generations.proofs.VersionsAbove.{whole_version, whole_none}
+use Rattle.pb_generations.proofs.SameVersions.{same_later, serves_same}
 use Rattle.pb_generations.proofs.Kept.{with_both, lock_put, lock_committed, lock_erased}
 use Rattle.pb_generations.proofs.steps_carry_over.Goals as goal
 
@@ -16,54 +15,19 @@ module _ (c : ℕ) (whole : StateOf) (e : Entries) (ts : Transactions) (m : IsMi
   abbrev Reaches : Cell → ℕ → Type 0
   Reaches x u = (c < u) ⊎ ServesAt c whole.entries e x u
 
-  version_above : (x : Cell) (u : ℕ) (v : Revision) → c < u → IsVersion e x u v → IsVersion whole.entries x u v
-  version_above x u v later is = whole_version c whole.entries e m.entries_are x u (omega (arith, later)) v is
-
-  none_above : (x : Cell) (u : ℕ) → c < u → NoVersion e x u → NoVersion whole.entries x u
-  none_above x u later is = whole_none c whole.entries e m.entries_are x u (omega (arith, later)) is
-
-  -- below it, it is the version that was kept
-  version_below : (x : Cell) (u : ℕ) (v w : Revision) → u ≤ c → IsVersion whole.entries x c w → w.commit.0 ≤ u → IsVersion e x u v → IsVersion whole.entries x u v
-  version_below x u v w low there reaches is =
-      let kept : IsVersion e x c w = ((m.entries_are.versions x).there w).0 there in
-      let no_later : v.commit.0 ≤ w.commit.0 = elim (cases_lt w.commit.0 v.commit.0) [
-        | inl above ↦ absurd (none-some v.start.0 (sym (kept.newest v.commit.0 above (omega (arith, is.low, low))) ∙ is.written))
-        | inr fine ↦ fine
-      ] in
-      let no_earlier : w.commit.0 ≤ v.commit.0 = elim (cases_lt v.commit.0 w.commit.0) [
-        | inl above ↦ absurd (none-some w.start.0 (sym (is.newest w.commit.0 above reaches) ∙ kept.written))
-        | inr fine ↦ fine
-      ] in
-      let same : v.commit.0 ≡ w.commit.0 = omega (arith, no_later, no_earlier) in
-      -- so it is kept.. at c as well
-      let here : IsVersion whole.entries x c v = ((m.entries_are.versions x).there v).1 (record { low = omega (arith, is.low, low); written = is.written; content = is.content; newest = λ d above by_then. kept.newest d (omega (arith, above, same)) by_then }) in
-      record { low = is.low; written = here.written; content = here.content; newest = λ d above by_then. here.newest d above (omega (arith, by_then, low)) }
+  reached : (x : Cell) (u : ℕ) → Reaches x u → SameVersion u whole.entries e x
+  reached x u (inl later) = same_later c whole.entries e m.entries_are x u (omega (arith, later))
+  reached x u (inr serves) = serves_same c whole.entries e m.entries_are x u serves
 
   version_of : (x : Cell) (u : ℕ) (v : Revision) → Reaches x u → IsVersion e x u v → IsVersion whole.entries x u v
-  version_of x u v (inl later) is = version_above x u v later is
-  version_of x u v (inr (inr same)) is = (same.there v).1 is
-  version_of x u v (inr (inl reaches)) is = elim (cases_lt c u) [
-    | inl later ↦ version_above x u v later is
-    | inr low ↦ elim (m.entries_are.either x) [
-      | inl w ↦ version_below x u v w.0 low w.1 (reaches w.0 (((m.entries_are.versions x).there w.0).0 w.1)) is
-      | inr none ↦ absurd (none-some v.start.0 (sym ((m.entries_are.versions x).none.0 none v.commit.0 (omega (arith, is.low, low))) ∙ is.written))
-    ]
-  ]
+  version_of x u v reaches = ((reached x u reaches).there v).1
 
   none_of : (x : Cell) (u : ℕ) → Reaches x u → NoVersion e x u → NoVersion whole.entries x u
-  none_of x u (inl later) is = none_above x u later is
-  none_of x u (inr (inr same)) is = same.none.1 is
-  none_of x u (inr (inl reaches)) is = elim (cases_lt c u) [
-    | inl later ↦ none_above x u later is
-    | inr low ↦ elim (m.entries_are.either x) [
-      | inl w ↦ let kept = ((m.entries_are.versions x).there w.0).0 w.1 in absurd (none-some w.0.start.0 (sym (is w.0.commit.0 (reaches w.0 kept)) ∙ kept.written))
-      | inr none ↦ λ d by_then. none d (omega (arith, by_then, low))
-    ]
-  ]
+  none_of x u reaches = (reached x u reaches).none.1
 
   newest_of : (x : Cell) (v : Option Revision) → IsNewestVersion e x v → IsNewestVersion whole.entries x v
-  newest_of x None is = none_above x last_timestamp m.room is
-  newest_of x (Some v) is = version_above x last_timestamp v m.room is
+  newest_of x None is = none_of x last_timestamp (inl m.room) is
+  newest_of x (Some v) is = version_of x last_timestamp v (inl m.room) is
 
   no_lock : (x : Cell) → NoLock e x → NoLock whole.entries x
   no_lock x is u fits = sym (m.entries_are.locks x u) ∙ is u fits
@@ -97,7 +61,7 @@ module _ (c : ℕ) (whole : StateOf) (e : Entries) (ts : Transactions) (m : IsMi
   -- ---- what it leaves
 
   stays : (seat : ℕ) (step : Step) (answer : Answer) (new : StateOf) → step_reason whole seat step ≡ None → StepCase whole seat step answer whole → new ≡ carried whole e ts → Carries c whole e seat step answer new
-  stays seat step answer new allowed taken is = record { after = whole; entries = e; transactions = ts; taken = record { allowed = allowed; taken = taken }; mirrors = m; new_is = is; versions = λ x v. (λ is. is, λ is. is); before = λ x u under same. same }
+  stays seat step answer new allowed taken is = record { after = whole; entries = e; transactions = ts; taken = record { allowed = allowed; taken = taken }; mirrors = m; new_is = is; versions = λ x v. (λ is. is, λ is. is); before = λ x u under same. same; within = λ had. had }
 
   turns : (seat : ℕ) (step : Step) (answer : Answer) (new : StateOf) (s : ℕ) (t : TransactionOf) → c < s → IsLatePhase c t.phase → step_reason whole seat step ≡ None → StepCase whole seat step answer (with_transaction whole s t) → new ≡ with_transaction (carried whole e ts) s t → Carries c whole e seat step answer new
   turns seat step answer new s t later phase allowed taken is = record {
@@ -109,6 +73,7 @@ module _ (c : ℕ) (whole : StateOf) (e : Entries) (ts : Transactions) (m : IsMi
     new_is = is;
     versions = λ x v. (λ is. is, λ is. is);
     before = λ x u under same. same;
+    within = λ had. had;
   }
 
   -- a lock becomes a write record
@@ -122,6 +87,7 @@ module _ (c : ℕ) (whole : StateOf) (e : Entries) (ts : Transactions) (m : IsMi
     new_is = is;
     versions = (lock_committed c whole.entries e m.entries_are x s later d late).versions;
     before = (lock_committed c whole.entries e m.entries_are x s later d late).before;
+    within = (lock_committed c whole.entries e m.entries_are x s later d late).within;
   }
 
   backs_both : (seat : ℕ) (step : Step) (answer : Answer) (new : StateOf) (x : Cell) (s : ℕ) → c < s → step_reason whole seat step ≡ None → StepCase whole seat step answer (rolls_back whole x s) → new ≡ rolls_back (carried whole e ts) x s → Carries c whole e seat step answer new
@@ -134,6 +100,7 @@ module _ (c : ℕ) (whole : StateOf) (e : Entries) (ts : Transactions) (m : IsMi
     new_is = is;
     versions = (lock_erased c whole.entries e m.entries_are x s later).versions;
     before = (lock_erased c whole.entries e m.entries_are x s later).before;
+    within = (lock_erased c whole.entries e m.entries_are x s later).within;
   }
 
   -- ---- marks
@@ -144,7 +111,7 @@ module _ (c : ℕ) (whole : StateOf) (e : Entries) (ts : Transactions) (m : IsMi
         is.0,
         record {
           version = b.version;
-          newest = version_above (Cell.Data row column) last_timestamp b.version m.room b.newest;
+          newest = version_of (Cell.Data row column) last_timestamp b.version (inl m.room) b.newest;
           acknowledged = b.acknowledged;
           acknowledges = record { observer = b.acknowledges.observer; there = b.acknowledges.there; observes = b.acknowledges.observes; newest = newest_of (Cell.Ack is.0 row column) b.acknowledged b.acknowledges.newest };
           newer = b.newer;
@@ -247,6 +214,7 @@ module _ (c : ℕ) (whole : StateOf) (e : Entries) (ts : Transactions) (m : IsMi
         new_is = is.new_is;
         versions = λ x v. (λ is. is, λ is. is);
         before = λ x u under same. same;
+        within = λ had. had;
       }
   carry new seat (Step.Read s x) (Answer.Locked start primary) late t = locked_read seat s x None start primary new late (allowed_own seat s.0 read_reasons late t.allowed) t.taken (λ k. k)
   carry new seat (Step.Read s x) (Answer.Found start commit content) late t = found seat s x None (record { start = start; commit = commit; content = content }) new late (inl late) (allowed_own seat s.0 read_reasons late t.allowed) t.taken (λ n k. k)
@@ -270,6 +238,7 @@ module _ (c : ℕ) (whole : StateOf) (e : Entries) (ts : Transactions) (m : IsMi
         new_is = is.new_is;
         versions = (lock_put c whole.entries e m.entries_are x s.0 late is.content is.primary).versions;
         before = (lock_put c whole.entries e m.entries_are x s.0 late is.content is.primary).before;
+        within = (lock_put c whole.entries e m.entries_are x s.0 late is.content is.primary).within;
       }
   carry new seat (Step.Prewrite s x) Answer.Conflict late t =
       let is = t.taken in
@@ -292,6 +261,7 @@ module _ (c : ℕ) (whole : StateOf) (e : Entries) (ts : Transactions) (m : IsMi
         new_is = is.new_is;
         versions = λ x v. (λ is. is, λ is. is);
         before = λ x u under same. same;
+        within = λ had. had;
       }
   carry new seat (Step.CommitPrimary s) Answer.Committed late t =
       let is = t.taken in
@@ -306,6 +276,7 @@ module _ (c : ℕ) (whole : StateOf) (e : Entries) (ts : Transactions) (m : IsMi
         new_is = is.new_is;
         versions = (lock_committed c whole.entries e m.entries_are is.primary s.0 late is.c above).versions;
         before = (lock_committed c whole.entries e m.entries_are is.primary s.0 late is.c above).before;
+        within = (lock_committed c whole.entries e m.entries_are is.primary s.0 late is.c above).within;
       }
   carry new seat (Step.CommitPrimary s) Answer.Lost late t =
       let is = t.taken in
@@ -348,6 +319,7 @@ module _ (c : ℕ) (whole : StateOf) (e : Entries) (ts : Transactions) (m : IsMi
         new_is = is.new_is;
         versions = λ x v. (λ is. is, λ is. is);
         before = λ x u under same. same;
+        within = λ had. had;
       }
   carry new seat step answer late t = absurd t.taken
 

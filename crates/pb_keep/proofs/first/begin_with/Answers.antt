@@ -19,7 +19,7 @@ returns-clause-begun g c =
       snapshot = Some s;
       fits = fits;
       records_are = ap (λ b. b ∷ []) is;
-      first_is = (subst (λ n. IsCarriedOver observers n s.clock s.cells c.carry_over.new.self) (ap (λ t. t.state.seats) c.requires.opened) cells, refl);
+      first_is = ((c.carry_over.new.self, subst (λ n. IsCarriedOver observers n s.clock s.cells c.carry_over.new.self) (ap (λ t. t.state.seats) c.requires.opened) cells, c.in_ok-mark_behind.ensures.ok), refl);
       since_is = refl;
     }
 

@@ -1,13 +1,12 @@
-use Rattle.std.proofs.Common.{arith, ◌≡◌, ◌<◌, ◌≤◌, ◌+◌, ℕ, inl, inr, true, false, nat_lt, List, [], Option, Some, None, refl, sym, subst, ◌∙◌}
+use Rattle.std.proofs.Common.{arith, ◌≡◌, ◌<◌, ◌≤◌, ◌+◌, ℕ, inl, inr, true, false, nat_lt, List, [], None, refl, sym, subst, ◌∙◌}
 use Rattle.std.proofs.lemmas.List.{append-nil}
 use Rattle.std.proofs.lemmas.Result.{err_from_is_err_and}
 use Rattle.pb_passes.proofs.Drains.{of_next_pass}
 use Rattle.pb_state.proofs.Outcomes.{err_always}
-use Rattle.pb_keeper.specs.Words.{Cell, ObserverOf, Received, EndsIn, ArePasses, IsNextPass, IsPass, MAX_PASSES, no_part}
-use Rattle.pb_keeper.specs.Drains.{begun_count, within, cut_off, HasRuns, IsDrainDue, IsPassDue, IsPassWithEnd}
+use Rattle.pb_keeper.specs.Words.{ObserverOf, Received, EndsIn, ArePasses, IsNextPass, IsPass, MAX_PASSES, no_part}
+use Rattle.pb_keeper.specs.Drains.{within, cut_off, HasRuns, IsDrainDue, IsPassWithEnd}
 use Rattle.pb_keeper.specs.Leads.{SaidLeads, IsAny}
 use Rattle.pb_keeper.specs.Made.{IsDrainThat}
-use Rattle.pb_keeper.specs.declared.passes.PassEnd.{PassEnd}
 use Rattle.pb_keeper.proofs.KeptTables.{kept_while, parts_leave}
 use Rattle.pb_keeper.proofs.Leading.{leads_observers}
 use Rattle.pb_keeper.proofs.PassAlong.{led_none, led_as, part_on, end_on, any_on}

@@ -19,7 +19,7 @@ returns-in_err-drained-clause-cause g c = λ past changes first began leads.
     passed_on c.from_residual-in_err-drained.result c.from_residual-in_err-drained.ensures.1
     (λ e is. subst (λ f. WhyNotChanged k.waiting.items.items k.state c.observe_also.new.state f) (sym is)
     (not_changed_by_stop k.waiting.items.items k.state c.observe_also.new.state c.in_err-drained.field-0.0
-    (c.in_err-drained.ensures.stops past changes first old c.args.places.now front began leads c.in-Ok.ensures.quiet c.in-Ok.ensures.room chosen)))
+    (c.in_err-drained.ensures.stops past changes first old c.args.places.now front began leads c.in-Ok.ensures.room chosen)))
 
 pub returns-clause-changed : goal.returns-clause-changed
 returns-clause-changed g c = λ past changes first began leads.
@@ -35,7 +35,6 @@ returns-clause-changed g c = λ past changes first began leads.
     let many : c.len.result ≡ length c.args.more.items = omega (arith, is, same) in
     let all : length c.observers.result.now + c.len.result ≡ length (front ++ c.args.more.items) = (λ i. first_ones i + many i) ∙ sym (length-append front c.args.more.items) in
     record {
-      quiet = c.in-Ok.ensures.quiet;
       room = c.in-Ok.ensures.room;
       between = between;
       chosen = chosen;
@@ -52,4 +51,4 @@ returns-clause-begins g c = λ past changes first began leads.
     let between : KeptTable = kept_table c.replace.new.dest c.in-Ok.stats.items in
     let chosen : IsChosenOf c.args.places.now front old between =
     subst (λ z. IsChosenOf c.args.places.now front old (kept_table z c.in-Ok.stats.items)) (sym c.replace.ensures.after) (c.in-Ok.ensures.chosen past changes first began leads) in
-    c.in_ok-drained.ensures.begins past changes first old c.args.places.now front began leads c.in-Ok.ensures.quiet c.in-Ok.ensures.room chosen
+    c.in_ok-drained.ensures.begins past changes first old c.args.places.now front began leads c.in-Ok.ensures.room chosen

@@ -1,7 +1,7 @@
-use Rattle.std.proofs.Common.{ap, refl, subst, sym}
+use Rattle.std.proofs.Common.{◌<◌, ap, arith, refl, subst, sym}
 use Rattle.pb_state.specs.CarriedOver.{WhyNotCarried}
 use Rattle.pb_snapshots.specs.Snapshot.{snapshot_value}
-use Rattle.pb_keep.specs.Words.{IsCarriedOver, IsSnapshotTaken, KeptTable, SnapshotOf, kept_table}
+use Rattle.pb_keep.specs.Words.{IsCarriedOver, IsSnapshotTaken, KeptTable, SnapshotOf, kept_table, last_timestamp}
 use Rattle.pb_keep.specs.Changed.{WhyNotChanged}
 use Rattle.pb_keep.proofs.Causing.{not_changed_for_memory}
 use Rattle.pb_keep.proofs.Mapping.{passed_on}
@@ -30,8 +30,10 @@ returns-clause-chosen g c = λ past changes first began leads.
     let s : SnapshotOf = snapshot_value c.in_ok-snapshot.snapshot in
     let u : SnapshotOf = snapshot_value c.in_ok-chosen.chosen in
     let old : KeptTable = kept_table k.state k.stats.items in
-    let new : KeptTable = kept_table c.carry_over.new.self c.in_ok-chosen.chosen.stats.items in
+    let over = c.carry_over.new.self in
+    let new : KeptTable = kept_table c.mark_behind.new.self c.in_ok-chosen.chosen.stats.items in
     let taken : IsSnapshotTaken old s = subst (λ l. IsSnapshotTaken (kept_table k.state l) s) c.deref.ensures.value c.in_ok-snapshot.ensures.taken in
-    let cells : IsCarriedOver front c.args.state.now.seats u.clock u.cells new.state = subst (λ l. IsCarriedOver front c.args.state.now.seats u.clock l new.state) c.deref-2.ensures.value c.in_ok-carry_over.ensures.ok in
-    let carried : IsCarriedOver front 1 u.clock u.cells new.state = subst (λ n. IsCarriedOver front n u.clock u.cells new.state) (ap (λ t. t.seats) c.requires.opened) cells in
-    c.chosen_begin.ensures past changes first old new s u c.args.places.now front began leads (c.in_ok-is_idle.ensures.idle c.if-not-branch.false) c.requires.chosen taken c.in_ok-chosen.ensures.chosen carried refl
+    let cells : IsCarriedOver front c.args.state.now.seats u.clock u.cells over = subst (λ l. IsCarriedOver front c.args.state.now.seats u.clock l over) c.deref-2.ensures.value c.in_ok-carry_over.ensures.ok in
+    let carried : IsCarriedOver front 1 u.clock u.cells over = subst (λ n. IsCarriedOver front n u.clock u.cells over) (ap (λ t. t.seats) c.requires.opened) cells in
+    let room : old.state.clock < last_timestamp = grind (arith, c.clock.ensures, c.if-clock.false, c.clock.type_inv) in
+    c.chosen_begin.ensures past changes first old new s u over c.args.places.now front began leads room c.requires.chosen taken c.in_ok-chosen.ensures.chosen carried c.in_ok-mark_behind.ensures.ok refl

@@ -5,9 +5,8 @@ use Rattle.pb_keep.specs.Words.{FitsSnapshot, IsAtRest, IsSnapshotTaken, Snapsho
 use Rattle.pb_keep.specs.Anew.{WhyNotAnew}
 use Rattle.pb_keep.proofs.Causing.{begins_low, put_as_opened}
 use Rattle.pb_keep.proofs.Mapping.{passed_on}
-use Rattle.pb_keep.proofs.Quiet.{no_items}
 use Rattle.pb_keep.proofs.Records.{no_changes}
-use Rattle.pb_keep.proofs.Scripts.{empty_list}
+use Rattle.pb_keep.proofs.Scripts.{empty_list, no_items}
 use Rattle.pb_keep.proofs.keeper.Keeper.snapshot_into.Goals as goal
 
 pub returns-then-not-is_empty-clause-cause : goal.returns-then-not-is_empty-clause-cause
@@ -65,7 +64,6 @@ returns-clause-begun g c = λ clean.
         at_rest = subst (λ r. IsAtRest (g.E.Disk.seen log.disk) (g.E.Disk.may_leave log.disk) log.end (header manifest ∷ r ∷ [])) (c.deref-2.ensures.value ∙ bytes) (c.in_ok-put.ensures.acknowledged (header manifest ∷ []) before);
         make = no_changes;
       };
-      quiet = c.in_ok-is_idle.ensures.idle c.if-not-branch.false;
       room = grind (arith, c.clock.ensures, c.if-clock.false, c.clock.type_inv);
       count = (let same = c.in_ok-snapshot.snapshot.cells.ok.0 in omega (arith, c.len-2.ensures, same));
     }

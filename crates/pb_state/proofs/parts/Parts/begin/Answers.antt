@@ -1,4 +1,4 @@
-use Rattle.std.proofs.Common.{◌≡◌, ◌≤◌, ◌<◌, ◌+◌, Some, ap, subst, arith}
+use Rattle.std.proofs.Common.{◌≡◌, ◌≤◌, Some, ap, subst, arith}
 use Rattle.std.specs.FinMap as map
 use Rattle.pb_state.specs.Words.{StateOf}
 use Rattle.pb_history.proofs.SoundHasData.{keeps_data}

@@ -60,7 +60,7 @@ loop-place-preserved g c =
     record {
       carried = subst (IsCarriedOver c.args.self.now.observers c.args.self.now.seats c.args.last.0 (take (place + 1) c.args.cells.now)) (sym c.in_ok-put_version.ensures.ok)
           (subst (λ cells. IsCarriedOver c.args.self.now.observers c.args.self.now.seats c.args.last.0 cells (state_with_version c.loop-place.self next.0 next.1)) one
-          (carried_more _ _ _ _ _ c.loop-place.self c.loop-place.invariant.carried next.0 next.1 may));
+          (carried_more _ _ _ _ _ c.loop-place.self c.loop-place.invariant.carried next.0 next.1 may c.loop-place.invariant.versions));
       versions = subst (AreVersionsBy c.args.last.0) one (versions_more _ _ _ next c.loop-place.invariant.versions may);
       ordered = ordered_more c.args.self.now.observers c.args.last.0 c.args.cells.now place next there
           (subst (λ (os : List ObserverOf). MayFollow os c.args.last.0 (take place c.args.cells.now) next) seen may) c.loop-place.invariant.ordered;
