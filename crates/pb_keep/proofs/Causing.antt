@@ -1,17 +1,20 @@
 -- Why a table is kept no longer.
-use Rattle.std.proofs.Common.{◌≡◌, ℕ, ◌<◌, ◌≤◌, ◌^◌, Bool, true, List, [], ◌∷◌, length, sym, subst, arith, length-append}
+use Rattle.std.proofs.Common.{◌≡◌, ℕ, ◌<◌, ◌≤◌, ◌^◌, Bool, true, List, [], ◌∷◌, length, refl, sym, subst, arith, length-append}
 use Rattle.pb_log.specs.declared.fault.LogFault.{LogFault}
 use Rattle.pb_log.specs.Causes.{IsNotBegun}
 use Rattle.pb_log.specs.Records.{blocks}
 use Rattle.pb_state.specs.declared.carry_fault.CarryFault.{CarryFault}
+use Rattle.pb_keeper.specs.Keeps.{BeginningKeepsNone}
 use Rattle.pb_keeper.specs.Stops.{IsStop}
 use Rattle.pb_snapshots.specs.TakenOrder.{IsForMemory}
-use Rattle.pb_keep.specs.Words.{HasRecords, ObserverOf, StateOf, Stopped, WhyNotOpened, WhyNotPut, header}
+use Rattle.pb_keep.specs.Words.{HasRecords, KeptTable, ObserverOf, StateOf, Stopped, WhyNotOpened, WhyNotPut, header}
 use Rattle.pb_keep.specs.declared.fault.KeepFault.{KeepFault}
 use Rattle.pb_keep.specs.declared.waiting.Waits.{Waits}
 use Rattle.pb_keep.specs.Changed.{why_refused, why_stopped, WhyNotChanged}
+use Rattle.pb_keep.specs.Again.{in_part, IsMadeInPart, WhyNotAllMade}
 use Rattle.pb_keep.specs.Causes.{IsOfAnew, IsOfFirst, IsOfPut, WhyNotKept, WhyNotMadeAgain, WhyNotServed}
 use Rattle.pb_keep.specs.Conversations.{KeeperView}
+use Rattle.pb_keep.specs.Kept.{origin_of, IsBegunWith}
 use Rattle.pb_keep.specs.Left.{fault_by, IsOfLog, IsOfMaking, IsRightOf}
 
 pub stopped_rightly : (e : Stopped) (state : StateOf) → IsStop e state → IsRightOf state (fault_by e)
@@ -49,6 +52,7 @@ put_why before now was end LogFault.NoHeader h same = absurd h
 pub of_put : (before now end : ℕ) (e : KeepFault) → IsOfPut before now end e → IsOfLog e
 of_put before now end (KeepFault.Log e) h = tt
 of_put before now end (KeepFault.NoMemory e) h = absurd h
+of_put before now end (KeepFault.MadeInPart e made all) h = absurd h
 of_put before now end KeepFault.Record h = absurd h
 of_put before now end KeepFault.Snapshot h = absurd h
 of_put before now end KeepFault.NoTimestamp h = absurd h
@@ -59,6 +63,7 @@ of_put before now end KeepFault.Input h = absurd h
 pub not_both : (e : KeepFault) → IsOfMaking e → IsOfLog e → ⊥
 not_both (KeepFault.Log e) making of = absurd making
 not_both (KeepFault.NoMemory e) making of = of
+not_both (KeepFault.MadeInPart e made all) making of = of
 not_both KeepFault.Record making of = of
 not_both KeepFault.Snapshot making of = of
 not_both KeepFault.NoTimestamp making of = of
@@ -87,6 +92,7 @@ module _ (before now : ℕ) (failed : Bool) (k : KeeperView) where
   pub not_put : (e : KeepFault) → IsOfPut before now k.end e → WhyNotKept before now failed k e
   not_put (KeepFault.Log e) h = h
   not_put (KeepFault.NoMemory e) h = absurd h
+  not_put (KeepFault.MadeInPart e made all) h = absurd h
   not_put KeepFault.Record h = absurd h
   not_put KeepFault.Snapshot h = absurd h
   not_put KeepFault.NoTimestamp h = absurd h
@@ -96,6 +102,7 @@ module _ (before now : ℕ) (failed : Bool) (k : KeeperView) where
   pub not_made : (e : KeepFault) → IsOfMaking e → IsRightOf k.table.state e → WhyNotKept before now failed k e
   not_made (KeepFault.Log e) of right = absurd of
   not_made (KeepFault.NoMemory e) of right = tt
+  not_made (KeepFault.MadeInPart e made all) of right = absurd of
   not_made KeepFault.Record of right = absurd of
   not_made KeepFault.Snapshot of right = absurd of
   not_made KeepFault.NoTimestamp of right = right
@@ -109,6 +116,7 @@ module _ (before now : ℕ) (failed : Bool) (k : KeeperView) where
   pub not_served : (e : KeepFault) → WhyNotKept before now failed k e → WhyNotServed before now failed k e
   not_served (KeepFault.Log e) h = h
   not_served (KeepFault.NoMemory e) h = tt
+  not_served (KeepFault.MadeInPart e made all) h = absurd h
   not_served KeepFault.Record h = absurd h
   not_served KeepFault.Snapshot h = absurd h
   not_served KeepFault.NoTimestamp h = h
@@ -117,18 +125,46 @@ module _ (before now : ℕ) (failed : Bool) (k : KeeperView) where
 
 -- ---- when a log is opened
 
-pub not_made_again : (observers : List ObserverOf) (manifest : List ℕ) (before now : ℕ) (file : List ℕ) (e : KeepFault) → IsOfAnew e → WhyNotMadeAgain observers manifest before now file e
-not_made_again observers manifest before now file (KeepFault.Log e) of = absurd of
-not_made_again observers manifest before now file (KeepFault.NoMemory e) of = tt
-not_made_again observers manifest before now file KeepFault.Record of = tt
-not_made_again observers manifest before now file KeepFault.Snapshot of = absurd of
-not_made_again observers manifest before now file KeepFault.NoTimestamp of = tt
-not_made_again observers manifest before now file KeepFault.Output of = absurd of
-not_made_again observers manifest before now file KeepFault.Input of = absurd of
+-- a fault in the midst of the changes of records
+pub why_left : (records : List (List ℕ)) (old : KeptTable) (e : KeepFault) (made all : ℕ) → IsOfAnew e → IsMadeInPart records old made all → WhyNotAllMade records old (in_part e made all)
+why_left records old (KeepFault.NoMemory e) made all of part = part
+why_left records old (KeepFault.MadeInPart e m n) made all of part = absurd of
+why_left records old (KeepFault.Log e) made all of part = absurd of
+why_left records old KeepFault.Record made all of part = tt
+why_left records old KeepFault.Snapshot made all of part = absurd of
+why_left records old KeepFault.NoTimestamp made all of part = tt
+why_left records old KeepFault.Output made all of part = absurd of
+why_left records old KeepFault.Input made all of part = absurd of
+
+pub not_made_again : BeginningKeepsNone → (observers : List ObserverOf) (manifest : List ℕ) (before now since : ℕ) (file : List ℕ) (records scripts : List (List ℕ)) (first : KeptTable) → IsBegunWith observers records scripts since first
+    → HasRecords manifest records file → (e : KeepFault) → WhyNotAllMade scripts first e → WhyNotMadeAgain observers manifest before now file e
+not_made_again beginning observers manifest before now since file records scripts first b has (KeepFault.Log e) of = absurd of
+not_made_again beginning observers manifest before now since file records scripts first b has (KeepFault.NoMemory e) of = tt
+not_made_again beginning observers manifest before now since file records scripts first b has (KeepFault.MadeInPart e made all) part = record {
+  origin = origin_of manifest b.snapshot;
+  manifest_is = refl;
+  first = first;
+  first_is = b.first_is;
+  changes = part.changes;
+  had = record { fits = b.fits; scripts = scripts; has = subst (λ rs. HasRecords manifest rs file) b.records_are has; make = part.reads };
+  all_is = part.all_is;
+  done = part.done;
+  rest = part.rest;
+  parts = part.parts;
+  reached = part.reached;
+  keeps = λ past began. (part.keeps first [] (beginning past first began)).leads;
+  made_is = part.made_is;
+}
+not_made_again beginning observers manifest before now since file records scripts first b has KeepFault.Record of = tt
+not_made_again beginning observers manifest before now since file records scripts first b has KeepFault.Snapshot of = absurd of
+not_made_again beginning observers manifest before now since file records scripts first b has KeepFault.NoTimestamp of = tt
+not_made_again beginning observers manifest before now since file records scripts first b has KeepFault.Output of = absurd of
+not_made_again beginning observers manifest before now since file records scripts first b has KeepFault.Input of = absurd of
 
 pub not_begun : (observers : List ObserverOf) (manifest : List ℕ) (before now : ℕ) (file : List ℕ) (records : List (List ℕ)) (e : KeepFault) → IsOfFirst observers records e → HasRecords manifest records file → WhyNotMadeAgain observers manifest before now file e
 not_begun observers manifest before now file records (KeepFault.Log e) of has = absurd of
 not_begun observers manifest before now file records (KeepFault.NoMemory e) of has = tt
+not_begun observers manifest before now file records (KeepFault.MadeInPart e made all) of has = absurd of
 not_begun observers manifest before now file records KeepFault.Record of has = absurd of
 not_begun observers manifest before now file records KeepFault.Snapshot of has = (records, has, of)
 not_begun observers manifest before now file records KeepFault.NoTimestamp of has = absurd of

@@ -13,6 +13,7 @@ module _ (origin : Origin) (changes : List Writes) (items : List Waits) (old new
   pub left_in_log : (e : KeepFault) → IsOfLog e → IsLeftInLog origin changes items old new was_written written may_leave → IsLeftBy origin changes items old new was_written written may_leave e
   left_in_log (KeepFault.Log e) of l = l
   left_in_log (KeepFault.NoMemory e) of l = absurd of
+  left_in_log (KeepFault.MadeInPart e made all) of l = absurd of
   left_in_log KeepFault.Record of l = absurd of
   left_in_log KeepFault.Snapshot of l = absurd of
   left_in_log KeepFault.NoTimestamp of l = absurd of
@@ -22,6 +23,7 @@ module _ (origin : Origin) (changes : List Writes) (items : List Waits) (old new
   pub left_in_making : (e : KeepFault) → IsOfMaking e → IsLeftMade origin changes items old was_written written may_leave → IsLeftBy origin changes items old new was_written written may_leave e
   left_in_making (KeepFault.Log e) of l = absurd of
   left_in_making (KeepFault.NoMemory e) of l = l
+  left_in_making (KeepFault.MadeInPart e made all) of l = absurd of
   left_in_making KeepFault.Record of l = absurd of
   left_in_making KeepFault.Snapshot of l = absurd of
   left_in_making KeepFault.NoTimestamp of l = l

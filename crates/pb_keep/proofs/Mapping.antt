@@ -19,6 +19,11 @@ pub all_ok : {T E P Q R S : Type 0} (r : Result T E) → OnOk r P → OnOk r Q �
 all_ok (Ok x) p q s f = f p q s
 all_ok (Err e) p q s f = tt
 
+-- what holds where it failed, if it did
+pub on_err : {T E P : Type 0} (r : Result T E) → P → OnErr r P
+on_err (Ok x) p = tt
+on_err (Err e) p = p
+
 -- what follows in either case
 pub either_way : {T E P S : Type 0} {Q : E → Type 0} (r : Result T E) → OnOk r P → IfErr r Q → (P → S) → ((e : E) → Q e → S) → S
 either_way (Ok x) p q f g = f p

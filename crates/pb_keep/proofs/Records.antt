@@ -47,6 +47,24 @@ records_more (x ∷ rs) r cs ds h s =
     together x (rs ++ r ∷ []) p.first (p.others ++ ds) p.of_first (records_more rs r p.others ds p.of_others s)
     ∙ ap (λ l. Ok l) (sym (append_assoc p.first p.others ds) ∙ ap (λ l. l ++ ds) p.are)
 
+-- the changes of the first records, of one more, and of the others
+pub changes_parted : (rs : List (List ℕ)) (r : List ℕ) (ss : List (List ℕ)) (cs ds : List Writes) → changes_of (rs ++ r ∷ ss) ≡ Ok cs → changes_of rs ≡ Ok ds
+    → (script : List Writes) × (others : List Writes) × (script_of r ≡ Ok script) × (cs ≡ ds ++ (script ++ others))
+changes_parted [] r ss cs ds all first =
+    let p = parts_of r ss cs all in
+    let none = ok_is [] ds (sym no_changes ∙ first) in
+    (p.first, p.others, p.of_first, sym p.are ∙ ap (λ l. l ++ (p.first ++ p.others)) none)
+changes_parted (x ∷ rs) r ss cs ds all first =
+    let p = parts_of x (rs ++ r ∷ ss) cs all in
+    let q = parts_of x rs ds first in
+    let same : q.first ≡ p.first = ok_is q.first p.first (sym q.of_first ∙ p.of_first) in
+    let rest = changes_parted rs r ss p.others q.others p.of_others q.of_others in (
+      rest.0,
+      rest.1,
+      rest.2,
+      sym p.are ∙ ap (λ l. p.first ++ l) rest.3 ∙ sym (append_assoc p.first q.others (rest.0 ++ rest.1)) ∙ ap (λ l. (l ++ q.others) ++ (rest.0 ++ rest.1)) (sym same) ∙ ap (λ l. l ++ (rest.0 ++ rest.1)) q.are,
+    )
+
 pub map_more : {A B : Type 0} (f : A → B) (xs : List A) (x : A) → map f (xs ++ x ∷ []) ≡ map f xs ++ f x ∷ []
 map_more f [] x = refl
 map_more f (y ∷ ys) x = ap (λ l. f y ∷ l) (map_more f ys x)

@@ -242,6 +242,7 @@ module _ {b : Beginning} {lines : List (List ℕ)} {k : KeeperView} (s : Serves 
       → (file : List ℕ) → may_leave file → LeavesFirst b lines now file
   leaves_left new now may_leave (KeepFault.Log e) l file m = left_in_log new now may_leave l file m
   leaves_left new now may_leave (KeepFault.NoMemory e) l file m = left_made now may_leave l file m
+  leaves_left new now may_leave (KeepFault.MadeInPart e made all) l file m = left_made now may_leave l file m
   leaves_left new now may_leave KeepFault.Record l file m = left_made now may_leave l file m
   leaves_left new now may_leave KeepFault.Snapshot l file m = left_made now may_leave l file m
   leaves_left new now may_leave KeepFault.NoTimestamp l file m = left_made now may_leave l file m

@@ -7,6 +7,7 @@ pub mod Conversations
 pub mod Opened
 pub mod Left
 pub mod Causes
+pub mod Again
 pub mod Input
 pub mod Served
 pub mod Anew

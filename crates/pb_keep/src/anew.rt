@@ -1,15 +1,16 @@
 //! The changes of a log, made again when it is opened.
-ghost use Rattle.std.specs.Prelude.{◌≡◌, ◌++◌, List, length, map, IfOk, IfErr, OnOk, Ok};
+ghost use Rattle.std.specs.Prelude.{◌≡◌, ◌∷◌, ◌++◌, [], List, length, map, IfOk, IfErr, OnOk, OnErr, Ok};
 ghost use Rattle.pb_base.specs.Batch.{Writes};
 ghost use Rattle.pb_parse.specs.ScriptLines.{script_of};
 ghost use Rattle.pb_keeper.specs.Keeps.{Keeps};
 ghost use Rattle.pb_keeper.specs.Stats.{kept_table, KeptTable};
+ghost use Rattle.pb_keep.specs.Again.{in_part, IsRecordLeft, IsRecordMade, WhyNotAllMade};
 ghost use Rattle.pb_keep.specs.Causes.{IsOfAnew};
 ghost use Rattle.pb_keep.specs.Kept.{changes_of, reported_count};
 
 use crate::fault::KeepFault;
 use pb_base::Batch;
-use pb_keeper::{ObserverStats, Stopped, make_all};
+use pb_keeper::{ObserverStats, Stopped, make};
 use pb_parse::parse_script;
 use pb_reading::TextFault;
 use pb_state::State;
@@ -31,46 +32,77 @@ fn batches_of(alloc: Global, record: &[u8]) -> Result<Vec<Batch>, KeepFault>
     }
 }
 
-// Makes changes, and counts what the runs did that followed them.
-fn make_all_counted<T: Tablet>(
+// How many changes records have, or the greatest `u64` where they are more.
+fn count_changes(alloc: Global, records: &[Vec<u8>]) -> Result<u64, KeepFault>
+    ensures counted { IfOk result (λ n. (all : List Writes)
+        × (changes_of (map (λ v. v.items) records.now) ≡ Ok all)
+        × (n ≡ reported_count (length all))) }
+    ensures why { IfErr result IsOfAnew }
+{
+    let mut count = 0u64;
+    for record in records {
+        let batches = batches_of(alloc, record)?;
+        count = count.saturating_add(batches.len() as u64);
+    }
+    Ok(count)
+}
+
+// Makes a change, and counts what the runs did that followed it.
+fn make_counted<T: Tablet>(
     alloc: Global,
     state: &mut State<T>,
     stats: &mut Vec<ObserverStats>,
-    batches: Vec<Batch>,
+    batch: Batch,
 ) -> Result<(), Stopped>
     ensures keeps { (first : KeptTable) (changes : List Writes)
         → Keeps first changes (kept_table state.old stats.old.items)
-        → OnOk result (Keeps first (changes ++ batches.items)
+        → OnOk result (Keeps first (changes ++ batch ∷ [])
         (kept_table state.new stats.new.items)) }
     ensures observers { OnOk result (state.new.observers ≡ state.old.observers) }
 {
-    make_all(alloc, state, stats, batches)
+    make(alloc, state, stats, batch)?;
+    Ok(())
 }
 
-// Makes the changes of a record, in order, each with its observers, and returns how many they are.
+// Makes the changes of a record, in order, each with its observers, and counts those that are made.
 fn make_anew<T: Tablet>(
     alloc: Global,
     state: &mut State<T>,
     stats: &mut Vec<ObserverStats>,
     record: &[u8],
-) -> Result<usize, KeepFault>
-    ensures keeps { IfOk result (λ n. (script : List Writes)
-        × (script_of «record».now ≡ Ok script)
-        × ((first : KeptTable) (changes : List Writes)
-        → Keeps first changes (kept_table state.old stats.old.items)
-        → Keeps first (changes ++ script) (kept_table state.new stats.new.items))
-        × (n ≡ length script)) }
+    made: &mut u64,
+) -> Result<(), KeepFault>
+    ensures keeps { OnOk result (IsRecordMade «record».now
+        (kept_table state.old stats.old.items) (kept_table state.new stats.new.items)
+        made.old made.new) }
     ensures observers { OnOk result (state.new.observers ≡ state.old.observers) }
     ensures why { IfErr result IsOfAnew }
+    ensures left { OnErr result (IsRecordLeft «record».now
+        (kept_table state.old stats.old.items) made.old made.new) }
 {
+    // For the proof: a number has its range once it is read.
+    let _was = *made;
     let batches = batches_of(alloc, record)?;
-    let count = batches.len();
-    make_all_counted(alloc, state, stats, batches)?;
-    Ok(count)
+    for batch in batches {
+        make_counted(alloc, state, stats, batch)?;
+        *made = made.saturating_add(1);
+    }
+    Ok(())
+}
+
+// Want of memory is reported with how many changes were made of how many.
+fn in_part(fault: KeepFault, made: u64, all: u64) -> KeepFault
+    ensures { result ≡ in_part fault made all }
+{
+    match fault {
+        KeepFault::NoMemory(refused) => KeepFault::MadeInPart(refused, made, all),
+        other => other,
+    }
 }
 
 /// Makes the changes of records, in order, each with its observers, and returns how many they are, or the greatest `u64`
-/// where they are more.
+/// where they are more. All are read before the first is made. Where memory is refused then, the fault says how many were
+/// made of how many.
 pub fn make_records_anew<T: Tablet>(
     alloc: Global,
     state: &mut State<T>,
@@ -84,12 +116,15 @@ pub fn make_records_anew<T: Tablet>(
         → Keeps first (changes ++ more) (kept_table state.new stats.new.items))
         × (n ≡ reported_count (length more))) }
     ensures observers { OnOk result (state.new.observers ≡ state.old.observers) }
-    ensures why { IfErr result IsOfAnew }
+    ensures why { IfErr result (WhyNotAllMade (map (λ v. v.items) records.items)
+        (kept_table state.old stats.old.items)) }
 {
-    let mut count = 0u64;
+    let all = count_changes(alloc, &records)?;
+    let mut made = 0u64;
     for record in records {
-        let made = make_anew(alloc, state, stats, &record)?;
-        count = count.saturating_add(made as u64);
+        if let Err(fault) = make_anew(alloc, state, stats, &record, &mut made) {
+            return Err(in_part(fault, made, all));
+        }
     }
-    Ok(count)
+    Ok(made)
 }

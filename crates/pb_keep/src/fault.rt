@@ -17,6 +17,9 @@ use thiserror::Error;
 pub enum KeepFault {
     #[error("{0}")]
     NoMemory(NoMemory),
+    /// Memory was refused as the changes of a log were made again: so many were made of so many.
+    #[error("{0}: {1} of {2} changes were made")]
+    MadeInPart(NoMemory, u64, u64),
     /// The log failed, or is damaged.
     #[error("{0}")]
     Log(LogFault),

@@ -65,6 +65,8 @@ returns-in_err-self-clause-cause g c =
 pub returns-clause-cause : goal.returns-clause-cause
 returns-clause-cause g c =
     let old = c.args.self.now in
+    let b = c.in_ok-self.ensures.begun in
     if_err c.make_records_anew.result
-    (λ e of clean. not_made_again old.state.observers c.args.manifest.now (g.D.Disk.faults old.log.disk) (g.D.Disk.faults c.open.new.self.disk) (g.D.Disk.seen old.log.disk) e of)
+    (λ e of clean. not_made_again c.tables_keep_their_changes.ensures.beginning old.state.observers c.args.manifest.now (g.D.Disk.faults old.log.disk) (g.D.Disk.faults c.open.new.self.disk) c.in_ok-self.field-0.0 (g.D.Disk.seen old.log.disk)
+    (map (λ v. v.items) c.in_ok-records.records.items) (map (λ v. v.items) c.begin.new.records.items) (kept_table c.begin.new.state c.begin.new.stats.items) b (c.in_ok-records.ensures.records clean) e of)
     c.make_records_anew.ensures.why
