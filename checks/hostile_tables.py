@@ -1,23 +1,32 @@
-"""Tables of `percobpf_keep` with the observers of hostile_observers.py, for `checks/hostile`: each is kept, asked, and opened again."""
+"""Tables of `percobpf_keep` with the observers of hostile_observers.py, for `checks/hostile`: each is kept, asked, compacted and opened
+again, and then goes on without these observers."""
 from __future__ import annotations
 
 import json
 import os
+import re
 import resource
 import select
 import subprocess
 import time
 from dataclasses import dataclass
+from functools import partial
 from pathlib import Path
 
 from hostile_model import HostileTable
-from hostile_observers import SHAPES
+from hostile_observers import QUIET, ROW, SHAPES
 
 # How long one answer may take, also that of a start, which makes all runs again. On a free processor it takes a second, and with sixteen
 # writes in each run six.
 ANSWER_SECONDS = 120
+# The line by which a log is compacted, and a cell that no observer observes, which is changed after that.
+COMPACT, MORE = "compact", (5, 15)
 # How much memory a program may take, in bytes.
 MEMORY = 3 << 29
+# Less than the table of two changes takes whose observer doesn't come to rest, and what a start says that has so much: how many changes
+# were made of how many.
+LITTLE = range(80 << 20, 320 << 20, 40 << 20)
+IN_PART = re.compile(r"Error: no memory: ([0-9]+) of ([0-9]+) changes were made\n")
 
 
 class Wrong(Exception):
@@ -33,9 +42,9 @@ class Tools:
     folder: Path
 
 
-def limited():
+def limited(memory=MEMORY):
     """Limits the memory of the process that is begun."""
-    resource.setrlimit(resource.RLIMIT_AS, (MEMORY, MEMORY))
+    resource.setrlimit(resource.RLIMIT_AS, (memory, memory))
 
 
 class Kept:
@@ -107,41 +116,126 @@ def manifest_of(tools, place, observers):
 
 
 def ask_all(kept, shape, table):
-    """Asks each question, and compares the answers."""
+    """Asks each question, and compares the answers. Answers the lines of `stats` on the observers."""
     expect("quiet?", kept.answer("quiet?"), table.quiet())
     for cell in shape.changes:
         if cell in table.newest:
             expect("get", kept.answer(f"get {cell[0]} {cell[1]}"), table.get(cell))
-    stats = kept.answer("stats", is_many=True)
+    stats = [line for line in kept.answer("stats", is_many=True) if not line.startswith("log ")]
     expect("stats", [line[: len(begin)] for line, begin in zip(stats, table.stats())], table.stats())
     if not shape.is_large:
         expect("list", kept.answer("list", is_many=True), table.list())
     after, lines = table.since_last()
-    expect("since", kept.answer(f"since {after}", is_many=True), lines)
-    if table.marks:
-        expect("compact", kept.answer("compact"), "refused 78")
-    return stats
+    is_many = lines[-1] == "end"
+    said = kept.answer(f"since {after}", is_many)
+    expect("since", said if is_many else [said], lines)
+    return stats[: len(table.observers)]
+
+
+class Trial:
+    """A table of a shape, whose program is started again and again: how many changes its log has since it was compacted; how many changes
+    were made, how many of them were left unquiet, and the slowest answer; and the lines of `stats` on its observers."""
+
+    def __init__(self, tools, place, shape):
+        self.tools, self.place, self.shape, self.table = tools, place, shape, HostileTable(shape.observers)
+        self.manifest, self.log = manifest_of(tools, place, shape.observers), tools.folder / f"{place}.log"
+        self.found = self.changes = self.unquiet = 0
+        self.slowest, self.stats = 0.0, None
+
+    def change(self, kept, cell):
+        wanted = self.table.change(cell)
+        expect("a change", kept.answer(f"put {cell[0]} {cell[1]} 2a"), wanted)
+        self.found += 1
+        self.changes += 1
+        self.unquiet += wanted.endswith(" unquiet")
+
+    def compact(self, kept):
+        """Compacts the log by a line. What is asked then is answered as before."""
+        expect("a compaction", kept.answer("compact"), f"compacted {self.table.compact()}")
+        self.found = 0
+        self.ask(kept)
+
+    def ask(self, kept, is_changed=False):
+        """Asks each question. What the observers did is the same as when it was asked last, if nothing was changed since then."""
+        stats = ask_all(kept, self.shape, self.table)
+        if not is_changed and self.stats is not None:
+            expect("stats, again", stats, self.stats)
+        self.stats = stats
+
+    def serve(self, deeds):
+        """Starts the program, which has to find the table of before, and has it do these: changes of cells, and compactions. Each question is
+        asked before and after them."""
+        with Kept(self.tools, self.manifest, self.log) as kept:
+            expect("a start", kept.answer(None), f"open {self.found}")
+            if is_asked := self.changes > 0:
+                self.ask(kept)
+            for deed in deeds:
+                if deed == COMPACT:
+                    if not is_asked:
+                        self.ask(kept, is_changed=True)
+                    self.compact(kept)
+                else:
+                    self.change(kept, deed)
+                is_asked = deed == COMPACT
+            if not is_asked:
+                self.ask(kept, is_changed=True)
+            kept.end()
+        self.slowest = max(self.slowest, kept.slowest)
+
+    def start_with_little(self):
+        """Starts the program with less and less than it takes. It says how many changes were made, and leaves the log as it is."""
+        before, made = self.log.read_bytes(), set()
+        words = [self.tools.program, self.manifest, self.log]
+        for memory in LITTLE:
+            how = {"stdin": subprocess.DEVNULL, "capture_output": True, "text": True, "timeout": ANSWER_SECONDS}
+            ended = subprocess.run(words, preexec_fn=partial(limited, memory), **how)
+            if not (its := IN_PART.fullmatch(ended.stderr)):
+                expect(f"a start with {memory} bytes", (ended.returncode, ended.stderr), (0, ""))
+                continue
+            expect(f"a start with {memory} bytes", (ended.returncode, ended.stdout, int(its[2])), (1, "", self.found))
+            made.add(int(its[1]))
+        expect("how many changes were made by starts with little memory", sorted(made), [*range(self.found)])
+        expect("the log after these", self.log.read_bytes() == before, True)
+
+    def go_on_with(self, observers):
+        """Gives the log a manifest with these of its observers alone. The table has to be quiet then, and stay so."""
+        self.manifest = manifest_of(self.tools, f"{self.place}-at-rest", observers)
+        words = [self.tools.program, "--compact", self.manifest, self.log]
+        how = {"stdin": subprocess.DEVNULL, "capture_output": True, "text": True, "preexec_fn": limited, "timeout": ANSWER_SECONDS}
+        ended = subprocess.run(words, **how)
+        printed = f"open {self.found}\n{self.table.go_on_with(observers)}"
+        expect("a manifest of others", (ended.returncode, ended.stdout, ended.stderr), (0, printed, ""))
+        expect("a table without those that don't rest", self.table.quiet(), "quiet")
+        self.found, self.stats, before = 0, None, self.unquiet
+        # of cells of the columns that were observed, and of one more
+        self.serve([(ROW, column) for column in sorted({it.column for it in self.shape.observers})] + [MORE])
+        expect("changes that are left unquiet then", self.unquiet, before)
+
+
+def deeds_of(shape):
+    """What the program is asked for between one start and the next. A log is compacted between its changes, if it has several; or else
+    before one more, and where that one takes long again, the log isn't opened between."""
+    if shape.is_large:
+        return [shape.changes, ()]
+    if len(shape.changes) > 1:
+        return [shape.changes[:-1], (COMPACT, shape.changes[-1]), (COMPACT,)]
+    if shape.rests:
+        return [shape.changes, (COMPACT, MORE), ()]
+    return [(*shape.changes, COMPACT), (MORE, COMPACT)]
 
 
 def try_shape(tools, place, shape):
     """Keeps a table of this shape. Answers how many changes were made, how many of them were left unquiet, and the slowest answer."""
-    manifest, log, table = manifest_of(tools, place, shape.observers), tools.folder / f"{place}.log", HostileTable(shape.observers)
-    unquiet = 0
-    with Kept(tools, manifest, log) as kept:
-        expect("a start", kept.answer(None), "open 0")
-        for row, column in shape.changes:
-            wanted = table.change((row, column))
-            expect("a change", kept.answer(f"put {row} {column} 2a"), wanted)
-            unquiet += wanted.endswith(" unquiet")
-        stats = ask_all(kept, shape, table)
-        kept.end()
-    expect("whether a table is quiet", unquiet == 0, shape.rests)
-    with Kept(tools, manifest, log) as again:
-        expect("a start again", again.answer(None), f"open {len(shape.changes)}")
-        expect("stats, again", ask_all(again, shape, table), stats)
-        again.end()
-    log.unlink()
-    return len(shape.changes), unquiet, max(kept.slowest, again.slowest)
+    trial = Trial(tools, place, shape)
+    for deeds in deeds_of(shape):
+        if trial.found > 1 and not trial.shape.rests:
+            trial.start_with_little()
+        trial.serve(deeds)
+    expect("whether a table is quiet", trial.unquiet == 0, shape.rests)
+    if not shape.is_large:
+        trial.go_on_with(tuple(it for it in shape.observers if it == QUIET))
+    trial.log.unlink()
+    return trial.changes, trial.unquiet, trial.slowest
 
 
 def tried(tools, place):

@@ -5,15 +5,16 @@
 - left: what a crash of the machine leaves of a new log is removed by the next compaction. What else has its name stays, and isn't in its
   way. What tables beside a log have of compactions is tried by the names (keep_names.py).
 - snapshots: records of snapshots, with right sums, of which bytes are changed, or whose versions no table has.
-- refused: a table that isn't quiet, a log that another program has open, or that isn't there, folders at all names of a new log, and a
-  full disk.
+- refused: a log that another program has open, that isn't there, or that is damaged, folders at all names of a new log, and a full disk.
 - meanwhile: another program opens the log while it is compacted.
 - sizes: a log that is compacted as it is opened, if it has so many bytes (`--compact-at`), and then served.
 
-What is found after each is one of two logs, that of before and the compacted one, byte by byte, since a table has one snapshot.
+What is found after each is one of two logs, that of before and the compacted one, byte by byte, since a table has one snapshot. Tables
+that aren't quiet have their own rows (keep_unquiet.py).
 """
 from __future__ import annotations
 
+import json
 import shlex
 import stat
 import sys
@@ -23,7 +24,7 @@ from pathlib import Path
 
 import logs
 from keep_ends import IN_USE, NO_SPACE, SmallDisk, expect
-from keep_room import NOT_QUIET, QUESTIONS, TOP, beside, free_names, left_of, line_of, made_in, new_names, take_names, without_history
+from keep_room import QUESTIONS, beside, free_names, left_of, line_of, made_in, new_names, take_names, without_history
 
 NO_FILE = "No such file or directory (os error 2)"
 KINDS = ("kill", "after", "torn", "short", "enospc", "eio")
@@ -221,19 +222,36 @@ def try_left(room, its, images, pool):
 # Snapshots
 
 
-def lines_of(snapshot, names):
-    """The lines of the report on cells and on runs, and those of what the observers have done."""
-    data = sorted((it for it in snapshot.versions if not it.cell[2]), key=lambda it: it.cell)
+def observers_of(cell, columns):
+    """The numbers of the observers of a cell, where these are the columns of all observers."""
+    return [number for number, column in enumerate(columns) if column == cell[1]]
+
+
+def acknowledged(newest, cell, number):
+    """The start up to which an observer has acknowledged a cell, by the newest version of each cell."""
+    its = newest.get((*cell[:2], 1, number))
+    return its.start if its else 0
+
+
+def lines_of(snapshot, names, columns):
+    """The lines of the report on cells, on runs and on marks, those of what the observers have done, and that of the entries, two for each
+    version. Each cell on which an observer is behind is marked."""
+    newest = {it.cell: it for it in snapshot.versions}
+    data = sorted((it for it in newest.values() if not it.cell[2]), key=lambda it: it.cell)
+    marks = sum(any(acknowledged(newest, it.cell, number) < it.commit for number in observers_of(it.cell, columns)) for it in data)
+    left = f"marks {marks} locks 0" if marks else "quiet"
     shown = [it.content if it.content == "deleted" else f"value {(it.content.rstrip(bytes(1)) or bytes(1)).hex()}" for it in data]
     words = ("runs", "nonzero", "conflicts", "asks", "instructions")
     return [
         *(f"cell {it.cell[0]} {it.cell[1]} commit {it.commit} {content}" for it, content in zip(data, shown)),
         *(f"runs {name} {its[0]}" for name, its in zip(names, snapshot.stats)),
+        *(left, left),
         *(" ".join(["stats", name, *(f"{word} {n}" for word, n in zip(words, its))]) for name, its in zip(names, snapshot.stats)),
+        f"entries {2 * len(snapshot.versions)}",
     ]
 
 
-def is_read(room, names, name, item):
+def is_read(room, observers, name, item):
     """Whether a log with this record is read; and what is wrong, where a reader of its own reads other cells there, or reports something
     else."""
     log, manifest = room.log(name), room.manifest.read_bytes()
@@ -242,8 +260,8 @@ def is_read(room, names, name, item):
     found, told = room.opened(log)
     try:
         snapshot, _ = logs.parts_of(file, manifest)
-        wanted = (0, lines_of(snapshot, names))
-        came = (found, [line for line in told if line.startswith(("cell ", "runs ", "stats "))] if found is not None else told)
+        wanted = (0, lines_of(snapshot, *observers))
+        came = (found, [line for line in told if line != "end"] if found is not None else told)
     except logs.Unreadable as why:
         wanted, came = (None, line_of(why)), (found, told)
     if came != wanted:
@@ -280,8 +298,6 @@ def wrong_snapshots(good):
         later(good, start=last.commit),
         later(good, start=last.start),
         replace(good, versions=[*good.versions, last]),
-        later(good, cell=last.cell),
-        later(good, cell=first.cell),
         with_ack((row, column, 1, len(good.stats))),
         with_ack((row, column, 1, 31)),
         with_ack((row, column + 1, 1, observer)),
@@ -304,15 +320,18 @@ def try_snapshots(room, its, chance, pool):
     """Opens logs with records of snapshots that are changed. Answers how many were reported, and how many were read."""
     manifest = room.manifest.read_bytes()
     good, _ = logs.parts_of(its.after, manifest)
-    names = [line.split()[1] for line in its.found[its.after][1] if line.startswith("stats ")]
+    last, own = good.versions[-1], json.loads(manifest)["observers"]
+    observers = [it["name"] for it in own], [it["column"] for it in own]
     item = logs.snapshot_record(good)
     expect("a compacted log that is made here", logs.log_of([logs.header(manifest), item]), its.after)
-    late, one = 2**63, replace(good.versions[-1], start=0, commit=2**63)
+    late, one = 2**63, replace(last, start=0, commit=2**63)
     tables = (good, later(good), replace(good, clock=late), replace(good, clock=late, versions=[one]), replace(good, clock=0, versions=[]))
+    # with another version of a cell that has one, also of an acknowledgment
+    tables = (*tables, *(later(good, cell=it.cell) for it in good.versions))
     right = [logs.snapshot_record(it) for it in tables]
     wrong = [logs.snapshot_record(it) for it in wrong_snapshots(good)]
     jobs = list(enumerate([*right, *wrong, *changed_records(item, chance)]))
-    results = list(pool.map(lambda job: is_read(room, names, f"snapshot-{job[0]}", job[1]), jobs))
+    results = list(pool.map(lambda job: is_read(room, observers, f"snapshot-{job[0]}", job[1]), jobs))
     for _, why in results:
         if why:
             sys.exit(f"keep: {why}")
@@ -364,20 +383,15 @@ def try_damage(room, its, chance, pool):
 # Refused
 
 
-def is_refused(room, what, log, sentence, out="", manifest=None):
+def is_refused(room, what, log, sentence):
     """A compaction reports this, and leaves the log as it was, and nothing beside it."""
     before = log.read_bytes() if log.is_file() else None
-    expect(what, room.compact(log, manifest), (1, out, line_of(sentence)))
+    expect(what, room.compact(log), (1, "", line_of(sentence)))
     expect(f"the log of {what}", (log.read_bytes() if log.is_file() else None, left_of(log)), (before, []))
 
 
 def try_refused(room, its):
     """Compacts what can't be, and what has other names or rights. Answers how many there were."""
-    log = room.log("unquiet")
-    endless = TOP / "examples/endless.json"
-    status, out, errors = room.run(log, ["put 7 15 2a"], manifest=endless)
-    expect("a change without end", (status, out, errors), (0, ["open 0", "made 2 unquiet"], ""))
-    is_refused(room, "a table that isn't quiet", log, NOT_QUIET, "open 1\n", endless)
     log = room.log("shared")
     log.write_bytes(its.before)
     with room.start(log) as running:
@@ -389,7 +403,7 @@ def try_refused(room, its):
     log = room.log("damaged")
     log.write_bytes(its.before[:-1])
     is_refused(room, "a log that is damaged", log, f"the log is damaged at byte {len(its.before) - 1}")
-    return 4 + try_names(room, its)
+    return 3 + try_names(room, its)
 
 
 def try_full(room, changes):
@@ -465,8 +479,8 @@ def from_size(size):
 
 
 def try_sizes(room, its):
-    """Serves logs that are compacted before that where they have so many bytes, where their table is quiet, and where the new log can be
-    made. Answers how many there were."""
+    """Serves logs that are compacted before that where they have so many bytes, and where the new log can be made. Answers how many there
+    were."""
     log = room.log("sized")
     log.write_bytes(its.before)
     size = int(next(line for line in room.run(log, ["stats"])[1] if line.startswith("log ")).split()[1])
@@ -484,18 +498,13 @@ def try_sizes(room, its):
     expect("what comes after a log of more bytes", room.run(log, NEXT, options=from_size(0)), its.next)
     log = room.log("new")
     expect("a log that isn't there", room.run(log, NEXT[:1], options=from_size(2**64 - 1))[1][0], "open 0")
-    log, endless = room.log("unquiet"), TOP / "examples/endless.json"
-    room.run(log, ["put 7 15 2a"], manifest=endless)
     before = log.read_bytes()
-    served = room.run(log, ["quiet?"], manifest=endless, options=from_size(0))
-    expect("a table that isn't quiet", served, (0, ["open 1", "marks 1 locks 0"], f"{log}: not compacted: {NOT_QUIET}\n"))
-    expect("its log", (log.read_bytes(), left_of(log)), (before, []))
     wrong = [from_size(word) for word in ("", "x", "+5", "-1", "05", 2**64)]
     for options in (*wrong, from_size(0)[:1], ("--compact", *from_size(0)), (*from_size(0), "--compact")):
-        status, out, errors = room.run(log, [], manifest=endless, options=options)
+        status, out, errors = room.run(log, [], options=options)
         is_usage = errors.count("\n") == 1 and "`percobpf_keep --help` has more" in errors
         expect(f"the words {options}", (status, out, is_usage, log.read_bytes()), (1, [], True, before))
-    return 7 + len(wrong) + 3
+    return 6 + len(wrong) + 3
 
 
 def try_all(room, its, changes, images_of, chance, pool):

@@ -5,7 +5,9 @@
 - lists: the same with random lists, over more generations: observers that stay, move, go, come back, and get other names or columns.
 - interrupted: at each call of such a compaction that changes a file or a folder, the program is killed, or the call fails.
 - each: a log is given lists that differ from its own in one thing each; and back, where what went comes with nothing acknowledged.
-- refused: manifests that are none, logs that aren't opened, and tables that don't come to rest. The log is as it was then.
+- refused: manifests that are none, and logs that aren't opened. The log is as it was then.
+
+Tables that aren't quiet, before or after, have their own rows (keep_unquiet.py).
 """
 from __future__ import annotations
 
@@ -16,7 +18,7 @@ from collections import Counter
 import logs
 from keep_compactions import NEXT, Log, compacted, traced, try_interrupted
 from keep_ends import IN_USE, expect
-from keep_room import NOT_QUIET, TOP, left_of, line_of, without_size
+from keep_room import TOP, left_of, line_of, without_size
 from kept_tables import KeptTable
 
 # How many changes each generation has; and of random lists, how many logs there are, with how many generations, and after which of
@@ -268,7 +270,7 @@ def try_refused(room, its):
         is_left(room, "a log that is open, for other observers", log, its.manifest, (1, "", line_of(f"{log}: {IN_USE}")))
         running.kill()
     expect("a log whose manifests were refused", room.opened(log), its.found[its.before])
-    return len(list(none_of(own))) + len(list(files_of(its))) + 1 + try_unquiet(room)
+    return len(list(none_of(own))) + len(list(files_of(its))) + 1
 
 
 def files_of(its):
@@ -277,25 +279,6 @@ def files_of(its):
     yield "another file, for other observers", logs.log_of([b"other log 1\n"]), logs.NO_LOG
     yield "a damaged log, for other observers", its.before[:-1], f"the log is damaged at byte {len(its.before) - 1}"
     yield "a log of a manifest that is none, for other observers", logs.log_of([logs.header(b"{}")]), "code 51"
-
-
-def try_unquiet(room):
-    """A table that isn't quiet, for more observers, for none, and for its own as another text; and one that isn't quiet with the observers
-    that come, behind its own or before them. Answers how many there were."""
-    log, endless, own = room.log("given-endless"), TOP / "examples/endless.json", json.loads(room.manifest.read_text())["observers"]
-    room.run(log, ["put 7 15 2a"], endless)
-    its = json.loads(endless.read_text())["observers"]
-    for what, observers in (("more", [*its, COPY]), ("no", []), ("its own", its)):
-        manifest = manifest_file(room, "of-an-endless", observers)
-        is_left(room, f"{what} observers of a table that isn't quiet", log, manifest, (1, "open 1\n", line_of(NOT_QUIET)))
-    log, kept = room.log("given-an-endless"), KeptTable(room.manifest.read_text())
-    expect("a change of another column", room.run(log, ["put 7 15 2a"])[1][1:], answered(kept, ["put 7 15 2a"]))
-    its = [observer("endless", name="endless")]
-    for observers in ([*own, *its], [*its, *own[1:]]):
-        with_endless = manifest_file(room, "with-endless", observers)
-        printed = printed_of(copy.deepcopy(kept).change_observers(with_endless.read_text()))
-        is_left(room, "an observer that doesn't come to rest", log, with_endless, (1, f"open 1\n{printed}", line_of(NOT_QUIET)))
-    return 5
 
 
 def try_new(room):

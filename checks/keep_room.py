@@ -15,8 +15,6 @@ TOP = Path(__file__).resolve().parent.parent
 # what is asked of a table; of its answers the size of the log isn't compared, since it depends on which changes share a record
 QUESTIONS = ("list", "quiet?", "stats")
 
-NOT_QUIET = "the table is not quiet"
-
 
 class Room:
     """A program, its manifest, and a folder for logs."""

@@ -3,20 +3,22 @@
 
 - interrupted: at each call of a program that makes a change, compacts its log and makes another change, it is killed, or the call fails.
 - killed: the program is killed at random moments, while it makes changes and compacts its log again and again.
-- asked: what a line `compact` is answered, and what is refused.
-- large: from which size on a log is compacted, and how a table that isn't quiet is left.
+- asked: what a line `compact` is answered.
+- large: from which size on a log is compacted.
+
+Tables that aren't quiet, and those without a timestamp left, have their own rows (keep_unquiet.py).
 """
 from __future__ import annotations
 
 import sys
 import time
 from collections import Counter
-from dataclasses import dataclass, replace
+from dataclasses import dataclass
 
 import logs
 from keep_compactions import KINDS, compacted, from_size, read_trace
 from keep_ends import IN_USE, ask, expect
-from keep_room import NOT_QUIET, TOP, free_names, left_of, line_of, made_in, take_names, without_history
+from keep_room import free_names, left_of, line_of, made_in, take_names, without_history
 
 LINES = ("put 3 0 2a", "compact", "put 4 0 2b; del 3 0")
 
@@ -171,7 +173,7 @@ def try_killed(room, changes, chance):
 
 
 def try_asked(room, its):
-    """Asks for compactions of a log, and of tables that can't be compacted. Answers how often one was asked for."""
+    """Asks for compactions of a log. Answers how often one was asked for."""
     log = room.log("asked")
     log.write_bytes(its.before)
     with room.start(log) as running:
@@ -209,25 +211,7 @@ def try_asked(room, its):
     link.symlink_to(log.name)
     expect("a log by a link", room.run(link, ["compact"]), asked)
     expect("the link, and its log", (link.is_symlink(), log.is_symlink(), log.read_bytes()), (True, False, its.after))
-    return 7 + try_unasked(room, its)
-
-
-def try_unasked(room, its):
-    """Tables that aren't compacted, and go on."""
-    log, endless, change = room.log("unasked"), TOP / "examples/endless.json", "put 7 15 2a"
-    room.run(log, [change], endless)
-    before = log.read_bytes()
-    asked = room.run(log, ["compact", "quiet?", "compact"], endless)
-    expect("a table that isn't quiet", asked, (0, ["open 1", "refused 78", "marks 1 locks 0", "refused 78"], ""))
-    expect("its log", (log.read_bytes(), left_of(log)), (before, []))
-    expect("what comes after a refusal", room.run(log, ["compact", change], endless)[1][2].endswith(" unquiet"), True)
-    manifest = room.manifest.read_bytes()
-    last = replace(logs.parts_of(its.after, manifest)[0], clock=2**64 - 1)
-    file = logs.log_of([logs.header(manifest), logs.snapshot_record(last)])
-    log.write_bytes(file)
-    expect("a table without a timestamp left", room.run(log, ["compact", "quiet?"]), (0, ["open 0", "refused 78", "quiet"], ""))
-    expect("its log", (log.read_bytes(), left_of(log)), (file, []))
-    return 4
+    return 7
 
 
 # Large
@@ -239,8 +223,7 @@ def size_of(log):
 
 
 def try_large(room, its):
-    """Makes changes, each of 24 bytes of the log, until that is large, twice; and until one is that can't be compacted. Answers how often
-    it was."""
+    """Makes changes, each of 24 bytes of the log, until that is large, twice. Answers how often it was."""
     log, change = room.log("large"), b"put 3 0 2a"
     log.write_bytes(its.after)
     least = size_of(log) + 3 * 24
@@ -264,26 +247,7 @@ def try_large(room, its):
         ask(running, b"quiet?")
         expect("a log that has twice the bytes", len(logs.changes_in(log.read_bytes(), room.manifest.read_bytes())), 0)
         running.kill()
-    return 2 + try_left(room)
-
-
-def try_left(room):
-    """A table that isn't quiet: its log is left, until it has twice the bytes, and that is reported each time."""
-    log, endless = room.log("left-large"), TOP / "examples/endless.json"
-    line = "; ".join(["put 7 15 2a", *(f"put {row} 0 {'2a' * 32}" for row in range(15))])
-    with room.start(log, from_size(0), manifest=endless) as running:
-        expect("an empty log that is large", running.stdout.readline(), b"open 0\n")
-        size, reported = size_of(log), 0
-        limit = 2 * size
-        while reported < 2:
-            expect("a change without end", ask(running, line.encode()).endswith(b" unquiet\n"), True)
-            size += 13 + len(line) + 1
-            if size >= limit:
-                limit, reported = 2 * size, reported + 1
-        running.stdin.close()
-        errors = running.stderr.read().decode()
-    expect("a log that is left", (size_of(log), errors), (size, f"{log}: not compacted: {NOT_QUIET}\n" * reported))
-    return reported
+    return 2
 
 
 def try_all(room, its, changes, chance, pool):

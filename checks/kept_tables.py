@@ -84,16 +84,17 @@ class OneSeat(model.Table):
 
 class KeptTable:
     """A table with observers; `known` says which of them are those of another manifest. `lines` are those of its changes since it began,
-    and `groups` says which of them are of one group: from one place up to another. Of the writes up to `begun` only the newest are there, and `before` are the runs that were committed by then.
+    and `groups` says which of them are of one group: from one place up to another. Of the writes up to `begun` some are gone, and `before`
+    are the runs that were committed by then.
     It has begun anew so often: `generation`. `size` has the bytes of its log, if each line is sent once the one before it is answered. From
-    `least` bytes on it is compacted, and next from `limit` bytes on; so often it was too large, and not quiet: `left_large`."""
+    `least` bytes on it is compacted, and next from `limit` bytes on."""
 
     def __init__(self, manifest):
         self.manifest = manifest
         self.observers, self.known = model.observers_of(manifest), known_by(manifest)
         self.table = OneSeat(self.observers)
         self.begun, self.generation, self.lines, self.groups = 0, 0, [], []
-        self.size, self.least, self.limit, self.left_large = 0, LAST, LAST, 0
+        self.size, self.least, self.limit = 0, LAST, LAST
         self.log_has([])
         self.before = [0] * len(self.observers)
         # the answers of a group that hasn't ended, and the changes of it
@@ -111,6 +112,10 @@ class KeptTable:
         """What is left to do."""
         locks = sum(map(len, self.table.locks.values()))
         return f"marks {len(self.table.marks)} locks {locks}" if self.table.marks or locks else "quiet"
+
+    def is_behind(self, cell):
+        """Whether an observer is behind on a data cell: it hasn't acknowledged the newest write."""
+        return any(column == cell[1] and self.table.is_behind(number, cell) for number, column in enumerate(self.table.columns))
 
     def entries(self):
         """How many entries the table has."""
@@ -155,21 +160,27 @@ class KeptTable:
         newest = self.newest(row, column)
         return [f"{model.shown(newest[2])} commit {newest[1]}" if newest else "absent"]
 
+    def taken_of(self, cell):
+        """The commits and starts of the versions of a cell that a snapshot takes: of a data cell that an observer is behind on all of them,
+        and of any other the newest."""
+        rising = sorted(self.table.records[cell].items())
+        return rising if model.is_data(cell) and self.is_behind(cell) else rising[-1:]
+
     def snapshot(self, places=None):
-        """The newest version of each cell, of which those of one transaction follow one another, and what the observers have done; or
-        what a snapshot has of the observers at these places, each with the number of its place."""
+        """The versions that are taken of each cell, of which those of one transaction follow one another, and what the observers have done;
+        or what a snapshot has of the observers at these places, each with the number of its place."""
         table, places = self.table, range(len(self.observers)) if places is None else places
         # of each cell, the one that it will be
         cells = {cell: cell for cell in table.records if model.is_data(cell)}
         cells |= {cell: (*cell[:3], places.index(cell[3])) for cell in table.records if not model.is_data(cell) and cell[3] in places}
-        newest = [(cell, *max(table.records[cell].items())) for cell in cells if table.records[cell]]
-        versions = [Version(start, cells[cell], commit, table.data[cell][start]) for cell, commit, start in newest]
+        taken = [(cell, commit, start) for cell in cells for commit, start in self.taken_of(cell)]
+        versions = [Version(start, cells[cell], commit, table.data[cell][start]) for cell, commit, start in taken]
         in_order = sorted(versions, key=lambda it: (it.start, it.cell))
         return Snapshot(table.clock, [astuple(table.counts[place]) for place in places], in_order)
 
     def begin_anew(self, places=None):
-        """Begins anew with the newest versions, where nothing is left to do, and with the observers at these places alone. What is left of
-        a transaction has declared those of them that it wrote."""
+        """Begins anew with the versions of a snapshot, and with the observers at these places alone. What is left of a transaction has
+        declared those of them that it wrote. Each cell that one of these observers is behind on is marked, and no other."""
         places = range(len(self.observers)) if places is None else places
         snapshot, runs, counts = self.snapshot(places), self.runs(), self.table.counts
         self.observers, self.known = [self.observers[place] for place in places], [self.known[place] for place in places]
@@ -181,13 +192,14 @@ class KeptTable:
             own.declared.append((it.cell, it.content))
         table.counts = [counts[place] for place in places]
         self.table, self.begun, self.lines, self.groups = table, table.clock, [], []
+        table.marks = {cell for cell in [*table.records] if model.is_data(cell) and self.is_behind(cell)}
         self.generation += 1
         self.log_has([logs.snapshot_record(snapshot)])
         return len(snapshot.versions)
 
     def compact(self):
-        """Begins anew, where nothing is left to do. Answers how many versions it has then, or None."""
-        if self.left() != "quiet" or self.table.clock == LAST:
+        """Begins anew, where a timestamp is left. Answers how many versions it has then, or None."""
+        if self.table.clock == LAST:
             return None
         versions = self.begin_anew()
         self.limit = max(self.least, 2 * self.size)
@@ -195,30 +207,31 @@ class KeptTable:
 
     def start(self, least=LAST):
         """A program is started, by which its log is compacted from so many bytes on."""
-        self.least, self.limit, self.left_large = least, least, 0
+        self.least, self.limit = least, least
         self.compact_large()
 
     def compact_large(self):
-        """Begins anew where its log is large. Where that isn't quiet, it is left until the log has twice the bytes."""
+        """Begins anew where its log is large. Where no timestamp is left, it is left until the log has twice the bytes."""
         if self.size >= self.limit and self.compact() is None:
-            self.limit, self.left_large = 2 * self.size, self.left_large + 1
+            self.limit = 2 * self.size
 
     def change_observers(self, manifest):
-        """Goes on with the observers of this manifest, where nothing is left to do: with those that it has, then with the others, for which
-        passes are made, until they have caught up with all cells of their columns, or so many as may be made; and then in the order of
-        the manifest, where nothing is left to do again. Answers how many came, how many runs were committed, and how many are gone."""
+        """Goes on with the observers of this manifest: with those that it has, then with the others, and passes are made, until no cell is
+        marked, or so many as may be made; and then in the order of the manifest, if that is another one, with passes of its own. Answers
+        how many came, how many runs were committed in the passes that came first, and how many are gone."""
         observers, known, had = model.observers_of(manifest), known_by(manifest), len(self.known)
         self.begin_anew([self.known.index(it) for it in known if it in self.known])
         stayed = len(self.known)
         runs = self.observe_also([(it, its) for it, its in zip(observers, known) if its not in self.known])
-        self.manifest = manifest
-        if self.left() == "quiet":
-            self.begin_anew([self.known.index(it) for it in known])
+        self.manifest, places = manifest, [self.known.index(it) for it in known]
+        if places != sorted(places):
+            self.begin_anew(places)
+            self.observe_also([])
         return len(known) - stayed, runs, had - stayed
 
     def observe_also(self, added):
-        """Gets observers after its own, and makes passes, with a run more for each entry and each observer than after a change. Answers
-        how many runs were committed."""
+        """Gets observers after its own, or none, and makes passes, with a run more for each entry and each observer than after a change.
+        Answers how many runs were committed."""
         observers, table, before = [it for it, _ in added], self.table, len(self.table.transactions)
         self.observers, self.known = [*self.observers, *observers], [*self.known, *(its for _, its in added)]
         self.before += [0 for _ in added]

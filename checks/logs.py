@@ -61,8 +61,8 @@ def sum_of(place, item):
 
 @dataclass(frozen=True)
 class Version:
-    """The newest version of a cell. The cell is a row, a column, 0 or 1 of an acknowledgment, and its observer; so cells are in the
-    order of the table's. The content is a value of 32 bytes, `deleted`, or the number of a stamp."""
+    """A version of a cell. The cell is a row, a column, 0 or 1 of an acknowledgment, and its observer; so cells are in the order of
+    the table's. The content is a value of 32 bytes, `deleted`, or the number of a stamp."""
 
     start: int
     cell: tuple[int, int, int, int]
@@ -72,7 +72,7 @@ class Version:
 
 @dataclass(frozen=True)
 class Snapshot:
-    """The clock, five numbers for each observer, and the versions."""
+    """The clock, five numbers for each observer, and the versions, of which some may be of one cell."""
 
     clock: int
     stats: list[tuple[int, ...]]
@@ -129,7 +129,6 @@ def is_of_table(snapshot, columns):
     cells = {version.cell for version in versions}
     return (
         len(snapshot.stats) == len(columns)
-        and len(cells) == len(versions)
         and all(version.start < version.commit <= snapshot.clock and version.cell[1] < 16 for version in versions)
         and all(follows(version, last) for last, version in zip(versions, versions[1:]))
         and all(columns[cell[3] : cell[3] + 1] == [cell[1]] for cell in cells if cell[2])

@@ -3,12 +3,11 @@
 A session has a manifest, and a log that is opened several times. Its lines come one by one or many at once, and parted anywhere. The
 input ends after a line, within a group, or within a last line; or the program is killed once all is answered. Lines ask for compactions.
 Some programs are started to compact logs of so many bytes: these get a line once the one before it is answered, so that the model knows
-when that is. Between two starts the log may be compacted, for some with other observers, and then it has to have the newest versions of
-the model.
+when that is. Between two starts the log may be compacted, for some with other observers, and then it has to have the versions of the
+model. Some tables are left with something to do, and are compacted so.
 """
 from __future__ import annotations
 
-import copy
 import json
 import random
 import re
@@ -20,7 +19,6 @@ from collections import Counter
 from pathlib import Path
 
 import logs
-from keep_room import NOT_QUIET, line_of
 from kept_tables import LOG_OF, KeptTable
 from model import observers_of
 from random_lines import LAST, NO_OBSERVERS, TOP, line_from, manifest_of
@@ -39,6 +37,8 @@ COMPACTIONS, OTHERS, LARGE = (0, 1, 1, 2), 0.5, 0.35
 ABOVE = (-1, 0, 1, 40, 150, 400)
 # How likely an observer stays, and how many observers a manifest of others has at most.
 STAYS, MOST_OBSERVERS = 0.8, 8
+# How likely a table that is left with something to do is compacted by a line.
+UNQUIET = 0.5
 
 
 # A program that writes the cell of the row before its own, and none from row 0, so that each pass has one run, and marks one cell.
@@ -109,10 +109,8 @@ class Session:
         except BrokenPipeError:
             pass
         rest, errors = self.running.stdout.read(), self.running.stderr.read()
-        left_large = f"{self.log.resolve()}: not compacted: {NOT_QUIET}\n" * self.kept.left_large
-        self.compare("the end", (self.running.wait(), rest, errors.decode()), (status, b"", left_large))
+        self.compare("the end", (self.running.wait(), rest, errors.decode()), (status, b"", ""))
         self.timer.cancel()
-        self.met["left large"] += self.kept.left_large
         file = self.log.read_bytes()
         self.compare("the log", logs.changes_in(file, self.manifest.read_bytes()), self.kept.lines)
         self.compare("groups that stand in two records", self.parted_groups(file), [])
@@ -174,9 +172,10 @@ class Session:
             return wanted
         wanted = [f"log {self.kept.size}" if answer.startswith(LOG_OF) else answer for answer in wanted]
         if self.kept.waiting is None:
-            generation = self.kept.generation
+            generation, is_left = self.kept.generation, self.kept.left() != "quiet"
             self.kept.compact_large()
             self.met["compacted at a size"] += self.kept.generation - generation
+            self.met["compacted at a size, unquiet"] += is_left and self.kept.generation - generation
         return wanted
 
     def batch(self, pick, field):
@@ -196,30 +195,30 @@ class Session:
             self.exchange(parts_of(pick, b"".join(lines)), [answer for its in wanted for answer in its])
 
     def compact(self, manifest=None):
-        """Compacts the log, for a manifest with other observers where one is given, and where nothing is left to do, also not by these;
-        else that is reported, and the log stays as it is."""
-        before, kept, file = self.log.read_bytes(), copy.deepcopy(self.kept), self.folder / "others.json"
+        """Compacts the log, for a manifest with other observers where one is given, also where something is left to do."""
+        kept, file = self.kept, self.folder / "others.json"
         file.write_text(manifest or kept.manifest)
-        printed, is_quiet = f"open {len(kept.lines)}\n", kept.left() == "quiet"
-        if is_quiet and manifest not in (None, kept.manifest):
-            printed += self.change_observers(kept, manifest)
+        printed, is_left = f"open {len(kept.lines)}\n", kept.left() != "quiet"
+        if manifest not in (None, kept.manifest):
+            printed += self.change_observers(manifest)
         words = [self.program, "--compact", file, self.log]
         ended = subprocess.run(words, stdin=subprocess.DEVNULL, capture_output=True, timeout=SECONDS)
-        snapshot, versions = kept.snapshot(), kept.compact()
-        wanted = (1, printed, line_of(NOT_QUIET)) if versions is None else (0, f"{printed}compacted {versions}\n", "")
+        snapshot = kept.snapshot()
+        wanted = 0, f"{printed}compacted {kept.compact()}\n", ""
         self.compare("a compaction", (ended.returncode, ended.stdout.decode(), ended.stderr.decode()), wanted)
-        self.met["not compacted" if versions is None else "compacted between"] += 1
-        if versions is None:
-            self.compare("the log of a table that isn't quiet", self.log.read_bytes(), before)
-            return
+        self.met["compacted between"] += 1
+        self.met["compacted between, unquiet"] += is_left
         self.compare("the snapshot", logs.parts_of(self.log.read_bytes(), file.read_bytes()), (snapshot, []))
-        self.kept = kept
         file.rename(self.manifest)
 
-    def change_observers(self, kept, manifest):
+    def change_observers(self, manifest):
         """What is printed where the table gets the observers of this manifest."""
-        known = kept.known
+        kept = self.kept
+        known, was_left = kept.known, kept.left() != "quiet"
         count, runs, gone = kept.change_observers(manifest)
+        self.met["unquiet for others"] += was_left
+        self.met["unquiet by others"] += kept.left() != "quiet"
+        self.met["quiet by others"] += was_left and kept.left() == "quiet"
         places = [known.index(it) for it in kept.known if it in known]
         others = json.loads(manifest)["observers"]
         self.met["observers added"] += count
@@ -257,16 +256,22 @@ class Session:
             self.running.stdin.close()
             self.exchange([], self.take(line))
 
+    def compact_unquiet(self, pick):
+        """A line that compacts a table where something is left to do, for some; what is left stays so."""
+        if self.kept.waiting is None and self.kept.left() != "quiet" and pick.random() < UNQUIET:
+            for line in (b"compact", b"quiet?"):
+                self.exchange([line + b"\n"], self.take(line))
+            self.met["compacted by a line, unquiet"] += 1
+
     def go(self, pick, field):
         for _ in range(pick.choice(STARTS)):
             self.start(max(self.size() + pick.choice(ABOVE), 0) if pick.random() < LARGE else LAST)
             self.met["starts"] += 1
             for _ in range(pick.choice(BATCHES)):
                 self.batch(pick, field)
-            if self.kept.waiting is None and self.kept.left() != "quiet":
-                self.exchange([b"compact\n"], self.take(b"compact"))
+                self.compact_unquiet(pick)
             self.close(pick, field)
-            for _ in range(pick.choice(COMPACTIONS)):
+            for _ in range(1 if self.kept.left() != "quiet" else pick.choice(COMPACTIONS)):
                 self.compact(others_from(pick, field, self.kept.manifest, self.had) if pick.random() < OTHERS else None)
 
 

@@ -65,7 +65,7 @@ class Compacted(Refused):
 
 
 class NotCompacted(Refused):
-    """The log can't be compacted, and is as it was: the table isn't quiet, has no timestamp left, or is too large."""
+    """The log can't be compacted, and is as it was: the table has no timestamp left, or is too large."""
 
 
 class Unmade(Exception):
@@ -234,8 +234,9 @@ class Table:
         return answer == "quiet"
 
     def compact(self) -> int:
-        """Compacts the log, and returns how many versions its snapshot has. `NotCompacted` is raised where it can't be. Writes of
-        before are gone for all clients of the table: their next `since` of an earlier commit raises `Compacted`."""
+        """Compacts the log, and returns how many versions its snapshot has. `NotCompacted` is raised where it can't be. The table needn't
+        be quiet: what is left to do stays so. Writes of before are gone for all clients of the table: their next `since` of an earlier
+        commit raises `Compacted`."""
         answer = self._ask("compact")
         found = matched(COMPACTED, answer)
         if not found:
