@@ -1,5 +1,5 @@
 //! Tablets side by side, seen as one: calls of one row go to its tablet, and walks go from tablet to tablet.
-ghost use Rattle.std.specs.Prelude.{◌≡◌, ◌<◌, IfOk, IfErr, OnOk, OnErr, IfSome, None, Some, drop, length, slice_get};
+ghost use Rattle.std.specs.Prelude.{◌≡◌, ◌<◌, ◌-◌, ◌^◌, min, IfOk, IfErr, OnOk, OnErr, IfSome, None, Some, drop, length, slice_get};
 ghost use Rattle.std.specs.FinMap as map;
 ghost use Rattle.std.specs.Option.{option_map};
 ghost use Rattle.pb_store.specs.Contents.{nothing, is_nothing, after_edits, entries_after, AreEdits, IsOfSort, IsNewest, IsNextMark};
@@ -123,6 +123,16 @@ fn entry_in<T: Tablet>(parts: &[(Row, T)], place: usize) -> Option<(Slot, Item)>
     None
 }
 
+// How many entries tablets have together, or the greatest number where they are more.
+fn count_in<T: Tablet>(parts: &[(Row, T)]) -> usize
+    ensures { result ≡ min (length (all_entries (tiles_of T.contents parts.now))) (2 ^ 64 - 1) }
+{
+    let Some((first, others)) = parts.split_first() else {
+        return 0;
+    };
+    first.1.len().saturating_add(count_in(others))
+}
+
 // The cell of a slot, by whose row a walk over entries finds its first tablet.
 fn cell_of(slot: &Option<Slot>) -> Option<Cell>
     ensures { result ≡ option_map (λ s. s.cell) slot.now }
@@ -230,6 +240,13 @@ impl<T: Tablet> Table<T> {
         ensures some { 0 < result }
     {
         self.parts.len()
+    }
+
+    /// How many entries it has, marks not counted, or the greatest number where they are more.
+    pub fn len(&self) -> usize
+        ensures { result ≡ min (map.len self.now.contents.entries) (2 ^ 64 - 1) }
+    {
+        count_in(&self.parts)
     }
 
     /// Whether it has no entry and no mark.
