@@ -16,10 +16,12 @@ use Rattle.pb_notify.specs.Conversations.{run_job}
 use Rattle.pb_passes.specs.Passes.{job_on}
 use Rattle.law_replays.specs.Words.{Writes, Cell, row_of, Ts, ObserverOf, Step, Answer, Work, Declared, StateOf, TableStep, HasMoreObservers, IsSoundTable, OpeningIsSound, StepsKeepSound, Received, told, took, went, no_part, one_part, IsWhole, committed, prewrites, secondaries, Outcome, Reaches, RunOf, Watch, fresh, need_of, next_of, watch_of, JobEnd, Need, IsRun, IsOfOther, IsTurnOf, AreRuns, AreAllRuns, IsMarkRun, IsMarkless, IsPass, IsNextPass, IsNextTurn, EndsDrain, HasColumn, IsDrain, MAX_PASSES, ChosenAreSound, LeftAreSound, MAX_RECORD_BYTES, EachHasOneMeaning, StepsHaveOneOutcome, MachinesAreLed, RunPlace}
 use Rattle.pb_keeper.specs.Drains.{within, cut_off, AreRunsDue, IsDrainDue, IsDrainWithin, IsMarkDue, IsPassDue, IsRunDue}
-use Rattle.pb_keeper.specs.Keeps.{AreMade}
+use Rattle.pb_keeper.specs.Keeps.{IsKeptAfter, KeepsFrom, none_made, one_made}
 use Rattle.pb_keeper.specs.Leads.{IsEndedChange}
-use Rattle.pb_keeper.specs.Made.{IsMade}
-use Rattle.pb_keeper.specs.declared.passes.TheConstants.{MAX_RUNS}
+use Rattle.pb_keeper.specs.Made.{IsMade, runs_within}
+use Rattle.pb_keeper.specs.Stats.{KeptTable}
+use Rattle.pb_keeper.proofs.Leading.{leads_observers}
+use Rattle.pb_keeper.proofs.LedTables.{led_by}
 use Rattle.pb_keeper.proofs.Resting.{first_sound, marked_sound}
 use Rattle.pb_keeper.proofs.BegunRuns.{run_is_one}
 use Rattle.pb_keeper.proofs.Wholes.{leads_parts, stays_sound}
@@ -287,23 +289,33 @@ module _ (once : StepsHaveOneOutcome) (keeps : StepsKeepSound) where
 
     -- ---- changes
 
-    made_once : (batch : Writes) (c d : Ts) → HappenOnce (IsMade observers batch c) (IsMade observers batch d)
-    made_once batch c d said more m a b f g sound =
+    made_once : (bound : ℕ) (batch : Writes) (c d : Ts) → HappenOnce (IsMade observers bound batch c) (IsMade observers bound batch d)
+    made_once bound batch c d said more m a b f g sound =
         joined_once IsSoundTable SeatLeads leads_parts (stays_sound keeps) c d tt tt said more f.change f.drain g.change g.drain m a b f.said_is g.said_is
-        (λ i j. change_once batch c d f.change g.change m i j f.changed g.changed sound) (λ i _. drain_within_once MAX_RUNS f.drain g.drain i a b f.drained g.drained) sound
+        (λ i j. change_once batch c d f.change g.change m i j f.changed g.changed sound) (λ i _. drain_within_once bound f.drain g.drain i a b f.drained g.drained) sound
 
-    all_once : (cs ds : List Writes) → cs ≡ ds → HappenOnce (AreMade observers cs) (AreMade observers ds)
-    all_once cs ds e said more m a b no_part no_part = same_words tt tt said more m a b refl refl
-    all_once cs ds e said more m a b no_part (one_part ks now s t f is) = let none = ap length (e ∙ is.now_is) in absurd (omega (arith, none, length_push ks is.batch))
-    all_once cs ds e said more m a b (one_part ks now s t f is) no_part = let none = ap length (sym e ∙ is.now_is) in absurd (omega (arith, none, length_push ks is.batch))
-    all_once cs ds e said more m a b (one_part ks now s t f is) (one_part ls then u v g other) = λ sound.
-        let same = same_from_push ks ls is.batch other.batch (sym is.now_is ∙ e ∙ other.now_is) in
-        joined_once IsSoundTable SeatLeads leads_parts (stays_sound keeps) tt tt tt tt said more s t u v m a b refl refl (λ i j. all_once ks ls same.0 s u m i j f g sound)
-        (λ i _. made_once is.batch is.commit other.commit t v i a b is.made (subst (λ w. IsMade observers w other.commit v) (sym same.1) other.made)) sound
+    -- after the same table, with the same limit, a change leads to one
+    kept_once : (limit : ℕ) (batch other : Writes) (m n a b : KeptTable) → m.state.observers ≡ observers → m.state ≡ n.state → batch ≡ other → IsKeptAfter limit batch m a → IsKeptAfter limit other n b → IsSoundTable m.state → a.state ≡ b.state
+    kept_once limit batch other m n a b own alike one f g sound =
+        let bound = λ (s : StateOf). runs_within limit (map.len s.entries) in
+        let made : IsMade n.state.observers (bound n.state) batch g.commit g.leads.said = subst (λ w. IsMade n.state.observers (bound n.state) w g.commit g.leads.said) (sym one) g.leads.form.form in
+        let here : IsMade m.state.observers (bound m.state) batch g.commit g.leads.said = subst (λ (s : StateOf). IsMade s.observers (bound s) batch g.commit g.leads.said) (sym alike) made in
+        (made_once (bound m.state) batch f.commit g.commit f.leads.said g.leads.said m.state a.state b.state
+        (subst (λ l. IsMade l (bound m.state) batch f.commit f.leads.said) own f.leads.form.form) (subst (λ l. IsMade l (bound m.state) batch g.commit g.leads.said) own here) sound
+        f.leads.leads (subst (λ (s : StateOf). SeatLeads s g.leads.said b.state) (sym alike) g.leads.leads)).table_is
+
+    all_once : (limit : ℕ) (first a b : KeptTable) (cs ds : List Writes) → first.state.observers ≡ observers → IsSoundTable first.state → cs ≡ ds → KeepsFrom limit first cs a → KeepsFrom limit first ds b → a.state ≡ b.state
+    all_once limit first a b cs ds own sound e none_made none_made = refl
+    all_once limit first a b cs ds own sound e none_made (one_made ks batch m n k is) = let none = ap length e in absurd (omega (arith, none, length_push ks batch))
+    all_once limit first a b cs ds own sound e (one_made ks batch m n k is) none_made = let none = ap length (sym e) in absurd (omega (arith, none, length_push ks batch))
+    all_once limit first a b cs ds own sound e (one_made ks batch m x f is) (one_made ls other n y g at) =
+        let parts = same_from_push ks ls batch other e in
+        let led = led_by limit first ks m f in
+        kept_once limit batch other m n a b (leads_observers first.state m.state led ∙ own) (all_once limit first m n ks ls own sound parts.0 f g) parts.1 is at (stays_sound keeps first.state m.state led.said sound led.leads)
 
 pub replay_once : StepsHaveOneOutcome → StepsKeepSound → OpeningIsSound → LeftAreSound → ChosenAreSound → EachHasOneMeaning → MachinesAreLed → ReplayHasOneOutcome
-replay_once once keeps opens left chosen meaning led first changes a b judged f g =
-    (all_once once keeps meaning led first.state.observers judged changes changes refl f.leads.said g.leads.said first.state a.state b.state f.leads.form.form g.leads.form.form (first_sound keeps opens left chosen f.past first f.began) f.leads.leads g.leads.leads).table_is
+replay_once once keeps opens left chosen meaning led limit first changes a b judged f g =
+    all_once once keeps meaning led first.state.observers judged limit first a b changes changes refl (first_sound keeps opens left chosen f.past first f.began) refl f.leads g.leads
 
 -- ---- observers that are added
 
@@ -321,10 +333,10 @@ marked_once more old m n f g =
     f.is ∙ (λ i. record old { observers = old.observers ++ more; marks = marks i }) ∙ sym g.is
 
 pub caught_up_once : StepsHaveOneOutcome → StepsKeepSound → OpeningIsSound → LeftAreSound → ChosenAreSound → EachHasOneMeaning → MachinesAreLed → CatchingUpHasOneOutcome
-caught_up_once once keeps opens left chosen meaning led first changes old between a b places front more judged k is f g bound =
+caught_up_once once keeps opens left chosen meaning led limit first changes old between a b places front more judged k is f g bound =
     let observers = front ++ more in
     let same = marked_once more between.state f.marked.state g.marked.state f.observed g.observed in
-    let sound = marked_sound keeps opens left chosen k.past changes first old between a places front more k.began k.leads is f in
+    let sound = marked_sound keeps opens left chosen limit k.past changes first old between a places front more k.began k.leads is f in
     let drained = λ (said : List Received) (m : StateOf) (has : HasMoreObservers more between.state m) (d : IsDrainWithin m.observers f.bound said). subst (λ (l : List ObserverOf). IsDrainWithin l f.bound said) (observers_after m has) d in
     let other = subst (λ n. IsDrainWithin g.marked.state.observers n g.drained.said) (sym bound) g.drained.form.form in
     (drain_within_once once keeps meaning led observers judged f.bound f.drained.said g.drained.said f.marked.state a.state b.state (drained f.drained.said f.marked.state f.observed f.drained.form.form) (drained g.drained.said g.marked.state g.observed other)

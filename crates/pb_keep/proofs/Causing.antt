@@ -1,11 +1,11 @@
 -- Why a table is kept no longer.
-use Rattle.std.proofs.Common.{◌≡◌, ℕ, ◌<◌, ◌≤◌, ◌^◌, Bool, true, List, [], ◌∷◌, length, refl, sym, subst, arith, length-append}
+use Rattle.std.proofs.Common.{◌≡◌, ℕ, ◌<◌, ◌≤◌, ◌+◌, ◌^◌, Bool, true, List, [], ◌∷◌, length, refl, sym, subst, arith, length-append}
 use Rattle.pb_log.specs.declared.fault.LogFault.{LogFault}
 use Rattle.pb_log.specs.Causes.{IsNotBegun}
 use Rattle.pb_log.specs.Records.{blocks}
 use Rattle.pb_state.specs.declared.carry_fault.CarryFault.{CarryFault}
 use Rattle.pb_keeper.specs.Keeps.{BeginningKeepsNone}
-use Rattle.pb_keeper.specs.Stops.{IsStop}
+use Rattle.pb_keeper.specs.Stops.{IsStop, WantsMemory as StoppedForMemory}
 use Rattle.pb_snapshots.specs.TakenOrder.{IsForMemory}
 use Rattle.pb_keep.specs.Words.{HasRecords, KeptTable, ObserverOf, StateOf, Stopped, WhyNotOpened, WhyNotPut, header}
 use Rattle.pb_keep.specs.declared.fault.KeepFault.{KeepFault}
@@ -14,13 +14,13 @@ use Rattle.pb_keep.specs.Changed.{why_refused, why_stopped, WhyNotChanged}
 use Rattle.pb_keep.specs.Again.{in_part, IsMadeInPart, WhyNotAllMade}
 use Rattle.pb_keep.specs.Causes.{IsOfAnew, IsOfFirst, IsOfPut, WhyNotKept, WhyNotMadeAgain, WhyNotServed}
 use Rattle.pb_keep.specs.Conversations.{KeeperView}
-use Rattle.pb_keep.specs.Kept.{origin_of, IsBegunWith}
-use Rattle.pb_keep.specs.Left.{fault_by, IsOfLog, IsOfMaking, IsRightOf}
+use Rattle.pb_keep.specs.Kept.{head, origin_of, IsBegunWith}
+use Rattle.pb_keep.specs.Left.{fault_by, IsOfLog, IsOfMaking, WantsMemory}
 
-pub stopped_rightly : (e : Stopped) (state : StateOf) → IsStop e state → IsRightOf state (fault_by e)
-stopped_rightly (Stopped.NoMemory refused) state h = tt
-stopped_rightly (Stopped.Refused why) state h = h.1
-stopped_rightly Stopped.Conflict state h = absurd h
+pub stopped_for_memory : (e : Stopped) → StoppedForMemory e → WantsMemory (fault_by e)
+stopped_for_memory (Stopped.NoMemory refused) h = tt
+stopped_for_memory (Stopped.Refused why) h = absurd h
+stopped_for_memory Stopped.Conflict h = absurd h
 
 -- ---- where a table goes on with other observers
 
@@ -76,6 +76,10 @@ not_both KeepFault.Input making of = of
 pub begins_low : (manifest : List ℕ) (end : ℕ) → length manifest < 2 ^ 31 → end ≡ length (blocks 0 (header manifest ∷ [])) → end < 2 ^ 62
 begins_low manifest end short ends = grind (arith, short, ends, length-append)
 
+-- what stands in the first record is little more than the manifest
+pub head_low : (manifest first : List ℕ) → length manifest < 2 ^ 30 → length first ≤ length manifest + 27 → length first < 2 ^ 31
+head_low manifest first short few = omega (arith, short, few)
+
 -- so a put into it fails only as its opening may
 pub put_as_opened : (manifest : List ℕ) (before now end : ℕ) (file : List ℕ) (e : LogFault) → end < 2 ^ 62 → WhyNotPut before now end e → WhyNotOpened manifest before now file e
 put_as_opened manifest before now end file (LogFault.NoMemory n) low h = tt
@@ -99,13 +103,13 @@ module _ (before now : ℕ) (failed : Bool) (k : KeeperView) where
   not_put KeepFault.Output h = absurd h
   not_put KeepFault.Input h = absurd h
 
-  pub not_made : (e : KeepFault) → IsOfMaking e → IsRightOf k.table.state e → WhyNotKept before now failed k e
+  pub not_made : (e : KeepFault) → IsOfMaking e → WantsMemory e → WhyNotKept before now failed k e
   not_made (KeepFault.Log e) of right = absurd of
   not_made (KeepFault.NoMemory e) of right = tt
   not_made (KeepFault.MadeInPart e made all) of right = absurd of
   not_made KeepFault.Record of right = absurd of
   not_made KeepFault.Snapshot of right = absurd of
-  not_made KeepFault.NoTimestamp of right = right
+  not_made KeepFault.NoTimestamp of right = absurd right
   not_made KeepFault.Output of right = absurd of
   not_made KeepFault.Input of right = absurd of
 
@@ -119,54 +123,56 @@ module _ (before now : ℕ) (failed : Bool) (k : KeeperView) where
   not_served (KeepFault.MadeInPart e made all) h = absurd h
   not_served KeepFault.Record h = absurd h
   not_served KeepFault.Snapshot h = absurd h
-  not_served KeepFault.NoTimestamp h = h
+  not_served KeepFault.NoTimestamp h = absurd h
   not_served KeepFault.Output h = h
   not_served KeepFault.Input h = absurd h
 
 -- ---- when a log is opened
 
 -- a fault in the midst of the changes of records
-pub why_left : (records : List (List ℕ)) (old : KeptTable) (e : KeepFault) (made all : ℕ) → IsOfAnew e → IsMadeInPart records old made all → WhyNotAllMade records old (in_part e made all)
-why_left records old (KeepFault.NoMemory e) made all of part = part
-why_left records old (KeepFault.MadeInPart e m n) made all of part = absurd of
-why_left records old (KeepFault.Log e) made all of part = absurd of
-why_left records old KeepFault.Record made all of part = tt
-why_left records old KeepFault.Snapshot made all of part = absurd of
-why_left records old KeepFault.NoTimestamp made all of part = tt
-why_left records old KeepFault.Output made all of part = absurd of
-why_left records old KeepFault.Input made all of part = absurd of
+pub why_left : (limit : ℕ) (records : List (List ℕ)) (old : KeptTable) (new : StateOf) (e : KeepFault) (made all : ℕ) → IsOfAnew e → IsMadeInPart limit records old new made all → WhyNotAllMade limit records old new (in_part e made all)
+why_left limit records old new (KeepFault.NoMemory e) made all of part = part
+why_left limit records old new (KeepFault.MadeInPart e m n) made all of part = absurd of
+why_left limit records old new (KeepFault.Log e) made all of part = absurd of
+why_left limit records old new KeepFault.Record made all of part = tt
+why_left limit records old new KeepFault.Snapshot made all of part = absurd of
+why_left limit records old new KeepFault.NoTimestamp made all of part = tt
+why_left limit records old new KeepFault.Output made all of part = absurd of
+why_left limit records old new KeepFault.Input made all of part = absurd of
 
-pub not_made_again : BeginningKeepsNone → (observers : List ObserverOf) (manifest : List ℕ) (before now since : ℕ) (file : List ℕ) (records scripts : List (List ℕ)) (first : KeptTable) → IsBegunWith observers records scripts since first
-    → HasRecords manifest records file → (e : KeepFault) → WhyNotAllMade scripts first e → WhyNotMadeAgain observers manifest before now file e
-not_made_again beginning observers manifest before now since file records scripts first b has (KeepFault.Log e) of = absurd of
-not_made_again beginning observers manifest before now since file records scripts first b has (KeepFault.NoMemory e) of = tt
-not_made_again beginning observers manifest before now since file records scripts first b has (KeepFault.MadeInPart e made all) part = record {
-  origin = origin_of manifest b.snapshot;
+pub not_made_again : BeginningKeepsNone → (limit : ℕ) (observers : List ObserverOf) (manifest : List ℕ) (before now since : ℕ) (file : List ℕ) (records scripts : List (List ℕ)) (first : KeptTable) (new : StateOf) → IsBegunWith observers records scripts since first
+    → HasRecords (head limit manifest) records file → (e : KeepFault) → WhyNotAllMade limit scripts first new e → WhyNotMadeAgain limit observers manifest before now file new e
+not_made_again beginning limit observers manifest before now since file records scripts first new b has (KeepFault.Log e) of = absurd of
+not_made_again beginning limit observers manifest before now since file records scripts first new b has (KeepFault.NoMemory e) of = tt
+not_made_again beginning limit observers manifest before now since file records scripts first new b has (KeepFault.MadeInPart e made all) part = record {
+  origin = origin_of limit manifest b.snapshot;
+  limit_is = refl;
   manifest_is = refl;
   first = first;
   first_is = b.first_is;
   changes = part.changes;
-  had = record { fits = b.fits; scripts = scripts; has = subst (λ rs. HasRecords manifest rs file) b.records_are has; make = part.reads };
+  had = record { fits = b.fits; scripts = scripts; has = subst (λ rs. HasRecords (head limit manifest) rs file) b.records_are has; make = part.reads };
   all_is = part.all_is;
   done = part.done;
   rest = part.rest;
   parts = part.parts;
   reached = part.reached;
-  keeps = λ past began. (part.keeps first [] (beginning past first began)).leads;
+  keeps = λ past began. (part.keeps first [] (beginning limit past first began)).leads;
+  left = part.left;
   made_is = part.made_is;
 }
-not_made_again beginning observers manifest before now since file records scripts first b has KeepFault.Record of = tt
-not_made_again beginning observers manifest before now since file records scripts first b has KeepFault.Snapshot of = absurd of
-not_made_again beginning observers manifest before now since file records scripts first b has KeepFault.NoTimestamp of = tt
-not_made_again beginning observers manifest before now since file records scripts first b has KeepFault.Output of = absurd of
-not_made_again beginning observers manifest before now since file records scripts first b has KeepFault.Input of = absurd of
+not_made_again beginning limit observers manifest before now since file records scripts first new b has KeepFault.Record of = tt
+not_made_again beginning limit observers manifest before now since file records scripts first new b has KeepFault.Snapshot of = absurd of
+not_made_again beginning limit observers manifest before now since file records scripts first new b has KeepFault.NoTimestamp of = tt
+not_made_again beginning limit observers manifest before now since file records scripts first new b has KeepFault.Output of = absurd of
+not_made_again beginning limit observers manifest before now since file records scripts first new b has KeepFault.Input of = absurd of
 
-pub not_begun : (observers : List ObserverOf) (manifest : List ℕ) (before now : ℕ) (file : List ℕ) (records : List (List ℕ)) (e : KeepFault) → IsOfFirst observers records e → HasRecords manifest records file → WhyNotMadeAgain observers manifest before now file e
-not_begun observers manifest before now file records (KeepFault.Log e) of has = absurd of
-not_begun observers manifest before now file records (KeepFault.NoMemory e) of has = tt
-not_begun observers manifest before now file records (KeepFault.MadeInPart e made all) of has = absurd of
-not_begun observers manifest before now file records KeepFault.Record of has = absurd of
-not_begun observers manifest before now file records KeepFault.Snapshot of has = (records, has, of)
-not_begun observers manifest before now file records KeepFault.NoTimestamp of has = absurd of
-not_begun observers manifest before now file records KeepFault.Output of has = absurd of
-not_begun observers manifest before now file records KeepFault.Input of has = absurd of
+pub not_begun : (limit : ℕ) (observers : List ObserverOf) (manifest : List ℕ) (before now : ℕ) (file : List ℕ) (records : List (List ℕ)) (new : StateOf) (e : KeepFault) → IsOfFirst observers records e → HasRecords (head limit manifest) records file → WhyNotMadeAgain limit observers manifest before now file new e
+not_begun limit observers manifest before now file records new (KeepFault.Log e) of has = absurd of
+not_begun limit observers manifest before now file records new (KeepFault.NoMemory e) of has = tt
+not_begun limit observers manifest before now file records new (KeepFault.MadeInPart e made all) of has = absurd of
+not_begun limit observers manifest before now file records new KeepFault.Record of has = absurd of
+not_begun limit observers manifest before now file records new KeepFault.Snapshot of has = (records, has, of)
+not_begun limit observers manifest before now file records new KeepFault.NoTimestamp of has = absurd of
+not_begun limit observers manifest before now file records new KeepFault.Output of has = absurd of
+not_begun limit observers manifest before now file records new KeepFault.Input of has = absurd of

@@ -7,7 +7,7 @@ use Rattle.pb_keep.specs.Words.{Condition, Request, ScriptCode, StateOf, Ts, Wri
 use Rattle.pb_keep.specs.declared.waiting.Waits.{Waits}
 use Rattle.pb_keep.specs.declared.waiting.Waiting.{Waiting}
 use Rattle.pb_keep.specs.Waits.{has_line_room, FitsIn, IsNoLine}
-use Rattle.pb_keep.specs.Held.{change_as_line, commit_seen, if_commit, if_room, waits_for, waits_within, IsHeldIf}
+use Rattle.pb_keep.specs.Held.{change_as_line, commit_seen, if_commit, if_room, unless_full, waits_for, waits_within, IsHeldIf}
 use Rattle.pb_keep.specs.Taken.{IsLineReady}
 use Rattle.pb_keep.proofs.Conditions.{few_bytes}
 use Rattle.pb_keep.proofs.Scripts.{neither_holds}
@@ -22,8 +22,8 @@ change_fits w l false (Ok batch) e f room =
     let two = neither_holds (is_skipped l) (list_any (λ x. x == 10) l) e in
     (room, record { read = f; shown = two.0; whole = two.1 })
 
-pub fits_alone : (w : Waiting) (l : List ℕ) → has_line_room w.changes (length (string_bytes w.script)) (length l) ≡ true → FitsIn w l (waits_for (change_as_line l))
-fits_alone w l room = change_fits w l (is_skipped l || list_any (λ x. x == 10) l) (batch_of l) refl refl room
+fits_so : (w : Waiting) (l : List ℕ) → has_line_room w.changes (length (string_bytes w.script)) (length l) ≡ true → FitsIn w l (waits_for (change_as_line l))
+fits_so w l room = change_fits w l (is_skipped l || list_any (λ x. x == 10) l) (batch_of l) refl refl room
 
 room_fits : (w : Waiting) (l : List ℕ) (b : Bool) (item : Waits) → has_line_room w.changes (length (string_bytes w.script)) (length l) ≡ b
     → (b ≡ true → FitsIn w l item) → (item ≡ Waits.Begun → ⊥) → FitsIn w l (if_room b item)
@@ -34,22 +34,35 @@ room_fits w l b (Waits.Refused code) e f other = tt
 room_fits w l b Waits.Begun e f other = absurd (other refl)
 room_fits w l b Waits.Ended e f other = tt
 
+-- or it's refused
+full_fits : (w : Waiting) (l : List ℕ) (full : Bool) (item : Waits) → FitsIn w l item → FitsIn w l (unless_full full item)
+full_fits w l true (Waits.Change batch) f = tt
+full_fits w l false (Waits.Change batch) f = f
+full_fits w l full (Waits.Unmade newest) f = f
+full_fits w l full (Waits.Refused code) f = f
+full_fits w l full Waits.Begun f = f
+full_fits w l full Waits.Ended f = f
+
 not_begun : (r : Result Writes ScriptCode) → waits_for r ≡ Waits.Begun → ⊥
 not_begun (Ok batch) e = absurd cc
 not_begun (Err code) e = absurd cc
 
-pub fits_within : (w : Waiting) (l : List ℕ) (request : Request) → FitsIn w l (waits_within w.changes (length (string_bytes w.script)) l request)
-fits_within w l Request.Change =
-    room_fits w l (has_line_room w.changes (length (string_bytes w.script)) (length l)) (waits_for (change_as_line l)) refl (fits_alone w l) (not_begun (change_as_line l))
-fits_within w l Request.End = tt
-fits_within w l (Request.ChangeIf condition) = tt
-fits_within w l Request.Begin = tt
-fits_within w l (Request.Get row column) = tt
-fits_within w l (Request.Since above) = tt
-fits_within w l Request.List = tt
-fits_within w l Request.IsQuiet = tt
-fits_within w l Request.Stats = tt
-fits_within w l Request.Compact = tt
+pub fits_alone : (w : Waiting) (l : List ℕ) (full : Bool) → has_line_room w.changes (length (string_bytes w.script)) (length l) ≡ true → FitsIn w l (unless_full full (waits_for (change_as_line l)))
+fits_alone w l full room = full_fits w l full (waits_for (change_as_line l)) (fits_so w l room)
+
+pub fits_within : (full : Bool) (w : Waiting) (l : List ℕ) (request : Request) → FitsIn w l (waits_within full w.changes (length (string_bytes w.script)) l request)
+fits_within full w l Request.Change =
+    let room = has_line_room w.changes (length (string_bytes w.script)) (length l) in
+    full_fits w l full (if_room room (waits_for (change_as_line l))) (room_fits w l room (waits_for (change_as_line l)) refl (fits_so w l) (not_begun (change_as_line l)))
+fits_within full w l Request.End = tt
+fits_within full w l (Request.ChangeIf condition) = tt
+fits_within full w l Request.Begin = tt
+fits_within full w l (Request.Get row column) = tt
+fits_within full w l (Request.Since above) = tt
+fits_within full w l Request.List = tt
+fits_within full w l Request.IsQuiet = tt
+fits_within full w l Request.Stats = tt
+fits_within full w l Request.Compact = tt
 
 -- where nothing waits each line has room
 first_room : (changes bytes line : ℕ) → changes ≡ 0 → bytes ≡ 0 → line ≤ MAX_LINE → has_line_room changes bytes line ≡ true
@@ -68,10 +81,11 @@ commit_fits w l wanted newest (Waits.Refused code) other f = tt
 commit_fits w l wanted newest Waits.Begun other f = absurd (other refl)
 commit_fits w l wanted newest Waits.Ended other f = tt
 
-pub fits_if : (w : Waiting) (state : StateOf) (condition : Condition) (operations : List ℕ) (item : Waits) → IsNoLine w → length operations ≤ MAX_LINE → IsHeldIf state condition operations item → FitsIn w operations item
-fits_if w state condition operations item none few h =
+pub fits_if : (full : Bool) (w : Waiting) (state : StateOf) (condition : Condition) (operations : List ℕ) (item : Waits) → IsNoLine w → length operations ≤ MAX_LINE → IsHeldIf full state condition operations item → FitsIn w operations item
+fits_if full w state condition operations item none few h =
     subst (λ i. FitsIn w operations i) (sym h.is)
-    (commit_fits w operations condition.commit (commit_seen h.newest) (waits_for (change_as_line operations)) (not_begun (change_as_line operations)) (fits_alone w operations (room_for_one w (length operations) none few)))
+    (full_fits w operations full (if_commit condition.commit (commit_seen h.newest) (waits_for (change_as_line operations)))
+    (commit_fits w operations condition.commit (commit_seen h.newest) (waits_for (change_as_line operations)) (not_begun (change_as_line operations)) (fits_so w operations (room_for_one w (length operations) none few))))
 
 -- ---- before a line
 

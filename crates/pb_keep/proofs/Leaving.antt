@@ -9,8 +9,8 @@ use Rattle.pb_keep.specs.Left.{IsLeftBy, IsLeftInLog, IsLeftMade, IsOfLog, IsOfM
 use Rattle.std.proofs.lemmas.List.{append-nil}
 use Rattle.pb_keep.proofs.Putting.{rest_has_changes}
 
-module _ (origin : Origin) (changes : List Writes) (items : List Waits) (old new : KeptTable) (was_written written : Option (List ℕ)) (may_leave : List ℕ → Type 0) where
-  pub left_in_log : (e : KeepFault) → IsOfLog e → IsLeftInLog origin changes items old new was_written written may_leave → IsLeftBy origin changes items old new was_written written may_leave e
+module _ (limit : ℕ) (origin : Origin) (changes : List Writes) (items : List Waits) (old new : KeptTable) (was_written written : Option (List ℕ)) (may_leave : List ℕ → Type 0) where
+  pub left_in_log : (e : KeepFault) → IsOfLog e → IsLeftInLog origin changes items old new was_written written may_leave → IsLeftBy limit origin changes items old new was_written written may_leave e
   left_in_log (KeepFault.Log e) of l = l
   left_in_log (KeepFault.NoMemory e) of l = absurd of
   left_in_log (KeepFault.MadeInPart e made all) of l = absurd of
@@ -20,7 +20,7 @@ module _ (origin : Origin) (changes : List Writes) (items : List Waits) (old new
   left_in_log KeepFault.Output of l = absurd of
   left_in_log KeepFault.Input of l = absurd of
 
-  pub left_in_making : (e : KeepFault) → IsOfMaking e → IsLeftMade origin changes items old was_written written may_leave → IsLeftBy origin changes items old new was_written written may_leave e
+  pub left_in_making : (e : KeepFault) → IsOfMaking e → IsLeftMade limit origin changes items old was_written written may_leave → IsLeftBy limit origin changes items old new was_written written may_leave e
   left_in_making (KeepFault.Log e) of l = absurd of
   left_in_making (KeepFault.NoMemory e) of l = l
   left_in_making (KeepFault.MadeInPart e made all) of l = absurd of
@@ -30,11 +30,11 @@ module _ (origin : Origin) (changes : List Writes) (items : List Waits) (old new
   left_in_making KeepFault.Output of l = absurd of
   left_in_making KeepFault.Input of l = absurd of
 
-  pub left_in_writing : (e : KeepFault) → e ≡ KeepFault.Output → IsLeftMade origin changes items old was_written written may_leave → IsLeftBy origin changes items old new was_written written may_leave e
-  left_in_writing e is l = subst (λ f. IsLeftBy origin changes items old new was_written written may_leave f) (sym is) l
+  pub left_in_writing : (e : KeepFault) → e ≡ KeepFault.Output → IsLeftMade limit origin changes items old was_written written may_leave → IsLeftBy limit origin changes items old new was_written written may_leave e
+  left_in_writing e is l = subst (λ f. IsLeftBy limit origin changes items old new was_written written may_leave f) (sym is) l
 
-  pub left_made : (seen : List ℕ) (end : ℕ) (text : List ℕ) → IsLogOf origin (changes ++ changes_in items) seen may_leave end → AreSomeAnswers items old [] text → AppendsPart was_written written text
-      → IsLeftMade origin changes items old was_written written may_leave
+  pub left_made : (seen : List ℕ) (end : ℕ) (text : List ℕ) → IsLogOf origin (changes ++ changes_in items) seen may_leave end → AreSomeAnswers limit items old [] text → AppendsPart was_written written text
+      → IsLeftMade limit origin changes items old was_written written may_leave
   left_made seen end text log answers part = record {
     crash = rest_has_changes origin (changes ++ changes_in items) seen may_leave end log;
     text = text;
@@ -45,8 +45,8 @@ module _ (origin : Origin) (changes : List Writes) (items : List Waits) (old new
 -- ---- answers
 
 -- all answers are some of them
-pub all_are_some : (items : List Waits) (old new : KeptTable) (before after more : List ℕ) → before ≡ [] → after ≡ before ++ more → AreAnswers items old new more → AreSomeAnswers items old [] after
-all_are_some items old new before after more none e a = record {
+pub all_are_some : (limit : ℕ) (items : List Waits) (old new : KeptTable) (before after more : List ℕ) → before ≡ [] → after ≡ before ++ more → AreAnswers limit items old new more → AreSomeAnswers limit items old [] after
+all_are_some limit items old new before after more none e a = record {
   front = items;
   rest = [];
   parts = sym (append-nil items);
@@ -56,5 +56,5 @@ all_are_some items old new before after more none e a = record {
   added = e ∙ ap (λ l. l ++ more) none;
 }
 
-pub some_are_some : (items : List Waits) (old : KeptTable) (before after : List ℕ) → before ≡ [] → AreSomeAnswers items old before after → AreSomeAnswers items old [] after
-some_are_some items old before after none a = subst (λ l. AreSomeAnswers items old l after) none a
+pub some_are_some : (limit : ℕ) (items : List Waits) (old : KeptTable) (before after : List ℕ) → before ≡ [] → AreSomeAnswers limit items old before after → AreSomeAnswers limit items old [] after
+some_are_some limit items old before after none a = subst (λ l. AreSomeAnswers limit items old l after) none a

@@ -6,10 +6,12 @@ pub mod Added
 pub mod Putting
 pub mod Lasts
 pub mod Answering
+pub mod InTime
 pub mod Serving
 pub mod Conditions
 pub mod Holding
 pub mod Reading
 pub mod Leaving
+pub mod Heads
 pub mod Causing
 pub mod Pieces

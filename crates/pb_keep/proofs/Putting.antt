@@ -4,7 +4,7 @@ use Rattle.std.specs.Prelude.{string_bytes}
 use Rattle.pb_log.specs.Records.{IsBeforeOrAfter, IsLog}
 use Rattle.pb_keep.specs.Words.{Writes, MAX_CHANGES, header, script_of}
 use Rattle.pb_keep.specs.declared.waiting.Waiting.{Waiting}
-use Rattle.pb_keep.specs.Kept.{changes_of, snapshot_records, FitsIfAny, HasChanges, IsLogOf, Origin}
+use Rattle.pb_keep.specs.Kept.{changes_of, head_of, snapshot_records, FitsIfAny, HasChanges, IsLogOf, Origin}
 use Rattle.pb_keep.specs.Waits.{changes_in, IsWaiting}
 use Rattle.std.proofs.lemmas.List.{append_assoc, append-nil}
 use Rattle.pb_keep.proofs.Scripts.{empty_list, script_is}
@@ -18,14 +18,14 @@ waiting_is_read w h =
 
 -- a crash leaves the changes of before, or with those of the record
 pub before_or_after : (origin : Origin) (scripts : List (List ℕ)) (changes more : List Writes) (item c : List ℕ) → FitsIfAny origin.snapshot → changes_of scripts ≡ Ok changes → script_of item ≡ Ok more
-    → IsBeforeOrAfter (header origin.manifest ∷ (snapshot_records origin.snapshot ++ scripts)) item c → HasChanges origin changes c ⊎ HasChanges origin (changes ++ more) c
+    → IsBeforeOrAfter (header (head_of origin) ∷ (snapshot_records origin.snapshot ++ scripts)) item c → HasChanges origin changes c ⊎ HasChanges origin (changes ++ more) c
 before_or_after origin scripts changes more item c fits m s (inl l) = inl (record { fits = fits; scripts = scripts; has = inl l; make = m })
 before_or_after origin scripts changes more item c fits m s (inr l) =
     let first = snapshot_records origin.snapshot in
     inr (record {
       fits = fits;
       scripts = scripts ++ item ∷ [];
-      has = inl (subst (λ rs. IsLog c (header origin.manifest ∷ rs)) (append_assoc first scripts (item ∷ [])) l);
+      has = inl (subst (λ rs. IsLog c (header (head_of origin) ∷ rs)) (append_assoc first scripts (item ∷ [])) l);
       make = records_more scripts item changes more m s;
     })
 

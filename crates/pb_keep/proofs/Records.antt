@@ -11,7 +11,7 @@ use Rattle.pb_snapshots.specs.Snapshot.{number_bytes, snapshot_magic, stats_byte
 use Rattle.pb_keep.specs.Words.{HasRecords, ScriptCode, SnapshotOf, Writes, header, script_code, script_of, snapshot_bytes, ◌>>=◌}
 use Rattle.pb_reading.proofs.Parts.{lacks_if}
 use Rattle.pb_reading.proofs.Readings.{ok_is, then_ok}
-use Rattle.pb_keep.specs.Kept.{changes_of, reported_count, snapshot_records, FitsIfAny}
+use Rattle.pb_keep.specs.Kept.{changes_of, head_of, reported_count, snapshot_records, FitsIfAny}
 use Rattle.pb_keep.specs.Laws.{FilesHaveOneList}
 use Rattle.std.proofs.lemmas.List.{append_assoc, append-nil}
 use Rattle.std.proofs.lemmas.List.Elements.{All-from_recursion}
@@ -136,6 +136,6 @@ module _ (one : RecordsAreOfOneSnapshot) where
 
 pub one_list : FilesHaveOneReading → RecordsAreOfOneSnapshot → FilesHaveOneList
 one_list one records origin other changes others file same h k =
-    let both = same_records one other.manifest (snapshot_records origin.snapshot ++ h.scripts) (snapshot_records other.snapshot ++ k.scripts) file (subst (λ m. HasRecords m (snapshot_records origin.snapshot ++ h.scripts) file) same h.has) k.has in
+    let both = same_records one (head_of other) (snapshot_records origin.snapshot ++ h.scripts) (snapshot_records other.snapshot ++ k.scripts) file (subst (λ m. HasRecords m (snapshot_records origin.snapshot ++ h.scripts) file) same h.has) k.has in
     let parts = one_snapshot records origin.snapshot other.snapshot h.scripts k.scripts changes others h.fits k.fits h.make k.make both in
     (parts.0, ok_is changes others (sym h.make ∙ ap changes_of parts.1 ∙ k.make))

@@ -1,6 +1,6 @@
 -- Lines that are served: what a log and a table have of them, and what a crash leaves.
 use Rattle.std.specs.Prelude.{string_bytes}
-use Rattle.std.proofs.Common.{◌≡◌, ◌⊎◌, inl, inr, ℕ, Bool, true, false, List, [], ◌∷◌, ◌++◌, length, Option, Some, None, Result, Ok, Err, refl, ap, sym, subst, ◌∙◌}
+use Rattle.std.proofs.Common.{arith, ◌≡◌, ◌==◌, ◌≤◌, ◌⊎◌, inl, inr, ℕ, Bool, true, false, List, [], ◌∷◌, ◌++◌, length, Option, Some, None, Result, Ok, Err, refl, ap, sym, subst, ◌∙◌}
 use Rattle.std.specs.Io.KnownBytes.{Appends}
 use Rattle.pb_keep.specs.Words.{AppendsPart, Condition, Keeps, KeptTable, Request, ScriptCode, StateOf, Writes}
 use Rattle.pb_keep.specs.declared.fault.KeepFault.{KeepFault}
@@ -8,13 +8,17 @@ use Rattle.pb_keep.specs.declared.waiting.Waits.{Waits}
 use Rattle.pb_keep.specs.declared.waiting.Waiting.{Waiting}
 use Rattle.pb_keep.specs.Kept.{kept_since, HasChanges, IsLogOf, Origin}
 use Rattle.pb_keep.specs.Waits.{changes_in, none as no_answer, AreAnswers, AreSomeAnswers, Group, group_after, group_of, grouped, IsNoLine}
-use Rattle.pb_keep.specs.Held.{IsAnswerTo, IsLineHeld, IsHeldAs, IsReadAs}
+use Rattle.pb_keep.specs.Held.{refuses_changes, IsAnswerTo, IsLineHeld, IsHeldAs, IsReadAs}
 use Rattle.pb_keep.specs.Taken.{is_question, IsLineReady, IsReadyFor, MayHaveAnswered, WaitsNow}
 use Rattle.pb_keep.specs.Conversations.{beginning, none_yet, one_asked, AreAnswered, none_held, one_held, AreHeld, Beginning, KeeperView, LeavesFirst, Serves}
 use Rattle.pb_keep.specs.Left.{IsLeftBy, IsLeftInLog, IsLeftMade}
 use Rattle.std.proofs.lemmas.List.{append_assoc, append-nil}
 use Rattle.pb_keep.proofs.Putting.{rest_has_changes}
 use Rattle.pb_keep.proofs.Answering.{held_answered, none_waited}
+use Rattle.pb_keep.proofs.Added.{changes_of_both}
+use Rattle.pb_keep.proofs.InTime.{first_in_time}
+use Rattle.pb_keep.proofs.Scripts.{empty_list}
+use Rattle.pb_keeper.specs.declared.room.TheConstants.{MAX_CLOCK}
 
 -- ---- what is written
 
@@ -33,25 +37,33 @@ part_appended old between new first more a p = (p.0, (first ++ p.1.0, ap (λ l. 
 
 -- ---- lines that wait
 
--- as what a line waits depends on the state where it has a condition
-held_in_any : (group : Group) (state s : StateOf) (line : List ℕ) (read : Result Request ScriptCode) (item : Waits) → IsHeldAs group state line read item
-    → ((condition : Condition) → group ≡ Group.alone → read ≡ Ok (Request.ChangeIf condition) → s ≡ state) → IsHeldAs group s line read item
-held_in_any group state s line (Err code) item h same = h
-held_in_any (Group.within changes bytes) state s line (Ok request) item h same = h
-held_in_any Group.alone state s line (Ok Request.Change) item h same = h
-held_in_any Group.alone state s line (Ok (Request.ChangeIf condition)) item h same = subst (λ z. IsHeldAs Group.alone z line (Ok (Request.ChangeIf condition)) item) (sym (same condition refl refl)) h
-held_in_any Group.alone state s line (Ok Request.Begin) item h same = h
-held_in_any Group.alone state s line (Ok Request.End) item h same = h
-held_in_any Group.alone state s line (Ok (Request.Get row column)) item h same = absurd h
-held_in_any Group.alone state s line (Ok (Request.Since above)) item h same = absurd h
-held_in_any Group.alone state s line (Ok Request.List) item h same = absurd h
-held_in_any Group.alone state s line (Ok Request.IsQuiet) item h same = absurd h
-held_in_any Group.alone state s line (Ok Request.Stats) item h same = absurd h
-held_in_any Group.alone state s line (Ok Request.Compact) item h same = absurd h
+-- as what a line waits depends on the state where it has a condition, and where the table may be full
+same_condition : (full : Bool) (group : Group) (state s : StateOf) (line : List ℕ) (read : Result Request ScriptCode) (item : Waits) → IsHeldAs full group state line read item
+    → ((condition : Condition) → group ≡ Group.alone → read ≡ Ok (Request.ChangeIf condition) → s ≡ state) → IsHeldAs full group s line read item
+same_condition full group state s line (Err code) item h same = h
+same_condition full (Group.within changes bytes) state s line (Ok request) item h same = h
+same_condition full Group.alone state s line (Ok Request.Change) item h same = h
+same_condition full Group.alone state s line (Ok (Request.ChangeIf condition)) item h same = subst (λ z. IsHeldAs full Group.alone z line (Ok (Request.ChangeIf condition)) item) (sym (same condition refl refl)) h
+same_condition full Group.alone state s line (Ok Request.Begin) item h same = h
+same_condition full Group.alone state s line (Ok Request.End) item h same = h
+same_condition full Group.alone state s line (Ok (Request.Get row column)) item h same = absurd h
+same_condition full Group.alone state s line (Ok (Request.Since above)) item h same = absurd h
+same_condition full Group.alone state s line (Ok Request.List) item h same = absurd h
+same_condition full Group.alone state s line (Ok Request.IsQuiet) item h same = absurd h
+same_condition full Group.alone state s line (Ok Request.Stats) item h same = absurd h
+same_condition full Group.alone state s line (Ok Request.Compact) item h same = absurd h
+
+held_in_any : (limit : ℕ) (is_first : Bool) (group : Group) (state s : StateOf) (line : List ℕ) (read : Result Request ScriptCode) (item : Waits) → IsHeldAs (refuses_changes limit is_first state) group state line read item
+    → (is_first ≡ true → s ≡ state) → ((condition : Condition) → group ≡ Group.alone → read ≡ Ok (Request.ChangeIf condition) → s ≡ state) → IsHeldAs (refuses_changes limit is_first s) group s line read item
+held_in_any limit true group state s line read item h first same = subst (λ z. IsHeldAs (refuses_changes limit true z) group z line read item) (sym (first refl)) h
+held_in_any limit false group state s line read item h first same = same_condition false group state s line read item h same
 
 in_no_group : (b : Bool) (changes bytes : ℕ) → grouped b changes bytes ≡ Group.alone → b ≡ false
 in_no_group true changes bytes e = absurd cc
 in_no_group false changes bytes e = refl
+
+is_zero : (n : ℕ) → (n == 0) ≡ true → n ≡ 0
+is_zero n e = grind (arith, e)
 
 -- before a line with a condition nothing waits
 none_before : (waiting : Waiting) (n : ℕ) (read : Result Request ScriptCode) → IsLineReady waiting n read → (condition : Condition) → group_of waiting ≡ Group.alone → read ≡ Ok (Request.ChangeIf condition) → waiting.items.items ≡ []
@@ -78,15 +90,15 @@ none_appended : (written : Option (List ℕ)) → Appends written written []
 none_appended None = tt
 none_appended (Some w) = sym (append-nil w)
 
-none_waits_now : (now : Waiting) (z : StateOf) → IsNoLine now → AreHeld z [] now.items.items (group_of now)
-none_waits_now now z none =
-    subst (λ l. AreHeld z [] l (group_of now)) (sym none.items)
-    (subst (λ g. AreHeld z [] [] (grouped g now.changes (length (string_bytes now.script)))) (sym none.alone) none_held)
+none_waits_now : (limit : ℕ) (now : Waiting) (z : StateOf) → IsNoLine now → AreHeld limit z [] now.items.items (group_of now)
+none_waits_now limit now z none =
+    subst (λ l. AreHeld limit z [] l (group_of now)) (sym none.items)
+    (subst (λ g. AreHeld limit z [] [] (grouped g now.changes (length (string_bytes now.script)))) (sym none.alone) none_held)
 
 -- no line is served yet
 pub serves_none : (origin : Origin) (first : KeptTable) (changes : List Writes) (k : KeeperView)
-    → k.since ≡ kept_since origin → IsLogOf origin changes k.seen k.may_leave k.end → Keeps first changes k.table → IsNoLine k.waiting → Serves (beginning origin first changes k.table k.written) [] k
-serves_none origin first changes k since log keeps none = record {
+    → k.since ≡ kept_since origin → k.limit ≡ origin.limit → IsLogOf origin changes k.seen k.may_leave k.end → Keeps k.limit first changes k.table → IsNoLine k.waiting → Serves (beginning origin first changes k.table k.written) [] k
+serves_none origin first changes k since limit log keeps none = record {
   answered = [];
   pending = [];
   parts = refl;
@@ -95,9 +107,11 @@ serves_none origin first changes k since log keeps none = record {
   told = none_yet;
   is_written = none_appended k.written;
   since = since;
+  limit = limit;
   log = subst (λ l. IsLogOf origin l k.seen k.may_leave k.end) (sym (append-nil changes)) log;
-  keeps = subst (λ l. Keeps first l k.table) (sym (append-nil changes)) keeps;
-  held = none_waits_now k.waiting k.table.state none;
+  keeps = subst (λ l. Keeps k.limit first l k.table) (sym (append-nil changes)) keeps;
+  in_time = λ some. absurd (some (ap changes_in none.items));
+  held = none_waits_now origin.limit k.waiting k.table.state none;
 }
 
 -- lines that come later
@@ -119,11 +133,22 @@ more_lines more l = record {
 
 module _ {b : Beginning} {lines : List (List ℕ)} {k : KeeperView} (s : Serves b lines k) where
   -- a line more waits
-  pub serves_held : (line : List ℕ) (read : Result Request ScriptCode) (now : Waiting) → IsReadAs line read → IsLineReady k.waiting (length line) read → WaitsNow k.table.state line read k.waiting now
+  pub serves_held : (line : List ℕ) (read : Result Request ScriptCode) (now : Waiting) → IsReadAs line read → IsLineReady k.waiting (length line) read → k.waiting.changes ≡ length (changes_in k.waiting.items.items) → WaitsNow k.limit k.table.state line read k.waiting now
       → Serves b (lines ++ line ∷ []) (record k { waiting = now })
-  serves_held line read now reads ready w =
-      let any : (z : StateOf) → (k.waiting.items.items ≡ [] → z ≡ k.table.state) → IsLineHeld (group_of k.waiting) z line w.item = λ z same.
-      record { read = read; reads = reads; held = held_in_any (group_of k.waiting) k.table.state z line read w.item w.held (λ condition alone e. same (none_before k.waiting (length line) read ready condition alone e)) } in
+  serves_held line read now reads ready count w =
+      let items = k.waiting.items.items in
+      let is_first = length (changes_in items) == 0 in
+      let full = λ (limit n : ℕ). refuses_changes limit (n == 0) k.table.state in
+      let here : IsHeldAs (refuses_changes b.origin.limit is_first k.table.state) (group_of k.waiting) k.table.state line read w.item =
+      subst (λ n. IsHeldAs (full b.origin.limit n) (group_of k.waiting) k.table.state line read w.item) count
+      (subst (λ n. IsHeldAs (full n k.waiting.changes) (group_of k.waiting) k.table.state line read w.item) s.limit w.held) in
+      let any : (z : StateOf) → (changes_in items ≡ [] → z ≡ k.table.state) → IsLineHeld b.origin.limit is_first (group_of k.waiting) z line w.item = λ z same.
+      record {
+        read = read;
+        reads = reads;
+        held = held_in_any b.origin.limit is_first (group_of k.waiting) k.table.state z line read w.item here (λ e. same (empty_list (changes_in items) (is_zero (length (changes_in items)) e)))
+            (λ condition alone e. same (ap changes_in (none_before k.waiting (length line) read ready condition alone e)));
+      } in
       record {
         answered = s.answered;
         pending = s.pending ++ line ∷ [];
@@ -133,20 +158,33 @@ module _ {b : Beginning} {lines : List (List ℕ)} {k : KeeperView} (s : Serves 
         told = s.told;
         is_written = s.is_written;
         since = s.since;
+        limit = s.limit;
         log = s.log;
         keeps = s.keeps;
-        held = subst (λ g. AreHeld k.table.state (s.pending ++ line ∷ []) now.items.items g) (sym w.group)
-            (subst (λ l. AreHeld k.table.state (s.pending ++ line ∷ []) l (group_after (group_of k.waiting) (length line) w.item)) (sym w.items)
+        in_time = λ some. by (changes_in items) refl some;
+        held = subst (λ g. AreHeld b.origin.limit k.table.state (s.pending ++ line ∷ []) now.items.items g) (sym w.group)
+            (subst (λ l. AreHeld b.origin.limit k.table.state (s.pending ++ line ∷ []) l (group_after (group_of k.waiting) (length line) w.item)) (sym w.items)
             (one_held s.pending line k.waiting.items.items w.item (group_of k.waiting) s.held any));
       }
+    where
+      of_both : (changes_in k.waiting.items.items ≡ []) → (changes_in (w.item ∷ []) ≡ []) → changes_in now.items.items ≡ []
+      of_both none last = ap changes_in w.items ∙ changes_of_both k.waiting.items.items (w.item ∷ []) ∙ (λ i. none i ++ last i)
+
+      first_is : changes_in k.waiting.items.items ≡ [] → (k.waiting.changes == 0) ≡ true
+      first_is none = ap (λ n. n == 0) (count ∙ ap length none)
+
+      by : (before : List Writes) → changes_in k.waiting.items.items ≡ before → (changes_in now.items.items ≡ [] → ⊥) → k.table.state.clock ≤ MAX_CLOCK
+      by [] none some =
+          first_in_time k.limit (group_of k.waiting) k.table.state line read w.item (subst (λ f. IsHeldAs (refuses_changes k.limit f k.table.state) (group_of k.waiting) k.table.state line read w.item) (first_is none) w.held) (λ last. some (of_both none last))
+      by (b ∷ bs) is some = s.in_time (λ none. absurd (let no : b ∷ bs ≡ [] = sym is ∙ none in cc))
 
   all_answered : k.waiting.items.items ≡ [] → lines ≡ s.answered
-  all_answered e = s.parts ∙ ap (λ l. s.answered ++ l) (none_waited k.table.state s.pending k.waiting.items.items (group_of k.waiting) s.held e) ∙ append-nil s.answered
+  all_answered e = s.parts ∙ ap (λ l. s.answered ++ l) (none_waited b.origin.limit k.table.state s.pending k.waiting.items.items (group_of k.waiting) s.held e) ∙ append-nil s.answered
 
   answered_one : (line text : List ℕ) (question : Request) → k.waiting.items.items ≡ [] → IsReadAs line (Ok question) → IsAnswerTo k.since question k.table text
-      → AreAnswered (kept_since b.origin) b.table (lines ++ line ∷ []) s.made Group.alone k.table (s.text ++ text)
+      → AreAnswered (kept_since b.origin) b.origin.limit b.table (lines ++ line ∷ []) s.made Group.alone k.table (s.text ++ text)
   answered_one line text question none reads answer =
-      subst (λ l. AreAnswered (kept_since b.origin) b.table (l ++ line ∷ []) s.made Group.alone k.table (s.text ++ text)) (sym (all_answered none))
+      subst (λ l. AreAnswered (kept_since b.origin) b.origin.limit b.table (l ++ line ∷ []) s.made Group.alone k.table (s.text ++ text)) (sym (all_answered none))
       (one_asked s.answered line s.made k.table s.text text s.told (record { request = question; reads = reads; answer = subst (λ n. IsAnswerTo n question k.table text) s.since answer }))
 
   -- a question more is answered
@@ -161,24 +199,26 @@ module _ {b : Beginning} {lines : List (List ℕ)} {k : KeeperView} (s : Serves 
     told = answered_one line text question none.items reads answer;
     is_written = appends_both b.written k.written now s.text text s.is_written more;
     since = s.since;
+    limit = s.limit;
     log = s.log;
     keeps = s.keeps;
-    held = none_waits_now k.waiting k.table.state none;
+    in_time = s.in_time;
+    held = none_waits_now b.origin.limit k.waiting k.table.state none;
   }
 
-  lines_answered : (new : KeptTable) (text : List ℕ) → k.waiting.is_group ≡ false → AreAnswers k.waiting.items.items k.table new text
-      → AreAnswered (kept_since b.origin) b.table lines (s.made ++ changes_in k.waiting.items.items) Group.alone new (s.text ++ text)
+  lines_answered : (new : KeptTable) (text : List ℕ) → k.waiting.is_group ≡ false → AreAnswers b.origin.limit k.waiting.items.items k.table new text
+      → AreAnswered (kept_since b.origin) b.origin.limit b.table lines (s.made ++ changes_in k.waiting.items.items) Group.alone new (s.text ++ text)
   lines_answered new text alone a =
       let w = k.waiting in
-      subst (λ l. AreAnswered (kept_since b.origin) b.table l (s.made ++ changes_in w.items.items) Group.alone new (s.text ++ text)) (sym s.parts)
-      (subst (λ g. AreAnswered (kept_since b.origin) b.table (s.answered ++ s.pending) (s.made ++ changes_in w.items.items) (grouped g w.changes (length (string_bytes w.script))) new (s.text ++ text)) alone
-      (held_answered (kept_since b.origin) b.table k.table s.answered s.made s.text s.told s.pending w.items.items (group_of w) new text s.held a))
+      subst (λ l. AreAnswered (kept_since b.origin) b.origin.limit b.table l (s.made ++ changes_in w.items.items) Group.alone new (s.text ++ text)) (sym s.parts)
+      (subst (λ g. AreAnswered (kept_since b.origin) b.origin.limit b.table (s.answered ++ s.pending) (s.made ++ changes_in w.items.items) (grouped g w.changes (length (string_bytes w.script))) new (s.text ++ text)) alone
+      (held_answered (kept_since b.origin) b.origin.limit b.table k.table s.answered s.made s.text s.told s.pending w.items.items (group_of w) new text s.held a))
 
   -- what waited is kept
-  pub serves_kept : (now : KeeperView) (text : List ℕ) → k.waiting.is_group ≡ false → IsNoLine now.waiting → now.since ≡ k.since
-      → IsLogOf b.origin ((b.changes ++ s.made) ++ changes_in k.waiting.items.items) now.seen now.may_leave now.end → Keeps b.first ((b.changes ++ s.made) ++ changes_in k.waiting.items.items) now.table
-      → AreAnswers k.waiting.items.items k.table now.table text → Appends k.written now.written text → Serves b lines now
-  serves_kept now text alone none same log keeps a more =
+  pub serves_kept : (now : KeeperView) (text : List ℕ) → k.waiting.is_group ≡ false → IsNoLine now.waiting → now.since ≡ k.since → now.limit ≡ k.limit
+      → IsLogOf b.origin ((b.changes ++ s.made) ++ changes_in k.waiting.items.items) now.seen now.may_leave now.end → Keeps k.limit b.first ((b.changes ++ s.made) ++ changes_in k.waiting.items.items) now.table
+      → AreAnswers k.limit k.waiting.items.items k.table now.table text → Appends k.written now.written text → Serves b lines now
+  serves_kept now text alone none same same_limit log keeps a more =
       let all = append_assoc b.changes s.made (changes_in k.waiting.items.items) in
       record {
         answered = lines;
@@ -186,12 +226,14 @@ module _ {b : Beginning} {lines : List (List ℕ)} {k : KeeperView} (s : Serves 
         parts = sym (append-nil lines);
         made = s.made ++ changes_in k.waiting.items.items;
         text = s.text ++ text;
-        told = lines_answered now.table text alone a;
+        told = lines_answered now.table text alone (subst (λ n. AreAnswers n k.waiting.items.items k.table now.table text) s.limit a);
         is_written = appends_both b.written k.written now.written s.text text s.is_written more;
         since = same ∙ s.since;
+        limit = same_limit ∙ s.limit;
         log = subst (λ l. IsLogOf b.origin l now.seen now.may_leave now.end) all log;
-        keeps = subst (λ l. Keeps b.first l now.table) all keeps;
-        held = none_waits_now now.waiting now.table.state none;
+        keeps = subst (λ l. Keeps now.limit b.first l now.table) all (subst (λ n. Keeps n b.first ((b.changes ++ s.made) ++ changes_in k.waiting.items.items) now.table) (sym same_limit) keeps);
+        in_time = λ some. absurd (some (ap changes_in none.items));
+        held = none_waits_now b.origin.limit now.waiting now.table.state none;
       }
 
   -- ---- what a crash leaves
@@ -201,7 +243,7 @@ module _ {b : Beginning} {lines : List (List ℕ)} {k : KeeperView} (s : Serves 
 
   leaves : (file : List ℕ) (now : Option (List ℕ)) → (HasChanges b.origin (b.changes ++ s.made) file × AppendsPart b.written now s.text)
       ⊎ (HasChanges b.origin ((b.changes ++ s.made) ++ changes_in k.waiting.items.items) file
-      × ((more : List ℕ) × AreSomeAnswers k.waiting.items.items k.table [] more × AppendsPart b.written now (s.text ++ more))) → LeavesFirst b lines now file
+      × ((more : List ℕ) × AreSomeAnswers b.origin.limit k.waiting.items.items k.table [] more × AppendsPart b.written now (s.text ++ more))) → LeavesFirst b lines now file
   leaves file now has = record {
     answered = s.answered;
     pending = s.pending;
@@ -221,12 +263,12 @@ module _ {b : Beginning} {lines : List (List ℕ)} {k : KeeperView} (s : Serves 
   pub leaves_served : (file : List ℕ) → k.may_leave file → LeavesFirst b lines k.written file
   leaves_served file m = leaves file k.written (inl (has_made file m, all_appended b.written k.written s.text s.is_written))
 
-  no_answers : AreSomeAnswers k.waiting.items.items k.table [] []
+  no_answers : AreSomeAnswers b.origin.limit k.waiting.items.items k.table [] []
   no_answers = record { front = []; rest = k.waiting.items.items; parts = refl; now = k.table; text = []; answers = no_answer k.table; added = refl }
 
-  left_made : (now : Option (List ℕ)) (may_leave : List ℕ → Type 0) → IsLeftMade b.origin (b.changes ++ s.made) k.waiting.items.items k.table k.written now may_leave
+  left_made : (now : Option (List ℕ)) (may_leave : List ℕ → Type 0) → IsLeftMade k.limit b.origin (b.changes ++ s.made) k.waiting.items.items k.table k.written now may_leave
       → (file : List ℕ) → may_leave file → LeavesFirst b lines now file
-  left_made now may_leave l file m = leaves file now (inr (l.crash file m, (l.text, l.answers, part_appended b.written k.written now s.text l.text s.is_written l.is_written)))
+  left_made now may_leave l file m = leaves file now (inr (l.crash file m, (l.text, subst (λ n. AreSomeAnswers n k.waiting.items.items k.table [] l.text) s.limit l.answers, part_appended b.written k.written now s.text l.text s.is_written l.is_written)))
 
   left_in_log : (new : KeptTable) (now : Option (List ℕ)) (may_leave : List ℕ → Type 0) → IsLeftInLog b.origin (b.changes ++ s.made) k.waiting.items.items k.table new k.written now may_leave
       → (file : List ℕ) → may_leave file → LeavesFirst b lines now file
@@ -238,7 +280,7 @@ module _ {b : Beginning} {lines : List (List ℕ)} {k : KeeperView} (s : Serves 
       ]
 
   -- where lines could not be kept, these, or with them those of the lines that waited
-  pub leaves_left : (new : KeptTable) (now : Option (List ℕ)) (may_leave : List ℕ → Type 0) (e : KeepFault) → IsLeftBy b.origin (b.changes ++ s.made) k.waiting.items.items k.table new k.written now may_leave e
+  pub leaves_left : (new : KeptTable) (now : Option (List ℕ)) (may_leave : List ℕ → Type 0) (e : KeepFault) → IsLeftBy k.limit b.origin (b.changes ++ s.made) k.waiting.items.items k.table new k.written now may_leave e
       → (file : List ℕ) → may_leave file → LeavesFirst b lines now file
   leaves_left new now may_leave (KeepFault.Log e) l file m = left_in_log new now may_leave l file m
   leaves_left new now may_leave (KeepFault.NoMemory e) l file m = left_made now may_leave l file m

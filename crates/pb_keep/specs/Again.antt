@@ -1,31 +1,39 @@
 -- The changes of a log as they are made again: how far that went where memory was refused.
 use Rattle.std.specs.Prelude.{◌≡◌, ℕ, ◌+◌, List, ◌++◌, length, Ok}
-use Rattle.pb_keep.specs.Words.{Keeps, KeptTable, Writes, script_of}
+use Rattle.pb_keeper.specs.BrokenOff.{IsOfChange}
+use Rattle.pb_keeper.specs.declared.passes.TheConstants.{MAX_RUNS}
+use Rattle.pb_keep.specs.Words.{Keeps, KeptTable, SaidLeads, StateOf, Writes, script_of}
 use Rattle.pb_keep.specs.declared.fault.KeepFault.{KeepFault}
 use Rattle.pb_keep.specs.Causes.{IsOfAnew}
 use Rattle.pb_keep.specs.Kept.{changes_of, reported_count}
 
--- these changes are kept after any that the table keeps
-abbrev pub KeepsMore : KeptTable → List Writes → KeptTable → Type 0
-KeepsMore old more new = (first : KeptTable) (changes : List Writes) → Keeps first changes old → Keeps first (changes ++ more) new
+-- these changes are kept after any that the table keeps, where it has this limit of entries
+abbrev pub KeepsMore : ℕ → KeptTable → List Writes → KeptTable → Type 0
+KeepsMore limit old more new = (first : KeptTable) (changes : List Writes) → Keeps limit first changes old → Keeps limit first (changes ++ more) new
+
+-- a change was begun on a table, and left; so no more than a part of one stands there
+abbrev pub IsLeftOf : StateOf → StateOf → Type 0
+IsLeftOf reached new = SaidLeads (IsOfChange MAX_RUNS) reached new
 
 -- all changes of a record were made, and so many more are counted
-pub record IsRecordMade (bytes : List ℕ) (old new : KeptTable) (was made : ℕ) : Type 0 where
+pub record IsRecordMade (limit : ℕ) (bytes : List ℕ) (old new : KeptTable) (was made : ℕ) : Type 0 where
   pub script : List Writes
   pub reads : script_of bytes ≡ Ok script
-  pub keeps : KeepsMore old script new
+  pub keeps : KeepsMore limit old script new
   pub count : made ≡ reported_count (was + length script)
 
--- the first changes of a record were made, by which a table was reached, and so many more are counted
-pub record IsRecordLeft (bytes : List ℕ) (old : KeptTable) (was made : ℕ) : Type 0 where
+-- the first changes of a record were made, by which a table was reached, and so many more are counted; on the way to this state no other
+-- change was made whole
+pub record IsRecordLeft (limit : ℕ) (bytes : List ℕ) (old : KeptTable) (new : StateOf) (was made : ℕ) : Type 0 where
   pub done : List Writes
   pub begins : (script : List Writes) → script_of bytes ≡ Ok script → (rest : List Writes) × (script ≡ done ++ rest)
   pub reached : KeptTable
-  pub keeps : KeepsMore old done reached
+  pub keeps : KeepsMore limit old done reached
+  pub left : IsLeftOf reached.state new
   pub count : made ≡ reported_count (was + length done)
 
--- So many changes of these records were made of so many: the first ones, by which a table was reached.
-pub record IsMadeInPart (records : List (List ℕ)) (old : KeptTable) (made all : ℕ) : Type 0 where
+-- So many changes of these records were made of so many: the first ones, by which a table was reached. The next one was begun at most.
+pub record IsMadeInPart (limit : ℕ) (records : List (List ℕ)) (old : KeptTable) (new : StateOf) (made all : ℕ) : Type 0 where
   pub changes : List Writes
   pub reads : changes_of records ≡ Ok changes
   pub all_is : all ≡ reported_count (length changes)
@@ -33,7 +41,8 @@ pub record IsMadeInPart (records : List (List ℕ)) (old : KeptTable) (made all 
   pub rest : List Writes
   pub parts : changes ≡ done ++ rest
   pub reached : KeptTable
-  pub keeps : KeepsMore old done reached
+  pub keeps : KeepsMore limit old done reached
+  pub left : IsLeftOf reached.state new
   pub made_is : made ≡ reported_count (length done)
 
 -- want of memory, with how many changes were made of how many
@@ -42,6 +51,6 @@ in_part (KeepFault.NoMemory refused) made all = KeepFault.MadeInPart refused mad
 in_part e made all = e
 
 -- why the changes of records weren't all made
-abbrev pub WhyNotAllMade : List (List ℕ) → KeptTable → KeepFault → Type 0
-WhyNotAllMade records old (KeepFault.MadeInPart refused made all) = IsMadeInPart records old made all
-WhyNotAllMade records old e = IsOfAnew e
+abbrev pub WhyNotAllMade : ℕ → List (List ℕ) → KeptTable → StateOf → KeepFault → Type 0
+WhyNotAllMade limit records old new (KeepFault.MadeInPart refused made all) = IsMadeInPart limit records old new made all
+WhyNotAllMade limit records old new e = IsOfAnew e

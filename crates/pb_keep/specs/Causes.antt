@@ -1,9 +1,11 @@
 -- Why a table is kept no longer. Of memory nothing is known: it may be refused in any call.
 use Rattle.std.specs.Prelude.{◌≡◌, ℕ, Bool, true, List, ◌++◌, length}
-use Rattle.pb_keep.specs.Words.{HasRecords, IsFirstTable, KeepsFrom, KeptTable, ObserverOf, Writes, WhyNotOpened, WhyNotPut, last_timestamp}
+use Rattle.pb_keeper.specs.BrokenOff.{IsOfChange}
+use Rattle.pb_keeper.specs.declared.passes.TheConstants.{MAX_RUNS}
+use Rattle.pb_keep.specs.Words.{HasRecords, IsFirstTable, KeepsFrom, KeptTable, ObserverOf, Writes, WhyNotOpened, WhyNotPut, SaidLeads, StateOf}
 use Rattle.pb_keep.specs.declared.fault.KeepFault.{KeepFault}
 use Rattle.pb_keep.specs.Conversations.{KeeperView}
-use Rattle.pb_keep.specs.Kept.{HasChanges, IsFirstOf, LacksSnapshot, Origin, reported_count}
+use Rattle.pb_keep.specs.Kept.{head, HasChanges, IsFirstOf, LacksSnapshot, Origin, reported_count}
 
 -- a put into the log failed, by how many calls of its disk had failed before and have failed now, and where the log ends
 abbrev pub IsOfPut : ℕ → ℕ → ℕ → KeepFault → Type 0
@@ -29,11 +31,11 @@ IsOfAnew KeepFault.Record = Unit {0}
 IsOfAnew KeepFault.NoTimestamp = Unit {0}
 IsOfAnew _ = ⊥
 
--- why what waits isn't kept: the disk failed or the log is full, the table has given out its last timestamp, or a write failed
+-- why what waits isn't kept: the disk failed or the log is full, memory was refused, or a write failed; there are timestamps for all that waits
 abbrev pub WhyNotKept : ℕ → ℕ → Bool → KeeperView → KeepFault → Type 0
 WhyNotKept before now failed k (KeepFault.Log e) = WhyNotPut before now k.end e
 WhyNotKept before now failed k (KeepFault.NoMemory e) = Unit {0}
-WhyNotKept before now failed k KeepFault.NoTimestamp = k.table.state.clock ≡ last_timestamp
+WhyNotKept before now failed k KeepFault.NoTimestamp = ⊥
 WhyNotKept before now failed k KeepFault.Output = failed ≡ true
 WhyNotKept before now failed k (KeepFault.MadeInPart e made all) = ⊥
 WhyNotKept before now failed k KeepFault.Record = ⊥
@@ -45,13 +47,15 @@ abbrev pub WhyNotServed : ℕ → ℕ → Bool → KeeperView → KeepFault → 
 WhyNotServed before now failed k KeepFault.Input = Unit {0}
 WhyNotServed before now failed k e = WhyNotKept before now failed k e
 
--- the file is a log of this manifest, and its first record after the header is of no snapshot that the table can begin with
+-- the file is a log whose first record has this, and the record after it is of no snapshot that the table can begin with
 abbrev pub LacksSnapshotIn : List ObserverOf → List ℕ → List ℕ → Type 0
-LacksSnapshotIn observers manifest file = (records : List (List ℕ)) × HasRecords manifest records file × LacksSnapshot observers records
+LacksSnapshotIn observers first file = (records : List (List ℕ)) × HasRecords first records file × LacksSnapshot observers records
 
--- The file is a log of this manifest, and so many of its changes were made of so many: the first ones, on the table with which it begins.
-pub record IsOpenedInPart (observers : List ObserverOf) (manifest file : List ℕ) (made all : ℕ) : Type 0 where
+-- The file is a log of this limit of entries and this manifest, and so many of its changes were made of so many: the first ones, on the
+-- table with which it begins. On the way to this state the next one was begun at most.
+pub record IsOpenedInPart (limit : ℕ) (observers : List ObserverOf) (manifest file : List ℕ) (new : StateOf) (made all : ℕ) : Type 0 where
   pub origin : Origin
+  pub limit_is : origin.limit ≡ limit
   pub manifest_is : origin.manifest ≡ manifest
   pub first : KeptTable
   pub first_is : IsFirstOf observers origin.snapshot first
@@ -62,12 +66,13 @@ pub record IsOpenedInPart (observers : List ObserverOf) (manifest file : List �
   pub rest : List Writes
   pub parts : changes ≡ done ++ rest
   pub reached : KeptTable
-  pub keeps : (past : List Writes) → IsFirstTable past first → KeepsFrom first done reached
+  pub keeps : (past : List Writes) → IsFirstTable past first → KeepsFrom limit first done reached
+  pub left : SaidLeads (IsOfChange MAX_RUNS) reached.state new
   pub made_is : made ≡ reported_count (length done)
 
--- why a log of this manifest isn't opened, where this is the file, or its changes aren't made again
-abbrev pub WhyNotMadeAgain : List ObserverOf → List ℕ → ℕ → ℕ → List ℕ → KeepFault → Type 0
-WhyNotMadeAgain observers manifest before now file (KeepFault.Log e) = WhyNotOpened manifest before now file e
-WhyNotMadeAgain observers manifest before now file KeepFault.Snapshot = LacksSnapshotIn observers manifest file
-WhyNotMadeAgain observers manifest before now file (KeepFault.MadeInPart e made all) = IsOpenedInPart observers manifest file made all
-WhyNotMadeAgain observers manifest before now file e = IsOfAnew e
+-- why a log of this limit and this manifest isn't opened, where this is the file, or its changes aren't made again, on the way to this state
+abbrev pub WhyNotMadeAgain : ℕ → List ObserverOf → List ℕ → ℕ → ℕ → List ℕ → StateOf → KeepFault → Type 0
+WhyNotMadeAgain limit observers manifest before now file new (KeepFault.Log e) = WhyNotOpened (head limit manifest) before now file e
+WhyNotMadeAgain limit observers manifest before now file new KeepFault.Snapshot = LacksSnapshotIn observers (head limit manifest) file
+WhyNotMadeAgain limit observers manifest before now file new (KeepFault.MadeInPart e made all) = IsOpenedInPart limit observers manifest file new made all
+WhyNotMadeAgain limit observers manifest before now file new e = IsOfAnew e

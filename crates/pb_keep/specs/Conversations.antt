@@ -1,6 +1,7 @@
 -- What was answered to lines, and what a log and a table have of them: the lines as they came, one after the other.
-use Rattle.std.specs.Prelude.{◌≡◌, ◌⊎◌, ℕ, List, [], ◌∷◌, ◌++◌, length, Option}
+use Rattle.std.specs.Prelude.{◌≡◌, ◌⊎◌, ◌==◌, ℕ, ◌≤◌, Bool, List, [], ◌∷◌, ◌++◌, length, Option}
 use Rattle.std.specs.Io.KnownBytes.{Appends}
+use Rattle.pb_keeper.specs.declared.room.TheConstants.{MAX_CLOCK}
 use Rattle.pb_keep.specs.Words.{AppendsPart, Keeps, KeptTable, StateOf, Writes, kept_table}
 use Rattle.pb_keep.specs.declared.keeper.Keeper.{Keeper}
 use Rattle.pb_keep.specs.declared.waiting.Waits.{Waits}
@@ -10,17 +11,19 @@ use Rattle.pb_keep.specs.Waits.{changes_in, AreSomeAnswers, Group, group_after, 
 use Rattle.pb_keep.specs.Held.{IsAsked, IsLineHeld}
 
 -- Lines are answered one after the other, from this table on, which has all writes above `since`: these changes were made, and this
--- text is the answers. The group is that in which the next line stands.
-pub data AreAnswered (since : ℕ) (start : KeptTable) : List (List ℕ) → List Writes → Group → KeptTable → List ℕ → Type 0 where
-  none_yet : AreAnswered since start [] [] Group.alone start []
-  one_answered : (lines : List (List ℕ)) (line : List ℕ) (made : List Writes) (group : Group) (item : Waits) (between new : KeptTable) (text more : List ℕ) → AreAnswered since start lines made group between text → IsLineHeld group between.state line item → IsAnswer item between new more
-      → AreAnswered since start (lines ++ line ∷ []) (made ++ changes_in (item ∷ [])) (group_after group (length line) item) new (text ++ more)
-  one_asked : (lines : List (List ℕ)) (line : List ℕ) (made : List Writes) (table : KeptTable) (text more : List ℕ) → AreAnswered since start lines made Group.alone table text → IsAsked since table line more → AreAnswered since start (lines ++ line ∷ []) made Group.alone table (text ++ more)
+-- text is the answers. The group is that in which the next line stands. A change is refused where the table has no room for it, unless
+-- another one stands before it in its record.
+pub data AreAnswered (since limit : ℕ) (start : KeptTable) : List (List ℕ) → List Writes → Group → KeptTable → List ℕ → Type 0 where
+  none_yet : AreAnswered since limit start [] [] Group.alone start []
+  one_answered : (lines : List (List ℕ)) (line : List ℕ) (made : List Writes) (group : Group) (item : Waits) (is_first : Bool) (between new : KeptTable) (text more : List ℕ) → AreAnswered since limit start lines made group between text → IsLineHeld limit is_first group between.state line item → IsAnswer limit item between new more
+      → AreAnswered since limit start (lines ++ line ∷ []) (made ++ changes_in (item ∷ [])) (group_after group (length line) item) new (text ++ more)
+  one_asked : (lines : List (List ℕ)) (line : List ℕ) (made : List Writes) (table : KeptTable) (text more : List ℕ) → AreAnswered since limit start lines made Group.alone table text → IsAsked since table line more → AreAnswered since limit start (lines ++ line ∷ []) made Group.alone table (text ++ more)
 
--- Lines wait as these, from this state on. Only the first may depend on the state: the others wait so in each.
-pub data AreHeld (state : StateOf) : List (List ℕ) → List Waits → Group → Type 0 where
-  none_held : AreHeld state [] [] Group.alone
-  one_held : (lines : List (List ℕ)) (line : List ℕ) (items : List Waits) (item : Waits) (group : Group) → AreHeld state lines items group → ((s : StateOf) → (items ≡ [] → s ≡ state) → IsLineHeld group s line item) → AreHeld state (lines ++ line ∷ []) (items ++ item ∷ []) (group_after group (length line) item)
+-- Lines wait as these, from this state on, on a table of this limit of entries. Only those before which no change waits may depend on the
+-- state: the others wait so in each.
+pub data AreHeld (limit : ℕ) (state : StateOf) : List (List ℕ) → List Waits → Group → Type 0 where
+  none_held : AreHeld limit state [] [] Group.alone
+  one_held : (lines : List (List ℕ)) (line : List ℕ) (items : List Waits) (item : Waits) (group : Group) → AreHeld limit state lines items group → ((s : StateOf) → (changes_in items ≡ [] → s ≡ state) → IsLineHeld limit (length (changes_in items) == 0) group s line item) → AreHeld limit state (lines ++ line ∷ []) (items ++ item ∷ []) (group_after group (length line) item)
 
 -- where lines begin to be taken: a log of this origin, with these changes, the table before them, a table that keeps them, and what was
 -- written by then
@@ -42,26 +45,29 @@ pub record KeeperView : Type 1 where
   pub end : ℕ
   pub table : KeptTable
   pub since : ℕ
+  pub limit : ℕ
   pub waiting : Waiting
   pub written : Option (List ℕ)
 
 abbrev pub keeper_view : {T D : Type 0} → (D → List ℕ) → (D → List ℕ → Type 0) → Keeper T D → Option (List ℕ) → KeeperView
-keeper_view seen may_leave keeper written = record { seen = seen keeper.log.disk; may_leave = may_leave keeper.log.disk; end = keeper.log.end; table = kept_table keeper.state keeper.stats.items; since = keeper.since.0; waiting = keeper.waiting; written = written }
+keeper_view seen may_leave keeper written = record { seen = seen keeper.log.disk; may_leave = may_leave keeper.log.disk; end = keeper.log.end; table = kept_table keeper.state keeper.stats.items; since = keeper.since.0; limit = keeper.limit; waiting = keeper.waiting; written = written }
 
 -- Of these lines the first are answered, and the others wait: the log and the table have the changes of those that are answered, and
--- nothing was written but the answers.
+-- nothing was written but the answers. Where a change waits, the table has timestamps enough for a record.
 pub record Serves (b : Beginning) (lines : List (List ℕ)) (k : KeeperView) : Type 0 where
   pub answered : List (List ℕ)
   pub pending : List (List ℕ)
   pub parts : lines ≡ answered ++ pending
   pub made : List Writes
   pub text : List ℕ
-  pub told : AreAnswered (kept_since b.origin) b.table answered made Group.alone k.table text
+  pub told : AreAnswered (kept_since b.origin) b.origin.limit b.table answered made Group.alone k.table text
   pub is_written : Appends b.written k.written text
   pub since : k.since ≡ kept_since b.origin
   pub log : IsLogOf b.origin (b.changes ++ made) k.seen k.may_leave k.end
-  pub keeps : Keeps b.first (b.changes ++ made) k.table
-  pub held : AreHeld k.table.state pending k.waiting.items.items (group_of k.waiting)
+  pub limit : k.limit ≡ b.origin.limit
+  pub keeps : Keeps k.limit b.first (b.changes ++ made) k.table
+  pub in_time : (changes_in k.waiting.items.items ≡ [] → ⊥) → k.table.state.clock ≤ MAX_CLOCK
+  pub held : AreHeld b.origin.limit k.table.state pending k.waiting.items.items (group_of k.waiting)
 
 -- A crash leaves the changes of the first of these lines, with all that are answered. Either it leaves those of the lines that were
 -- answered, and a beginning of these answers was written; or also those of the lines that waited, and some of their answers may
@@ -74,10 +80,10 @@ pub record LeavesFirst (b : Beginning) (lines : List (List ℕ)) (written : Opti
   pub made : List Writes
   pub table : KeptTable
   pub text : List ℕ
-  pub told : AreAnswered (kept_since b.origin) b.table answered made Group.alone table text
+  pub told : AreAnswered (kept_since b.origin) b.origin.limit b.table answered made Group.alone table text
   pub items : List Waits
   pub group : Group
-  pub held : AreHeld table.state pending items group
+  pub held : AreHeld b.origin.limit table.state pending items group
   pub has : (HasChanges b.origin (b.changes ++ made) file × AppendsPart b.written written text)
       ⊎ (HasChanges b.origin ((b.changes ++ made) ++ changes_in items) file
-      × ((more : List ℕ) × AreSomeAnswers items table [] more × AppendsPart b.written written (text ++ more)))
+      × ((more : List ℕ) × AreSomeAnswers b.origin.limit items table [] more × AppendsPart b.written written (text ++ more)))

@@ -1,9 +1,9 @@
 -- What a line asks for, and as what it waits for its answer.
-use Rattle.std.specs.Prelude.{◌≡◌, ℕ, ◌<◌, ◌≤◌, ◌||◌, ◌==◌, Bool, if◌then◌else◌, List, ◌∷◌, ◌++◌, length, codes, decimal, Option, Some, None, Result, Ok, Err, IsUtf8}
+use Rattle.std.specs.Prelude.{◌≡◌, ℕ, ◌<◌, ◌≤◌, ◌&&◌, ◌||◌, ◌==◌, not, Bool, if◌then◌else◌, List, ◌∷◌, ◌++◌, length, codes, decimal, Option, Some, None, Result, Ok, Err, IsUtf8}
 use Rattle.std.specs.List.{list_any}
-use Rattle.pb_keep.specs.Words.{Writes, Cell, Condition, IsListAnswer, IsSeenIn, IsValueAnswer, IsWritesAnswer, KeptTable, Newest, Request, ScriptCode, StateOf, Ts, asked_by, batch_of, cut, is_skipped, last_line, lock_count, script_code, stats_text}
+use Rattle.pb_keep.specs.Words.{Writes, Cell, Condition, IsListAnswer, IsSeenIn, IsValueAnswer, IsWritesAnswer, KeptTable, Newest, Request, ScriptCode, StateOf, Ts, asked_by, batch_of, cut, has_room, is_skipped, last_line, lock_count, script_code, stats_text}
 use Rattle.std.specs.FinMap as map
-use Rattle.pb_keep.specs.declared.take.TheConstants.{GONE, OUT_OF_PLACE}
+use Rattle.pb_keep.specs.declared.take.TheConstants.{FULL, GONE, OUT_OF_PLACE}
 use Rattle.pb_keep.specs.declared.waiting.Waits.{Waits}
 use Rattle.pb_keep.specs.Waits.{Group, has_line_room}
 
@@ -21,6 +21,11 @@ abbrev pub waits_for : Result Writes ScriptCode → Waits
 waits_for (Ok batch) = Waits.Change batch
 waits_for (Err code) = Waits.Refused (script_code code)
 
+-- a change is refused where the table has no room for one
+abbrev pub unless_full : Bool → Waits → Waits
+unless_full full (Waits.Change batch) = if full then Waits.Refused FULL else Waits.Change batch
+unless_full full item = item
+
 -- ---- outside of a group
 
 -- the commit of a cell's newest write, 0 where it has none
@@ -33,31 +38,31 @@ abbrev pub if_commit : Ts → Ts → Waits → Waits
 if_commit wanted newest (Waits.Change batch) = if newest.0 == wanted.0 then Waits.Change batch else Waits.Unmade newest
 if_commit wanted newest item = item
 
--- operations on a condition, which is looked at in this state
-pub record IsHeldIf (state : StateOf) (condition : Condition) (operations : List ℕ) (item : Waits) : Type 0 where
+-- operations on a condition, which is looked at in this state; where it's met, a full table refuses the change
+pub record IsHeldIf (full : Bool) (state : StateOf) (condition : Condition) (operations : List ℕ) (item : Waits) : Type 0 where
   pub newest : Option Newest
   pub seen : IsSeenIn state.entries state.clock (Cell.Data condition.row condition.column) newest
-  pub is : item ≡ if_commit condition.commit (commit_seen newest) (waits_for (change_as_line operations))
+  pub is : item ≡ unless_full full (if_commit condition.commit (commit_seen newest) (waits_for (change_as_line operations)))
 
 -- a line with a condition: its operations stand after the first joint
-pub record IsLineHeldIf (state : StateOf) (condition : Condition) (line : List ℕ) (item : Waits) : Type 0 where
+pub record IsLineHeldIf (full : Bool) (state : StateOf) (condition : Condition) (line : List ℕ) (item : Waits) : Type 0 where
   pub first : List ℕ
   pub operations : List ℕ
   pub parts : cut line ≡ first ∷ cut operations
-  pub held : IsHeldIf state condition operations item
+  pub held : IsHeldIf full state condition operations item
 
 -- as what a line waits; no question waits, and no line that asks for a compaction
-abbrev pub IsHeldAlone : StateOf → List ℕ → Request → Waits → Type 0
-IsHeldAlone state line Request.Change item = item ≡ waits_for (change_as_line line)
-IsHeldAlone state line (Request.ChangeIf condition) item = IsLineHeldIf state condition line item
-IsHeldAlone state line Request.Begin item = item ≡ Waits.Begun
-IsHeldAlone state line Request.End item = item ≡ Waits.Refused OUT_OF_PLACE
-IsHeldAlone state line (Request.Get row column) item = ⊥
-IsHeldAlone state line (Request.Since above) item = ⊥
-IsHeldAlone state line Request.List item = ⊥
-IsHeldAlone state line Request.IsQuiet item = ⊥
-IsHeldAlone state line Request.Stats item = ⊥
-IsHeldAlone state line Request.Compact item = ⊥
+abbrev pub IsHeldAlone : Bool → StateOf → List ℕ → Request → Waits → Type 0
+IsHeldAlone full state line Request.Change item = item ≡ unless_full full (waits_for (change_as_line line))
+IsHeldAlone full state line (Request.ChangeIf condition) item = IsLineHeldIf full state condition line item
+IsHeldAlone full state line Request.Begin item = item ≡ Waits.Begun
+IsHeldAlone full state line Request.End item = item ≡ Waits.Refused OUT_OF_PLACE
+IsHeldAlone full state line (Request.Get row column) item = ⊥
+IsHeldAlone full state line (Request.Since above) item = ⊥
+IsHeldAlone full state line Request.List item = ⊥
+IsHeldAlone full state line Request.IsQuiet item = ⊥
+IsHeldAlone full state line Request.Stats item = ⊥
+IsHeldAlone full state line Request.Compact item = ⊥
 
 -- ---- in a group
 
@@ -67,31 +72,35 @@ if_room has_room (Waits.Change batch) = if has_room then Waits.Change batch else
 if_room has_room item = item
 
 -- as what a line waits in a group, whose record has so many changes and bytes
-abbrev pub waits_within : ℕ → ℕ → List ℕ → Request → Waits
-waits_within changes bytes line Request.Change = if_room (has_line_room changes bytes (length line)) (waits_for (change_as_line line))
-waits_within changes bytes line Request.End = Waits.Ended
-waits_within changes bytes line (Request.ChangeIf condition) = Waits.Refused OUT_OF_PLACE
-waits_within changes bytes line Request.Begin = Waits.Refused OUT_OF_PLACE
-waits_within changes bytes line (Request.Get row column) = Waits.Refused OUT_OF_PLACE
-waits_within changes bytes line (Request.Since above) = Waits.Refused OUT_OF_PLACE
-waits_within changes bytes line Request.List = Waits.Refused OUT_OF_PLACE
-waits_within changes bytes line Request.IsQuiet = Waits.Refused OUT_OF_PLACE
-waits_within changes bytes line Request.Stats = Waits.Refused OUT_OF_PLACE
-waits_within changes bytes line Request.Compact = Waits.Refused OUT_OF_PLACE
+abbrev pub waits_within : Bool → ℕ → ℕ → List ℕ → Request → Waits
+waits_within full changes bytes line Request.Change = unless_full full (if_room (has_line_room changes bytes (length line)) (waits_for (change_as_line line)))
+waits_within full changes bytes line Request.End = Waits.Ended
+waits_within full changes bytes line (Request.ChangeIf condition) = Waits.Refused OUT_OF_PLACE
+waits_within full changes bytes line Request.Begin = Waits.Refused OUT_OF_PLACE
+waits_within full changes bytes line (Request.Get row column) = Waits.Refused OUT_OF_PLACE
+waits_within full changes bytes line (Request.Since above) = Waits.Refused OUT_OF_PLACE
+waits_within full changes bytes line Request.List = Waits.Refused OUT_OF_PLACE
+waits_within full changes bytes line Request.IsQuiet = Waits.Refused OUT_OF_PLACE
+waits_within full changes bytes line Request.Stats = Waits.Refused OUT_OF_PLACE
+waits_within full changes bytes line Request.Compact = Waits.Refused OUT_OF_PLACE
 
 -- ---- lines
 
--- as what a line waits that is read so; a condition is looked at in this state
-abbrev pub IsHeldAs : Group → StateOf → List ℕ → Result Request ScriptCode → Waits → Type 0
-IsHeldAs group state line (Err code) item = item ≡ Waits.Refused (script_code code)
-IsHeldAs Group.alone state line (Ok request) item = IsHeldAlone state line request item
-IsHeldAs (Group.within changes bytes) state line (Ok request) item = item ≡ waits_within changes bytes line request
+-- as what a line waits that is read so, on a full table or not; a condition is looked at in this state
+abbrev pub IsHeldAs : Bool → Group → StateOf → List ℕ → Result Request ScriptCode → Waits → Type 0
+IsHeldAs full group state line (Err code) item = item ≡ Waits.Refused (script_code code)
+IsHeldAs full Group.alone state line (Ok request) item = IsHeldAlone full state line request item
+IsHeldAs full (Group.within changes bytes) state line (Ok request) item = item ≡ waits_within full changes bytes line request
 
--- as what a line waits
-pub record IsLineHeld (group : Group) (state : StateOf) (line : List ℕ) (item : Waits) : Type 0 where
+-- whether the table has no room for a change that is the first of its record; with that a record has room for all of its changes
+abbrev pub refuses_changes : ℕ → Bool → StateOf → Bool
+refuses_changes limit is_first state = is_first && not (has_room limit state)
+
+-- as what a line waits, before which no change of its record stands, or some do
+pub record IsLineHeld (limit : ℕ) (is_first : Bool) (group : Group) (state : StateOf) (line : List ℕ) (item : Waits) : Type 0 where
   pub read : Result Request ScriptCode
   pub reads : IsReadAs line read
-  pub held : IsHeldAs group state line read item
+  pub held : IsHeldAs (refuses_changes limit is_first state) group state line read item
 
 -- what the runs did, with the bytes of a log, which are known only where the log is
 abbrev pub IsStatsOf : KeptTable → List ℕ → Type 0

@@ -1,5 +1,5 @@
 -- What the records of a log are: a snapshot, if it begins with one, and scripts, whose changes are made.
-use Rattle.std.specs.Prelude.{◌≡◌, ℕ, ◌-◌, ◌^◌, ◌==◌, min, Bool, true, false, List, [], ◌∷◌, ◌++◌, length, Option, Some, None, Result, Ok}
+use Rattle.std.specs.Prelude.{◌≡◌, ℕ, ◌-◌, ◌^◌, ◌==◌, min, Bool, true, false, if◌then◌else◌, codes, decimal, List, [], ◌∷◌, ◌++◌, length, Option, Some, None, Result, Ok}
 use Rattle.pb_keep.specs.Words.{AreInOrder, FitsSnapshot, IsAtRest, IsCarriedOver, IsMarkedBehind, HasRecords, KeptTable, ObserverOf, StateOf, SnapshotOf, Writes, header, opened_table, script_of, snapshot_bytes, ◌>>=◌}
 
 -- the changes of records, each of them a script, in order; or the fault of the first that is none
@@ -16,13 +16,22 @@ reported_count n = min n (2 ^ 64 - 1)
 
 -- ---- what a log begins with
 
--- its manifest, and where an earlier generation went before, the snapshot that was left of that
+-- its limit of entries and its manifest, and where an earlier generation went before, the snapshot that was left of that
 pub record Origin : Type 0 where
+  pub limit : ℕ
   pub manifest : List ℕ
   pub snapshot : Option SnapshotOf
 
-abbrev pub origin_of : List ℕ → Option SnapshotOf → Origin
-origin_of manifest snapshot = record { manifest = manifest; snapshot = snapshot }
+abbrev pub origin_of : ℕ → List ℕ → Option SnapshotOf → Origin
+origin_of limit manifest snapshot = record { limit = limit; manifest = manifest; snapshot = snapshot }
+
+-- What stands in the first record: the limit in a line, and then the manifest. A log whose table may have any number of entries has no
+-- such line.
+unfoldable pub head : ℕ → List ℕ → List ℕ
+head limit manifest = if limit == (2 ^ 64 - 1) then manifest else codes "limit " ++ (decimal limit ++ (10 ∷ manifest))
+
+abbrev pub head_of : Origin → List ℕ
+head_of origin = head origin.limit origin.manifest
 
 -- the record of the snapshot, if there is one
 abbrev pub snapshot_records : Option SnapshotOf → List (List ℕ)
@@ -83,12 +92,12 @@ pub record IsBegunWith (observers : List ObserverOf) (records scripts : List (Li
 pub record HasChanges (origin : Origin) (changes : List Writes) (file : List ℕ) : Type 0 where
   pub fits : FitsIfAny origin.snapshot
   pub scripts : List (List ℕ)
-  pub has : HasRecords origin.manifest (snapshot_records origin.snapshot ++ scripts) file
+  pub has : HasRecords (head_of origin) (snapshot_records origin.snapshot ++ scripts) file
   pub make : changes_of scripts ≡ Ok changes
 
 -- The log of this origin is at rest, all of it is on the disk, and its scripts make these changes.
 pub record IsLogOf (origin : Origin) (changes : List Writes) (seen : List ℕ) (may_leave : List ℕ → Type 0) (end : ℕ) : Type 0 where
   pub fits : FitsIfAny origin.snapshot
   pub scripts : List (List ℕ)
-  pub at_rest : IsAtRest seen may_leave end (header origin.manifest ∷ (snapshot_records origin.snapshot ++ scripts))
+  pub at_rest : IsAtRest seen may_leave end (header (head_of origin) ∷ (snapshot_records origin.snapshot ++ scripts))
   pub make : changes_of scripts ≡ Ok changes

@@ -1,10 +1,10 @@
 -- A line that is taken: what has to be kept before it, and what is done with it.
-use Rattle.std.specs.Prelude.{◌≡◌, ◌⊎◌, ℕ, Bool, true, false, List, [], ◌∷◌, ◌++◌, length, string_bytes, Option, Result, Ok, Err}
+use Rattle.std.specs.Prelude.{◌≡◌, ◌⊎◌, ◌==◌, ℕ, Bool, true, false, List, [], ◌∷◌, ◌++◌, length, string_bytes, Option, Result, Ok, Err}
 use Rattle.pb_keep.specs.Words.{AppendsPart, KeptTable, Request, ScriptCode, StateOf, stats_text}
 use Rattle.pb_keep.specs.declared.waiting.Waits.{Waits}
 use Rattle.pb_keep.specs.declared.waiting.Waiting.{Waiting}
 use Rattle.pb_keep.specs.Waits.{group_after, group_of, has_line_room, IsNoLine}
-use Rattle.pb_keep.specs.Held.{IsAnswerTo, IsHeldAs}
+use Rattle.pb_keep.specs.Held.{refuses_changes, IsAnswerTo, IsHeldAs}
 
 -- a line that is answered at once, by what the table has
 abbrev pub is_question : Request → Bool
@@ -52,12 +52,12 @@ abbrev pub IsNoCompaction : Waiting → Result Request ScriptCode → Type 0
 IsNoCompaction waiting (Err code) = Unit {0}
 IsNoCompaction waiting (Ok request) = waiting.is_group ≡ false → is_compaction request ≡ false
 
--- a line waits now, after those that waited
-pub record WaitsNow (state : StateOf) (line : List ℕ) (read : Result Request ScriptCode) (old new : Waiting) : Type 0 where
+-- a line waits now, after those that waited, on a table of this limit of entries
+pub record WaitsNow (limit : ℕ) (state : StateOf) (line : List ℕ) (read : Result Request ScriptCode) (old new : Waiting) : Type 0 where
   pub item : Waits
   pub items : new.items.items ≡ old.items.items ++ item ∷ []
   pub group : group_of new ≡ group_after (group_of old) (length line) item
-  pub held : IsHeldAs (group_of old) state line read item
+  pub held : IsHeldAs (refuses_changes limit (old.changes == 0) state) (group_of old) state line read item
 
 -- nothing was written, or a beginning of the answer to a question
 abbrev pub MayHaveAnswered : ℕ → Request → KeptTable → Option (List ℕ) → Option (List ℕ) → Type 0

@@ -1,7 +1,8 @@
 -- The lines that wait, and how they are answered.
 use Rattle.std.specs.Prelude.{◌≡◌, ℕ, ◌+◌, ◌≤◌, Bool, true, false, ◌&&◌, ◌==◌, nat_le, nat_lt, List, [], ◌∷◌, ◌++◌, length, None, Ok, codes, decimal, string_bytes}
+use Rattle.std.specs.FinMap as map
 use Rattle.std.specs.List.{join_with_byte, list_any}
-use Rattle.pb_keep.specs.Words.{Writes, commit_count, MAX_CHANGES, IsNextMark, KeptTable, is_skipped, batch_of, SaidLeads, Counted, IsMade, comes_to_rest, Made}
+use Rattle.pb_keep.specs.Words.{Writes, commit_count, MAX_CHANGES, IsNextMark, KeptTable, is_skipped, batch_of, SaidLeads, Counted, IsMade, comes_to_rest, runs_within, Made}
 use Rattle.pb_keep.specs.declared.waiting.TheConstants.{MAX_RECORD}
 use Rattle.pb_keep.specs.declared.waiting.Waits.{Waits}
 use Rattle.pb_keep.specs.declared.waiting.Waiting.{Waiting}
@@ -123,33 +124,33 @@ other_line Waits.Ended = codes "ended\n"
 -- A change was made, and is answered so: the commit is its transaction's, the runs are those that were committed after it, and where
 -- their number is in the line, no cell is marked. The line has `unquiet` only where as many passes as may be made each found a mark, or
 -- where a run was due after as many as may be made, and always there. What all of its runs did is counted.
-pub record IsMadeAs (batch : Writes) (old new : KeptTable) (text : List ℕ) : Type 0 where
+pub record IsMadeAs (limit : ℕ) (batch : Writes) (old new : KeptTable) (text : List ℕ) : Type 0 where
   pub made : Made
-  pub leads : SaidLeads (Counted old.state.observers old.stats new.stats (IsMade old.state.observers batch made.commit)) old.state new.state
+  pub leads : SaidLeads (Counted old.state.observers old.stats new.stats (IsMade old.state.observers (runs_within limit (map.len old.state.entries)) batch made.commit)) old.state new.state
   pub runs : made.drained.runs ≡ commit_count leads.form.form.drain
   pub rests : made.drained.rests ≡ comes_to_rest leads.form.form.drained
   pub quiet : made.drained.rests ≡ true → IsNextMark new.state.marks None None
   pub line : text ≡ made_line made
 
--- a line that waited is answered by this text: a change is made, and nothing else is done
-abbrev pub IsAnswer : Waits → KeptTable → KeptTable → List ℕ → Type 0
-IsAnswer (Waits.Change batch) old new text = IsMadeAs batch old new text
-IsAnswer (Waits.Unmade newest) old new text = (new ≡ old) × (text ≡ other_line (Waits.Unmade newest))
-IsAnswer (Waits.Refused code) old new text = (new ≡ old) × (text ≡ other_line (Waits.Refused code))
-IsAnswer Waits.Begun old new text = (new ≡ old) × (text ≡ other_line Waits.Begun)
-IsAnswer Waits.Ended old new text = (new ≡ old) × (text ≡ other_line Waits.Ended)
+-- a line that waited is answered by this text: a change is made, where the table has this limit of entries, and nothing else is done
+abbrev pub IsAnswer : ℕ → Waits → KeptTable → KeptTable → List ℕ → Type 0
+IsAnswer limit (Waits.Change batch) old new text = IsMadeAs limit batch old new text
+IsAnswer limit (Waits.Unmade newest) old new text = (new ≡ old) × (text ≡ other_line (Waits.Unmade newest))
+IsAnswer limit (Waits.Refused code) old new text = (new ≡ old) × (text ≡ other_line (Waits.Refused code))
+IsAnswer limit Waits.Begun old new text = (new ≡ old) × (text ≡ other_line Waits.Begun)
+IsAnswer limit Waits.Ended old new text = (new ≡ old) × (text ≡ other_line Waits.Ended)
 
 -- lines are answered one after the other, by this text
-pub data AreAnswers : List Waits → KeptTable → KeptTable → List ℕ → Type 0 where
-  none : (table : KeptTable) → AreAnswers [] table table []
-  one_more : (items : List Waits) (item : Waits) (old between new : KeptTable) (text more : List ℕ) → AreAnswers items old between text → IsAnswer item between new more → AreAnswers (items ++ item ∷ []) old new (text ++ more)
+pub data AreAnswers (limit : ℕ) : List Waits → KeptTable → KeptTable → List ℕ → Type 0 where
+  none : (table : KeptTable) → AreAnswers limit [] table table []
+  one_more : (items : List Waits) (item : Waits) (old between new : KeptTable) (text more : List ℕ) → AreAnswers limit items old between text → IsAnswer limit item between new more → AreAnswers limit (items ++ item ∷ []) old new (text ++ more)
 
 -- some lines in front are answered, and what is added to a text is these answers
-pub record AreSomeAnswers (items : List Waits) (old : KeptTable) (before after : List ℕ) : Type 0 where
+pub record AreSomeAnswers (limit : ℕ) (items : List Waits) (old : KeptTable) (before after : List ℕ) : Type 0 where
   pub front : List Waits
   pub rest : List Waits
   pub parts : items ≡ front ++ rest
   pub now : KeptTable
   pub text : List ℕ
-  pub answers : AreAnswers front old now text
+  pub answers : AreAnswers limit front old now text
   pub added : after ≡ before ++ text

@@ -27,7 +27,8 @@ pub use Rattle.pb_answers.specs.Writes.{IsWritesAnswer}
 pub use Rattle.pb_keeper.specs.Counts.{commit_count}
 pub use Rattle.pb_keeper.specs.Keeps.{opened_table, IsFirstTable, Keeps, KeepsFrom}
 pub use Rattle.pb_keeper.specs.Leads.{SaidLeads}
-pub use Rattle.pb_keeper.specs.Made.{IsMade, comes_to_rest}
+pub use Rattle.pb_keeper.specs.Made.{IsMade, comes_to_rest, runs_within}
+pub use Rattle.pb_keeper.specs.Room.{has_room}
 pub use Rattle.pb_keeper.specs.Stats.{Counted, KeptTable, kept_table}
 pub use Rattle.pb_keeper.specs.declared.change.Stopped.{Stopped}
 pub use Rattle.pb_keeper.specs.declared.passes.Made.{Made}

@@ -4,7 +4,7 @@ ghost use Rattle.pb_base.specs.Batch.{Writes};
 ghost use Rattle.pb_parse.specs.ScriptLines.{script_of};
 ghost use Rattle.pb_keeper.specs.Keeps.{Keeps};
 ghost use Rattle.pb_keeper.specs.Stats.{kept_table, KeptTable};
-ghost use Rattle.pb_keep.specs.Again.{in_part, IsRecordLeft, IsRecordMade, WhyNotAllMade};
+ghost use Rattle.pb_keep.specs.Again.{in_part, IsLeftOf, IsRecordLeft, IsRecordMade, WhyNotAllMade};
 ghost use Rattle.pb_keep.specs.Causes.{IsOfAnew};
 ghost use Rattle.pb_keep.specs.Kept.{changes_of, reported_count};
 
@@ -53,14 +53,16 @@ fn make_counted<T: Tablet>(
     state: &mut State<T>,
     stats: &mut Vec<ObserverStats>,
     batch: Batch,
+    limit: u64,
 ) -> Result<(), Stopped>
     ensures keeps { (first : KeptTable) (changes : List Writes)
-        → Keeps first changes (kept_table state.old stats.old.items)
-        → OnOk result (Keeps first (changes ++ batch ∷ [])
+        → Keeps limit first changes (kept_table state.old stats.old.items)
+        → OnOk result (Keeps limit first (changes ++ batch ∷ [])
         (kept_table state.new stats.new.items)) }
     ensures observers { OnOk result (state.new.observers ≡ state.old.observers) }
+    ensures left { OnErr result (IsLeftOf state.old state.new) }
 {
-    make(alloc, state, stats, batch)?;
+    make(alloc, state, stats, batch, limit)?;
     Ok(())
 }
 
@@ -71,20 +73,21 @@ fn make_anew<T: Tablet>(
     stats: &mut Vec<ObserverStats>,
     record: &[u8],
     made: &mut u64,
+    limit: u64,
 ) -> Result<(), KeepFault>
-    ensures keeps { OnOk result (IsRecordMade «record».now
+    ensures keeps { OnOk result (IsRecordMade limit «record».now
         (kept_table state.old stats.old.items) (kept_table state.new stats.new.items)
         made.old made.new) }
     ensures observers { OnOk result (state.new.observers ≡ state.old.observers) }
     ensures why { IfErr result IsOfAnew }
-    ensures left { OnErr result (IsRecordLeft «record».now
-        (kept_table state.old stats.old.items) made.old made.new) }
+    ensures left { OnErr result (IsRecordLeft limit «record».now
+        (kept_table state.old stats.old.items) state.new made.old made.new) }
 {
     // For the proof: a number has its range once it is read.
     let _was = *made;
     let batches = batches_of(alloc, record)?;
     for batch in batches {
-        make_counted(alloc, state, stats, batch)?;
+        make_counted(alloc, state, stats, batch, limit)?;
         *made = made.saturating_add(1);
     }
     Ok(())
@@ -101,28 +104,29 @@ fn in_part(fault: KeepFault, made: u64, all: u64) -> KeepFault
 }
 
 /// Makes the changes of records, in order, each with its observers, and returns how many they are, or the greatest `u64`
-/// where they are more. All are read before the first is made. Where memory is refused then, the fault says how many were
+/// where they are more. The table has this limit of entries. All are read before the first is made. Where memory is refused then, the fault says how many were
 /// made of how many.
 pub fn make_records_anew<T: Tablet>(
     alloc: Global,
     state: &mut State<T>,
     stats: &mut Vec<ObserverStats>,
     records: Vec<Vec<u8>>,
+    limit: u64,
 ) -> Result<u64, KeepFault>
     ensures keeps { IfOk result (λ n. (more : List Writes)
         × (changes_of (map (λ v. v.items) records.items) ≡ Ok more)
         × ((first : KeptTable) (changes : List Writes)
-        → Keeps first changes (kept_table state.old stats.old.items)
-        → Keeps first (changes ++ more) (kept_table state.new stats.new.items))
+        → Keeps limit first changes (kept_table state.old stats.old.items)
+        → Keeps limit first (changes ++ more) (kept_table state.new stats.new.items))
         × (n ≡ reported_count (length more))) }
     ensures observers { OnOk result (state.new.observers ≡ state.old.observers) }
-    ensures why { IfErr result (WhyNotAllMade (map (λ v. v.items) records.items)
-        (kept_table state.old stats.old.items)) }
+    ensures why { IfErr result (WhyNotAllMade limit (map (λ v. v.items) records.items)
+        (kept_table state.old stats.old.items) state.new) }
 {
     let all = count_changes(alloc, &records)?;
     let mut made = 0u64;
     for record in records {
-        if let Err(fault) = make_anew(alloc, state, stats, &record, &mut made) {
+        if let Err(fault) = make_anew(alloc, state, stats, &record, &mut made, limit) {
             return Err(in_part(fault, made, all));
         }
     }

@@ -3,10 +3,12 @@ ghost use Rattle.std.specs.Prelude.{◌≡◌, ◌≢◌, ◌<◌, ◌^◌, [], 
 ghost use Rattle.sqlite_disk.specs.Disk.{Only};
 ghost use Rattle.pb_keeper.specs.Stats.{kept_table};
 ghost use Rattle.pb_keep.specs.Anew.{BeginsAnew, WhyNotAnew};
+ghost use Rattle.pb_keep.specs.Kept.{head};
 ghost use Rattle.pb_keep.specs.Changed.{why_refused, why_stopped};
 ghost use Rattle.pb_base.specs.Growths.{refused_growth};
 ghost use Rattle.pb_keep.specs.declared.compact.SnapshotFault.TheVariants as ends;
 
+use crate::head::head_of;
 use crate::keeper::Keeper;
 use pb_base::NoMemory;
 use pb_keeper::Stopped;
@@ -95,26 +97,27 @@ impl<T: Tablet, D: Disk + Drop> Keeper<T, D> {
         self.waiting.items.is_empty()
     }
 
-    /// Begins a new log of this manifest with a snapshot of the table: the newest version of each cell, and all versions of the
+    /// Begins a new log of this limit of entries and this manifest with a snapshot of the table: the newest version of each cell, and all versions of the
     /// cells that an observer isn't up to date on. Returns how many they are. The keeper's own log is left as it is. The caller has to
     /// give the manifest of the table's observers.
     pub fn snapshot_into<E: Disk + Drop>(
         &self,
         alloc: Global,
         log: &mut Log<E>,
+        limit: u64,
         manifest: &[u8],
     ) -> Result<usize, SnapshotFault>
         requires usable { IsTrue (E.is_usable log.old.disk) }
         requires restarted { Only (E.seen log.old.disk) (E.may_leave log.old.disk) }
-        requires short { length manifest.now < 2 ^ 31 }
+        requires short { length manifest.now < 2 ^ 30 }
         ensures begun { IfOk result (λ n. IsTrue (E.is_clean log.new.disk)
-            → BeginsAnew manifest.now (kept_table self.now.state self.now.stats.items) n
+            → BeginsAnew limit manifest.now (kept_table self.now.state self.now.stats.items) n
             (E.seen log.new.disk) (E.may_leave log.new.disk) log.new.end) }
         // A fault has its cause.
         ensures cause { IfErr result (λ e. IsTrue (E.is_clean log.new.disk)
             → WhyNotAnew self.now.waiting.items.items
             (kept_table self.now.state self.now.stats.items)
-            manifest.now (E.faults log.old.disk) (E.faults log.new.disk)
+            (head limit manifest.now) (E.faults log.old.disk) (E.faults log.new.disk)
             (E.seen log.old.disk) e) }
     {
         if !self.is_idle() {
@@ -130,7 +133,8 @@ impl<T: Tablet, D: Disk + Drop> Keeper<T, D> {
         if record.len() >= TOO_LONG {
             return Err(SnapshotFault::TooLarge);
         }
-        if !log.open(alloc, manifest)?.is_empty() {
+        let head = head_of(alloc, limit, manifest)?;
+        if !log.open(alloc, &head)?.is_empty() {
             return Err(SnapshotFault::NotNew);
         }
         log.put(alloc, &record)?;

@@ -10,11 +10,12 @@ ghost use Rattle.pb_keep.specs.Waits.{changes_in, AreAnswers, IsNoLine, IsWaitin
 ghost use Rattle.pb_keep.specs.Conversations.{beginning, keeper_view, Beginning, LeavesFirst, Serves};
 ghost use Rattle.pb_keep.specs.Opened.{IsOpenedLog};
 ghost use Rattle.pb_keep.specs.Causes.{IsOfPut, WhyNotKept, WhyNotMadeAgain};
-ghost use Rattle.pb_keep.specs.Left.{IsLeftBy, IsOfLog};
+ghost use Rattle.pb_keep.specs.Left.{AreInTime, IsLeftBy, IsOfLog};
 
 use crate::anew::make_records_anew;
 use crate::fault::KeepFault;
 use crate::first::begin;
+use crate::head::head_of;
 use crate::made::make_and_answer;
 use crate::take::write;
 use crate::waiting::Waiting;
@@ -34,6 +35,9 @@ pub struct Keeper<T: Tablet, D: Disk + Drop> {
     pub state: State<T>,
     pub stats: Vec<ObserverStats>,
     pub waiting: Waiting,
+    /// How many entries its table may have: with so many or more it takes no change, and the runs that follow a change stay within
+    /// it. It's the log's own.
+    pub limit: u64,
     /// All writes above this commit are there; of those before, only what its log's snapshot has.
     pub since: Ts,
 }
@@ -67,14 +71,21 @@ fn put_script<D: Disk + Drop>(
 }
 
 impl<T: Tablet, D: Disk + Drop> Keeper<T, D> {
-    /// A table that isn't opened yet: its log is on this disk, nothing was done to its state, and these are the stats of its
-    /// observers.
-    pub fn new(alloc: Global, disk: D, state: State<T>, stats: Vec<ObserverStats>) -> Keeper<T, D>
+    /// A table that isn't opened yet: its log is on this disk, nothing was done to its state, these are the stats of its
+    /// observers, and this is its limit of entries, which is none where it's the greatest number.
+    pub fn new(
+        alloc: Global,
+        disk: D,
+        state: State<T>,
+        stats: Vec<ObserverStats>,
+        limit: u64,
+    ) -> Keeper<T, D>
         ensures disk { result.log.disk ≡ disk }
         ensures state { result.state ≡ state }
         ensures stats { result.stats.items ≡ stats.items }
         ensures idle { IsNoLine result.waiting }
         ensures since { result.since.0 ≡ 0 }
+        ensures limit { result.limit ≡ limit }
         ensures waiting { IsWaiting result.waiting }
     {
         Keeper {
@@ -82,20 +93,22 @@ impl<T: Tablet, D: Disk + Drop> Keeper<T, D> {
             state,
             stats,
             waiting: Waiting::new(alloc),
+            limit,
             since: Ts(0),
         }
     }
 
-    /// Opens the log of this manifest, or makes it, begins with its snapshot, if it has one, and makes its changes again, in
-    /// order. Returns how many they are. The manifest has less than 2^31 bytes.
+    /// Opens the log of this manifest and of the keeper's limit, or makes it, begins with its snapshot, if it has one, and makes its changes again, in
+    /// order. Returns how many they are. The manifest has less than 2^30 bytes.
     pub fn open(&mut self, alloc: Global, manifest: &[u8]) -> Result<u64, KeepFault>
         requires usable { IsTrue (D.is_usable self.old.log.disk) }
         requires restarted { Only (D.seen self.old.log.disk) (D.may_leave self.old.log.disk) }
-        requires short { length manifest.now < 2 ^ 31 }
+        requires short { length manifest.now < 2 ^ 30 }
         requires opened { kept_table self.old.state self.old.stats.items
             ≡ opened_table self.old.state.observers }
         ensures usable { OnOk result (IsTrue (D.is_usable self.new.log.disk)) }
         ensures waiting { self.new.waiting ≡ self.old.waiting }
+        ensures limit { self.new.limit ≡ self.old.limit }
         // The table has the same observers.
         ensures observers { OnOk result
             (self.new.state.observers ≡ self.old.state.observers) }
@@ -115,14 +128,15 @@ impl<T: Tablet, D: Disk + Drop> Keeper<T, D> {
             (keeper_view D.seen D.may_leave self.new written))) }
         // A fault of the log has its cause in the file or the disk.
         ensures cause { IfErr result (λ e. IsTrue (D.is_clean self.new.log.disk)
-            → WhyNotMadeAgain self.old.state.observers manifest.now (D.faults self.old.log.disk)
-            (D.faults self.new.log.disk) (D.seen self.old.log.disk) e) }
+            → WhyNotMadeAgain self.old.limit self.old.state.observers manifest.now (D.faults self.old.log.disk)
+            (D.faults self.new.log.disk) (D.seen self.old.log.disk) self.new.state e) }
     {
         // For the proof: as it begins, a table keeps no change of its own.
         tables_keep_their_changes();
-        let mut records = self.log.open(alloc, manifest)?;
+        let head = head_of(alloc, self.limit, manifest)?;
+        let mut records = self.log.open(alloc, &head)?;
         self.since = begin(alloc, &mut self.state, &mut self.stats, &mut records)?;
-        make_records_anew(alloc, &mut self.state, &mut self.stats, records)
+        make_records_anew(alloc, &mut self.state, &mut self.stats, records, self.limit)
     }
 
     // Puts what waits into the log, makes its changes, and writes the answers.
@@ -132,25 +146,26 @@ impl<T: Tablet, D: Disk + Drop> Keeper<T, D> {
         ensures usable { OnOk result (IsTrue (D.is_usable self.new.log.disk)) }
         ensures idle { OnOk result (IsNoLine self.new.waiting) }
         ensures since { self.new.since ≡ self.old.since }
+        ensures limit { self.new.limit ≡ self.old.limit }
         ensures observers { OnOk result
             (self.new.state.observers ≡ self.old.state.observers) }
         ensures kept { (origin : Origin) (first : KeptTable) (changes : List Writes)
             → IsLogOf origin changes (D.seen self.old.log.disk)
             (D.may_leave self.old.log.disk) self.old.log.end
-            → Keeps first changes (kept_table self.old.state self.old.stats.items)
+            → Keeps self.old.limit first changes (kept_table self.old.state self.old.stats.items)
             → OnOk result (IsLogOf origin (changes ++ changes_in self.old.waiting.items.items)
             (D.seen self.new.log.disk) (D.may_leave self.new.log.disk) self.new.log.end
-            × Keeps first (changes ++ changes_in self.old.waiting.items.items)
+            × Keeps self.old.limit first (changes ++ changes_in self.old.waiting.items.items)
             (kept_table self.new.state self.new.stats.items)) }
         ensures answers { OnOk result ((text : List ℕ)
-            × AreAnswers self.old.waiting.items.items
+            × AreAnswers self.old.limit self.old.waiting.items.items
             (kept_table self.old.state self.old.stats.items)
             (kept_table self.new.state self.new.stats.items) text
             × Appends (S.taken out.old) (S.taken out.new) text) }
         ensures err { (origin : Origin) (changes : List Writes)
             → IsLogOf origin changes (D.seen self.old.log.disk)
             (D.may_leave self.old.log.disk) self.old.log.end
-            → IfErr result (IsLeftBy origin changes self.old.waiting.items.items
+            → IfErr result (IsLeftBy self.old.limit origin changes self.old.waiting.items.items
             (kept_table self.old.state self.old.stats.items)
             (kept_table self.new.state self.new.stats.items)
             (S.taken out.old) (S.taken out.new) (D.may_leave self.new.log.disk)) }
@@ -158,7 +173,8 @@ impl<T: Tablet, D: Disk + Drop> Keeper<T, D> {
             × (self.new.stats.items ≡ self.old.stats.items)
             × (S.taken out.new ≡ S.taken out.old)) }
         ensures cause { (first : KeptTable) (changes : List Writes)
-            → Keeps first changes (kept_table self.old.state self.old.stats.items)
+            → Keeps self.old.limit first changes (kept_table self.old.state self.old.stats.items)
+            → AreInTime self.old.waiting.items.items self.old.state
             → IfErr result (WhyNotKept (D.faults self.old.log.disk)
             (D.faults self.new.log.disk) (S.failed out.new)
             (keeper_view D.seen D.may_leave self.new (S.taken out.new))) }
@@ -168,7 +184,14 @@ impl<T: Tablet, D: Disk + Drop> Keeper<T, D> {
         put_script(alloc, &mut self.log, &self.waiting)?;
         let Waiting { items, .. } = mem::replace(&mut self.waiting, Waiting::new(alloc));
         let mut text = String::new(alloc);
-        let done = make_and_answer(alloc, &mut self.state, &mut self.stats, items, &mut text);
+        let done = make_and_answer(
+            alloc,
+            &mut self.state,
+            &mut self.stats,
+            items,
+            &mut text,
+            self.limit,
+        );
         // Also where a change was stopped: those before it are made.
         write(out, text.as_str())?;
         done
@@ -218,6 +241,7 @@ impl<T: Tablet, D: Disk + Drop> Keeper<T, D> {
             state,
             stats: _,
             waiting: _,
+            limit: _,
             since: _,
         } = self;
         state.close();

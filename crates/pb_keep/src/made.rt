@@ -1,14 +1,16 @@
 //! Changes made one after the other, and the answers to lines that waited.
-ghost use Rattle.std.specs.Prelude.{◌≡◌, ◌++◌, ◌∷◌, [], ℕ, List, None, true, IfOk, OnOk, IfErr, OnErr, string_bytes, codes, decimal};
+ghost use Rattle.std.specs.Prelude.{◌≡◌, ◌≤◌, ◌<◌, ◌+◌, ◌*◌, ◌++◌, ◌∷◌, [], ℕ, List, None, true, IfOk, OnOk, IfErr, OnErr, length, string_bytes, codes, decimal};
+ghost use Rattle.std.specs.FinMap as map;
 ghost use Rattle.pb_base.specs.Batch.{Writes};
 ghost use Rattle.pb_store.specs.Contents.{IsNextMark};
 ghost use Rattle.pb_keeper.specs.Counts.{commit_count};
 ghost use Rattle.pb_keeper.specs.Keeps.{Keeps};
 ghost use Rattle.pb_keeper.specs.Leads.{SaidLeads};
-ghost use Rattle.pb_keeper.specs.Made.{IsMade, comes_to_rest};
+ghost use Rattle.pb_keeper.specs.Made.{IsMade, comes_to_rest, runs_within};
 ghost use Rattle.pb_keeper.specs.Stats.{kept_table, Counted, KeptTable};
-ghost use Rattle.pb_keeper.specs.Stops.{IsStop};
-ghost use Rattle.pb_keep.specs.Left.{IsOfMaking, IsRightOf};
+ghost use Rattle.pb_keeper.specs.Stops.{WantsMemory as StoppedForMemory};
+ghost use Rattle.pb_steps.specs.Readings.{last_timestamp};
+ghost use Rattle.pb_keep.specs.Left.{most_timestamps, AreInTime, IsOfMaking, WantsMemory};
 ghost use Rattle.pb_keep.specs.Waits.{changes_in, made_line, AreAnswers, AreSomeAnswers, IsAnswer};
 
 use crate::fault::KeepFault;
@@ -60,24 +62,27 @@ fn make_counted<T: Tablet>(
     state: &mut State<T>,
     stats: &mut Vec<ObserverStats>,
     batch: Batch,
+    limit: u64,
 ) -> Result<Made, Stopped>
     ensures ok { IfOk result (λ m. (leads : SaidLeads
         (Counted state.old.observers stats.old.items stats.new.items
-        (IsMade state.old.observers batch m.commit)) state.old state.new)
+        (IsMade state.old.observers (runs_within limit (map.len state.old.entries)) batch
+        m.commit)) state.old state.new)
         × (m.drained.runs ≡ commit_count leads.form.form.drain)
         × (m.drained.rests ≡ comes_to_rest leads.form.form.drained)) }
     ensures quiet { IfOk result
         (λ m. m.drained.rests ≡ true → IsNextMark state.new.marks None None) }
     ensures keeps { (first : KeptTable) (changes : List Writes)
-        → Keeps first changes (kept_table state.old stats.old.items)
-        → OnOk result (Keeps first (changes ++ batch ∷ [])
+        → Keeps limit first changes (kept_table state.old stats.old.items)
+        → OnOk result (Keeps limit first (changes ++ batch ∷ [])
         (kept_table state.new stats.new.items)) }
     ensures observers { OnOk result (state.new.observers ≡ state.old.observers) }
-    ensures stops { (first : KeptTable) (changes : List Writes)
-        → Keeps first changes (kept_table state.old stats.old.items)
-        → IfErr result (λ e. IsStop e state.new) }
+    ensures clock { state.new.clock ≤ state.old.clock + most_timestamps }
+    ensures in_time { (first : KeptTable) (changes : List Writes)
+        → Keeps limit first changes (kept_table state.old stats.old.items)
+        → state.old.clock + most_timestamps < last_timestamp → IfErr result StoppedForMemory }
 {
-    make(alloc, state, stats, batch)
+    make(alloc, state, stats, batch, limit)
 }
 
 // Answers a line that waited, and makes its change, if it is one, before.
@@ -87,25 +92,28 @@ fn answer<T: Tablet>(
     stats: &mut Vec<ObserverStats>,
     item: Waits,
     text: &mut String,
+    limit: u64,
 ) -> Result<(), KeepFault>
     ensures answer { OnOk result ((more : List ℕ)
         × (string_bytes text.new ≡ string_bytes text.old ++ more)
-        × IsAnswer item (kept_table state.old stats.old.items)
+        × IsAnswer limit item (kept_table state.old stats.old.items)
         (kept_table state.new stats.new.items) more) }
     ensures keeps { (first : KeptTable) (changes : List Writes)
-        → Keeps first changes (kept_table state.old stats.old.items)
-        → OnOk result (Keeps first (changes ++ changes_in (item ∷ []))
+        → Keeps limit first changes (kept_table state.old stats.old.items)
+        → OnOk result (Keeps limit first (changes ++ changes_in (item ∷ []))
         (kept_table state.new stats.new.items)) }
     ensures observers { OnOk result (state.new.observers ≡ state.old.observers) }
     ensures unanswered { OnErr result (string_bytes text.new ≡ string_bytes text.old) }
     ensures why { IfErr result IsOfMaking }
-    ensures right { (first : KeptTable) (changes : List Writes)
-        → Keeps first changes (kept_table state.old stats.old.items)
-        → IfErr result (IsRightOf state.new) }
+    ensures clock { state.new.clock
+        ≤ state.old.clock + length (changes_in (item ∷ [])) * most_timestamps }
+    ensures in_time { (first : KeptTable) (changes : List Writes)
+        → Keeps limit first changes (kept_table state.old stats.old.items)
+        → AreInTime (item ∷ []) state.old → IfErr result WantsMemory }
 {
     match item {
         Waits::Change(batch) => {
-            let made = make_counted(alloc, state, stats, batch)?;
+            let made = make_counted(alloc, state, stats, batch, limit)?;
             push_made(alloc, text, &made)?;
         }
         Waits::Unmade(newest) => push_unmade(alloc, text, newest)?,
@@ -123,25 +131,27 @@ pub(crate) fn make_and_answer<T: Tablet>(
     stats: &mut Vec<ObserverStats>,
     items: Vec<Waits>,
     text: &mut String,
+    limit: u64,
 ) -> Result<(), KeepFault>
     ensures answers { OnOk result ((more : List ℕ)
         × (string_bytes text.new ≡ string_bytes text.old ++ more)
-        × AreAnswers items.items (kept_table state.old stats.old.items)
+        × AreAnswers limit items.items (kept_table state.old stats.old.items)
         (kept_table state.new stats.new.items) more) }
     ensures keeps { (first : KeptTable) (changes : List Writes)
-        → Keeps first changes (kept_table state.old stats.old.items)
-        → OnOk result (Keeps first (changes ++ changes_in items.items)
+        → Keeps limit first changes (kept_table state.old stats.old.items)
+        → OnOk result (Keeps limit first (changes ++ changes_in items.items)
         (kept_table state.new stats.new.items)) }
     ensures observers { OnOk result (state.new.observers ≡ state.old.observers) }
-    ensures some { OnErr result (AreSomeAnswers items.items (kept_table state.old stats.old.items)
-        (string_bytes text.old) (string_bytes text.new)) }
+    ensures some { OnErr result (AreSomeAnswers limit items.items
+        (kept_table state.old stats.old.items) (string_bytes text.old) (string_bytes text.new)) }
     ensures why { IfErr result IsOfMaking }
-    ensures right { (first : KeptTable) (changes : List Writes)
-        → Keeps first changes (kept_table state.old stats.old.items)
-        → IfErr result (IsRightOf state.new) }
+    // With timestamps for all changes, nothing but memory is wanting.
+    ensures in_time { (first : KeptTable) (changes : List Writes)
+        → Keeps limit first changes (kept_table state.old stats.old.items)
+        → AreInTime items.items state.old → IfErr result WantsMemory }
 {
     for item in items {
-        answer(alloc, state, stats, item, text)?;
+        answer(alloc, state, stats, item, text, limit)?;
     }
     Ok(())
 }

@@ -1,6 +1,6 @@
 //! Other observers of a table, before a log of another manifest begins with it: some of those that it has, in any order, and
 //! then others.
-ghost use Rattle.std.specs.Prelude.{◌≡◌, ◌≤◌, ◌<◌, ◌+◌, ◌++◌, List, length, IfOk, IfErr, OnOk};
+ghost use Rattle.std.specs.Prelude.{◌≡◌, ◌≤◌, ◌<◌, ◌+◌, ◌++◌, ℕ, List, length, IfOk, IfErr, OnOk};
 ghost use Rattle.pb_base.specs.Batch.{Writes};
 ghost use Rattle.pb_base.specs.declared.limits.TheConstants.{MAX_OBSERVERS};
 ghost use Rattle.pb_steps.specs.Readings.{last_timestamp};
@@ -38,15 +38,15 @@ impl<T: Tablet, D: Disk + Drop> Keeper<T, D> {
         requires few { length places.now ≤ MAX_OBSERVERS }
         ensures room { OnOk result (self.now.state.clock < last_timestamp) }
         ensures observers { OnOk result (state.new.observers ≡ state.old.observers) }
-        ensures chosen { (past changes : List Writes) (first : KeptTable)
+        ensures chosen { (limit : ℕ) (past changes : List Writes) (first : KeptTable)
             → IsFirstTable past first
-            → KeepsFrom first changes (kept_table self.now.state self.now.stats.items)
+            → KeepsFrom limit first changes (kept_table self.now.state self.now.stats.items)
             → IfOk result (λ stats. IsChosenOf places.now state.old.observers
             (kept_table self.now.state self.now.stats.items)
             (kept_table state.new stats.items)) }
-        ensures cause { (past changes : List Writes) (first : KeptTable)
+        ensures cause { (limit : ℕ) (past changes : List Writes) (first : KeptTable)
             → IsFirstTable past first
-            → KeepsFrom first changes (kept_table self.now.state self.now.stats.items)
+            → KeepsFrom limit first changes (kept_table self.now.state self.now.stats.items)
             → IfErr result (WhyNotChanged self.now.waiting.items.items self.now.state
             self.now.state) }
     {
@@ -92,16 +92,16 @@ impl<T: Tablet, D: Disk + Drop> Keeper<T, D> {
         ensures observers { OnOk result
             (self.new.state.observers ≡ state.observers ++ more.items) }
         // The runs are those of the drain by which the others caught up.
-        ensures changed { (past changes : List Writes) (first : KeptTable)
+        ensures changed { (limit : ℕ) (past changes : List Writes) (first : KeptTable)
             → IsFirstTable past first
-            → KeepsFrom first changes (kept_table self.old.state self.old.stats.items)
+            → KeepsFrom limit first changes (kept_table self.old.state self.old.stats.items)
             → IfOk result (HasOtherObservers places.now state.observers more.items
             (kept_table self.old.state self.old.stats.items)
             (kept_table self.new.state self.new.stats.items)) }
         // A table that keeps changes is a generation's beginning now, after all of them.
-        ensures begins { (past changes : List Writes) (first : KeptTable)
+        ensures begins { (limit : ℕ) (past changes : List Writes) (first : KeptTable)
             → IsFirstTable past first
-            → KeepsFrom first changes (kept_table self.old.state self.old.stats.items)
+            → KeepsFrom limit first changes (kept_table self.old.state self.old.stats.items)
             → OnOk result (IsFirstTable (past ++ changes)
             (kept_table self.new.state self.new.stats.items)) }
         // Nothing else is touched, and nothing at all where a line waits.
@@ -110,9 +110,9 @@ impl<T: Tablet, D: Disk + Drop> Keeper<T, D> {
         ensures since { self.new.since ≡ self.old.since }
         ensures same { IfErr result (λ e. SomeLineWaits e → self.new ≡ self.old) }
         // A fault has its cause.
-        ensures cause { (past changes : List Writes) (first : KeptTable)
+        ensures cause { (limit : ℕ) (past changes : List Writes) (first : KeptTable)
             → IsFirstTable past first
-            → KeepsFrom first changes (kept_table self.old.state self.old.stats.items)
+            → KeepsFrom limit first changes (kept_table self.old.state self.old.stats.items)
             → IfErr result (WhyNotChanged self.old.waiting.items.items self.old.state
             self.new.state) }
     {

@@ -47,8 +47,8 @@ enum Went {
 fn refuse(waiting: &mut Waiting) -> Result<(), NoMemory>
     requires { IsWaiting waiting.old }
     ensures waiting { OnOk result (IsWaiting waiting.new) }
-    ensures held { (state : StateOf) (line : List ℕ)
-        → OnOk result (WaitsNow state line (Err Form) waiting.old waiting.new) }
+    ensures held { (limit : ℕ) (state : StateOf) (line : List ℕ)
+        → OnOk result (WaitsNow limit state line (Err Form) waiting.old waiting.new) }
 {
     waiting.push("", Waits::Refused(ScriptCode::Form.code()))
 }

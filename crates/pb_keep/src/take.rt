@@ -12,7 +12,7 @@ ghost use Rattle.pb_keep.specs.declared.fault.KeepFault.TheVariants as ends;
 ghost use Rattle.pb_keeper.specs.Stats.{kept_table};
 ghost use Rattle.pb_keep.specs.Conversations.{keeper_view, Beginning, LeavesFirst, Serves};
 ghost use Rattle.pb_keep.specs.Served.{ServesLine};
-ghost use Rattle.pb_keep.specs.Held.{change_as_line, commit_seen, waits_for, waits_within, IsAnswerTo, IsHeldIf, IsSinceAnswer};
+ghost use Rattle.pb_keep.specs.Held.{change_as_line, commit_seen, refuses_changes, unless_full, waits_for, waits_within, IsAnswerTo, IsHeldIf, IsSinceAnswer};
 ghost use Rattle.pb_keep.specs.Causes.{IsOfAnswer, WhyNotKept};
 ghost use Rattle.pb_keep.specs.Taken.{is_compaction, is_question, IsLineReady, IsNoCompaction, IsNoQuestion, IsReadyFor, MayHaveAnswered, NamesLog, WaitsNow};
 ghost use Rattle.pb_keep.specs.Waits.{IsNoLine, IsWaiting};
@@ -22,6 +22,7 @@ use crate::keeper::Keeper;
 use crate::waiting::{Waiting, Waits};
 use pb_answers::{answer_get, answer_list, answer_quiet, answer_since, answer_stats, newest_of};
 use pb_base::{NoMemory, Sink, Ts};
+use pb_keeper::has_room;
 use pb_parse::{ScriptCode, batch_of, first_operation};
 use pb_reading::{LineFault, is_skipped};
 use pb_requests::{Condition, Request, parse_request};
@@ -35,6 +36,9 @@ pub const OUT_OF_PLACE: u8 = 76;
 
 /// The code of a question about writes that are gone: those up to the snapshot that the log begins with.
 pub const GONE: u8 = 77;
+
+/// The code of a change for which the table has no room: it has as many entries as its limit or more, or too few timestamps.
+pub const FULL: u8 = 79;
 
 /// What was done with a line.
 #[derive(Clone, Copy, PartialEq, Eq, Debug, Drop)]
@@ -79,6 +83,16 @@ fn newest_commit<T: Tablet>(state: &State<T>, condition: &Condition) -> Ts
     }
 }
 
+// A change is refused where the table has no room for one.
+fn unless_full(is_full: bool, item: Waits) -> Waits
+    ensures { result ≡ unless_full is_full item }
+{
+    match item {
+        Waits::Change(_) if is_full => Waits::Refused(FULL),
+        item => item,
+    }
+}
+
 // As what operations on a condition wait. They are read before the condition is looked at, so that a line of no form is
 // refused in any case.
 fn change_if<T: Tablet>(
@@ -86,20 +100,26 @@ fn change_if<T: Tablet>(
     state: &State<T>,
     condition: &Condition,
     operations: &str,
+    is_full: bool,
 ) -> Result<Waits, NoMemory>
-    ensures { IfOk result (IsHeldIf state.now condition.now operations.now) }
+    ensures { IfOk result (IsHeldIf is_full state.now condition.now operations.now) }
 {
     let item = change_of(alloc, operations)?;
     let newest = newest_commit(state, condition);
     match item {
         Waits::Change(_) if newest != condition.commit => Ok(Waits::Unmade(newest)),
-        item => Ok(item),
+        item => Ok(unless_full(is_full, item)),
     }
 }
 
 // As what a change in a group waits, whose record may have no room for it.
-fn change_within(alloc: Global, waiting: &Waiting, line: &str) -> Result<Waits, NoMemory>
-    ensures { IfOk result (λ item. item ≡ waits_within waiting.now.changes
+fn change_within(
+    alloc: Global,
+    waiting: &Waiting,
+    line: &str,
+    is_full: bool,
+) -> Result<Waits, NoMemory>
+    ensures { IfOk result (λ item. item ≡ waits_within is_full waiting.now.changes
         (length (string_bytes waiting.now.script)) line.now Change) }
 {
     let item = change_of(alloc, line)?;
@@ -107,7 +127,7 @@ fn change_within(alloc: Global, waiting: &Waiting, line: &str) -> Result<Waits, 
         Waits::Change(_) if !waiting.has_room(line.len()) => {
             Ok(Waits::Refused(ScriptCode::TooMany.code()))
         }
-        item => Ok(item),
+        item => Ok(unless_full(is_full, item)),
     }
 }
 
@@ -117,15 +137,23 @@ fn item_within(
     waiting: &Waiting,
     line: &str,
     request: Request,
+    is_full: bool,
 ) -> Result<Waits, NoMemory>
-    ensures { IfOk result (λ item. item ≡ waits_within waiting.now.changes
+    ensures { IfOk result (λ item. item ≡ waits_within is_full waiting.now.changes
         (length (string_bytes waiting.now.script)) line.now request) }
 {
     match request {
-        Request::Change => change_within(alloc, waiting, line),
+        Request::Change => change_within(alloc, waiting, line, is_full),
         Request::End => Ok(Waits::Ended),
         _ => Ok(Waits::Refused(OUT_OF_PLACE)),
     }
+}
+
+// Whether the table has no room for a change, where none waits yet. With the first there is room for all of its record.
+fn refuses_changes<T: Tablet>(state: &State<T>, waiting: &Waiting, limit: u64) -> bool
+    ensures { result ≡ refuses_changes limit (waiting.now.changes == 0) state.now }
+{
+    waiting.changes == 0 && !has_room(state, limit)
 }
 
 // A line with a condition waits. Its first operation is the condition.
@@ -135,18 +163,20 @@ fn hold_if<T: Tablet>(
     waiting: &mut Waiting,
     condition: &Condition,
     line: &str,
+    limit: u64,
 ) -> Result<(), NoMemory>
     requires waiting { IsWaiting waiting.old }
     requires first { IsNoLine waiting.old }
     requires read { asked_by line.now ≡ Ok (ChangeIf condition.now) }
     ensures waiting { OnOk result (IsWaiting waiting.new) }
-    ensures held { OnOk result (WaitsNow state.now line.now (Ok (ChangeIf condition.now))
+    ensures held { OnOk result (WaitsNow limit state.now line.now (Ok (ChangeIf condition.now))
         waiting.old waiting.new) }
 {
     let (_, after) = first_operation(line);
     match after {
         Some(operations) => {
-            let item = change_if(alloc, state, condition, operations)?;
+            let is_full = refuses_changes(state, waiting, limit);
+            let item = change_if(alloc, state, condition, operations, is_full)?;
             waiting.push(operations, item)
         }
         None => unreachable!(),
@@ -160,6 +190,7 @@ fn hold_request<T: Tablet>(
     waiting: &mut Waiting,
     line: &str,
     request: Request,
+    limit: u64,
 ) -> Result<(), NoMemory>
     requires waiting { IsWaiting waiting.old }
     requires read { asked_by line.now ≡ Ok request }
@@ -169,14 +200,15 @@ fn hold_request<T: Tablet>(
     requires no_compaction { is_compaction request ≡ false }
     ensures waiting { OnOk result (IsWaiting waiting.new) }
     ensures held { OnOk result
-        (WaitsNow state.now line.now (Ok request) waiting.old waiting.new) }
+        (WaitsNow limit state.now line.now (Ok request) waiting.old waiting.new) }
 {
     match request {
         Request::Change => {
+            let is_full = refuses_changes(state, waiting, limit);
             let item = change_of(alloc, line)?;
-            waiting.push(line, item)
+            waiting.push(line, unless_full(is_full, item))
         }
-        Request::ChangeIf(condition) => hold_if(alloc, state, waiting, &condition, line),
+        Request::ChangeIf(condition) => hold_if(alloc, state, waiting, &condition, line, limit),
         Request::Begin => waiting.push(line, Waits::Begun),
         Request::End => waiting.push(line, Waits::Refused(OUT_OF_PLACE)),
         _ => unreachable!(),
@@ -190,6 +222,7 @@ fn hold<T: Tablet>(
     waiting: &mut Waiting,
     line: &str,
     read: Result<Request, ScriptCode>,
+    limit: u64,
 ) -> Result<(), NoMemory>
     requires waiting { IsWaiting waiting.old }
     requires read { asked_by line.now ≡ read }
@@ -197,16 +230,17 @@ fn hold<T: Tablet>(
     requires no_question { IsNoQuestion waiting.old read }
     requires no_compaction { IsNoCompaction waiting.old read }
     ensures waiting { OnOk result (IsWaiting waiting.new) }
-    ensures held { OnOk result (WaitsNow state.now line.now read waiting.old waiting.new) }
+    ensures held { OnOk result (WaitsNow limit state.now line.now read waiting.old waiting.new) }
 {
     let request = match read {
         Ok(request) => request,
         Err(code) => return waiting.push(line, Waits::Refused(code.code())),
     };
     if !waiting.is_group {
-        return hold_request(alloc, state, waiting, line, request);
+        return hold_request(alloc, state, waiting, line, request, limit);
     }
-    let item = item_within(alloc, waiting, line, request)?;
+    let is_full = refuses_changes(state, waiting, limit);
+    let item = item_within(alloc, waiting, line, request, is_full)?;
     waiting.push(line, item)
 }
 
@@ -408,7 +442,14 @@ impl<T: Tablet, D: Disk + Drop> Keeper<T, D> {
         }
         match question_in(&self.waiting, &read) {
             Some(question) => self.answer(alloc, out, question)?,
-            None => hold(alloc, &self.state, &mut self.waiting, line, read)?,
+            None => hold(
+                alloc,
+                &self.state,
+                &mut self.waiting,
+                line,
+                read,
+                self.limit,
+            )?,
         }
         Ok(Took::Served)
     }

@@ -4,7 +4,6 @@ use Rattle.std.proofs.Common.{List, [], sym, subst}
 use Rattle.pb_conversations.proofs.Joining.{of_parts}
 use Rattle.pb_passes.proofs.Drains.{HoldsOfRuns}
 use Rattle.pb_keeper.specs.Words.{ObserverOf, Received, Writes, Outcome}
-use Rattle.pb_keeper.specs.declared.passes.TheConstants.{MAX_RUNS}
 use Rattle.pb_keeper.proofs.BoundedDrains.{of_drain_within}
 use Rattle.pb_keeper.specs.Leads.{IsEndedChange}
 use Rattle.pb_keeper.specs.Keeps.{AreMade, IsNextMade}
@@ -13,7 +12,7 @@ module _ {P : List Received → Type 0} (observers : List ObserverOf) (each : Ho
   of_made : (changes now : List Writes) (said : List Received) → IsNextMade observers changes now said → P said
   of_made changes now said next =
       let is = next.made in
-      subst P (sym is.said_is) (each.adds.both is.change is.drain (change next.batch (Outcome.Committed next.commit) is.change is.changed) (of_drain_within observers each MAX_RUNS is.drain is.drained))
+      subst P (sym is.said_is) (each.adds.both is.change is.drain (change next.batch (Outcome.Committed next.commit) is.change is.changed) (of_drain_within observers each next.bound is.drain is.drained))
 
   pub of_all : (changes : List Writes) (said : List Received) → AreMade observers changes said → P said
   of_all changes said made = of_parts each.adds of_made [] changes said made

@@ -16,6 +16,7 @@ use Rattle.pb_keeper.specs.Stats.{KeptTable, starts_run}
 use Rattle.pb_keeper.proofs.EachStep.{is_step_within, AreWithin, IsWithin, each_as, each_on, whole_within}
 use Rattle.pb_keeper.proofs.BoundedDrains.{of_drain_within}
 use Rattle.pb_keeper.proofs.EachPart.{of_all}
+use Rattle.pb_keeper.proofs.LedTables.{led_by}
 use Rattle.pb_keeper.proofs.Resting.{first_sound, from_sound, marked_sound}
 use Rattle.pb_keeper.proofs.Wholes.{is_plain, IsPlain, ArePlain, IsPlainFrom, looked_from, rounds_from, base_from, begin_from, acknowledged_from, asked_from, read_plain, Preserves, preserves_adds}
 
@@ -238,26 +239,27 @@ left_follow old new from follow s c u stamped there low = follow s c u (stays s 
     stays_there s e = let t = some_transaction (got new s) e in ap is_some (from s t.0 t.1).2
 
 module _ (keeps : StepsKeepSound) (opens : OpeningIsSound) (left : LeftAreSound) (chosen : ChosenAreSound) where
-  from_follow : (past changes : List Writes) (first table : KeptTable) → IsFirstTable past first → Follow first.state → KeepsFrom first changes table → Follow table.state
-  from_follow past changes first table began follow k =
-      of_all first.state.observers (parts_follow keeps first.state.observers) (λ batch o said is. one_keeps said (change_is_of_one batch o said is)) changes k.said k.form.form first.state table.state (first_sound keeps opens left chosen past first began) follow k.leads
+  from_follow : (limit : ℕ) (past changes : List Writes) (first table : KeptTable) → IsFirstTable past first → Follow first.state → KeepsFrom limit first changes table → Follow table.state
+  from_follow limit past changes first table began follow k =
+      let leads = led_by limit first changes table k in
+      of_all first.state.observers (parts_follow keeps first.state.observers) (λ batch o said is. one_keeps said (change_is_of_one batch o said is)) changes leads.said leads.form.form first.state table.state (first_sound keeps opens left chosen past first began) follow leads.leads
 
   first_follow : (past : List Writes) (first : KeptTable) → IsFirstTable past first → Follow first.state
   first_follow past first (opened observers) = λ s c u stamped there low. absurd (let no : false ≡ true = ap has_transaction (sym (finite.get-empty nat_cmp u)) ∙ there in cc)
-  first_follow past first (anew before changes start old new began k room is stats) =
-      let sound = from_sound keeps opens left chosen before changes start old began k in
-      let was = from_follow before changes start old began (first_follow before start began) k in
+  first_follow past first (anew limit before changes start old new began k room is stats) =
+      let sound = from_sound keeps opens left chosen limit before changes start old began k in
+      let was = from_follow limit before changes start old began (first_follow before start began) k in
       left_follow old.state first.state (at_snapshot old.state first.state sound is) was
     where
       at_snapshot : (old new : StateOf) → IsSoundTable old → IsAnew old new → ComeFrom old new
       at_snapshot old new sound is s t e =
           let l = is.left.each s t e in
           (l.commit, l.phase, sound.record_committed l.some.0 l.commit.0 s (is.snapshot.within.records l.some.0 l.commit.0 s l.some.1))
-  first_follow past first (changed before changes start old between new places front more began k room is up) =
-      let sound = from_sound keeps opens left chosen before changes start old began k in
-      let was = from_follow before changes start old began (first_follow before start began) k in
+  first_follow past first (changed limit before changes start old between new places front more began k room is up) =
+      let sound = from_sound keeps opens left chosen limit before changes start old began k in
+      let was = from_follow limit before changes start old began (first_follow before start began) k in
       of_drain_within up.marked.state.observers (parts_follow keeps up.marked.state.observers) up.bound up.drained.said up.drained.form.form up.marked.state first.state
-      (marked_sound keeps opens left chosen before changes start old between new places front more began k is up)
+      (marked_sound keeps opens left chosen limit before changes start old between new places front more began k is up)
       (subst Follow (sym up.observed.is) (left_follow old.state between.state (at_choice old between sound is) was)) up.drained.leads
     where
       at_choice : (old new : KeptTable) → IsSoundTable old.state → IsChosenOf places front old new → ComeFrom old.state new.state
@@ -267,8 +269,8 @@ module _ (keeps : StepsKeepSound) (opens : OpeningIsSound) (left : LeftAreSound)
           (l.commit, l.phase, sound.record_committed v.0 l.commit.0 s v.2)
 
   pub kept_follow : KeptFollowOneAnother
-  kept_follow first changes table k s c u d earlier later low =
-      from_follow k.past changes first table k.began (first_follow k.past first k.began) k.leads s c u (at_commit (phase_in table.state s) c earlier) (ap is_some later) low
+  kept_follow limit first changes table k s c u d earlier later low =
+      from_follow limit k.past changes first table k.began (first_follow k.past first k.began) k.leads s c u (at_commit (phase_in table.state s) c earlier) (ap is_some later) low
     where
       at_commit : (o : Option Phase) (c : ℕ) → o ≡ Some (Phase.Committed (record { 0 = c })) → is_phase_at c o ≡ true
       at_commit o c e = ap (is_phase_at c) e ∙ eq-eqb c c refl

@@ -2,12 +2,11 @@
 use Rattle.std.proofs.Common.{arith, ◌≡◌, ℕ, ◌<◌, List, [], ◌∷◌, ◌++◌, ◌+◌, length, slice_index_or, Some, slice_get, refl, sym, ap, subst, ◌∙◌}
 use Rattle.std.proofs.lemmas.List.{append_assoc, append-nil, length-append, length-map, length-replicate}
 use Rattle.std.proofs.lemmas.Option.{slice_get_within}
-use Rattle.pb_keeper.specs.Words.{Writes, Ts, ObserverOf, last_timestamp, StateOf, StepsKeepSound, OpeningIsSound, IsSoundTable, Received, entries_by, HasMoreObservers, IsUnlocked, AreChosen, ChosenAreSound, new_number, renumbered_said, IsKeptTable, opened as opened_kept, anew as anew_kept, chosen as chosen_kept, RunsKeepTables, WholeChangesKeepTables, MarksKeepTables, LeftAreSound, no_part, one_part}
+use Rattle.pb_keeper.specs.Words.{Writes, ObserverOf, last_timestamp, StateOf, StepsKeepSound, OpeningIsSound, IsSoundTable, Received, entries_by, HasMoreObservers, IsUnlocked, AreChosen, ChosenAreSound, new_number, renumbered_said, IsKeptTable, opened as opened_kept, anew as anew_kept, chosen as chosen_kept, RunsKeepTables, WholeChangesKeepTables, MarksKeepTables, LeftAreSound, no_part, one_part}
 use Rattle.pb_generations.proofs.ChosenNumbers.{said_renumbered}
 use Rattle.pb_keeper.specs.Drains.{IsDrainWithin}
 use Rattle.pb_keeper.specs.Leads.{SaidLeads}
-use Rattle.pb_keeper.specs.Made.{IsMade}
-use Rattle.pb_keeper.specs.Keeps.{AreMade, AreMadeInAll, nothing_made, change_made, observers_changed, total_in, CatchesUp, IsChosenOf, Keeps, KeepsFrom, IsFirstTable, opened, anew, changed, BeginningKeepsNone, IsWholeTable, KeptIsWhole}
+use Rattle.pb_keeper.specs.Keeps.{AreMade, AreMadeInAll, nothing_made, change_made, observers_changed, total_in, CatchesUp, IsChosenOf, IsKeptAfter, Keeps, KeepsFrom, none_made, one_made, IsFirstTable, opened, anew, changed, BeginningKeepsNone, IsWholeTable, KeptIsWhole}
 use Rattle.pb_keeper.specs.Stats.{no_runs, sum_of, AreKeptStats, AreStatsOf, Counted, KeptTable, chosen_stats, first_stats, kept_table}
 use Rattle.pb_keeper.specs.Stops.{WasKept}
 use Rattle.pb_keeper.specs.declared.stats.ObserverStats.{ObserverStats}
@@ -15,27 +14,19 @@ use Rattle.pb_keeper.proofs.BoundedDrains.{of_drain_within}
 use Rattle.pb_keeper.proofs.EachPart.{of_all}
 use Rattle.pb_keeper.proofs.CatchingUp.{kept_with_none, none_counted, none_of_any}
 use Rattle.pb_keeper.proofs.KeptTables.{change_leaves, parts_leave}
-use Rattle.pb_keeper.proofs.Leading.{leads_none, leads_on, leads_observers}
+use Rattle.pb_keeper.proofs.Leading.{leads_observers}
+use Rattle.pb_keeper.proofs.LedTables.{led_by}
 use Rattle.pb_keeper.proofs.NoConflicts.{counts_none, parts_meet_none, change_meets_none}
 use Rattle.pb_keeper.proofs.Parting.{made_begins, stats_parted, stats_of_none}
 use Rattle.pb_keeper.proofs.Resting.{first_sound, first_free, from_free, from_sound, marked_free, marked_sound}
-use Rattle.pb_keeper.proofs.Statistics.{counted_none, counted_on, plus_assoc, plus_none}
+use Rattle.pb_keeper.proofs.Statistics.{plus_assoc, plus_none}
 
 -- one more change
-pub kept_on : (first : KeptTable) (changes : List Writes) (batch : Writes) (commit : Ts) (old new : KeptTable) → Keeps first changes old → SaidLeads (Counted old.state.observers old.stats new.stats (IsMade old.state.observers batch commit)) old.state new.state
-    → Keeps first (changes ++ batch ∷ []) new
-kept_on first changes batch commit old new k h =
-    let observers = first.state.observers in
-    let same : old.state.observers ≡ observers = leads_observers first.state old.state k.leads in
-    record {
-      past = k.past;
-      began = k.began;
-      leads = leads_on k.leads (subst (λ (l : List ObserverOf). SaidLeads (Counted l old.stats new.stats (IsMade l batch commit)) old.state new.state) same h)
-          (λ said more x y. counted_on x y (λ p q. one_part changes (changes ++ batch ∷ []) said more p (record { batch = batch; commit = commit; now_is = refl; made = q })));
-    }
+pub kept_on : (limit : ℕ) (first : KeptTable) (changes : List Writes) (batch : Writes) (old new : KeptTable) → Keeps limit first changes old → IsKeptAfter limit batch old new → Keeps limit first (changes ++ batch ∷ []) new
+kept_on limit first changes batch old new k is = record { past = k.past; began = k.began; leads = one_made changes batch old new k.leads is }
 
 pub beginning_keeps_none : BeginningKeepsNone
-beginning_keeps_none past first began = record { past = past; began = began; leads = leads_none first.state (counted_none tt no_part) }
+beginning_keeps_none limit past first began = record { past = past; began = began; leads = none_made }
 
 -- it got more observers, and a drain led on
 abbrev pub caught : (more : List ObserverOf) (bound : ℕ) (old : KeptTable) (marked new : StateOf) (begun stats : List ObserverStats) → HasMoreObservers more old.state marked → begun ≡ old.stats ++ first_stats more
@@ -51,12 +42,12 @@ made_on observers gone past changes said more total did a no_part are =
     subst (λ (t : ℕ → ObserverStats). AreMadeInAll observers gone (past ++ []) (said ++ []) t) (sym (λ i o. plus_none (total o) i) ∙ (λ i o. sum_of (total o) (sym (stats_of_none observers [] did are refl) i o)))
     (subst (λ cs. AreMadeInAll observers gone cs (said ++ []) total) (sym (append-nil past)) (subst (λ l. AreMadeInAll observers gone past l total) (sym (append-nil said)) a))
 made_on observers gone past changes said more total did a (one_part cs now before last b next) are =
-    let p = stats_parted observers (before ++ last) did are before last refl (made_begins observers next.batch next.commit last next.made) in
+    let p = stats_parted observers (before ++ last) did are before last refl (made_begins observers next.bound next.batch next.commit last next.made) in
     subst (λ (t : ℕ → ObserverStats). AreMadeInAll observers gone (past ++ now) (said ++ (before ++ last)) t)
     ((λ i o. plus_assoc (total o) (p.earlier o) (p.later o) i) ∙ (λ i o. sum_of (total o) (sym p.total_is i o)))
     (subst (λ l. AreMadeInAll observers gone (past ++ now) l (λ o. sum_of (sum_of (total o) (p.earlier o)) (p.later o))) (append_assoc said before last)
     (subst (λ l. AreMadeInAll observers gone l ((said ++ before) ++ last) (λ o. sum_of (sum_of (total o) (p.earlier o)) (p.later o))) (append_assoc past cs (next.batch ∷ []) ∙ ap (λ l. past ++ l) (sym next.now_is))
-    (change_made observers gone (past ++ cs) (said ++ before) last (λ o. sum_of (total o) (p.earlier o)) p.later next.batch next.commit (made_on observers gone past cs said before total p.earlier a b p.first) next.made p.last)))
+    (change_made observers gone (past ++ cs) (said ++ before) last (λ o. sum_of (total o) (p.earlier o)) p.later next.bound next.batch next.commit (made_on observers gone past cs said before total p.earlier a b p.first) next.few next.made p.last)))
 
 -- so many stats are kept as there are observers that stay, and others
 as_many_chosen : (places : List ℕ) (front more : List ObserverOf) (old between : KeptTable) (marked : List ObserverStats) → IsChosenOf places front old between → marked ≡ between.stats ++ first_stats more → length marked ≡ length (front ++ more)
@@ -70,23 +61,26 @@ place_within places front old between is many n p e = let o = is.are.each n p e 
 
 module _ (keeps : StepsKeepSound) (opens : OpeningIsSound) (left : LeftAreSound) (chosen : ChosenAreSound) (runs : RunsKeepTables) (whole : WholeChangesKeepTables) (marks : MarksKeepTables) where
   -- a generation's changes, after those of the generations before
-  whole_on : (observers : List ObserverOf) (past changes : List Writes) (first table : KeptTable) → IsFirstTable past first → first.state.observers ≡ observers → IsWholeTable observers past first → KeepsFrom first changes table → IsWholeTable observers (past ++ changes) table
-  whole_on observers past changes first table began same w k = on (subst (λ (l : List ObserverOf). SaidLeads (Counted l first.stats table.stats (AreMade l changes)) first.state table.state) same k) where
-    on : SaidLeads (Counted observers first.stats table.stats (AreMade observers changes)) first.state table.state → IsWholeTable observers (past ++ changes) table
-    on g = record {
-      gone = w.gone;
-      said = w.said ++ g.said;
-      total = λ o. sum_of (w.total o) (g.form.total o);
-      made = made_on observers w.gone past changes w.said g.said w.total g.form.total w.made g.form.form g.form.did;
-      c = w.c;
-      kept = of_all observers (parts_leave observers runs marks) (change_leaves observers whole) changes g.said g.form.form w.gone w.c w.said first.state table.state w.kept g.leads;
-      clean = λ o.
-          let met = (of_all observers (parts_meet_none keeps observers) (change_meets_none keeps observers) changes g.said g.form.form).1 first.state table.state (first_sound keeps opens left chosen past first began) (first_free keeps opens left chosen past first began) g.leads in
-          let later = counts_none observers g.said g.form.total g.form.did met o in
-          omega (arith, w.clean o, later);
-      as_many = g.form.as_many ∙ w.as_many;
-      are = g.form.grows w.total w.are;
-    }
+  whole_on : (limit : ℕ) (observers : List ObserverOf) (past changes : List Writes) (first table : KeptTable) → IsFirstTable past first → first.state.observers ≡ observers → IsWholeTable observers past first → KeepsFrom limit first changes table
+      → IsWholeTable observers (past ++ changes) table
+  whole_on limit observers past changes first table began same w k =
+      on (subst (λ (l : List ObserverOf). SaidLeads (Counted l first.stats table.stats (AreMade l changes)) first.state table.state) same (led_by limit first changes table k))
+    where
+      on : SaidLeads (Counted observers first.stats table.stats (AreMade observers changes)) first.state table.state → IsWholeTable observers (past ++ changes) table
+      on g = record {
+        gone = w.gone;
+        said = w.said ++ g.said;
+        total = λ o. sum_of (w.total o) (g.form.total o);
+        made = made_on observers w.gone past changes w.said g.said w.total g.form.total w.made g.form.form g.form.did;
+        c = w.c;
+        kept = of_all observers (parts_leave observers runs marks) (change_leaves observers whole) changes g.said g.form.form w.gone w.c w.said first.state table.state w.kept g.leads;
+        clean = λ o.
+            let met = (of_all observers (parts_meet_none keeps observers) (change_meets_none keeps observers) changes g.said g.form.form).1 first.state table.state (first_sound keeps opens left chosen past first began) (first_free keeps opens left chosen past first began) g.leads in
+            let later = counts_none observers g.said g.form.total g.form.did met o in
+            omega (arith, w.clean o, later);
+        as_many = g.form.as_many ∙ w.as_many;
+        are = g.form.grows w.total w.are;
+      }
 
   -- where such a table gets other observers it is kept over generations still
   kept_chosen : (observers gone : List ObserverOf) (c : ℕ) (said : List Received) (old between : KeptTable) (marked : StateOf) (places : List ℕ) (front more : List ObserverOf) → IsKeptTable observers gone 1 0 c (entries_by 0 said) old.state
@@ -111,15 +105,15 @@ module _ (keeps : StepsKeepSound) (opens : OpeningIsSound) (left : LeftAreSound)
     as_many = length-replicate (length observers) no_runs;
     are = λ o lt. none_counted (length observers) o;
   }
-  first_whole past first (anew before changes start old new began k room is stats) =
-      over (whole_on start.state.observers before changes start old began refl (first_whole before start began) k)
+  first_whole past first (anew limit before changes start old new began k room is stats) =
+      over (whole_on limit start.state.observers before changes start old began refl (first_whole before start began) k)
     where
       over : IsWholeTable start.state.observers (before ++ changes) old → IsWholeTable first.state.observers (before ++ changes) first
       over w =
-          let sound = from_sound keeps opens left chosen before changes start old began k in
+          let sound = from_sound keeps opens left chosen limit before changes start old began k in
           let ended = (left old.state first.state.entries first.state.transactions sound is.snapshot is.left).1 in
           let observers = start.state.observers in
-          let same : first.state.observers ≡ observers = ap (λ (z : StateOf). z.observers) is.marked.is ∙ leads_observers start.state old.state k in
+          let same : first.state.observers ≡ observers = ap (λ (z : StateOf). z.observers) is.marked.is ∙ leads_observers start.state old.state (led_by limit start changes old k) in
           subst (λ (l : List ObserverOf). IsWholeTable l (before ++ changes) first) (sym same) (record {
             gone = w.gone;
             said = w.said;
@@ -128,19 +122,19 @@ module _ (keeps : StepsKeepSound) (opens : OpeningIsSound) (left : LeftAreSound)
             c = old.state.clock;
             kept =
                 anew_kept observers w.gone 1 0 w.c (entries_by 0 w.said) old.state first.state.entries first.state.transactions first.state w.kept
-                (from_free keeps opens left chosen before changes start old began (first_free keeps opens left chosen before start began) k) room is.snapshot ended is.marked;
+                (from_free keeps opens left chosen limit before changes start old began (first_free keeps opens left chosen before start began) k) room is.snapshot ended is.marked;
             clean = w.clean;
             as_many = ap length stats ∙ w.as_many;
             are = subst (AreKeptStats w.total) (sym stats) w.are;
           })
-  first_whole past first (changed before changes start old between new places front more began k room is up) =
-      over (whole_on start.state.observers before changes start old began refl (first_whole before start began) k)
+  first_whole past first (changed limit before changes start old between new places front more began k room is up) =
+      over (whole_on limit start.state.observers before changes start old began refl (first_whole before start began) k)
     where
       observers : List ObserverOf
       observers = front ++ more
 
       was : old.state.observers ≡ start.state.observers
-      was = leads_observers start.state old.state k
+      was = leads_observers start.state old.state (led_by limit start changes old k)
 
       same : up.marked.state.observers ≡ observers
       same = ap (λ (z : StateOf). z.observers) up.observed.is ∙ ap (λ (z : StateOf). z.observers ++ more) is.marked.is
@@ -160,12 +154,12 @@ module _ (keeps : StepsKeepSound) (opens : OpeningIsSound) (left : LeftAreSound)
             made = observers_changed start.state.observers w.gone front more places up.bound (before ++ changes) w.said drain.said w.total drain.form.total w.made (subst (λ l. AreChosen places l front) was is.are) drain.form.form drain.form.did;
             c = old.state.clock;
             kept = of_drain_within observers (parts_leave observers runs marks) up.bound drain.said drain.form.form (start.state.observers ++ w.gone) old.state.clock said up.marked.state first.state
-                (kept_chosen start.state.observers w.gone w.c w.said old between up.marked.state places front more w.kept was (from_sound keeps opens left chosen before changes start old began k)
-                (from_free keeps opens left chosen before changes start old began (first_free keeps opens left chosen before start began) k) room is up.observed) drain.leads;
+                (kept_chosen start.state.observers w.gone w.c w.said old between up.marked.state places front more w.kept was (from_sound keeps opens left chosen limit before changes start old began k)
+                (from_free keeps opens left chosen limit before changes start old began (first_free keeps opens left chosen before start began) k) room is up.observed) drain.leads;
             clean = λ o.
                 let earlier = none_of_any w.total w.clean (slice_get places o) in
                 let met = (of_drain_within observers (parts_meet_none keeps observers) up.bound drain.said drain.form.form).1 up.marked.state first.state
-                (marked_sound keeps opens left chosen before changes start old between new places front more began k is up) (marked_free keeps opens left chosen old between new places front more is up) drain.leads in
+                (marked_sound keeps opens left chosen limit before changes start old between new places front more began k is up) (marked_free keeps opens left chosen old between new places front more is up) drain.leads in
                 let later = counts_none observers drain.said drain.form.total drain.form.did met o in
                 omega (arith, earlier, later);
             as_many = drain.form.as_many ∙ as_many_chosen places front more old between up.marked.stats is up.stats_are;
@@ -173,22 +167,22 @@ module _ (keeps : StepsKeepSound) (opens : OpeningIsSound) (left : LeftAreSound)
           })
 
   pub kept_is_whole : KeptIsWhole
-  kept_is_whole first changes table k = whole_on first.state.observers k.past changes first table k.began refl (first_whole k.past first k.began) k.leads
+  kept_is_whole limit first changes table k = whole_on limit first.state.observers k.past changes first table k.began refl (first_whole k.past first k.began) k.leads
 
   -- so it is kept over generations
-  pub kept_before : (first : KeptTable) (changes : List Writes) (table : KeptTable) → Keeps first changes table → WasKept table.state
-  kept_before first changes table k = let w = kept_is_whole first changes table k in record { observers = first.state.observers; gone = w.gone; c = w.c; said = w.said; kept = w.kept }
+  pub kept_before : (limit : ℕ) (first : KeptTable) (changes : List Writes) (table : KeptTable) → Keeps limit first changes table → WasKept table.state
+  kept_before limit first changes table k = let w = kept_is_whole limit first changes table k in record { observers = first.state.observers; gone = w.gone; c = w.c; said = w.said; kept = w.kept }
 
   -- also where it has got other observers
-  pub kept_marked : (past changes : List Writes) (first old between : KeptTable) (marked : StateOf) (places : List ℕ) (front more : List ObserverOf) → IsFirstTable past first → KeepsFrom first changes old
+  pub kept_marked : (limit : ℕ) (past changes : List Writes) (first old between : KeptTable) (marked : StateOf) (places : List ℕ) (front more : List ObserverOf) → IsFirstTable past first → KeepsFrom limit first changes old
       → old.state.clock < last_timestamp → IsChosenOf places front old between → HasMoreObservers more between.state marked → WasKept marked
-  kept_marked past changes first old between marked places front more began k room is has =
-      let w = whole_on first.state.observers past changes first old began refl (first_whole past first began) k in
+  kept_marked limit past changes first old between marked places front more began k room is has =
+      let w = whole_on limit first.state.observers past changes first old began refl (first_whole past first began) k in
       record {
         observers = front ++ more;
         gone = first.state.observers ++ w.gone;
         c = old.state.clock;
         said = renumbered_said (new_number places (length (front ++ more))) w.said;
-        kept = kept_chosen first.state.observers w.gone w.c w.said old between marked places front more w.kept (leads_observers first.state old.state k) (from_sound keeps opens left chosen past changes first old began k)
-            (from_free keeps opens left chosen past changes first old began (first_free keeps opens left chosen past first began) k) room is has;
+        kept = kept_chosen first.state.observers w.gone w.c w.said old between marked places front more w.kept (leads_observers first.state old.state (led_by limit first changes old k)) (from_sound keeps opens left chosen limit past changes first old began k)
+            (from_free keeps opens left chosen limit past changes first old began (first_free keeps opens left chosen past first began) k) room is has;
       }

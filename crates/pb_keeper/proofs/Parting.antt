@@ -43,8 +43,8 @@ begins_first [] b c e begins = tt
 begins_first (r ∷ a) b c e begins = subst BeginsOne e begins
 
 -- a change does
-pub made_begins : (observers : List ObserverOf) (batch : Writes) (commit : Ts) (said : List Received) → IsMade observers batch commit said → BeginsOne said
-made_begins observers batch commit said is = subst BeginsOne (sym (is.said_is ∙ ap (λ l. l ++ is.drain) is.changed.1.said_is)) refl
+pub made_begins : (observers : List ObserverOf) (bound : ℕ) (batch : Writes) (commit : Ts) (said : List Received) → IsMade observers bound batch commit said → BeginsOne said
+made_begins observers bound batch commit said is = subst BeginsOne (sym (is.said_is ∙ ap (λ l. l ++ is.drain) is.changed.1.said_is)) refl
 
 -- no step within a transaction does
 begins_no_other : (s : ℕ) (step : Step) → is_step_within s step ≡ true → is_begin step ≡ true → ⊥

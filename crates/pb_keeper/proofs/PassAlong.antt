@@ -2,7 +2,6 @@
 use Rattle.std.specs.Io.Iter.{u64_saturate}
 use Rattle.std.proofs.Common.{arith, ◌≡◌, ◌≢◌, ℕ, ◌+◌, ◌-◌, ◌^◌, ◌<◌, ◌≤◌, ◌==◌, min, inl, Bool, false, cond, List, [], ◌∷◌, ◌++◌, length, Option, Some, None, refl, sym, ap, subst, ◌∙◌, is_some, slice_get, slice_index_or}
 use Rattle.pb_keeper.specs.Words.{Writes, Cell, Ts, Step, Answer, StateOf, TableStep, IsNextMark, ObserverOf, Received, Outcome, told, IsWholeRun, RunOf, JobEnd, HasColumn, IsJobOn, IsRun, IsOfParts, EndsIn, one_part}
-use Rattle.pb_keeper.specs.declared.passes.TheConstants.{MAX_RUNS}
 use Rattle.pb_keeper.specs.Drains.{HasRuns, IsDrainWithin, IsTurnThat}
 use Rattle.pb_base.proofs.Logic.{one_value}
 use Rattle.pb_keeper.specs.Leads.{SaidLeads, IsAny, IsEndedChange}
@@ -14,9 +13,6 @@ use Rattle.pb_keeper.proofs.Counting.{count_append, not_counted, run_count}
 use Rattle.pb_keeper.proofs.Leading.{leads_none, leads_on}
 use Rattle.pb_keeper.proofs.BegunRuns.{no_run_first, run_is_one, runs_append}
 use Rattle.pb_keeper.proofs.Statistics.{change_begins_none, counted_as, counted_none, counted_on, counted_one}
-
-pub any_on : {P Q : List Received → Type 0} {a b c : StateOf} → SaidLeads P a b → SaidLeads Q b c → SaidLeads IsAny a c
-any_on g h = leads_on g h (λ said more p q. tt)
 
 -- ---- numbers of runs, and what they did
 
@@ -104,13 +100,13 @@ module _ {observers seen : List ObserverOf} {n number : ℕ} {x : Cell} {job : R
 
 -- ---- a change, and a drain
 
-pub change_is_made : {observers seen : List ObserverOf} {s t : List ObserverStats} {batch : Writes} {commit : Ts} {m : ℕ} {rests : Bool} {a b c : StateOf} → seen ≡ observers → SaidLeads (IsEndedChange batch (Outcome.Committed commit)) a b
-    → (leads : SaidLeads (Counted seen s t (IsDrainWithin seen MAX_RUNS)) b c) × (m ≡ commit_count leads.said) × (rests ≡ comes_to_rest leads.form.form)
-    → (leads : SaidLeads (Counted observers s t (IsMade observers batch commit)) a c) × (m ≡ commit_count leads.form.form.drain) × (rests ≡ comes_to_rest leads.form.form.drained)
+pub change_is_made : {observers seen : List ObserverOf} {s t : List ObserverStats} {bound : ℕ} {batch : Writes} {commit : Ts} {m : ℕ} {rests : Bool} {a b c : StateOf} → seen ≡ observers → SaidLeads (IsEndedChange batch (Outcome.Committed commit)) a b
+    → (leads : SaidLeads (Counted seen s t (IsDrainWithin seen bound)) b c) × (m ≡ commit_count leads.said) × (rests ≡ comes_to_rest leads.form.form)
+    → (leads : SaidLeads (Counted observers s t (IsMade observers bound batch commit)) a c) × (m ≡ commit_count leads.form.form.drain) × (rests ≡ comes_to_rest leads.form.form.drained)
 unfolding leads_on counted_on
-change_is_made {observers} {s = s} {t = t} {batch = batch} {commit = commit} {m = m} {rests = rests} {b = b} {c = c} same g h =
-    let here : (leads : SaidLeads (Counted observers s t (IsDrainWithin observers MAX_RUNS)) b c) × (m ≡ commit_count leads.said) × (rests ≡ comes_to_rest leads.form.form) =
-    subst (λ (l : List ObserverOf). (leads : SaidLeads (Counted l s t (IsDrainWithin l MAX_RUNS)) b c) × (m ≡ commit_count leads.said) × (rests ≡ comes_to_rest leads.form.form)) same h in (
+change_is_made {observers} {s = s} {t = t} {bound = bound} {batch = batch} {commit = commit} {m = m} {rests = rests} {b = b} {c = c} same g h =
+    let here : (leads : SaidLeads (Counted observers s t (IsDrainWithin observers bound)) b c) × (m ≡ commit_count leads.said) × (rests ≡ comes_to_rest leads.form.form) =
+    subst (λ (l : List ObserverOf). (leads : SaidLeads (Counted l s t (IsDrainWithin l bound)) b c) × (m ≡ commit_count leads.said) × (rests ≡ comes_to_rest leads.form.form)) same h in (
       leads_on g here.0 (λ said more p q. counted_on {P = IsEndedChange batch (Outcome.Committed commit)} (counted_none (change_begins_none batch (Outcome.Committed commit) said p) p) q (λ change drain. record { change = said; changed = change; drain = more; drained = drain; said_is = refl })),
       here.1,
       here.2,

@@ -8,6 +8,7 @@ use Rattle.pb_keeper.specs.Stats.{KeptTable}
 use Rattle.pb_keeper.specs.Keeps.{CatchesUp, IsChosenOf, IsFirstTable, opened, anew, changed, Keeps, KeepsFrom, KeptIsUnlocked}
 use Rattle.pb_keeper.proofs.BoundedDrains.{of_drain_within}
 use Rattle.pb_keeper.proofs.EachPart.{of_all}
+use Rattle.pb_keeper.proofs.LedTables.{led_by}
 use Rattle.pb_keeper.proofs.Wholes.{Preserves, preserves_adds, stays_sound, plain_walk, run_rests, change_commits, free_after}
 
 -- a conversation that leaves no lock where there was none
@@ -49,40 +50,43 @@ module _ (keeps : StepsKeepSound) (opens : OpeningIsSound) (left : LeftAreSound)
   -- as a generation begins, a table is sound
   pub first_sound : (past : List Writes) (first : KeptTable) → IsFirstTable past first → IsSoundTable first.state
   first_sound past first (opened observers) = opens observers 1 0 (grind arith)
-  first_sound past first (anew before changes start old new began leads room is stats) =
+  first_sound past first (anew limit before changes start old new began k room is stats) =
+      let leads = led_by limit start changes old k in
       marks_sound (carried old.state first.state.entries first.state.transactions) first.state is.marked (left old.state first.state.entries first.state.transactions (stays_sound keeps start.state old.state leads.said (first_sound before start began) leads.leads) is.snapshot is.left).0
-  first_sound past first (changed before changes start old between new places front more began leads room is up) =
+  first_sound past first (changed limit before changes start old between new places front more began k room is up) =
+      let leads = led_by limit start changes old k in
       stays_sound keeps up.marked.state first.state up.drained.said
       (more_sound more between.state up.marked.state up.observed
       (chosen_sound places front old between is (stays_sound keeps start.state old.state leads.said (first_sound before start began) leads.leads))) up.drained.leads
 
-  pub from_sound : (past changes : List Writes) (first table : KeptTable) → IsFirstTable past first → KeepsFrom first changes table → IsSoundTable table.state
-  from_sound past changes first table began k = stays_sound keeps first.state table.state k.said (first_sound past first began) k.leads
+  pub from_sound : (limit : ℕ) (past changes : List Writes) (first table : KeptTable) → IsFirstTable past first → KeepsFrom limit first changes table → IsSoundTable table.state
+  from_sound limit past changes first table began k = let leads = led_by limit first changes table k in stays_sound keeps first.state table.state leads.said (first_sound past first began) leads.leads
 
   -- and so it is where it got other observers
-  pub marked_sound : (past changes : List Writes) (first old between new : KeptTable) (places : List ℕ) (front more : List ObserverOf) → IsFirstTable past first → KeepsFrom first changes old → IsChosenOf places front old between
+  pub marked_sound : (limit : ℕ) (past changes : List Writes) (first old between new : KeptTable) (places : List ℕ) (front more : List ObserverOf) → IsFirstTable past first → KeepsFrom limit first changes old → IsChosenOf places front old between
       → (up : CatchesUp more between new) → IsSoundTable up.marked.state
-  marked_sound past changes first old between new places front more began k is up = more_sound more between.state up.marked.state up.observed (chosen_sound places front old between is (from_sound past changes first old began k))
+  marked_sound limit past changes first old between new places front more began k is up = more_sound more between.state up.marked.state up.observed (chosen_sound places front old between is (from_sound limit past changes first old began k))
 
   -- and no lock stands in it
   pub marked_free : (old between new : KeptTable) (places : List ℕ) (front more : List ObserverOf) → IsChosenOf places front old between → (up : CatchesUp more between new) → IsUnlocked up.marked.state
   marked_free old between new places front more is up = more_free more between.state up.marked.state up.observed is.snapshot.unlocked
 
-  pub from_free : (past changes : List Writes) (first table : KeptTable) → IsFirstTable past first → IsUnlocked first.state → KeepsFrom first changes table → IsUnlocked table.state
-  from_free past changes first table began free k =
-      of_all first.state.observers (parts_rest keeps first.state.observers) (change_rests keeps) changes k.said k.form.form first.state table.state (first_sound past first began) free k.leads
+  pub from_free : (limit : ℕ) (past changes : List Writes) (first table : KeptTable) → IsFirstTable past first → IsUnlocked first.state → KeepsFrom limit first changes table → IsUnlocked table.state
+  from_free limit past changes first table began free k =
+      let leads = led_by limit first changes table k in
+      of_all first.state.observers (parts_rest keeps first.state.observers) (change_rests keeps) changes leads.said leads.form.form first.state table.state (first_sound past first began) free leads.leads
 
   -- nor does one as it begins
   pub first_free : (past : List Writes) (first : KeptTable) → IsFirstTable past first → IsUnlocked first.state
   first_free past first (opened observers) = opening_free observers
-  first_free past first (anew before changes start old new began leads room is stats) = is.snapshot.unlocked
-  first_free past first (changed before changes start old between new places front more began leads room is up) =
+  first_free past first (anew limit before changes start old new began leads room is stats) = is.snapshot.unlocked
+  first_free past first (changed limit before changes start old between new places front more began k room is up) =
       of_drain_within up.marked.state.observers (parts_rest keeps up.marked.state.observers) up.bound up.drained.said up.drained.form.form up.marked.state first.state
-      (marked_sound before changes start old between new places front more began leads is up) (marked_free old between new places front more is up) up.drained.leads
+      (marked_sound limit before changes start old between new places front more began k is up) (marked_free old between new places front more is up) up.drained.leads
 
   -- a table that keeps changes is sound
-  pub kept_sound : (first : KeptTable) (changes : List Writes) (table : KeptTable) → Keeps first changes table → IsSoundTable table.state
-  kept_sound first changes table k = from_sound k.past changes first table k.began k.leads
+  pub kept_sound : (limit : ℕ) (first : KeptTable) (changes : List Writes) (table : KeptTable) → Keeps limit first changes table → IsSoundTable table.state
+  kept_sound limit first changes table k = from_sound limit k.past changes first table k.began k.leads
 
   pub kept_is_unlocked : KeptIsUnlocked
-  kept_is_unlocked first changes table k = from_free k.past changes first table k.began (first_free k.past first k.began) k.leads
+  kept_is_unlocked limit first changes table k = from_free limit k.past changes first table k.began (first_free k.past first k.began) k.leads

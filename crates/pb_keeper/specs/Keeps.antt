@@ -1,10 +1,12 @@
 -- A table that is kept over generations: it is opened with nothing in it, or begins anew from another one, also with other observers,
 -- and then these changes led to it, and nothing else.
-use Rattle.std.specs.Prelude.{◌≡◌, ℕ, ◌<◌, List, [], ◌∷◌, ◌++◌, length, slice_get}
+use Rattle.std.specs.Prelude.{◌≡◌, ℕ, ◌<◌, ◌≤◌, List, [], ◌∷◌, ◌++◌, length, slice_get}
+use Rattle.std.specs.FinMap as map
 use Rattle.pb_keeper.specs.Words.{Writes, Ts, ObserverOf, last_timestamp, StateOf, opening, IsCommittedAt, view_of, Received, IsOfParts, entries_by, HasMoreObservers, IsMarkedBehind, AreChosen, IsChosenSnapshot, chosen_state, new_number, renumbered_said, IsKeptTable, IsUnlocked, carried, unmarked, AreLeft, IsSnapshotOf}
 use Rattle.pb_keeper.specs.Drains.{IsDrainWithin}
 use Rattle.pb_keeper.specs.Leads.{SaidLeads}
-use Rattle.pb_keeper.specs.Made.{IsMade}
+use Rattle.pb_keeper.specs.Made.{IsMade, runs_within}
+use Rattle.pb_keeper.specs.declared.passes.TheConstants.{MAX_RUNS}
 use Rattle.pb_keeper.specs.Stats.{AreKeptStats, AreStatsOf, Counted, KeptTable, chosen_stats, first_stats, kept_table, no_runs, total_at, sum_of}
 use Rattle.pb_keeper.specs.declared.stats.ObserverStats.{ObserverStats}
 
@@ -12,8 +14,10 @@ use Rattle.pb_keeper.specs.declared.stats.ObserverStats.{ObserverStats}
 pub record IsNextMade (observers : List ObserverOf) (changes now : List Writes) (said : List Received) : Type 0 where
   pub batch : Writes
   pub commit : Ts
+  pub bound : ℕ
+  pub few : bound ≤ MAX_RUNS
   pub now_is : now ≡ changes ++ batch ∷ []
-  pub made : IsMade observers batch commit said
+  pub made : IsMade observers bound batch commit said
 
 -- these changes, each once and in order, each with the drain that follows it
 abbrev pub AreMade : List ObserverOf → List Writes → List Received → Type 0
@@ -21,9 +25,16 @@ AreMade observers changes said = IsOfParts (IsNextMade observers) [] changes sai
 
 -- ---- a generation
 
--- steps of its only seat led from this table to that one, which made these changes, and what its runs did is counted
-abbrev pub KeepsFrom : KeptTable → List Writes → KeptTable → Type 0
-KeepsFrom first changes table = SaidLeads (Counted first.state.observers first.stats table.stats (AreMade first.state.observers changes)) first.state table.state
+-- steps of its only seat led from this table to that one, which made this change, with the drain that follows it, of as many runs at most
+-- as the limit of entries has room for, and what its runs did is counted
+pub record IsKeptAfter (limit : ℕ) (batch : Writes) (old new : KeptTable) : Type 0 where
+  pub commit : Ts
+  pub leads : SaidLeads (Counted old.state.observers old.stats new.stats (IsMade old.state.observers (runs_within limit (map.len old.state.entries)) batch commit)) old.state new.state
+
+-- these changes led from this table to that one, one after the other, where it has this limit of entries
+pub data KeepsFrom (limit : ℕ) (first : KeptTable) : List Writes → KeptTable → Type 0 where
+  none_made : KeepsFrom limit first [] first
+  one_made : (changes : List Writes) (batch : Writes) (between new : KeptTable) → KeepsFrom limit first changes between → IsKeptAfter limit batch between new → KeepsFrom limit first (changes ++ batch ∷ []) new
 
 -- a table as opened, of one seat
 abbrev pub opened_table : List ObserverOf → KeptTable
@@ -54,36 +65,36 @@ pub record CatchesUp (more : List ObserverOf) (old new : KeptTable) : Type 0 whe
   pub bound : ℕ
   pub drained : SaidLeads (Counted marked.state.observers marked.stats new.stats (IsDrainWithin marked.state.observers bound)) marked.state new.state
 
--- a table as a generation begins with it, and the changes of all generations before
+-- a table as a generation begins with it, and the changes of all generations before, each of which had a limit of entries of its own
 pub data IsFirstTable : List Writes → KeptTable → Type 0 where
   opened : (observers : List ObserverOf) → IsFirstTable [] (opened_table observers)
-  anew : (past changes : List Writes) (first old new : KeptTable) → IsFirstTable past first → KeepsFrom first changes old → old.state.clock < last_timestamp
+  anew : (limit : ℕ) (past changes : List Writes) (first old new : KeptTable) → IsFirstTable past first → KeepsFrom limit first changes old → old.state.clock < last_timestamp
       → IsAnew old.state new.state → new.stats ≡ old.stats → IsFirstTable (past ++ changes) new
   -- with the observers at these places, and then others, which caught up
-  changed : (past changes : List Writes) (first old between new : KeptTable) (places : List ℕ) (front more : List ObserverOf) → IsFirstTable past first → KeepsFrom first changes old
+  changed : (limit : ℕ) (past changes : List Writes) (first old between new : KeptTable) (places : List ℕ) (front more : List ObserverOf) → IsFirstTable past first → KeepsFrom limit first changes old
       → old.state.clock < last_timestamp → IsChosenOf places front old between → CatchesUp more between new → IsFirstTable (past ++ changes) new
 
--- a table of the generation that begins with the first: these changes were made since
-pub record Keeps (first : KeptTable) (changes : List Writes) (table : KeptTable) : Type 0 where
+-- a table of the generation that begins with the first, which has this limit of entries: these changes were made since
+pub record Keeps (limit : ℕ) (first : KeptTable) (changes : List Writes) (table : KeptTable) : Type 0 where
   pub past : List Writes
   pub began : IsFirstTable past first
-  pub leads : KeepsFrom first changes table
+  pub leads : KeepsFrom limit first changes table
 
 -- ---- what holds of it
 
 -- as a generation begins, it keeps no change of its own
 abbrev pub BeginningKeepsNone : Type 0
-BeginningKeepsNone = (past : List Writes) (first : KeptTable) → IsFirstTable past first → Keeps first [] first
+BeginningKeepsNone = (limit : ℕ) (past : List Writes) (first : KeptTable) → IsFirstTable past first → Keeps limit first [] first
 
 -- no lock stands in a table that keeps changes
 abbrev pub KeptIsUnlocked : Type 0
-KeptIsUnlocked = (first : KeptTable) (changes : List Writes) (table : KeptTable) → Keeps first changes table → IsUnlocked table.state
+KeptIsUnlocked = (limit : ℕ) (first : KeptTable) (changes : List Writes) (table : KeptTable) → Keeps limit first changes table → IsUnlocked table.state
 
 -- committed transactions of a table that keeps changes follow one another, since one seat makes one after another: what began after
 -- another began after that was committed
 abbrev pub KeptFollowOneAnother : Type 0
 KeptFollowOneAnother =
-    (first : KeptTable) (changes : List Writes) (table : KeptTable) → Keeps first changes table → (s c u d : ℕ) → IsCommittedAt (view_of table.state) s c → IsCommittedAt (view_of table.state) u d → s < u → c < u
+    (limit : ℕ) (first : KeptTable) (changes : List Writes) (table : KeptTable) → Keeps limit first changes table → (s c u d : ℕ) → IsCommittedAt (view_of table.state) s c → IsCommittedAt (view_of table.state) u d → s < u → c < u
 
 -- what the runs of the observers did, by their new numbers: of those that stay, and nothing of new ones and of those that are gone
 abbrev pub total_in : List ℕ → (ℕ → ObserverStats) → ℕ → ObserverStats
@@ -94,8 +105,8 @@ total_in places total n = total_at total (slice_get places n)
 -- are gone stand after the others. This is what the runs of each did that isn't gone, counted as they were made.
 pub data AreMadeInAll : List ObserverOf → List ObserverOf → List Writes → List Received → (ℕ → ObserverStats) → Type 0 where
   nothing_made : (observers : List ObserverOf) → AreMadeInAll observers [] [] [] (λ o. no_runs)
-  change_made : (observers gone : List ObserverOf) (changes : List Writes) (said more : List Received) (total did : ℕ → ObserverStats) (batch : Writes) (commit : Ts) → AreMadeInAll observers gone changes said total
-      → IsMade observers batch commit more → AreStatsOf observers more did → AreMadeInAll observers gone (changes ++ batch ∷ []) (said ++ more) (λ o. sum_of (total o) (did o))
+  change_made : (observers gone : List ObserverOf) (changes : List Writes) (said more : List Received) (total did : ℕ → ObserverStats) (bound : ℕ) (batch : Writes) (commit : Ts) → AreMadeInAll observers gone changes said total
+      → bound ≤ MAX_RUNS → IsMade observers bound batch commit more → AreStatsOf observers more did → AreMadeInAll observers gone (changes ++ batch ∷ []) (said ++ more) (λ o. sum_of (total o) (did o))
   observers_changed : (observers gone front added : List ObserverOf) (places : List ℕ) (bound : ℕ) (changes : List Writes) (said more : List Received) (total did : ℕ → ObserverStats) → AreMadeInAll observers gone changes said total
       → AreChosen places observers front → IsDrainWithin (front ++ added) bound more → AreStatsOf (front ++ added) more did
       → AreMadeInAll (front ++ added) (observers ++ gone) changes (renumbered_said (new_number places (length (front ++ added))) said ++ more) (λ o. sum_of (total_in places total o) (did o))
@@ -115,4 +126,4 @@ pub record IsWholeTable (observers : List ObserverOf) (changes : List Writes) (t
 
 -- so each change of all generations was made once and in order, and all promises over generations hold of what is kept
 abbrev pub KeptIsWhole : Type 0
-KeptIsWhole = (first : KeptTable) (changes : List Writes) (table : KeptTable) → (k : Keeps first changes table) → IsWholeTable first.state.observers (k.past ++ changes) table
+KeptIsWhole = (limit : ℕ) (first : KeptTable) (changes : List Writes) (table : KeptTable) → (k : Keeps limit first changes table) → IsWholeTable first.state.observers (k.past ++ changes) table

@@ -77,16 +77,16 @@ pub fn observe_also<T: Tablet>(
     ensures quiet { IfOk result (λ d. d.rests ≡ true → IsNextMark state.new.marks None None) }
     // From what was chosen of a table that keeps changes it is a generation's beginning,
     // after all of them.
-    ensures begins { (past changes : List Writes) (first old : KeptTable) (places : List ℕ)
-        (front : List ObserverOf) → IsFirstTable past first
-        → KeepsFrom first changes old → old.state.clock < last_timestamp
+    ensures begins { (limit : ℕ) (past changes : List Writes) (first old : KeptTable)
+        (places : List ℕ) (front : List ObserverOf) → IsFirstTable past first
+        → KeepsFrom limit first changes old → old.state.clock < last_timestamp
         → IsChosenOf places front old (kept_table state.old stats.old.items)
         → OnOk result (IsFirstTable (past ++ changes)
         (kept_table state.new stats.new.items)) }
     // Then it conflicts with nothing.
-    ensures stops { (past changes : List Writes) (first old : KeptTable) (places : List ℕ)
-        (front : List ObserverOf) → IsFirstTable past first
-        → KeepsFrom first changes old → old.state.clock < last_timestamp
+    ensures stops { (limit : ℕ) (past changes : List Writes) (first old : KeptTable)
+        (places : List ℕ) (front : List ObserverOf) → IsFirstTable past first
+        → KeepsFrom limit first changes old → old.state.clock < last_timestamp
         → IsChosenOf places front old (kept_table state.old stats.old.items)
         → IfErr result (λ e. IsStop e state.new) }
 {

@@ -1,17 +1,20 @@
 //! Passes over the marked cells (OSDI 2010, section 2.4), and a change with what follows from it. A drain makes so many runs at
 //! most, so that it ends whatever its observers do.
-ghost use Rattle.std.specs.Prelude.{◌≡◌, ◌<◌, ◌≤◌, ◌^◌, ◌∷◌, ◌++◌, [], List, None, true, false, length, IfOk, IfErr, OnErr, OnOk};
+ghost use Rattle.std.specs.Prelude.{◌≡◌, ◌<◌, ◌≤◌, ◌+◌, ◌*◌, ◌-◌, ◌^◌, min, ℕ, ◌∷◌, ◌++◌, [], List, None, true, false, length, IfOk, IfErr, OnErr, OnOk};
+ghost use Rattle.std.specs.FinMap as map;
 ghost use Rattle.pb_base.specs.Batch.{Writes};
 ghost use Rattle.pb_base.specs.Cell.{column_of, rank_of, row_of};
+ghost use Rattle.pb_steps.specs.Readings.{last_timestamp};
 ghost use Rattle.pb_store.specs.Contents.{IsNextMark};
 ghost use Rattle.pb_keeper.specs.Counts.{CountsCommits, commit_count};
 ghost use Rattle.pb_keeper.specs.Keeps.{Keeps};
 ghost use Rattle.pb_keeper.specs.Stats.{Counted, KeptTable, kept_table};
 ghost use Rattle.pb_passes.specs.Passes.{HasColumn};
 ghost use Rattle.pb_keeper.specs.Drains.{end_after, AreRunsThat, HasRuns, IsDrainWithin, IsPassWithEnd, IsTurnThat};
-ghost use Rattle.pb_keeper.specs.Leads.{SaidLeads, IsAny};
-ghost use Rattle.pb_keeper.specs.Made.{IsDrainThat, IsMade, comes_to_rest};
-ghost use Rattle.pb_keeper.specs.Stops.{WasKept, IsStop};
+ghost use Rattle.pb_keeper.specs.BrokenOff.{IsOfChange, IsOfRuns};
+ghost use Rattle.pb_keeper.specs.Leads.{SaidLeads};
+ghost use Rattle.pb_keeper.specs.Made.{IsDrainThat, IsMade, comes_to_rest, runs_within};
+ghost use Rattle.pb_keeper.specs.Stops.{WasKept, IsStop, WantsMemory};
 ghost use Rattle.pb_keeper.specs.declared.passes.PassEnd.TheVariants as ends;
 
 use crate::change::{Stopped, ask, commit};
@@ -45,6 +48,10 @@ pub struct Drained {
 /// How many runs of observers a drain makes at most after a change. There is a limit, since an observer that changes a cell
 /// after the one on which it runs is due again in the same pass.
 pub const MAX_RUNS: u64 = 100_000;
+
+/// How many entries a run leaves in a table at most: of each of 16 cells that it writes, and of its acknowledgment, the data and
+/// the write record.
+pub const MAX_RUN_ENTRIES: u64 = 34;
 
 // What the turn of an observer did, or those of all on a cell: how many runs were made, how many of them were committed, and
 // whether another was due when no more might be made.
@@ -105,7 +112,7 @@ fn run_place<T: Tablet>(
     ensures ok { IfOk result (λ commits. SaidLeads (Counted state.old.observers stats.old stats.new
         (CountsCommits (HasRuns (IsTurnThat state.old.observers cell.now place false) 1) commits))
         state.old state.new) }
-    ensures err { OnErr result (SaidLeads IsAny state.old state.new) }
+    ensures err { OnErr result (SaidLeads (IsOfRuns 1) state.old state.new) }
     ensures stops { WasKept state.old → IfErr result (λ e. IsStop e state.new) }
 {
     let observers = state.observers();
@@ -142,7 +149,7 @@ fn turn<T: Tablet>(
         r.commits)) state.old state.new) }
     ensures few { IfOk result (λ r. r.runs ≤ left) }
     ensures due { IfOk result (λ r. r.is_due ≡ true → r.runs ≡ left) }
-    ensures err { OnErr result (SaidLeads IsAny state.old state.new) }
+    ensures err { OnErr result (SaidLeads (IsOfRuns left) state.old state.new) }
     ensures stops { WasKept state.old → IfErr result (λ e. IsStop e state.new) }
 {
     if !is_observer_of(state.observers(), place, cell) {
@@ -180,7 +187,7 @@ fn run_all<T: Tablet>(
         r.commits)) state.old state.new) }
     ensures few { IfOk result (λ r. r.runs ≤ left) }
     ensures due { IfOk result (λ r. r.is_due ≡ true → r.runs ≡ left) }
-    ensures err { OnErr result (SaidLeads IsAny state.old state.new) }
+    ensures err { OnErr result (SaidLeads (IsOfRuns left) state.old state.new) }
     ensures stops { WasKept state.old → IfErr result (λ e. IsStop e state.new) }
 {
     // For the proof: a table that is kept over generations is so after each run.
@@ -231,7 +238,7 @@ fn pass<T: Tablet>(
     ensures due { IfOk result (λ p. p.end ≡ ends.Due → p.runs ≡ left) }
     ensures quiet { IfOk result
         (λ p. p.end ≡ ends.Markless → IsNextMark state.new.marks None None) }
-    ensures err { OnErr result (SaidLeads IsAny state.old state.new) }
+    ensures err { OnErr result (SaidLeads (IsOfRuns left) state.old state.new) }
     ensures stops { WasKept state.old → IfErr result (λ e. IsStop e state.new) }
 {
     // For the proof: a table that is kept over generations is so after each run and each look for a mark, and allows that look.
@@ -277,7 +284,7 @@ fn make_passes<T: Tablet>(
         (CountsCommits (IsDrainThat state.old.observers bound d.rests) d.runs))
         state.old state.new) }
     ensures quiet { IfOk result (λ d. d.rests ≡ true → IsNextMark state.new.marks None None) }
-    ensures err { OnErr result (SaidLeads IsAny state.old state.new) }
+    ensures err { OnErr result (SaidLeads (IsOfRuns bound) state.old state.new) }
     ensures stops { WasKept state.old → IfErr result (λ e. IsStop e state.new) }
 {
     // For the proof: a table that is kept over generations is so after each pass.
@@ -314,7 +321,7 @@ pub fn drain<T: Tablet>(
         × (d.rests ≡ comes_to_rest leads.form.form)) }
     // Where it rests no cell is marked.
     ensures quiet { IfOk result (λ d. d.rests ≡ true → IsNextMark state.new.marks None None) }
-    ensures err { OnErr result (SaidLeads IsAny state.old state.new) }
+    ensures err { OnErr result (SaidLeads (IsOfRuns bound) state.old state.new) }
     ensures stops { WasKept state.old → IfErr result (λ e. IsStop e state.new) }
 {
     let drained = make_passes(alloc, state, stats, bound)?;
@@ -323,65 +330,63 @@ pub fn drain<T: Tablet>(
     Ok(drained)
 }
 
-/// Makes a change, and then passes over what it left marked, with [`MAX_RUNS`] runs at most.
+// How many runs may follow a change at most where the table has so many entries, as far as they can be counted, so that these stay
+// within the limit.
+fn runs_within(limit: u64, entries: usize) -> u64
+    ensures exact { (n : ℕ) → entries ≡ min n (2 ^ 64 - 1) → result ≡ runs_within limit n }
+    ensures few { result ≤ MAX_RUNS }
+{
+    MAX_RUNS.min(limit.saturating_sub(entries as u64) / MAX_RUN_ENTRIES)
+}
+
+/// Makes a change, and then passes over what it left marked, with [`MAX_RUNS`] runs at most, and with no more than the limit of
+/// entries has room for, of which each run may leave [`MAX_RUN_ENTRIES`].
 pub fn make<T: Tablet>(
     alloc: Global,
     state: &mut State<T>,
     stats: &mut [ObserverStats],
     batch: Batch,
+    limit: u64,
 ) -> Result<Made, Stopped>
     // What the runs did is added to the stats, and those that were committed after the change are its runs. It rests if
     // its drain does.
     ensures ok { IfOk result (λ m.
         (leads : SaidLeads (Counted state.old.observers stats.old stats.new
-        (IsMade state.old.observers batch m.commit)) state.old state.new)
+        (IsMade state.old.observers (runs_within limit (map.len state.old.entries)) batch
+        m.commit)) state.old state.new)
         × (m.drained.runs ≡ commit_count leads.form.form.drain)
         × (m.drained.rests ≡ comes_to_rest leads.form.form.drained)) }
     ensures quiet { IfOk result
         (λ m. m.drained.rests ≡ true → IsNextMark state.new.marks None None) }
     // After the changes that are kept it is one more.
     ensures keeps { (first : KeptTable) (changes : List Writes)
-        → Keeps first changes (kept_table state.old stats.old)
-        → OnOk result (Keeps first (changes ++ batch ∷ [])
+        → Keeps limit first changes (kept_table state.old stats.old)
+        → OnOk result (Keeps limit first (changes ++ batch ∷ [])
         (kept_table state.new stats.new)) }
-    ensures err { OnErr result (SaidLeads IsAny state.old state.new) }
+    // Left, it has begun no other change, and no more runs than may be made.
+    ensures err { OnErr result (SaidLeads (IsOfChange MAX_RUNS) state.old state.new) }
+    ensures clock { state.new.clock ≤ state.old.clock + (2 + 2 * MAX_RUNS) }
+    // On a table that keeps changes and has timestamps for all of that, it wants nothing but memory.
+    ensures in_time { (first : KeptTable) (changes : List Writes)
+        → Keeps limit first changes (kept_table state.old stats.old)
+        → state.old.clock + (2 + 2 * MAX_RUNS) < last_timestamp
+        → IfErr result WantsMemory }
     // The table has the same observers.
     ensures observers { OnOk result (state.new.observers ≡ state.old.observers) }
     // On a table that keeps changes it conflicts with nothing.
     ensures stops { (first : KeptTable) (changes : List Writes)
-        → Keeps first changes (kept_table state.old stats.old)
+        → Keeps limit first changes (kept_table state.old stats.old)
         → IfErr result (λ e. IsStop e state.new) }
 {
     // For the proof: on a table without locks a change commits, and one that is kept over generations is so after it.
     steps_keep_sound();
     snapshots_serve();
     jobs_keep_tables();
+    let bound = runs_within(limit, state.table().len());
     let outcome = commit(alloc, state, batch)?;
     let Outcome::Committed(commit) = outcome else {
         return Err(Stopped::Conflict);
     };
-    let drained = drain(alloc, state, stats, MAX_RUNS)?;
+    let drained = drain(alloc, state, stats, bound)?;
     Ok(Made { commit, drained })
-}
-
-/// Makes changes, one after another, as where those of a log are made anew.
-pub fn make_all<T: Tablet>(
-    alloc: Global,
-    state: &mut State<T>,
-    stats: &mut [ObserverStats],
-    batches: Vec<Batch>,
-) -> Result<(), Stopped>
-    ensures keeps { (first : KeptTable) (changes : List Writes)
-        → Keeps first changes (kept_table state.old stats.old)
-        → OnOk result (Keeps first (changes ++ batches.items)
-        (kept_table state.new stats.new)) }
-    ensures observers { OnOk result (state.new.observers ≡ state.old.observers) }
-    ensures stops { (first : KeptTable) (changes : List Writes)
-        → Keeps first changes (kept_table state.old stats.old)
-        → IfErr result (λ e. IsStop e state.new) }
-{
-    for batch in batches {
-        make(alloc, state, stats, batch)?;
-    }
-    Ok(())
 }

@@ -1,6 +1,7 @@
 -- A snapshot of a kept table begins the next generation, and what is chosen of it goes on with other observers.
 use Rattle.std.proofs.Common.{◌≡◌, ℕ, arith, List, [], ◌∷◌, Some, refl, sym, ap, ◌∙◌, subst}
 use Rattle.pb_snapshots.specs.Words.{Writes, Cell, Revision, ObserverOf, Entries, StateOf, Transactions, StepCase, Answer, Step, Has, JournalLeads, StepsKeepSound, OpeningIsSound, IsSoundTable, Entry, Received, entries_by, ChosenAreSound, IsChosenSnapshot, chosen_cell, chosen_state, carried, unmarked, AreLeft, IsSnapshotOf, LeftAreSound, IsCarriedOver, IsMarkedBehind, IsFirstTable, KeepsFrom, anew, changed, opened, SaidLeads, KeptTable, chosen_stats}
+use Rattle.pb_keeper.proofs.LedTables.{led_by}
 use Rattle.pb_keeper.proofs.Resting.{from_sound}
 use Rattle.pb_snapshots.specs.Beginnings.{SnapshotsBegin}
 use Rattle.pb_snapshots.specs.Chosen.{ChosenBegin}
@@ -22,24 +23,24 @@ leads_seats a b g = journal_seats a (entries_by 0 g.said) b g.leads
 -- a generation has one seat
 first_seats : (past : List Writes) (first : KeptTable) → IsFirstTable past first → first.state.seats ≡ 1
 first_seats past first (opened observers) = refl
-first_seats past first (anew before changes start old new began k room is stats) = ap (λ (z : StateOf). z.seats) is.marked.is ∙ leads_seats start.state old.state k ∙ first_seats before start began
-first_seats past first (changed before changes start old between new places front more began k room is up) =
+first_seats past first (anew limit before changes start old new began k room is stats) = ap (λ (z : StateOf). z.seats) is.marked.is ∙ leads_seats start.state old.state (led_by limit start changes old k) ∙ first_seats before start began
+first_seats past first (changed limit before changes start old between new places front more began k room is up) =
     leads_seats up.marked.state first.state up.drained
     ∙ ap (λ (z : StateOf). z.seats) up.observed.is
     ∙ ap (λ (z : StateOf). z.seats) is.marked.is
-    ∙ leads_seats start.state old.state k
+    ∙ leads_seats start.state old.state (led_by limit start changes old k)
     ∙ first_seats before start began
 
 module _ (keeps : StepsKeepSound) (opens : OpeningIsSound) (left : LeftAreSound) (sound_chosen : ChosenAreSound) where
-  module _ (past changes : List Writes) (first old new : KeptTable) (began : IsFirstTable past first) (k : KeepsFrom first changes old) where
+  module _ (limit : ℕ) (past changes : List Writes) (first old new : KeptTable) (began : IsFirstTable past first) (k : KeepsFrom limit first changes old) where
     old_sound : IsSoundTable old.state
-    old_sound = from_sound keeps opens left sound_chosen past changes first old began k
+    old_sound = from_sound keeps opens left sound_chosen limit past changes first old began k
 
     -- it has as many seats, and the clock of the snapshot is its own
     carried_over : (observers : List ObserverOf) (clock : ℕ) (cells : List (Cell × Revision)) (over : StateOf) → clock ≡ old.state.clock → IsCarriedOver observers 1 clock cells over
         → IsCarriedOver observers old.state.seats old.state.clock cells over
     carried_over observers clock cells over same is =
-        let seats : 1 ≡ old.state.seats = sym (leads_seats first.state old.state k ∙ first_seats past first began) in
+        let seats : 1 ≡ old.state.seats = sym (leads_seats first.state old.state (led_by limit first changes old k) ∙ first_seats past first began) in
         subst (λ (c : ℕ). IsCarriedOver observers old.state.seats c cells over) same (subst (λ (n : ℕ). IsCarriedOver observers n clock cells over) seats is)
 
   -- marks leave entries and transactions
@@ -58,22 +59,22 @@ module _ (keeps : StepsKeepSound) (opens : OpeningIsSound) (left : LeftAreSound)
     marked_over of is = with_marks (λ e ts. IsMarkedBehind (of e ts) new) (subst (λ (z : StateOf). IsMarkedBehind z new) is marked)
 
   pub snapshots_begin : SnapshotsBegin
-  snapshots_begin past changes first old new s over began k room taken carries marked stats =
-      let sound = old_sound past changes first old new began k in
-      let is = carried_over past changes first old new began k old.state.observers s.clock s.cells over taken.clock carries in
-      anew past changes first old new began k room (record {
+  snapshots_begin limit past changes first old new s over began k room taken carries marked stats =
+      let sound = old_sound limit past changes first old new began k in
+      let is = carried_over limit past changes first old new began k old.state.observers s.clock s.cells over taken.clock carries in
+      anew limit past changes first old new began k room (record {
         marked = marked_over over new.state marked (λ e ts. unmarked (carried old.state e ts)) (state_carried old.state over s.cells sound room taken.each taken.all is);
         snapshot = with_marks over new.state marked (λ e ts. IsSnapshotOf old.state e) (snapshot_carried old.state over s.cells sound room taken.each taken.all is);
         left = with_marks over new.state marked (AreLeft old.state) (snapshot_left old.state over s.cells sound room taken.each taken.all is);
       }) (stats ∙ taken.stats)
 
   pub chosen_begin : ChosenBegin
-  chosen_begin past changes first old new s u over places front began k room are taken from carries marked stats =
-      let sound = old_sound past changes first old new began k in
+  chosen_begin limit past changes first old new s u over places front began k room are taken from carries marked stats =
+      let sound = old_sound limit past changes first old new began k in
       let becomes = chosen_cell places in
       let each : (y : Cell) (v : Revision) → Has u.cells (y, v) → (x : Cell) × (becomes x ≡ Some y) × IsTakenOf old.state x v = λ y v has. let x = from.each y v has in (x.0, x.1, taken.each x.0 v x.2) in
       let all : (x y : Cell) (v : Revision) → becomes x ≡ Some y → IsTakenOf old.state x v → Has u.cells (y, v) = λ x y v becoming there. from.all x y v becoming (taken.all x v there) in
-      let is = carried_over past changes first old new began k front u.clock u.cells over (from.clock ∙ taken.clock) carries in
+      let is = carried_over limit past changes first old new began k front u.clock u.cells over (from.clock ∙ taken.clock) carries in
       record {
         are = are;
         marked = marked_over over new.state marked (λ e ts. unmarked (chosen_state old.state front e ts)) (state_becomes old.state over becomes (one_cell places) front u.cells sound each all is);

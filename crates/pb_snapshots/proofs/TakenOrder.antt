@@ -17,6 +17,7 @@ use Rattle.pb_generations.proofs.KnownEntries.{unknown_none}
 use Rattle.pb_generations.proofs.LeanTables.{whole_record, whole_stored}
 use Rattle.pb_generations.proofs.LongerLists.{stay_in_front}
 use Rattle.pb_keeper.proofs.Leading.{leads_observers}
+use Rattle.pb_keeper.proofs.LedTables.{led_by}
 use Rattle.pb_keeper.proofs.Resting.{kept_sound}
 use Rattle.pb_snapshots.specs.Chosen.{ChosenAreAccepted, IsChosenFrom}
 use Rattle.pb_snapshots.specs.Snapshot.{SnapshotOf}
@@ -158,9 +159,9 @@ own_of_first observers gone (Cell.Ack o row column) v known own =
 
 module _ (keeps : StepsKeepSound) (opens : OpeningIsSound) (left : LeftAreSound) (sound_chosen : ChosenAreSound) (follow : KeptFollowOneAnother) (whole : KeptIsWhole)
     (wholes : KeptTablesAreWhole) (runs : RunsAreTold) (scripts : ScriptsWriteBatches) where
-  module _ (first : KeptTable) (changes : List Writes) (table : KeptTable) (k : Keeps first changes table) where
+  module _ (limit : ℕ) (first : KeptTable) (changes : List Writes) (table : KeptTable) (k : Keeps limit first changes table) where
     sound : IsSoundTable table.state
-    sound = kept_sound keeps opens left sound_chosen first changes table k
+    sound = kept_sound keeps opens left sound_chosen limit first changes table k
 
     -- what is taken is of a committed transaction
     committed : (x : Cell) (v : Revision) → IsTakenOf table.state x v → IsCommittedAt (view_of table.state) v.start.0 v.commit.0
@@ -173,7 +174,7 @@ module _ (keeps : StepsKeepSound) (opens : OpeningIsSound) (left : LeftAreSound)
     is_own : (x : Cell) (v : Revision) → IsTakenOf table.state x v → IsOwnVersion first.state.observers x v
     is_own x v is =
         let observers = first.state.observers in
-        let w = whole first changes table k in
+        let w = whole limit first changes table k in
         let all = observers ++ w.gone in
         let journal = entries_by 0 w.said in
         let stands = wholes observers w.gone 1 0 w.c journal table.state w.kept in
@@ -211,10 +212,10 @@ module _ (keeps : StepsKeepSound) (opens : OpeningIsSound) (left : LeftAreSound)
           let first_is = committed x.0 d.1 x.2 in
           let second_is = committed y.0 c.1 y.2 in
           elim (cases_lt d.1.start.0 c.1.start.0) [
-            | inl earlier ↦ or_below _ d.1.commit.0 c.1.start.0 (follow first changes table k d.1.start.0 d.1.commit.0 c.1.start.0 c.1.commit.0 first_is second_is earlier)
+            | inl earlier ↦ or_below _ d.1.commit.0 c.1.start.0 (follow limit first changes table k d.1.start.0 d.1.commit.0 c.1.start.0 c.1.commit.0 first_is second_is earlier)
             | inr not_earlier ↦ elim (cases_lt c.1.start.0 d.1.start.0) [
               | inl later ↦
-                  let after = follow first changes table k c.1.start.0 c.1.commit.0 d.1.start.0 d.1.commit.0 second_is first_is later in
+                  let after = follow limit first changes table k c.1.start.0 c.1.commit.0 d.1.start.0 d.1.commit.0 second_is first_is later in
                   let up = above x.0 d.1 x.2 in
                   absurd (omega (arith, after, up, low))
               | inr not_later ↦
@@ -244,23 +245,23 @@ module _ (keeps : StepsKeepSound) (opens : OpeningIsSound) (left : LeftAreSound)
           }
 
   pub taken_are_in_order : TakenAreInOrder
-  taken_are_in_order first changes table s k taken rising =
+  taken_are_in_order limit first changes table s k taken rising =
       let stays_own : (x y : Cell) (v : Revision) → Some x ≡ Some y → IsOwnVersion first.state.observers x v → IsOwnVersion first.state.observers y v = λ x y v same its. subst (λ (z : Cell). IsOwnVersion first.state.observers z v) (same_some x y same) its in
-      in_order first changes table k Some first.state.observers stays_own s.clock s.cells taken.clock (λ y v has. (y, refl, taken.each y v has)) rising
+      in_order limit first changes table k Some first.state.observers stays_own s.clock s.cells taken.clock (λ y v has. (y, refl, taken.each y v has)) rising
 
   pub taken_are_accepted : TakenAreAccepted
-  taken_are_accepted first changes table s k taken rising n e why = none_amiss e first.state.observers s.clock (take n s.cells) why.0 (taken_are_in_order first changes table s k taken rising n why.0 why.1) why.2
+  taken_are_accepted limit first changes table s k taken rising n e why = none_amiss e first.state.observers s.clock (take n s.cells) why.0 (taken_are_in_order limit first changes table s k taken rising n why.0 why.1) why.2
 
-  chosen_are_in_order : (first : KeptTable) (changes : List Writes) (table : KeptTable) (s u : SnapshotOf) (places : List ℕ) (front : List ObserverOf) → Keeps first changes table → AreChosen places table.state.observers front
+  chosen_are_in_order : (limit : ℕ) (first : KeptTable) (changes : List Writes) (table : KeptTable) (s u : SnapshotOf) (places : List ℕ) (front : List ObserverOf) → Keeps limit first changes table → AreChosen places table.state.observers front
       → IsSnapshotTaken table s → IsChosenFrom places s u → IsStrictlySortedBy commit_cmp (map commit_of_version u.cells) → AreInOrder front u.clock u.cells
-  chosen_are_in_order first changes table s u places front k are taken from rising =
-      let same : table.state.observers ≡ first.state.observers = leads_observers first.state table.state k.leads in
+  chosen_are_in_order limit first changes table s u places front k are taken from rising =
+      let same : table.state.observers ≡ first.state.observers = leads_observers first.state table.state (led_by limit first changes table k.leads) in
       let chosen : AreChosen places first.state.observers front = subst (λ (l : List ObserverOf). AreChosen places l front) same are in
       let stays_own : (x y : Cell) (v : Revision) → chosen_cell places x ≡ Some y → IsOwnVersion first.state.observers x v → IsOwnVersion front y v =
       λ x y v stays its. (content_stays places first.state.observers front chosen x y v stays its.0, observer_stays places first.state.observers front chosen x y stays its.1) in
-      in_order first changes table k (chosen_cell places) front stays_own u.clock u.cells (from.clock ∙ taken.clock)
+      in_order limit first changes table k (chosen_cell places) front stays_own u.clock u.cells (from.clock ∙ taken.clock)
       (λ y v has. let x = from.each y v has in (x.0, x.1, taken.each x.0 v x.2)) rising
 
   pub chosen_are_accepted : ChosenAreAccepted
-  chosen_are_accepted first changes table s u places front k are taken from rising n e why =
-      none_amiss e front u.clock (take n u.cells) why.0 (chosen_are_in_order first changes table s u places front k are taken from rising n why.0 why.1) why.2
+  chosen_are_accepted limit first changes table s u places front k are taken from rising n e why =
+      none_amiss e front u.clock (take n u.cells) why.0 (chosen_are_in_order limit first changes table s u places front k are taken from rising n why.0 why.1) why.2

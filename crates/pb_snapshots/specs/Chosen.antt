@@ -18,12 +18,12 @@ pub record IsChosenFrom (places : List ℕ) (s u : SnapshotOf) : Type 0 where
 -- them.
 abbrev pub ChosenBegin : Type 0
 ChosenBegin =
-    (past changes : List Writes) (first old new : KeptTable) (s u : SnapshotOf) (over : StateOf) (places : List ℕ) (front : List ObserverOf) → IsFirstTable past first → KeepsFrom first changes old → old.state.clock < last_timestamp
+    (limit : ℕ) (past changes : List Writes) (first old new : KeptTable) (s u : SnapshotOf) (over : StateOf) (places : List ℕ) (front : List ObserverOf) → IsFirstTable past first → KeepsFrom limit first changes old → old.state.clock < last_timestamp
     → AreChosen places old.state.observers front → IsSnapshotTaken old s → IsChosenFrom places s u → IsCarriedOver front 1 u.clock u.cells over → IsMarkedBehind over new.state → new.stats ≡ u.stats
     → IsChosenOf places front old new
 
 -- and none of its versions is refused but for want of memory
 abbrev pub ChosenAreAccepted : Type 0
 ChosenAreAccepted =
-    (first : KeptTable) (changes : List Writes) (table : KeptTable) (s u : SnapshotOf) (places : List ℕ) (front : List ObserverOf) → Keeps first changes table → AreChosen places table.state.observers front
+    (limit : ℕ) (first : KeptTable) (changes : List Writes) (table : KeptTable) (s u : SnapshotOf) (places : List ℕ) (front : List ObserverOf) → Keeps limit first changes table → AreChosen places table.state.observers front
     → IsSnapshotTaken table s → IsChosenFrom places s u → IsStrictlySortedBy commit_cmp (map commit_of_version u.cells) → (n : ℕ) (e : CarryFault) → WhyNotCarried front u.clock u.cells n e → IsForMemory e

@@ -10,7 +10,7 @@ use Rattle.pb_snapshots.specs.VersionWalks.{commit_cmp, commit_of_version}
 -- over: the table has one seat, so that its committed transactions follow one another.
 abbrev pub TakenAreInOrder : Type 0
 TakenAreInOrder =
-    (first : KeptTable) (changes : List Writes) (table : KeptTable) (s : SnapshotOf) → Keeps first changes table → IsSnapshotTaken table s → IsStrictlySortedBy commit_cmp (map commit_of_version s.cells)
+    (limit : ℕ) (first : KeptTable) (changes : List Writes) (table : KeptTable) (s : SnapshotOf) → Keeps limit first changes table → IsSnapshotTaken table s → IsStrictlySortedBy commit_cmp (map commit_of_version s.cells)
     → AreInOrder first.state.observers s.clock s.cells
 
 -- memory was refused, and nothing is amiss with the versions
@@ -21,5 +21,5 @@ IsForMemory _ = ⊥
 -- so no version of it is refused but for want of memory
 abbrev pub TakenAreAccepted : Type 0
 TakenAreAccepted =
-    (first : KeptTable) (changes : List Writes) (table : KeptTable) (s : SnapshotOf) → Keeps first changes table → IsSnapshotTaken table s → IsStrictlySortedBy commit_cmp (map commit_of_version s.cells)
+    (limit : ℕ) (first : KeptTable) (changes : List Writes) (table : KeptTable) (s : SnapshotOf) → Keeps limit first changes table → IsSnapshotTaken table s → IsStrictlySortedBy commit_cmp (map commit_of_version s.cells)
     → (n : ℕ) (e : CarryFault) → WhyNotCarried first.state.observers s.clock s.cells n e → IsForMemory e

@@ -11,8 +11,9 @@ ghost use Rattle.pb_keep.specs.Waits.{IsWaiting};
 ghost use Rattle.pb_registry.specs.Judging.{ReadsManifest};
 
 use crate::compact::compact;
+use crate::head::{limit_of, next_limit, read_head};
 use crate::names::{Location, open_at};
-use crate::table::{Kept, new_keeper, new_state, observers_of, open_log, short_text};
+use crate::table::{Kept, new_keeper, new_state, observers_of, open_log};
 use anyhow::{Result, bail};
 use pb_keeper::{places_of, split_known};
 use pb_log::Log;
@@ -20,27 +21,6 @@ use pb_verify::Observer;
 use sqlite_disk::{Disk, Unknown};
 use sqlite_std_file::FileFrom;
 use std::alloc::Global;
-
-// The manifest that the log has, if it has one.
-fn manifest_of<D: Disk>(
-    rt: &HostRuntime,
-    log: &mut Log<D>,
-    location: &Location,
-) -> Result<Option<String>>
-    requires usable { IsTrue (D.is_usable log.old.disk) }
-    ensures usable { IsTrue (D.is_usable log.new.disk) }
-    ensures restarted { Only (D.seen log.old.disk) (D.may_leave log.old.disk)
-        → Only (D.seen log.new.disk) (D.may_leave log.new.disk) }
-    ensures short { IfOk result (λ o. IfSome o (λ t. length (string_bytes t) < 2 ^ 31)) }
-{
-    let Some(bytes) = log.read_manifest(rt.alloc())? else {
-        return Ok(None);
-    };
-    match String::from_utf8(bytes) {
-        Ok(text) => Ok(Some(short_text(text)?)),
-        Err(_) => bail!("{}: its manifest is not text", location.log),
-    }
-}
 
 // At which places of the table's observers these stand.
 fn places_in(
@@ -165,17 +145,19 @@ fn observe_manifest(
     }
 }
 
-// Opens the log with its own manifest, goes on with the observers of this one, if it is another, and compacts it for this manifest.
+// Opens the log with its own manifest, goes on with the observers of this one, if it is another, and compacts it for this
+// manifest and this limit.
 fn open_and_compact(
     rt: &HostRuntime,
     keeper: &mut Kept,
     own: &str,
+    limit: u64,
     manifest: &str,
     observers: Option<Vec<Observer>>,
     location: &mut Location,
 ) -> Result<()>
-    requires own { length own.now < 2 ^ 31 }
-    requires short { length manifest.now < 2 ^ 31 }
+    requires own { length own.now < 2 ^ 30 }
+    requires short { length manifest.now < 2 ^ 30 }
     requires few { IfSome observers (λ v. length v.items ≤ MAX_OBSERVERS) }
     requires usable { IsTrue (⟦<FileFrom<Unknown> as Disk>⟧.is_usable keeper.old.log.disk) }
     requires restarted { Only (⟦<FileFrom<Unknown> as Disk>⟧.seen keeper.old.log.disk)
@@ -189,7 +171,7 @@ fn open_and_compact(
     let found = open_log(rt.alloc(), keeper, own)?;
     print!(rt; "open {found}\n")?;
     observe_manifest(rt, keeper, manifest, observers, location)?;
-    match compact(rt, keeper, manifest, location)? {
+    match compact(rt, keeper, limit, manifest, location)? {
         Ok(versions) => {
             print!(rt; "compacted {versions}\n")?;
             Ok(())
@@ -202,44 +184,67 @@ fn open_and_compact(
 fn compact_file(
     rt: &HostRuntime,
     disk: FileFrom<Unknown>,
+    own_limit: u64,
     own: &str,
+    limit: u64,
     manifest: &str,
     observers: Option<Vec<Observer>>,
     location: &mut Location,
 ) -> Result<()>
-    requires own { length own.now < 2 ^ 31 }
-    requires short { length manifest.now < 2 ^ 31 }
+    requires own { length own.now < 2 ^ 30 }
+    requires short { length manifest.now < 2 ^ 30 }
     requires few { IfSome observers (λ v. length v.items ≤ MAX_OBSERVERS) }
     requires usable { IsTrue (⟦<FileFrom<Unknown> as Disk>⟧.is_usable disk) }
     requires restarted { Only (⟦<FileFrom<Unknown> as Disk>⟧.seen disk)
         (⟦<FileFrom<Unknown> as Disk>⟧.may_leave disk) }
     requires same { IfNone observers (own.now ≡ manifest.now) }
 {
-    let mut keeper = new_keeper(rt.alloc(), own, disk)?;
-    let done = open_and_compact(rt, &mut keeper, own, manifest, observers, location);
+    let mut keeper = new_keeper(rt.alloc(), own, own_limit, disk)?;
+    let done = open_and_compact(rt, &mut keeper, own, limit, manifest, observers, location);
     keeper.close();
     done
 }
 
 /// Puts a log of this manifest that begins with a snapshot of the table in the place of this one, and prints how many versions it
-/// has. The log's own manifest may have other observers: those of both keep what they have acknowledged.
-pub(crate) fn compact_alone(rt: &HostRuntime, manifest: &str, path: &str) -> Result<()>
-    requires short { length manifest.now < 2 ^ 31 }
+/// has. The log's own manifest may have other observers: those of both keep what they have acknowledged. The new log has the
+/// limit of entries that is wanted, if one is, or that of the old one.
+pub(crate) fn compact_alone(
+    rt: &HostRuntime,
+    manifest: &str,
+    path: &str,
+    wanted: Option<u64>,
+) -> Result<()>
+    requires short { length manifest.now < 2 ^ 30 }
 {
     let (mut location, db) = open_at(rt, path)?;
     let mut log = Log::new(db);
-    match manifest_of(rt, &mut log, &location)? {
-        Some(own) if own.as_str() != manifest => {
+    match read_head(rt, &mut log, &location)? {
+        Some(head) if head.manifest.as_str() != manifest => {
             let observers = observers_of(rt.alloc(), manifest)?;
             compact_file(
                 rt,
                 log.disk,
-                own.as_str(),
+                head.limit,
+                head.manifest.as_str(),
+                next_limit(head.limit, wanted),
                 manifest,
                 Some(observers),
                 &mut location,
             )
         }
-        _ => compact_file(rt, log.disk, manifest, manifest, None, &mut location),
+        own => {
+            let limit = limit_of(&own, None, &location)?;
+            let next = next_limit(limit, wanted);
+            compact_file(
+                rt,
+                log.disk,
+                limit,
+                manifest,
+                next,
+                manifest,
+                None,
+                &mut location,
+            )
+        }
     }
 }

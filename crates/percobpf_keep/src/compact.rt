@@ -38,23 +38,24 @@ fn is_refused(fault: &SnapshotFault) -> bool {
     )
 }
 
-// Begins this log with the manifest of the table's observers and a snapshot of the table. Returns how many versions it has, or why
+// Begins this log with a limit of entries, the manifest of the table's observers and a snapshot of the table. Returns how many versions it has, or why
 // such a table can't be compacted.
 fn write_log<D: Disk + Drop>(
     alloc: Global,
     keeper: &Kept,
     log: &mut Log<D>,
+    limit: u64,
     manifest: &str,
 ) -> Result<Result<usize, SnapshotFault>>
     requires usable { IsTrue (D.is_usable log.old.disk) }
     requires restarted { Only (D.seen log.old.disk) (D.may_leave log.old.disk) }
-    requires short { length manifest.now < 2 ^ 31 }
+    requires short { length manifest.now < 2 ^ 30 }
     requires manifest { ReadsManifest manifest.now (Ok keeper.now.state.observers) }
     ensures begun { IfOk result (λ wrote. IfOk wrote (λ n. IsTrue (D.is_clean log.new.disk)
-        → BeginsAnew manifest.now (kept_table keeper.now.state keeper.now.stats.items) n
+        → BeginsAnew limit manifest.now (kept_table keeper.now.state keeper.now.stats.items) n
         (D.seen log.new.disk) (D.may_leave log.new.disk) log.new.end)) }
 {
-    match keeper.snapshot_into(alloc, log, manifest.as_bytes()) {
+    match keeper.snapshot_into(alloc, log, limit, manifest.as_bytes()) {
         Err(fault) if !is_refused(&fault) => Err(fault.into()),
         wrote => Ok(wrote),
     }
@@ -64,21 +65,22 @@ fn write_log<D: Disk + Drop>(
 fn write_new(
     rt: &HostRuntime,
     keeper: &Kept,
+    limit: u64,
     manifest: &str,
     old: &LogFile,
     new: &NewFile,
 ) -> Result<Result<(Log<FileFrom<Unknown>>, usize), SnapshotFault>>
-    requires short { length manifest.now < 2 ^ 31 }
+    requires short { length manifest.now < 2 ^ 30 }
     requires manifest { ReadsManifest manifest.now (Ok keeper.now.state.observers) }
     ensures begun { IfOk result (λ wrote. IfOk wrote (λ w.
         IsTrue (⟦<FileFrom<Unknown> as Disk>⟧.is_clean w.0.disk)
-        → BeginsAnew manifest.now (kept_table keeper.now.state keeper.now.stats.items) w.1
+        → BeginsAnew limit manifest.now (kept_table keeper.now.state keeper.now.stats.items) w.1
         (⟦<FileFrom<Unknown> as Disk>⟧.seen w.0.disk)
         (⟦<FileFrom<Unknown> as Disk>⟧.may_leave w.0.disk) w.0.end)) }
 {
     let mut log = Log::new(new.open(rt)?);
     new.give_as(old)?;
-    match write_log(rt.alloc(), keeper, &mut log, manifest)? {
+    match write_log(rt.alloc(), keeper, &mut log, limit, manifest)? {
         Ok(versions) => Ok(Ok((log, versions))),
         Err(why) => Ok(Err(why)),
     }
@@ -94,7 +96,7 @@ fn open_new<D: Disk + Drop>(
 ) -> Result<()>
     requires usable { IsTrue (D.is_usable keeper.old.log.disk) }
     requires restarted { Only (D.seen keeper.old.log.disk) (D.may_leave keeper.old.log.disk) }
-    requires short { length manifest.now < 2 ^ 31 }
+    requires short { length manifest.now < 2 ^ 30 }
     requires opened { kept_table keeper.old.state keeper.old.stats.items
         ≡ opened_table keeper.old.state.observers }
     requires manifest { ReadsManifest manifest.now (Ok keeper.old.state.observers) }
@@ -110,15 +112,21 @@ fn open_new<D: Disk + Drop>(
 }
 
 // Returns the keeper of the new log, which is open, and in the place of the old one.
-fn try_new(rt: &HostRuntime, manifest: &str, location: &Location, new: &NewFile) -> Result<Kept>
-    requires short { length manifest.now < 2 ^ 31 }
+fn try_new(
+    rt: &HostRuntime,
+    limit: u64,
+    manifest: &str,
+    location: &Location,
+    new: &NewFile,
+) -> Result<Kept>
+    requires short { length manifest.now < 2 ^ 30 }
     ensures usable { IfOk result (λ k.
         IsTrue (⟦<FileFrom<Unknown> as Disk>⟧.is_usable k.log.disk)) }
     ensures waiting { IfOk result (λ k. IsWaiting k.waiting) }
     ensures manifest { IfOk result (λ k. ReadsManifest manifest.now (Ok k.state.observers)) }
 {
     let db = new.open(rt)?;
-    let mut keeper = new_keeper(rt.alloc(), manifest, db)?;
+    let mut keeper = new_keeper(rt.alloc(), manifest, limit, db)?;
     match open_new(rt, &mut keeper, manifest, location, new) {
         Ok(()) => Ok(keeper),
         Err(fault) => {
@@ -131,10 +139,11 @@ fn try_new(rt: &HostRuntime, manifest: &str, location: &Location, new: &NewFile)
 fn make_new(
     rt: &HostRuntime,
     keeper: &Kept,
+    limit: u64,
     manifest: &str,
     location: &Location,
 ) -> Result<Result<NewLog, SnapshotFault>>
-    requires short { length manifest.now < 2 ^ 31 }
+    requires short { length manifest.now < 2 ^ 30 }
     requires manifest { ReadsManifest manifest.now (Ok keeper.now.state.observers) }
     ensures usable { IfOk result (λ made. IfOk made (λ new.
         IsTrue (⟦<FileFrom<Unknown> as Disk>⟧.is_usable new.keeper.log.disk))) }
@@ -144,11 +153,11 @@ fn make_new(
 {
     let new = make_new_file(rt, location)?;
     // The log is closed before it is opened as any other.
-    let versions = match write_new(rt, keeper, manifest, &location.file, &new)? {
+    let versions = match write_new(rt, keeper, limit, manifest, &location.file, &new)? {
         Ok((_log, versions)) => versions,
         Err(why) => return Ok(Err(why)),
     };
-    let keeper = try_new(rt, manifest, location, &new)?;
+    let keeper = try_new(rt, limit, manifest, location, &new)?;
     Ok(Ok(NewLog {
         keeper,
         file: new.file,
@@ -157,15 +166,16 @@ fn make_new(
 }
 
 /// Puts a log that begins with a snapshot of the table in the place of its log, and goes on with the table that the new log has.
-/// The new log has this manifest, which is the one of the table's observers, before and after.
+/// The new log has this limit of entries and this manifest, which is the one of the table's observers, before and after.
 /// Returns how many versions the snapshot has, or why such a table can't be compacted: then all is as it was.
 pub(crate) fn compact(
     rt: &HostRuntime,
     keeper: &mut Kept,
+    limit: u64,
     manifest: &str,
     location: &mut Location,
 ) -> Result<Result<usize, SnapshotFault>>
-    requires short { length manifest.now < 2 ^ 31 }
+    requires short { length manifest.now < 2 ^ 30 }
     requires usable { IsTrue (⟦<FileFrom<Unknown> as Disk>⟧.is_usable keeper.old.log.disk) }
     requires waiting { IsWaiting keeper.old.waiting }
     requires manifest { ReadsManifest manifest.now (Ok keeper.old.state.observers) }
@@ -175,7 +185,7 @@ pub(crate) fn compact(
     ensures manifest { OnOk result
         (ReadsManifest manifest.now (Ok keeper.new.state.observers)) }
 {
-    let why = match make_new(rt, keeper, manifest, location) {
+    let why = match make_new(rt, keeper, limit, manifest, location) {
         Ok(
             Ok(
                 NewLog {

@@ -12,6 +12,7 @@ ghost use Rattle.std.specs.Prelude.{◌<◌, ◌^◌, length, string_bytes, IfOk
 mod anew;
 mod compact;
 mod file;
+mod head;
 mod names;
 mod new_file;
 mod service;
@@ -27,31 +28,34 @@ use std::{env, fs};
 use table::short_text;
 
 const USAGE: &str = "\
-Usage: percobpf_keep MANIFEST LOG
-       percobpf_keep --compact MANIFEST LOG
-       percobpf_keep --compact-at BYTES MANIFEST LOG
+Usage: percobpf_keep [--limit ENTRIES] MANIFEST LOG
+       percobpf_keep [--limit ENTRIES] --compact MANIFEST LOG
+       percobpf_keep [--limit ENTRIES] --compact-at BYTES MANIFEST LOG
 
 Keeps a table on a disk, with the observers of MANIFEST. LOG is opened, or made, and its changes are made again. Then each
 line of standard input is answered: `put ROW COL HEX; ..`, `del ROW COL; ..`, `if ROW COL COMMIT; put ..`, `get ROW COL`,
 `since COMMIT`, `list`, `quiet?`, `stats`, `begin`, `end`, `compact`. docs/KEEPING.md describes them.
 
-With --compact, a log that begins with a snapshot of the table is put in the place of LOG, if nothing is left to do. It has the
+With --compact, a log that begins with a snapshot of the table is put in the place of LOG. It has the
 newest version of each cell, and takes the place that these want. MANIFEST may have other observers than LOG: new ones run for all
 that was written before, those of both go on, and the others are gone. With --compact-at, LOG is compacted while lines are
 answered, where it has at least BYTES bytes and twice as many as after the last time.
+
+With --limit, the table of a new LOG has ENTRIES entries at most, and 10000000 without it: a change of a table that has so many is
+refused. That of a LOG that is there has its own limit, which --compact changes.
 ";
 
 const ABOUT_HELP: &str = "two words are wanted, MANIFEST and LOG: `percobpf_keep --help` has more";
 
-// How many bytes a log has from which on it is compacted.
-fn bytes_of(word: Option<String>) -> Result<u64> {
+// The number that is wanted after an option, of which this is the name.
+fn number_of(word: Option<String>, name: &str) -> Result<u64> {
     let Some(word) = word else {
         bail!("{ABOUT_HELP}");
     };
     match numeral_upto((), (), u64::MAX, word.as_str()) {
         Ok(bytes) => Ok(bytes),
         Err(()) => bail!(
-            "BYTES is a decimal number below 2^64, and not `{word}`: `percobpf_keep --help` has more"
+            "{name} is a decimal number below 2^64, and not `{word}`: `percobpf_keep --help` has more"
         ),
     }
 }
@@ -62,7 +66,7 @@ fn last_words(
     manifest: Option<String>,
     mut words: Args,
 ) -> Result<(String, String)>
-    ensures short { IfOk result (λ r. length (string_bytes r.0) < 2 ^ 31) }
+    ensures short { IfOk result (λ r. length (string_bytes r.0) < 2 ^ 30) }
 {
     let (Some(manifest), Some(path), None) = (manifest, words.next(), words.next()) else {
         bail!("{ABOUT_HELP}");
@@ -77,9 +81,17 @@ fn last_words(
 fn main(rt: HostRuntime) -> Result<()> {
     let mut words = env::args(&rt)?;
     let _name = words.next();
-    let Some(first) = words.next() else {
+    let Some(mut first) = words.next() else {
         bail!("{ABOUT_HELP}");
     };
+    let mut limit = None;
+    if first.as_str() == "--limit" {
+        limit = Some(number_of(words.next(), "ENTRIES")?);
+        first = match words.next() {
+            Some(word) => word,
+            None => bail!("{ABOUT_HELP}"),
+        };
+    }
     match first.as_str() {
         "--help" => {
             print!(&rt; "{USAGE}")?;
@@ -87,16 +99,16 @@ fn main(rt: HostRuntime) -> Result<()> {
         }
         "--compact" => {
             let (text, path) = last_words(&rt, words.next(), words)?;
-            compact_alone(&rt, text.as_str(), path.as_str())
+            compact_alone(&rt, text.as_str(), path.as_str(), limit)
         }
         "--compact-at" => {
-            let least = bytes_of(words.next())?;
+            let least = number_of(words.next(), "BYTES")?;
             let (text, path) = last_words(&rt, words.next(), words)?;
-            keep(&rt, &rt, text.as_str(), path.as_str(), least)
+            keep(&rt, &rt, text.as_str(), path.as_str(), least, limit)
         }
         _ => {
             let (text, path) = last_words(&rt, Some(first), words)?;
-            keep(&rt, &rt, text.as_str(), path.as_str(), u64::MAX)
+            keep(&rt, &rt, text.as_str(), path.as_str(), u64::MAX, limit)
         }
     }
 }

@@ -8,12 +8,14 @@ ghost use Rattle.pb_registry.specs.Judging.{ReadsManifest};
 
 use crate::compact::compact;
 use crate::file::make_log;
+use crate::head::{limit_of, read_head};
 use crate::names::{Location, open_at, refuse_reserved};
 use crate::table::{Kept, new_keeper, open_log};
 use crate::watched::WatchedOut;
 use anyhow::Result;
 use pb_base::Sink;
 use pb_keep::{Paused, serve};
+use pb_log::Log;
 use sqlite_disk::{Disk, Unknown};
 use sqlite_std_file::FileFrom;
 use std::alloc::Global;
@@ -39,7 +41,7 @@ fn answer_compact<W: Write + Drop>(
     location: &mut Location,
     out: &mut WatchedOut<'_, W>,
 ) -> Result<bool>
-    requires short { length manifest.now < 2 ^ 31 }
+    requires short { length manifest.now < 2 ^ 30 }
     requires usable { IsTrue (⟦<FileFrom<Unknown> as Disk>⟧.is_usable keeper.old.log.disk) }
     requires waiting { IsWaiting keeper.old.waiting }
     requires manifest { ReadsManifest manifest.now (Ok keeper.old.state.observers) }
@@ -49,7 +51,7 @@ fn answer_compact<W: Write + Drop>(
     ensures manifest { OnOk result
         (ReadsManifest manifest.now (Ok keeper.new.state.observers)) }
 {
-    match compact(rt, keeper, manifest, location)? {
+    match compact(rt, keeper, keeper.limit, manifest, location)? {
         Ok(versions) => {
             out.follow(location);
             let text = format!(in rt.alloc(); "compacted {versions}\n")?;
@@ -70,7 +72,7 @@ fn compact_large(
     manifest: &str,
     location: &mut Location,
 ) -> Result<bool>
-    requires short { length manifest.now < 2 ^ 31 }
+    requires short { length manifest.now < 2 ^ 30 }
     requires usable { IsTrue (⟦<FileFrom<Unknown> as Disk>⟧.is_usable keeper.old.log.disk) }
     requires waiting { IsWaiting keeper.old.waiting }
     requires manifest { ReadsManifest manifest.now (Ok keeper.old.state.observers) }
@@ -80,7 +82,7 @@ fn compact_large(
     ensures manifest { OnOk result
         (ReadsManifest manifest.now (Ok keeper.new.state.observers)) }
 {
-    match compact(rt, keeper, manifest, location)? {
+    match compact(rt, keeper, keeper.limit, manifest, location)? {
         Ok(_) => Ok(true),
         Err(why) => {
             let _ = eprintln!(rt; "{}: not compacted: {why}", location.log);
@@ -107,7 +109,7 @@ fn serve_lines<R: Wait, W: Write + Drop>(
     least: u64,
     first: u64,
 ) -> Result<()>
-    requires short { length manifest.now < 2 ^ 31 }
+    requires short { length manifest.now < 2 ^ 30 }
     requires usable { IsTrue (⟦<FileFrom<Unknown> as Disk>⟧.is_usable keeper.old.log.disk) }
     requires waiting { IsWaiting keeper.old.waiting }
     requires manifest { ReadsManifest manifest.now (Ok keeper.old.state.observers) }
@@ -142,7 +144,7 @@ fn open_and_serve<R: Wait, W: Write + Drop>(
     out: &mut WatchedOut<'_, W>,
     least: u64,
 ) -> Result<()>
-    requires short { length manifest.now < 2 ^ 31 }
+    requires short { length manifest.now < 2 ^ 30 }
     requires usable { IsTrue (⟦<FileFrom<Unknown> as Disk>⟧.is_usable keeper.old.log.disk) }
     requires restarted { Only (⟦<FileFrom<Unknown> as Disk>⟧.seen keeper.old.log.disk)
         (⟦<FileFrom<Unknown> as Disk>⟧.may_leave keeper.old.log.disk) }
@@ -168,7 +170,7 @@ fn open_and_serve<R: Wait, W: Write + Drop>(
     serve_lines(waits, rt, keeper, manifest, location, out, least, limit)
 }
 
-/// Serves lines over the log, which is made where there is none. It is compacted where a line asks for it. Where it has at least
+/// Serves lines over the log, which is made where there is none, with this limit of entries, if one is wanted. It is compacted where a line asks for it. Where it has at least
 /// so many bytes, and twice as many as after the last time, it is compacted too, if its table can be.
 pub(crate) fn keep<R: Wait>(
     waits: &R,
@@ -176,14 +178,18 @@ pub(crate) fn keep<R: Wait>(
     manifest: &str,
     path: &str,
     least: u64,
+    wanted: Option<u64>,
 ) -> Result<()>
-    requires short { length manifest.now < 2 ^ 31 }
+    requires short { length manifest.now < 2 ^ 30 }
 {
     refuse_reserved(path)?;
     make_log(rt, path)?;
     let (mut location, db) = open_at(rt, path)?;
     let mut out = WatchedOut::new(rt, rt.stdout(), &location)?;
-    let mut keeper = new_keeper(rt.alloc(), manifest, db)?;
+    let mut log = Log::new(db);
+    let own = read_head(rt, &mut log, &location)?;
+    let limit = limit_of(&own, wanted, &location)?;
+    let mut keeper = new_keeper(rt.alloc(), manifest, limit, log.disk)?;
     let done = open_and_serve(
         waits,
         rt,

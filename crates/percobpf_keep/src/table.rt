@@ -30,7 +30,7 @@ const MAX_MANIFEST: usize = 16_777_216;
 
 /// The text of a manifest, unless it is too large.
 pub(crate) fn short_text(text: String) -> Result<String>
-    ensures short { IfOk result (λ t. length (string_bytes t) < 2 ^ 31) }
+    ensures short { IfOk result (λ t. length (string_bytes t) < 2 ^ 30) }
 {
     if text.len() > MAX_MANIFEST {
         bail!("the manifest is too large");
@@ -69,10 +69,11 @@ pub(crate) fn new_state(alloc: Global, observers: Vec<Observer>) -> Result<State
     Ok(State::new(alloc, table(alloc)?, observers, 1, Ts(0)))
 }
 
-/// A keeper of a table with no entry and the observers of this manifest, over this disk.
+/// A keeper of a table with no entry, the observers of this manifest and this limit of entries, over this disk.
 pub(crate) fn new_keeper<D: Disk + Drop>(
     alloc: Global,
     manifest: &str,
+    limit: u64,
     disk: D,
 ) -> Result<Keeper<ListTablet, D>>
     ensures disk { IfOk result (λ k. k.log.disk ≡ disk) }
@@ -80,11 +81,12 @@ pub(crate) fn new_keeper<D: Disk + Drop>(
         ≡ opened_table k.state.observers) }
     ensures manifest { IfOk result (λ k. ReadsManifest manifest.now (Ok k.state.observers)) }
     ensures waiting { IfOk result (λ k. IsWaiting k.waiting) }
+    ensures limit { IfOk result (λ k. k.limit ≡ limit) }
 {
     let observers = observers_of(alloc, manifest)?;
     let stats = no_stats(alloc, observers.len())?;
     let state = new_state(alloc, observers)?;
-    Ok(Keeper::new(alloc, disk, state, stats))
+    Ok(Keeper::new(alloc, disk, state, stats, limit))
 }
 
 /// Opens the log of this manifest, whose observers the table has, and returns how many changes it has.
@@ -95,12 +97,13 @@ pub(crate) fn open_log<D: Disk + Drop>(
 ) -> Result<u64>
     requires usable { IsTrue (D.is_usable keeper.old.log.disk) }
     requires restarted { Only (D.seen keeper.old.log.disk) (D.may_leave keeper.old.log.disk) }
-    requires short { length manifest.now < 2 ^ 31 }
+    requires short { length manifest.now < 2 ^ 30 }
     requires opened { kept_table keeper.old.state keeper.old.stats.items
         ≡ opened_table keeper.old.state.observers }
     requires manifest { ReadsManifest manifest.now (Ok keeper.old.state.observers) }
     ensures usable { OnOk result (IsTrue (D.is_usable keeper.new.log.disk)) }
     ensures waiting { keeper.new.waiting ≡ keeper.old.waiting }
+    ensures limit { keeper.new.limit ≡ keeper.old.limit }
     ensures observers { OnOk result
         (keeper.new.state.observers ≡ keeper.old.state.observers) }
 {

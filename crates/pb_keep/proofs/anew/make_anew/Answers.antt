@@ -5,6 +5,7 @@ use Rattle.pb_reading.proofs.Readings.{ok_is}
 use Rattle.pb_keep.specs.Words.{Keeps, Writes, kept_table}
 use Rattle.pb_keep.specs.Again.{KeepsMore}
 use Rattle.pb_keep.specs.Kept.{reported_count}
+use Rattle.pb_keeper.proofs.BrokenOff.{nothing_begun}
 use Rattle.pb_keep.proofs.Mapping.{on_err}
 use Rattle.pb_keep.proofs.Records.{reported_on}
 use Rattle.pb_keep.proofs.Scripts.{empty_list}
@@ -15,7 +16,7 @@ loop-batch-init g c = record {
   parts = refl;
   counted = grind (arith, c.into_iter-batch-iterator.ensures.into_iter_gives);
   same = refl;
-  keeps = λ first changes k. subst (λ l. Keeps first l (kept_table c.args.state.now c.args.stats.now.items)) (sym (append-nil changes)) k;
+  keeps = λ first changes k. subst (λ l. Keeps c.args.limit first l (kept_table c.args.state.now c.args.stats.now.items)) (sym (append-nil changes)) k;
   count = grind arith;
 }
 
@@ -28,7 +29,7 @@ loop-batch-preserved g c =
       counted = grind (arith, c.loop-batch.invariant.counted, c.in-Some.ensures.steps);
       same = c.in_ok-make_counted.ensures.observers ∙ i.same;
       keeps = λ first changes k.
-          subst (λ (l : List Writes). Keeps first l (kept_table c.make_counted.new.state c.make_counted.new.stats.items)) (append_assoc changes done (c.in-Some.batch ∷ []))
+          subst (λ (l : List Writes). Keeps c.args.limit first l (kept_table c.make_counted.new.state c.make_counted.new.stats.items)) (append_assoc changes done (c.in-Some.batch ∷ []))
           (c.in_ok-make_counted.ensures.keeps first (changes ++ done) (i.keeps first changes k));
       count =
           let more = length-append done (c.in-Some.batch ∷ []) in
@@ -41,7 +42,8 @@ returns-in_err-batches-clause-left g c = on_err c.from_residual.result (record {
   done = [];
   begins = λ script is. (script, refl);
   reached = kept_table c.args.state.now c.args.stats.now.items;
-  keeps = λ first changes k. subst (λ l. Keeps first l (kept_table c.args.state.now c.args.stats.now.items)) (sym (append-nil changes)) k;
+  keeps = λ first changes k. subst (λ l. Keeps c.args.limit first l (kept_table c.args.state.now c.args.stats.now.items)) (sym (append-nil changes)) k;
+  left = nothing_begun c.args.state.now;
   count = grind arith;
 })
 
@@ -55,6 +57,7 @@ returns-in_err-make_counted-clause-left g c =
       begins = λ script is. (into_iter_items c.loop-batch.batch-iterator, ok_is script c.in_ok-batches.batches.items (sym is ∙ c.in_ok-batches.ensures.ok) ∙ sym gives ∙ i.parts);
       reached = kept_table c.loop-batch.state c.loop-batch.stats.items;
       keeps = i.keeps;
+      left = c.in_err-make_counted.ensures.left;
       count = i.count;
     })
 
@@ -67,6 +70,6 @@ returns-clause-keeps g c =
     record {
       script = c.in_ok-batches.batches.items;
       reads = c.in_ok-batches.ensures.ok;
-      keeps = subst (λ l. KeepsMore (kept_table c.args.state.now c.args.stats.now.items) l (kept_table c.loop-batch.state c.loop-batch.stats.items)) all i.keeps;
+      keeps = subst (λ l. KeepsMore c.args.limit (kept_table c.args.state.now c.args.stats.now.items) l (kept_table c.loop-batch.state c.loop-batch.stats.items)) all i.keeps;
       count = i.count ∙ ap (λ l. reported_count (c.args.made.now + length l)) all;
     }

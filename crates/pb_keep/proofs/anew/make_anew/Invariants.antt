@@ -11,6 +11,6 @@ invariant-loop-batch g l = record {
   parts : into_iter_items l.initial.batch-iterator ≡ l.yielded ++ into_iter_items l.batch-iterator;
   counted : into_iter_len l.batch-iterator ≡ length (into_iter_items l.batch-iterator);
   same : l.state.observers ≡ l.initial.state.observers;
-  keeps : KeepsMore (kept_table l.initial.state l.initial.stats.items) l.yielded (kept_table l.state l.stats.items);
+  keeps : KeepsMore l.limit (kept_table l.initial.state l.initial.stats.items) l.yielded (kept_table l.state l.stats.items);
   count : l.made ≡ reported_count (l.initial.made + length l.yielded);
 }

@@ -14,7 +14,7 @@ loop-record-init g c = record {
   parts = grind (arith, c.into_iter-record-iterator.ensures.into_iter_gives);
   counted = grind (arith, c.into_iter-record-iterator.ensures.into_iter_gives);
   same = refl;
-  keeps = ([], no_changes, λ first changes k. subst (λ l. Keeps first l (kept_table c.args.state.now c.args.stats.now.items)) (sym (append-nil changes)) k, grind arith);
+  keeps = ([], no_changes, λ first changes k. subst (λ l. Keeps c.args.limit first l (kept_table c.args.state.now c.args.stats.now.items)) (sym (append-nil changes)) k, grind arith);
 }
 
 pub loop-record-preserved : goal.loop-record-preserved
@@ -28,7 +28,7 @@ loop-record-preserved g c = record {
         i.0 ++ m.script,
         ap changes_of (map_more (λ v. v.items) c.loop-record.yielded c.in-Some.record)
             ∙ records_more (map (λ v. v.items) c.loop-record.yielded) c.in-Some.record.items i.0 m.script i.1 (ap script_of (sym c.deref-in-loop-record.ensures.value) ∙ m.reads),
-        λ first changes k. subst (λ l. Keeps first l (kept_table c.make_anew.new.state c.make_anew.new.stats.items)) (append_assoc changes i.0 m.script) (m.keeps first (changes ++ i.0) (i.2 first changes k)),
+        λ first changes k. subst (λ l. Keeps c.args.limit first l (kept_table c.make_anew.new.state c.make_anew.new.stats.items)) (append_assoc changes i.0 m.script) (m.keeps first (changes ++ i.0) (i.2 first changes k)),
         m.count ∙ ap (λ n. reported_count (n + length m.script)) i.3 ∙ reported_on (length i.0) (length m.script) ∙ ap reported_count (sym (length-append i.0 m.script)),
       );
 }
@@ -45,8 +45,8 @@ returns-in-Err-clause-why g c =
     let split = sym (map-append (λ v. v.items) c.loop-record.yielded (c.in-Some.record ∷ rest)) ∙ ap items (sym records) in
     let p = changes_parted (items c.loop-record.yielded) c.in-Some.record.items (items rest) counted.0 i.0 (ap changes_of split ∙ reads) i.1 in
     let begun = left.begins p.0 (ap script_of c.deref-in-loop-record.ensures.value ∙ p.2) in
-    subst (WhyNotAllMade (items c.args.records.items) (kept_table c.args.state.now c.args.stats.now.items)) (sym c.in_part.ensures)
-    (why_left (items c.args.records.items) (kept_table c.args.state.now c.args.stats.now.items) c.in-Err.fault c.make_anew.new.made c.in_ok-all.all c.in-Err.ensures.why (record {
+    subst (WhyNotAllMade c.args.limit (items c.args.records.items) (kept_table c.args.state.now c.args.stats.now.items) c.make_anew.new.state) (sym c.in_part.ensures)
+    (why_left c.args.limit (items c.args.records.items) (kept_table c.args.state.now c.args.stats.now.items) c.make_anew.new.state c.in-Err.fault c.make_anew.new.made c.in_ok-all.all c.in-Err.ensures.why (record {
       changes = counted.0;
       reads = reads;
       all_is = counted.2;
@@ -54,7 +54,8 @@ returns-in-Err-clause-why g c =
       rest = begun.0 ++ p.1;
       parts = p.3 ∙ ap (λ l. i.0 ++ (l ++ p.1)) begun.1 ∙ ap (λ l. i.0 ++ l) (append_assoc left.done begun.0 p.1) ∙ sym (append_assoc i.0 left.done (begun.0 ++ p.1));
       reached = left.reached;
-      keeps = λ first changes k. subst (λ l. Keeps first l left.reached) (append_assoc changes i.0 left.done) (left.keeps first (changes ++ i.0) (i.2 first changes k));
+      keeps = λ first changes k. subst (λ l. Keeps c.args.limit first l left.reached) (append_assoc changes i.0 left.done) (left.keeps first (changes ++ i.0) (i.2 first changes k));
+      left = left.left;
       made_is = left.count ∙ ap (λ n. reported_count (n + length left.done)) i.3 ∙ reported_on (length i.0) (length left.done) ∙ ap reported_count (sym (length-append i.0 left.done));
     }))
 

@@ -11,6 +11,6 @@ invariant-loop-record g l = record {
   parts : l.fn.records.items ≡ l.yielded ++ into_iter_items l.record-iterator;
   counted : into_iter_len l.record-iterator ≡ length (into_iter_items l.record-iterator);
   same : l.state.observers ≡ l.initial.state.observers;
-  keeps : (more : List Writes) × (changes_of (map (λ v. v.items) l.yielded) ≡ Ok more) × KeepsMore (kept_table l.initial.state l.initial.stats.items) more (kept_table l.state l.stats.items)
+  keeps : (more : List Writes) × (changes_of (map (λ v. v.items) l.yielded) ≡ Ok more) × KeepsMore l.limit (kept_table l.initial.state l.initial.stats.items) more (kept_table l.state l.stats.items)
       × (l.made ≡ reported_count (length more));
 }

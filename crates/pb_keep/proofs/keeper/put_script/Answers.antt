@@ -1,7 +1,7 @@
 use Rattle.std.proofs.Common.{◌≡◌, ◌∷◌, ◌++◌, [], length, Ok, inl, ap, subst, sym, ◌∙◌, arith}
 use Rattle.pb_keep.specs.Words.{IsAtRest, header, script_of}
 use Rattle.pb_keep.specs.Causes.{IsOfPut}
-use Rattle.pb_keep.specs.Kept.{snapshot_records, IsLogOf}
+use Rattle.pb_keep.specs.Kept.{head_of, snapshot_records, IsLogOf}
 use Rattle.pb_keep.specs.Waits.{changes_in}
 use Rattle.std.proofs.lemmas.List.{append_assoc}
 use Rattle.pb_keep.proofs.Causing.{put_why}
@@ -14,7 +14,7 @@ pub returns-in_err-put-clause-crash : goal.returns-in_err-put-clause-crash
 returns-in_err-put-clause-crash g c = λ origin changes log file left.
     let w = c.args.waiting.now in
     let read : script_of c.as_bytes.result.now ≡ Ok (changes_in w.items.items) = ap script_of c.as_bytes.ensures.value ∙ waiting_is_read w c.requires.waiting in
-    before_or_after origin log.scripts changes (changes_in w.items.items) c.as_bytes.result.now file log.fits log.make read (c.put.ensures.crash (header origin.manifest ∷ (snapshot_records origin.snapshot ++ log.scripts)) log.at_rest file left)
+    before_or_after origin log.scripts changes (changes_in w.items.items) c.as_bytes.result.now file log.fits log.make read (c.put.ensures.crash (header (head_of origin) ∷ (snapshot_records origin.snapshot ++ log.scripts)) log.at_rest file left)
 
 pub returns-in_err-put-clause-cause : goal.returns-in_err-put-clause-cause
 returns-in_err-put-clause-cause g c =
@@ -30,11 +30,11 @@ returns-in_ok-put-clause-put g c = λ origin changes log.
     let read : script_of c.as_bytes.result.now ≡ Ok (changes_in w.items.items) = ap script_of c.as_bytes.ensures.value ∙ waiting_is_read w c.requires.waiting in
     let first = snapshot_records origin.snapshot in
     let now = c.put.new.self in
-    let put = c.in_ok-put.ensures.acknowledged (header origin.manifest ∷ (first ++ log.scripts)) log.at_rest in
+    let put = c.in_ok-put.ensures.acknowledged (header (head_of origin) ∷ (first ++ log.scripts)) log.at_rest in
     record {
       fits = log.fits;
       scripts = log.scripts ++ c.as_bytes.result.now ∷ [];
-      at_rest = subst (λ rs. IsAtRest (g.D.Disk.seen now.disk) (g.D.Disk.may_leave now.disk) now.end (header origin.manifest ∷ rs)) (append_assoc first log.scripts (c.as_bytes.result.now ∷ [])) put;
+      at_rest = subst (λ rs. IsAtRest (g.D.Disk.seen now.disk) (g.D.Disk.may_leave now.disk) now.end (header (head_of origin) ∷ rs)) (append_assoc first log.scripts (c.as_bytes.result.now ∷ [])) put;
       make = records_more log.scripts c.as_bytes.result.now changes (changes_in w.items.items) log.make read;
     }
 
@@ -42,7 +42,7 @@ pub returns-in_ok-put-clause-crash : goal.returns-in_ok-put-clause-crash
 returns-in_ok-put-clause-crash g c = λ origin changes log file left.
     let w = c.args.waiting.now in
     let read : script_of c.as_bytes.result.now ≡ Ok (changes_in w.items.items) = ap script_of c.as_bytes.ensures.value ∙ waiting_is_read w c.requires.waiting in
-    before_or_after origin log.scripts changes (changes_in w.items.items) c.as_bytes.result.now file log.fits log.make read (c.put.ensures.crash (header origin.manifest ∷ (snapshot_records origin.snapshot ++ log.scripts)) log.at_rest file left)
+    before_or_after origin log.scripts changes (changes_in w.items.items) c.as_bytes.result.now file log.fits log.make read (c.put.ensures.crash (header (head_of origin) ∷ (snapshot_records origin.snapshot ++ log.scripts)) log.at_rest file left)
 
 pub returns-else-waiting-gt0-clause-put : goal.returns-else-waiting-gt0-clause-put
 returns-else-waiting-gt0-clause-put g c = λ origin changes log.

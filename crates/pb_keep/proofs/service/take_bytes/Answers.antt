@@ -10,7 +10,7 @@ returns-in_err-refuse-in-Err-clause-crash g c = λ b lines s file m. more_lines 
 pub returns-in_ok-refuse-in-Err-clause-serves : goal.returns-in_ok-refuse-in-Err-clause-serves
 returns-in_ok-refuse-in-Err-clause-serves g c = λ b lines s.
     let bytes = c.args.bytes.now in
-    serves_held s bytes (Err ScriptCode.Form) c.refuse.new.waiting (no_text bytes c.in-Err.ensures.cases.0) tt (c.in_ok-refuse-in-Err.ensures.held c.args.keeper.now.state bytes)
+    serves_held s bytes (Err ScriptCode.Form) c.refuse.new.waiting (no_text bytes c.in-Err.ensures.cases.0) tt c.requires.waiting.count (c.in_ok-refuse-in-Err.ensures.held c.args.keeper.now.limit c.args.keeper.now.state bytes)
 
 pub returns-in_ok-refuse-in-Err-clause-crash : goal.returns-in_ok-refuse-in-Err-clause-crash
 returns-in_ok-refuse-in-Err-clause-crash g c = λ b lines s file m. leaves_served (returns-in_ok-refuse-in-Err-clause-serves g c b lines s) file m

@@ -50,7 +50,7 @@ returns-in_ok-refuse-in-TooLong-clause-serves g c = λ b lines from to r s.
     let long = subst (λ x. IsLineRead x c.args.bytes.now from to) c.in-TooLong.is r in (
       long.1,
       long.3,
-      serves_held s long.1 (Err ScriptCode.Form) c.refuse.new.waiting (long_line long.1 long.2) tt (c.in_ok-refuse-in-TooLong.ensures.held c.args.keeper.now.state long.1),
+      serves_held s long.1 (Err ScriptCode.Form) c.refuse.new.waiting (long_line long.1 long.2) tt c.requires.waiting.count (c.in_ok-refuse-in-TooLong.ensures.held c.args.keeper.now.limit c.args.keeper.now.state long.1),
     )
 
 pub returns-in_ok-refuse-in-TooLong-clause-crash : goal.returns-in_ok-refuse-in-TooLong-clause-crash

@@ -5,4 +5,4 @@ use Rattle.pb_keep.proofs.take.hold.Goals as goal
 
 pub push-requires-2-clause-fits : goal.push-requires-2-clause-fits
 push-requires-2-clause-fits g c =
-    subst (λ i. FitsIn c.args.waiting.now c.args.line.now i) (sym c.in_ok-item.ensures) (fits_within c.args.waiting.now c.args.line.now c.in-Ok.request)
+    subst (λ i. FitsIn c.args.waiting.now c.args.line.now i) (sym c.in_ok-item.ensures) (fits_within c.refuses_changes-is_full.result c.args.waiting.now c.args.line.now c.in-Ok.request)

@@ -17,4 +17,4 @@ push-requires-clause-fits g c =
     let few = few_bytes line (ChangeIf c.args.condition.now) c.requires.read in
     let parts : cut line ≡ first ∷ cut c.in-Some.operations.now = c.first_operation.ensures ∙ ap (λ o. first ∷ operations_left o) c.in-Some.is in
     let shorter = operations_shorter line first c.in-Some.operations.now parts in
-    fits_if c.args.waiting.now c.args.state.now c.args.condition.now c.in-Some.operations.now c.in_ok-item-in-Some.item c.requires.first (omega (arith, few, shorter)) c.in_ok-item-in-Some.ensures
+    fits_if c.refuses_changes-is_full.result c.args.waiting.now c.args.state.now c.args.condition.now c.in-Some.operations.now c.in_ok-item-in-Some.item c.requires.first (omega (arith, few, shorter)) c.in_ok-item-in-Some.ensures

@@ -18,14 +18,14 @@ returns-in-Ok-clause-caught_up g c =
     (λ d p. (caught c.args.more.items c.args.bound (kept_table c.args.state.now c.args.stats.now.items) c.add_all.new.state c.drain.new.state c.deref_mut.result.now c.drain.new.stats c.in-Ok.ensures.observed (c.deref_mut.ensures.value ∙ c.in-Ok.ensures.stats) p.0, refl, p.1, p.2)) c.drain.ensures.ok)
 
 pub returns-in-Ok-clause-begins : goal.returns-in-Ok-clause-begins
-returns-in-Ok-clause-begins g c past changes first old places front began k room is =
+returns-in-Ok-clause-begins g c limit past changes first old places front began k room is =
     rw (with_items_is c.add_all.new.stats c.drain.new.stats (search (rules, places)))
     (IfOk-weaker c.drain.result _ _
-    (λ d p. changed past changes first old (kept_table c.args.state.now c.args.stats.now.items) (kept_table c.drain.new.state c.drain.new.stats) places front c.args.more.items began k room is
+    (λ d p. changed limit past changes first old (kept_table c.args.state.now c.args.stats.now.items) (kept_table c.drain.new.state c.drain.new.stats) places front c.args.more.items began k room is
     (caught c.args.more.items c.args.bound (kept_table c.args.state.now c.args.stats.now.items) c.add_all.new.state c.drain.new.state c.deref_mut.result.now c.drain.new.stats c.in-Ok.ensures.observed (c.deref_mut.ensures.value ∙ c.in-Ok.ensures.stats) p.0)) c.drain.ensures.ok)
 
 pub returns-in-Ok-clause-stops : goal.returns-in-Ok-clause-stops
-returns-in-Ok-clause-stops g c past changes first old places front began k room is =
+returns-in-Ok-clause-stops g c limit past changes first old places front began k room is =
     c.drain.ensures.stops
     (kept_marked c.steps_keep_sound.ensures.step c.steps_keep_sound.ensures.opening c.snapshots_serve.ensures.left c.snapshots_serve.ensures.chosen c.jobs_keep_tables.ensures.runs c.jobs_keep_tables.ensures.whole c.jobs_keep_tables.ensures.marks
-    past changes first old (kept_table c.args.state.now c.args.stats.now.items) c.add_all.new.state places front c.args.more.items began k room is c.in-Ok.ensures.observed)
+    limit past changes first old (kept_table c.args.state.now c.args.stats.now.items) c.add_all.new.state places front c.args.more.items began k room is c.in-Ok.ensures.observed)

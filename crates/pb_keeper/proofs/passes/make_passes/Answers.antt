@@ -1,22 +1,28 @@
-use Rattle.std.proofs.Common.{arith, ◌≡◌, ◌<◌, ◌≤◌, ◌+◌, ℕ, inl, inr, true, false, nat_lt, List, [], None, refl, sym, subst, ◌∙◌}
+use Rattle.std.proofs.Common.{arith, ◌≡◌, ◌<◌, ◌≤◌, ◌+◌, ◌-◌, ℕ, inl, inr, true, false, nat_lt, List, [], None, refl, sym, subst, ◌∙◌}
 use Rattle.std.proofs.lemmas.List.{append-nil}
 use Rattle.std.proofs.lemmas.Result.{err_from_is_err_and}
 use Rattle.pb_passes.proofs.Drains.{of_next_pass}
 use Rattle.pb_state.proofs.Outcomes.{err_always}
 use Rattle.pb_keeper.specs.Words.{ObserverOf, Received, EndsIn, ArePasses, IsNextPass, IsPass, MAX_PASSES, no_part}
+use Rattle.pb_keeper.specs.BrokenOff.{IsOfRuns}
 use Rattle.pb_keeper.specs.Drains.{within, cut_off, HasRuns, IsDrainDue, IsPassWithEnd}
-use Rattle.pb_keeper.specs.Leads.{SaidLeads, IsAny}
+use Rattle.pb_keeper.specs.Leads.{SaidLeads}
 use Rattle.pb_keeper.specs.Made.{IsDrainThat}
+use Rattle.pb_keeper.proofs.BrokenOff.{broken_on, parts_of_runs}
 use Rattle.pb_keeper.proofs.KeptTables.{kept_while, parts_leave}
 use Rattle.pb_keeper.proofs.Leading.{leads_observers}
-use Rattle.pb_keeper.proofs.PassAlong.{led_none, led_as, part_on, end_on, any_on}
+use Rattle.pb_keeper.proofs.PassAlong.{led_none, led_as, part_on, end_on}
 use Rattle.pb_keeper.proofs.passes.make_passes.Goals as goal
 
 pub loop-count-init : goal.loop-count-init
 loop-count-init g c = record { leads = led_none no_part; same = refl; few = omega arith }
 
 pub returns-in_err-passed-clause-err : goal.returns-in_err-passed-clause-err
-returns-in_err-passed-clause-err g c = err_always c.from_residual.result (SaidLeads IsAny c.args.state.now c.pass.new.state) (any_on c.loop-count.invariant.leads c.in_err-passed.ensures.err)
+returns-in_err-passed-clause-err g c =
+    let observers = c.args.state.now.observers in
+    let few = c.loop-count.invariant.few in
+    err_always c.from_residual.result (SaidLeads (IsOfRuns c.args.bound) c.args.state.now c.pass.new.state)
+    (broken_on observers (c.args.bound - c.loop-count.made) c.args.bound (of_next_pass observers (parts_of_runs observers)) c.loop-count.invariant.leads c.in_err-passed.ensures.err (omega (arith, few)))
 
 is_below : (m n : ℕ) → m < n → nat_lt m n ≡ true
 is_below m n lt = grind arith

@@ -1,18 +1,20 @@
-use Rattle.std.proofs.Common.{arith, ◌≡◌, ◌+◌, ◌-◌, ◌^◌, min, List, [], ◌∷◌, Option, Some, None, false, is_some, refl, sym, ap, subst, ◌∙◌}
+use Rattle.std.proofs.Common.{arith, ◌≡◌, ◌+◌, ◌-◌, ◌^◌, min, List, [], ◌∷◌, ◌++◌, Option, Some, None, false, is_some, refl, sym, ap, subst, ◌∙◌}
 use Rattle.std.proofs.lemmas.Result.{err_from_is_err_and}
 use Rattle.pb_passes.proofs.Marks.{no_mark}
 use Rattle.pb_passes.proofs.Drains.{of_mark}
 use Rattle.pb_state.proofs.Outcomes.{err_always}
-use Rattle.pb_keeper.specs.Words.{Cell, Step, Answer, TableStep, ObserverOf, Received, told, IsMarkRun, IsMarkless, IsPass, no_part}
+use Rattle.pb_keeper.specs.Words.{Cell, Step, Answer, StateOf, TableStep, ObserverOf, Received, told, IsMarkRun, IsMarkless, IsPass, no_part}
+use Rattle.pb_keeper.specs.BrokenOff.{IsOfRuns}
 use Rattle.pb_keeper.specs.Drains.{end_after, AreRunsThat, IsMarkDue, IsPassWithEnd}
-use Rattle.pb_keeper.specs.Leads.{SaidLeads, IsAny}
+use Rattle.pb_keeper.specs.Leads.{SaidLeads}
 use Rattle.pb_keeper.specs.Counts.{commit_count}
 use Rattle.pb_keeper.specs.declared.passes.PassEnd.{PassEnd}
+use Rattle.pb_keeper.proofs.BrokenOff.{both_of_runs, broken_on, mark_of_none, more_runs, parts_alone, parts_of_runs}
 use Rattle.pb_keeper.proofs.CellsAfter.{walk_goes}
 use Rattle.pb_keeper.proofs.InTime.{mark_stops}
 use Rattle.pb_keeper.proofs.KeptTables.{LeavesKept, kept_after, kept_while, mark_leaves, parts_leave}
-use Rattle.pb_keeper.proofs.Leading.{leads_observers, leads_one}
-use Rattle.pb_keeper.proofs.PassAlong.{led_none, runs_as, part_on, end_on, mark_first, no_cell_is_marked, any_on}
+use Rattle.pb_keeper.proofs.Leading.{leads_observers, leads_on, leads_one}
+use Rattle.pb_keeper.proofs.PassAlong.{led_none, runs_as, part_on, end_on, mark_first, no_cell_is_marked}
 use Rattle.pb_keeper.proofs.passes.pass.Goals as goal
 
 pub loop-next-init : goal.loop-next-init
@@ -51,8 +53,23 @@ returns-in_default g c =
 
 pub returns-in_err-ran-clause-err : goal.returns-in_err-ran-clause-err
 returns-in_err-ran-clause-err g c =
+    let observers = c.args.state.now.observers in
+    let left = c.args.left - c.loop-next.runs in
+    let few = c.loop-next.invariant.few in
+    let mark = told (Step.NextMark c.loop-next.last) c.in_ok-next.next in
     let next = leads_one c.loop-next.state c.ask.new.state (Step.NextMark c.loop-next.last) c.in_ok-next.next c.in_ok-next.ensures.taken in
-    err_always c.from_residual-in_err-ran.result (SaidLeads IsAny c.args.state.now c.run_all.new.state) (any_on (any_on c.loop-next.invariant.leads next) c.in_err-ran.ensures.err)
+    let rest : SaidLeads (IsOfRuns left) c.loop-next.state c.run_all.new.state =
+    leads_on next c.in_err-ran.ensures.err (λ said more is p. subst (λ l. IsOfRuns left (l ++ more)) (sym is) (more_runs (0 + left) left (mark ∷ more) (omega arith) (both_of_runs 0 left (mark ∷ []) more (mark_of_none c.loop-next.last c.in_ok-next.next) p))) in
+    err_always c.from_residual-in_err-ran.result (SaidLeads (IsOfRuns c.args.left) c.args.state.now c.run_all.new.state)
+    (broken_on observers left c.args.left (of_mark observers (parts_of_runs observers)) c.loop-next.invariant.leads rest (omega (arith, few)))
+
+-- no mark was told
+pub returns-in_err-next-clause-err : goal.returns-in_err-next-clause-err
+returns-in_err-next-clause-err g c =
+    let observers = c.args.state.now.observers in
+    let few = c.loop-next.invariant.few in
+    err_always c.from_residual.result (SaidLeads (IsOfRuns c.args.left) c.args.state.now c.ask.new.state)
+    (subst (λ (s : StateOf). SaidLeads (IsOfRuns c.args.left) c.args.state.now s) (sym c.in_err-next.ensures.same) (parts_alone observers c.args.left (of_mark observers (parts_of_runs observers)) c.loop-next.invariant.leads few))
 
 pub loop-next-preserved : goal.loop-next-preserved
 loop-next-preserved g c =

@@ -1,7 +1,11 @@
 use Rattle.std.proofs.lemmas.Result.{err_from_is_err_and}
 use Rattle.std.proofs.Common.{List, ℕ, ◌≡◌, sym, ap, subst}
 use Rattle.pb_keeper.specs.Words.{Cell, ObserverOf, HasColumn}
+use Rattle.pb_state.proofs.Outcomes.{err_always}
+use Rattle.pb_keeper.specs.BrokenOff.{IsOfRuns}
 use Rattle.pb_keeper.specs.Counts.{commits_of_end}
+use Rattle.pb_keeper.specs.Leads.{SaidLeads}
+use Rattle.pb_keeper.proofs.BrokenOff.{begun_of_runs}
 use Rattle.pb_keeper.specs.Stops.{IsKnownJob}
 use Rattle.pb_keeper.proofs.InTime.{job_is_of}
 use Rattle.pb_keeper.proofs.PassAlong.{none_of_end, turn_counts}
@@ -10,6 +14,12 @@ use Rattle.pb_keeper.proofs.passes.run_place.Goals as goal
 -- the observer is one of the list that was read
 here : {seen observers : List ObserverOf} {n : ℕ} {x : Cell} → seen ≡ observers → HasColumn observers n x → HasColumn seen n x
 here {n = n} {x = x} same is = subst (λ (l : List ObserverOf). HasColumn l n x) (sym same) is
+
+-- its beginning is no more than a run
+pub returns-in_err-ran-clause-err : goal.returns-in_err-ran-clause-err
+returns-in_err-ran-clause-err g c =
+    let b = c.in_err-ran.ensures.err in
+    err_always c.from_residual.result (SaidLeads (IsOfRuns 1) c.args.state.now c.run_one.new.state) (record { said = b.said; form = begun_of_runs c.in-Ok.job.watch b.said b.form; leads = b.leads })
 
 pub returns-in_err-ran-clause-stops : goal.returns-in_err-ran-clause-stops
 returns-in_err-ran-clause-stops g c opened =

@@ -8,7 +8,7 @@ use Rattle.pb_keep.proofs.Mapping.{passed_on}
 use Rattle.pb_keep.proofs.keeper.Keeper.choose_into.Goals as goal
 
 pub returns-in_err-carry_over-clause-cause : goal.returns-in_err-carry_over-clause-cause
-returns-in_err-carry_over-clause-cause g c = λ past changes first began leads.
+returns-in_err-carry_over-clause-cause g c = λ limit past changes first began leads.
     let k = c.args.self.now in
     let front = c.args.state.now.observers in
     let s : SnapshotOf = snapshot_value c.in_ok-snapshot.snapshot in
@@ -21,10 +21,10 @@ returns-in_err-carry_over-clause-cause g c = λ past changes first began leads.
     passed_on c.from_residual-in_err-carry_over.result c.from_residual-in_err-carry_over.ensures.1
     (λ f is. subst (λ z. WhyNotChanged k.waiting.items.items k.state k.state z) (sym is)
     (not_changed_for_memory k.waiting.items.items k.state k.state e
-    (c.chosen_are_accepted.ensures first changes old s u c.args.places.now front (record { past = past; began = began; leads = leads }) c.requires.chosen taken c.in_ok-chosen.ensures.chosen c.in_ok-chosen.ensures.rising w.0 e why)))
+    (c.chosen_are_accepted.ensures limit first changes old s u c.args.places.now front (record { past = past; began = began; leads = leads }) c.requires.chosen taken c.in_ok-chosen.ensures.chosen c.in_ok-chosen.ensures.rising w.0 e why)))
 
 pub returns-clause-chosen : goal.returns-clause-chosen
-returns-clause-chosen g c = λ past changes first began leads.
+returns-clause-chosen g c = λ limit past changes first began leads.
     let k = c.args.self.now in
     let front = c.args.state.now.observers in
     let s : SnapshotOf = snapshot_value c.in_ok-snapshot.snapshot in
@@ -36,4 +36,4 @@ returns-clause-chosen g c = λ past changes first began leads.
     let cells : IsCarriedOver front c.args.state.now.seats u.clock u.cells over = subst (λ l. IsCarriedOver front c.args.state.now.seats u.clock l over) c.deref-2.ensures.value c.in_ok-carry_over.ensures.ok in
     let carried : IsCarriedOver front 1 u.clock u.cells over = subst (λ n. IsCarriedOver front n u.clock u.cells over) (ap (λ t. t.seats) c.requires.opened) cells in
     let room : old.state.clock < last_timestamp = grind (arith, c.clock.ensures, c.if-clock.false, c.clock.type_inv) in
-    c.chosen_begin.ensures past changes first old new s u over c.args.places.now front began leads room c.requires.chosen taken c.in_ok-chosen.ensures.chosen carried c.in_ok-mark_behind.ensures.ok refl
+    c.chosen_begin.ensures limit past changes first old new s u over c.args.places.now front began leads room c.requires.chosen taken c.in_ok-chosen.ensures.chosen carried c.in_ok-mark_behind.ensures.ok refl

@@ -38,7 +38,7 @@ returns-in_ok-hold-in-None-clause-serves g c = λ b lines s.
     let asked = is_read read (asked_by line) c.parse_request-read.ensures in
     let ready = ready_now c.is_kept_before-before.result c.args.self.now.waiting c.keep_if.new.self.waiting line read c.is_kept_before-before.ensures.ready
     (λ e. ap (λ k. k.waiting) (c.in_ok-keep_if.ensures.same e)) c.in_ok-keep_if.ensures.kept asked in
-    serves_held (c.in_ok-keep_if.ensures.serves b lines s) line read c.hold.new.waiting (read_as line read c.utf8.line asked) ready c.in_ok-hold-in-None.ensures.held
+    serves_held (c.in_ok-keep_if.ensures.serves b lines s) line read c.hold.new.waiting (read_as line read c.utf8.line asked) ready c.in_ok-keep_if.ensures.waiting.count c.in_ok-hold-in-None.ensures.held
 
 pub returns-in_ok-hold-in-None-clause-crash : goal.returns-in_ok-hold-in-None-clause-crash
 returns-in_ok-hold-in-None-clause-crash g c = λ b lines s file m. leaves_served (returns-in_ok-hold-in-None-clause-serves g c b lines s) file m

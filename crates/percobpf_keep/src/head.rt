@@ -1,0 +1,70 @@
+//! The limit of entries and the manifest that a log has.
+ghost use Rattle.std.specs.Prelude.{◌<◌, ◌^◌, length, string_bytes, IfOk, IfSome, IsTrue};
+ghost use Rattle.sqlite_disk.specs.Disk.{Only};
+
+use crate::names::Location;
+use crate::table::short_text;
+use anyhow::{Result, bail};
+use pb_keep::split_head;
+use pb_log::Log;
+use sqlite_disk::Disk;
+
+// How many entries the table of a new log may have. These take some 4 GB.
+const DEFAULT_LIMIT: u64 = 10_000_000;
+
+/// What stands in the first record of a log.
+#[derive(Drop)]
+pub(crate) struct Head {
+    /// How many entries its table may have.
+    pub limit: u64,
+    /// Its manifest.
+    pub manifest: String,
+}
+
+/// What the first record of the log has, if there is one.
+pub(crate) fn read_head<D: Disk>(
+    rt: &HostRuntime,
+    log: &mut Log<D>,
+    location: &Location,
+) -> Result<Option<Head>>
+    requires usable { IsTrue (D.is_usable log.old.disk) }
+    ensures usable { IsTrue (D.is_usable log.new.disk) }
+    ensures restarted { Only (D.seen log.old.disk) (D.may_leave log.old.disk)
+        → Only (D.seen log.new.disk) (D.may_leave log.new.disk) }
+    ensures short { IfOk result (λ o. IfSome o (λ h. length (string_bytes h.manifest) < 2 ^ 30)) }
+{
+    let alloc = rt.alloc();
+    let Some(bytes) = log.read_manifest(alloc)? else {
+        return Ok(None);
+    };
+    let Ok(text) = String::from_utf8(bytes) else {
+        bail!("{}: its manifest is not text", location.log)
+    };
+    let (limit, manifest) = split_head(alloc, text.as_str())?;
+    let manifest = short_text(String::from_str(alloc, manifest)?)?;
+    Ok(Some(Head { limit, manifest }))
+}
+
+/// The limit of a log that goes on as it is: its own, and of a new one the one that is wanted, if any is. Another one is wanted
+/// of `--compact` alone.
+pub(crate) fn limit_of(
+    own: &Option<Head>,
+    wanted: Option<u64>,
+    location: &Location,
+) -> Result<u64> {
+    let Some(head) = own else {
+        return Ok(wanted.unwrap_or(DEFAULT_LIMIT));
+    };
+    match wanted {
+        Some(limit) if limit != head.limit => bail!(
+            "{}: its limit is another one: --compact changes it",
+            location.log
+        ),
+        _ => Ok(head.limit),
+    }
+}
+
+/// The limit of a log that is put in the place of another one: the one that is wanted, if any is, or that of the other.
+pub(crate) fn next_limit(own: u64, wanted: Option<u64>) -> u64 {
+    wanted.unwrap_or(own)
+}
