@@ -13,3 +13,6 @@ pub mod Reading
 pub mod Leaving
 pub mod Causing
 pub mod Pieces
+pub mod Firsts
+pub mod FirstOpening
+pub mod Asking

@@ -36,6 +36,9 @@ pub const OUT_OF_PLACE: u8 = 76;
 /// The code of a question about writes that are gone: those up to the snapshot that the log begins with.
 pub const GONE: u8 = 77;
 
+/// The code of a line that is no question, where questions alone are answered.
+pub const QUESTIONS_ALONE: u8 = 79;
+
 /// What was done with a line.
 #[derive(Clone, Copy, PartialEq, Eq, Debug, Drop)]
 pub enum Took {
@@ -224,7 +227,7 @@ pub(crate) fn write<S: Sink>(out: &mut S, text: &str) -> Result<(), KeepFault>
 }
 
 // Whether a line is answered at once.
-fn is_question(request: &Request) -> bool
+pub(crate) fn is_question(request: &Request) -> bool
     ensures { result ≡ is_question request.now }
 {
     matches!(
@@ -288,7 +291,7 @@ fn answer_above<T: Tablet>(
 
 impl<T: Tablet, D: Disk + Drop> Keeper<T, D> {
     // The text that a question is answered with.
-    fn answer_to(&self, alloc: Global, question: Request) -> Result<String, NoMemory>
+    pub(crate) fn answer_to(&self, alloc: Global, question: Request) -> Result<String, NoMemory>
         requires { is_question question ≡ true }
         ensures answer { IfOk result (λ s. IsAnswerTo self.now.since.0 question
             (kept_table self.now.state self.now.stats.items) (string_bytes s)) }

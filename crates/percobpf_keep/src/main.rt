@@ -2,6 +2,7 @@
 //! observers of the manifest, and then reads lines of standard input and answers each on standard output.
 //! `percobpf_keep --compact MANIFEST LOG` puts a log in its place that begins with a snapshot of the table, also for a manifest
 //! with other observers. `percobpf_keep --compact-at BYTES MANIFEST LOG` does so while it serves, where the log has so many bytes.
+//! `percobpf_keep --questions MANIFEST LOG` makes as many of the changes again as can be made, and answers questions alone.
 //!
 //! It is main alone: `pb_keep` does what a line asks for. Here the table is made, and words, manifest and log are taken
 //! from the system. With the manifest of examples/copy.json, `put 7 0 2a` is answered `made 2 runs 1`.
@@ -14,6 +15,7 @@ mod compact;
 mod file;
 mod names;
 mod new_file;
+mod questions;
 mod service;
 mod table;
 mod watched;
@@ -21,6 +23,7 @@ mod watched;
 use anew::compact_alone;
 use anyhow::{Result, bail};
 use pb_reading::numeral_upto;
+use questions::answer_alone;
 use service::keep;
 use std::env::Args;
 use std::{env, fs};
@@ -30,6 +33,7 @@ const USAGE: &str = "\
 Usage: percobpf_keep MANIFEST LOG
        percobpf_keep --compact MANIFEST LOG
        percobpf_keep --compact-at BYTES MANIFEST LOG
+       percobpf_keep --questions MANIFEST LOG
 
 Keeps a table on a disk, with the observers of MANIFEST. LOG is opened, or made, and its changes are made again. Then each
 line of standard input is answered: `put ROW COL HEX; ..`, `del ROW COL; ..`, `if ROW COL COMMIT; put ..`, `get ROW COL`,
@@ -39,6 +43,10 @@ With --compact, a log that begins with a snapshot of the table is put in the pla
 newest version of each cell, and takes the place that these want. MANIFEST may have other observers than LOG: new ones run for all
 that was written before, those of both go on, and the others are gone. With --compact-at, LOG is compacted while lines are
 answered, where it has at least BYTES bytes and twice as many as after the last time.
+
+With --questions, LOG is opened up to the last change that can be made here: where memory is refused for one, the table is the one
+before it. The first line is `open N of M`: N of the M changes were made. Then `get`, `since`, `list`, `quiet?` and `stats` are
+answered, and other lines are refused with 79. LOG has to be there, and nothing is written to it.
 ";
 
 const ABOUT_HELP: &str = "two words are wanted, MANIFEST and LOG: `percobpf_keep --help` has more";
@@ -93,6 +101,10 @@ fn main(rt: HostRuntime) -> Result<()> {
             let least = bytes_of(words.next())?;
             let (text, path) = last_words(&rt, words.next(), words)?;
             keep(&rt, &rt, text.as_str(), path.as_str(), least)
+        }
+        "--questions" => {
+            let (text, path) = last_words(&rt, words.next(), words)?;
+            answer_alone(&rt, &rt, text.as_str(), path.as_str())
         }
         _ => {
             let (text, path) = last_words(&rt, Some(first), words)?;
