@@ -55,21 +55,19 @@ fn open_once(
 fn open_as_far(rt: &HostRuntime, manifest: &str, location: &Location) -> Result<(Kept, u64, u64)>
     requires short { length manifest.now < 2 ^ 31 }
 {
-    let mut most = match open_once(rt, manifest, location, None)? {
-        (keeper, Opened::Made(made, all)) => return Ok((keeper, made, all)),
-        (keeper, Opened::Stopped(made, _)) => {
-            keeper.close();
-            made
-        }
+    let (first, opened) = open_once(rt, manifest, location, None)?;
+    let mut most = match opened {
+        Opened::Made(made, all) => return Ok((first, made, all)),
+        Opened::Stopped(made, _) => made,
     };
+    first.close();
     'tries: loop {
-        match open_once(rt, manifest, location, Some(most))? {
-            (keeper, Opened::Made(made, all)) => return Ok((keeper, made, all)),
-            (keeper, Opened::Stopped(made, _)) => {
-                keeper.close();
-                most = made;
-            }
+        let (keeper, opened) = open_once(rt, manifest, location, Some(most))?;
+        match opened {
+            Opened::Made(made, all) => return Ok((keeper, made, all)),
+            Opened::Stopped(made, _) => most = made,
         }
+        keeper.close();
     }
 }
 
