@@ -47,7 +47,7 @@ ASKS_FOR_ALL = "test_fixtures", "refused"
 HOLDERS = {
     "pb_log": {"LogFault"},
     "pb_keeper": {"Stopped"},
-    "pb_keep": {"KeepFault", "SnapshotFault"},
+    "pb_keep": {"KeepFault", "Opened", "SnapshotFault"},
     "pb_state": {"CarryFault"},
     "pb_reading": {"LineFault", "TextFault"},
     "pb_isa": {"NoProgram"},

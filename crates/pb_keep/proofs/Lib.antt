@@ -15,3 +15,6 @@ pub mod Leaving
 pub mod Heads
 pub mod Causing
 pub mod Pieces
+pub mod Firsts
+pub mod FirstOpening
+pub mod Asking

@@ -43,7 +43,7 @@ module _ {b : Beginning} {lines : List (List ℕ)} {written : Option (List ℕ)}
   leaves_none from l = record { more = []; to = from; read = none; leaves = subst (λ z. LeavesFirst b z written file) (sym (append-nil lines)) l }
 
 -- what was read before, and what comes after
-read_both : (from between to : Option (List ℕ)) (front back : List (List ℕ)) → AreLinesRead from front between → AreLinesRead between back to → AreLinesRead from (front ++ back) to
+pub read_both : (from between to : Option (List ℕ)) (front back : List (List ℕ)) → AreLinesRead from front between → AreLinesRead between back to → AreLinesRead from (front ++ back) to
 read_both from between to front back f none = subst (λ z. AreLinesRead from z between) (sym (append-nil front)) f
 read_both from between to front back f (one_more lines line m n a next) =
     subst (λ z. AreLinesRead from z to) (append_assoc front lines (line ∷ [])) (one_more (front ++ lines) line m to (read_both from between m front lines f a) next)

@@ -1,10 +1,11 @@
 -- The changes of a log as they are made again: how far that went where memory was refused.
-use Rattle.std.specs.Prelude.{◌≡◌, ℕ, ◌+◌, List, ◌++◌, length, Ok}
+use Rattle.std.specs.Prelude.{◌≡◌, ℕ, ◌+◌, List, ◌++◌, length, Option, Ok}
 use Rattle.pb_keeper.specs.BrokenOff.{IsOfChange}
 use Rattle.pb_keeper.specs.declared.passes.TheConstants.{MAX_RUNS}
 use Rattle.pb_keep.specs.Words.{Keeps, KeptTable, SaidLeads, StateOf, Writes, script_of}
 use Rattle.pb_keep.specs.declared.fault.KeepFault.{KeepFault}
 use Rattle.pb_keep.specs.Causes.{IsOfAnew}
+use Rattle.pb_keep.specs.First.{first_changes, room_after}
 use Rattle.pb_keep.specs.Kept.{changes_of, reported_count}
 
 -- these changes are kept after any that the table keeps, where it has this limit of entries
@@ -15,12 +16,12 @@ KeepsMore limit old more new = (first : KeptTable) (changes : List Writes) → K
 abbrev pub IsLeftOf : StateOf → StateOf → Type 0
 IsLeftOf reached new = SaidLeads (IsOfChange MAX_RUNS) reached new
 
--- all changes of a record were made, and so many more are counted
-pub record IsRecordMade (limit : ℕ) (bytes : List ℕ) (old new : KeptTable) (was made : ℕ) : Type 0 where
+-- the first changes of a record were made, as many as may follow those before, and so many more are counted
+pub record IsRecordMade (limit : ℕ) (most : Option ℕ) (bytes : List ℕ) (old new : KeptTable) (was made : ℕ) : Type 0 where
   pub script : List Writes
   pub reads : script_of bytes ≡ Ok script
-  pub keeps : KeepsMore limit old script new
-  pub count : made ≡ reported_count (was + length script)
+  pub keeps : KeepsMore limit old (first_changes (room_after most was) script) new
+  pub count : made ≡ reported_count (was + length (first_changes (room_after most was) script))
 
 -- the first changes of a record were made, by which a table was reached, and so many more are counted; on the way to this state no other
 -- change was made whole
@@ -31,6 +32,21 @@ pub record IsRecordLeft (limit : ℕ) (bytes : List ℕ) (old : KeptTable) (new 
   pub keeps : KeepsMore limit old done reached
   pub left : IsLeftOf reached.state new
   pub count : made ≡ reported_count (was + length done)
+
+-- the first of these changes were made, as many as may be, and counted
+pub record AreFirstMade (limit : ℕ) (most : Option ℕ) (changes : List Writes) (old new : KeptTable) (made : ℕ) : Type 0 where
+  pub keeps : KeepsMore limit old (first_changes most changes) new
+  pub count : made ≡ reported_count (length (first_changes most changes))
+
+-- some of these changes were made, the first ones, by which a table was reached, and counted; the next one was begun at most
+pub record AreSomeMade (limit : ℕ) (changes : List Writes) (old : KeptTable) (new : StateOf) (made : ℕ) : Type 0 where
+  pub done : List Writes
+  pub rest : List Writes
+  pub parts : changes ≡ done ++ rest
+  pub reached : KeptTable
+  pub keeps : KeepsMore limit old done reached
+  pub left : IsLeftOf reached.state new
+  pub count : made ≡ reported_count (length done)
 
 -- So many changes of these records were made of so many: the first ones, by which a table was reached. The next one was begun at most.
 pub record IsMadeInPart (limit : ℕ) (records : List (List ℕ)) (old : KeptTable) (new : StateOf) (made all : ℕ) : Type 0 where

@@ -7,8 +7,11 @@ pub mod Conversations
 pub mod Opened
 pub mod Left
 pub mod Causes
+pub mod First
 pub mod Again
+pub mod FirstOpened
 pub mod Input
+pub mod Questions
 pub mod Served
 pub mod Anew
 pub mod Changed

@@ -1,11 +1,12 @@
 //! The changes of a log, made again when it is opened.
-ghost use Rattle.std.specs.Prelude.{◌≡◌, ◌∷◌, ◌++◌, [], List, length, map, IfOk, IfErr, OnOk, OnErr, Ok};
+ghost use Rattle.std.specs.Prelude.{◌≡◌, ◌<◌, ◌^◌, ◌∷◌, ◌++◌, [], List, false, length, map, IfOk, IfErr, IfSome, OnOk, OnErr, Ok};
 ghost use Rattle.pb_base.specs.Batch.{Writes};
 ghost use Rattle.pb_parse.specs.ScriptLines.{script_of};
 ghost use Rattle.pb_keeper.specs.Keeps.{Keeps};
 ghost use Rattle.pb_keeper.specs.Stats.{kept_table, KeptTable};
-ghost use Rattle.pb_keep.specs.Again.{in_part, IsLeftOf, IsRecordLeft, IsRecordMade, WhyNotAllMade};
+ghost use Rattle.pb_keep.specs.Again.{in_part, AreFirstMade, AreSomeMade, IsLeftOf, IsRecordLeft, IsRecordMade, WhyNotAllMade};
 ghost use Rattle.pb_keep.specs.Causes.{IsOfAnew};
+ghost use Rattle.pb_keep.specs.First.{is_full};
 ghost use Rattle.pb_keep.specs.Kept.{changes_of, reported_count};
 
 use crate::fault::KeepFault;
@@ -33,7 +34,7 @@ fn batches_of(alloc: Global, record: &[u8]) -> Result<Vec<Batch>, KeepFault>
 }
 
 // How many changes records have, or the greatest `u64` where they are more.
-fn count_changes(alloc: Global, records: &[Vec<u8>]) -> Result<u64, KeepFault>
+pub(crate) fn count_changes(alloc: Global, records: &[Vec<u8>]) -> Result<u64, KeepFault>
     ensures counted { IfOk result (λ n. (all : List Writes)
         × (changes_of (map (λ v. v.items) records.now) ≡ Ok all)
         × (n ≡ reported_count (length all))) }
@@ -66,29 +67,80 @@ fn make_counted<T: Tablet>(
     Ok(())
 }
 
-// Makes the changes of a record, in order, each with its observers, and counts those that are made.
+// Whether so many changes are made that no more may be.
+fn is_full(most: Option<u64>, made: u64) -> bool
+    ensures full { result ≡ is_full most made }
+    ensures range { IfSome most (λ n. n < 2 ^ 64) }
+{
+    match most {
+        Some(most) => most <= made,
+        None => false,
+    }
+}
+
+// Makes the changes of a record, in order, each with its observers, until no more may be made, and counts those that are.
 fn make_anew<T: Tablet>(
     alloc: Global,
     state: &mut State<T>,
     stats: &mut Vec<ObserverStats>,
     record: &[u8],
+    most: Option<u64>,
     made: &mut u64,
     limit: u64,
 ) -> Result<(), KeepFault>
-    ensures keeps { OnOk result (IsRecordMade limit «record».now
+    requires room { is_full most made.old ≡ false }
+    ensures keeps { OnOk result (IsRecordMade limit most «record».now
         (kept_table state.old stats.old.items) (kept_table state.new stats.new.items)
         made.old made.new) }
     ensures observers { OnOk result (state.new.observers ≡ state.old.observers) }
     ensures why { IfErr result IsOfAnew }
     ensures left { OnErr result (IsRecordLeft limit «record».now
         (kept_table state.old stats.old.items) state.new made.old made.new) }
+    ensures fewer { OnErr result (is_full most made.new ≡ false) }
 {
     // For the proof: a number has its range once it is read.
     let _was = *made;
     let batches = batches_of(alloc, record)?;
     for batch in batches {
+        if is_full(most, *made) {
+            return Ok(());
+        }
         make_counted(alloc, state, stats, batch, limit)?;
         *made = made.saturating_add(1);
+    }
+    Ok(())
+}
+
+// Makes the first changes of records, in order, each with its observers: at most `most` of them, where a number is given. Counts those
+// that are made, also where one is stopped.
+pub(crate) fn make_first<T: Tablet>(
+    alloc: Global,
+    state: &mut State<T>,
+    stats: &mut Vec<ObserverStats>,
+    records: Vec<Vec<u8>>,
+    most: Option<u64>,
+    made: &mut u64,
+    limit: u64,
+) -> Result<(), KeepFault>
+    requires none { made.old ≡ 0 }
+    ensures first { (changes : List Writes)
+        → changes_of (map (λ v. v.items) records.items) ≡ Ok changes
+        → OnOk result (AreFirstMade limit most changes (kept_table state.old stats.old.items)
+        (kept_table state.new stats.new.items) made.new) }
+    ensures observers { OnOk result (state.new.observers ≡ state.old.observers) }
+    ensures why { IfErr result IsOfAnew }
+    ensures some { (changes : List Writes)
+        → changes_of (map (λ v. v.items) records.items) ≡ Ok changes
+        → OnErr result (AreSomeMade limit changes (kept_table state.old stats.old.items)
+        state.new made.new) }
+    // Where one is stopped, fewer are made than may be.
+    ensures fewer { OnErr result (is_full most made.new ≡ false) }
+{
+    for record in records {
+        if is_full(most, *made) {
+            return Ok(());
+        }
+        make_anew(alloc, state, stats, &record, most, made, limit)?;
     }
     Ok(())
 }
@@ -125,10 +177,8 @@ pub fn make_records_anew<T: Tablet>(
 {
     let all = count_changes(alloc, &records)?;
     let mut made = 0u64;
-    for record in records {
-        if let Err(fault) = make_anew(alloc, state, stats, &record, &mut made, limit) {
-            return Err(in_part(fault, made, all));
-        }
+    match make_first(alloc, state, stats, records, None, &mut made, limit) {
+        Ok(()) => Ok(made),
+        Err(fault) => Err(in_part(fault, made, all)),
     }
-    Ok(made)
 }

@@ -40,6 +40,9 @@ pub const GONE: u8 = 77;
 /// The code of a change for which the table has no room: it has as many entries as its limit or more, or too few timestamps.
 pub const FULL: u8 = 79;
 
+/// The code of a line that is no question, where questions alone are answered.
+pub const QUESTIONS_ALONE: u8 = 80;
+
 /// What was done with a line.
 #[derive(Clone, Copy, PartialEq, Eq, Debug, Drop)]
 pub enum Took {
@@ -258,7 +261,7 @@ pub(crate) fn write<S: Sink>(out: &mut S, text: &str) -> Result<(), KeepFault>
 }
 
 // Whether a line is answered at once.
-fn is_question(request: &Request) -> bool
+pub(crate) fn is_question(request: &Request) -> bool
     ensures { result ≡ is_question request.now }
 {
     matches!(
@@ -322,7 +325,7 @@ fn answer_above<T: Tablet>(
 
 impl<T: Tablet, D: Disk + Drop> Keeper<T, D> {
     // The text that a question is answered with.
-    fn answer_to(&self, alloc: Global, question: Request) -> Result<String, NoMemory>
+    pub(crate) fn answer_to(&self, alloc: Global, question: Request) -> Result<String, NoMemory>
         requires { is_question question ≡ true }
         ensures answer { IfOk result (λ s. IsAnswerTo self.now.since.0 question
             (kept_table self.now.state self.now.stats.items) (string_bytes s)) }

@@ -6,12 +6,12 @@ use Rattle.pb_keeper.specs.Words.{Writes, ObserverOf, last_timestamp, StateOf, S
 use Rattle.pb_generations.proofs.ChosenNumbers.{said_renumbered}
 use Rattle.pb_keeper.specs.Drains.{IsDrainWithin}
 use Rattle.pb_keeper.specs.Leads.{SaidLeads}
-use Rattle.pb_keeper.specs.Keeps.{AreMade, AreMadeInAll, nothing_made, change_made, observers_changed, total_in, CatchesUp, IsChosenOf, IsKeptAfter, Keeps, KeepsFrom, none_made, one_made, IsFirstTable, opened, anew, changed, BeginningKeepsNone, IsWholeTable, KeptIsWhole}
+use Rattle.pb_keeper.specs.Keeps.{AreMadeInAll, nothing_made, change_made, observers_changed, total_in, CatchesUp, IsChosenOf, IsKeptAfter, Keeps, KeepsFrom, none_made, one_made, IsFirstTable, opened, anew, changed, BeginningKeepsNone, IsWholeTable, KeptIsWhole}
 use Rattle.pb_keeper.specs.Stats.{no_runs, sum_of, AreKeptStats, AreStatsOf, Counted, KeptTable, chosen_stats, first_stats, kept_table}
 use Rattle.pb_keeper.specs.Stops.{WasKept}
 use Rattle.pb_keeper.specs.declared.stats.ObserverStats.{ObserverStats}
 use Rattle.pb_keeper.proofs.BoundedDrains.{of_drain_within}
-use Rattle.pb_keeper.proofs.EachPart.{of_all}
+use Rattle.pb_keeper.proofs.EachPart.{AreMade, of_all}
 use Rattle.pb_keeper.proofs.CatchingUp.{kept_with_none, none_counted, none_of_any}
 use Rattle.pb_keeper.proofs.KeptTables.{change_leaves, parts_leave}
 use Rattle.pb_keeper.proofs.Leading.{leads_observers}

@@ -2,10 +2,11 @@
 use Rattle.std.proofs.Common.{arith, ℕ, List, [], ◌∷◌, ◌++◌, refl, subst}
 use Rattle.std.specs.FinMap as map
 use Rattle.pb_keeper.specs.Words.{Writes, ObserverOf, no_part, one_part}
-use Rattle.pb_keeper.specs.Keeps.{AreMade, KeepsFrom, none_made, one_made}
+use Rattle.pb_keeper.specs.Keeps.{KeepsFrom, none_made, one_made}
 use Rattle.pb_keeper.specs.Leads.{SaidLeads}
 use Rattle.pb_keeper.specs.Made.{IsMade, runs_within}
 use Rattle.pb_keeper.specs.Stats.{Counted, KeptTable}
+use Rattle.pb_keeper.proofs.EachPart.{AreMade}
 use Rattle.pb_keeper.proofs.Leading.{leads_none, leads_on, leads_observers}
 use Rattle.pb_keeper.proofs.Statistics.{counted_none, counted_on}
 

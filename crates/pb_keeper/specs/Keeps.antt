@@ -2,26 +2,13 @@
 -- and then these changes led to it, and nothing else.
 use Rattle.std.specs.Prelude.{◌≡◌, ℕ, ◌<◌, ◌≤◌, List, [], ◌∷◌, ◌++◌, length, slice_get}
 use Rattle.std.specs.FinMap as map
-use Rattle.pb_keeper.specs.Words.{Writes, Ts, ObserverOf, last_timestamp, StateOf, opening, IsCommittedAt, view_of, Received, IsOfParts, entries_by, HasMoreObservers, IsMarkedBehind, AreChosen, IsChosenSnapshot, chosen_state, new_number, renumbered_said, IsKeptTable, IsUnlocked, carried, unmarked, AreLeft, IsSnapshotOf}
+use Rattle.pb_keeper.specs.Words.{Writes, Ts, ObserverOf, last_timestamp, StateOf, opening, IsCommittedAt, view_of, Received, entries_by, HasMoreObservers, IsMarkedBehind, AreChosen, IsChosenSnapshot, chosen_state, new_number, renumbered_said, IsKeptTable, IsUnlocked, carried, unmarked, AreLeft, IsSnapshotOf}
 use Rattle.pb_keeper.specs.Drains.{IsDrainWithin}
 use Rattle.pb_keeper.specs.Leads.{SaidLeads}
 use Rattle.pb_keeper.specs.Made.{IsMade, runs_within}
 use Rattle.pb_keeper.specs.declared.passes.TheConstants.{MAX_RUNS}
 use Rattle.pb_keeper.specs.Stats.{AreKeptStats, AreStatsOf, Counted, KeptTable, chosen_stats, first_stats, kept_table, no_runs, total_at, sum_of}
 use Rattle.pb_keeper.specs.declared.stats.ObserverStats.{ObserverStats}
-
--- the next change was made, with the drain that follows it
-pub record IsNextMade (observers : List ObserverOf) (changes now : List Writes) (said : List Received) : Type 0 where
-  pub batch : Writes
-  pub commit : Ts
-  pub bound : ℕ
-  pub few : bound ≤ MAX_RUNS
-  pub now_is : now ≡ changes ++ batch ∷ []
-  pub made : IsMade observers bound batch commit said
-
--- these changes, each once and in order, each with the drain that follows it
-abbrev pub AreMade : List ObserverOf → List Writes → List Received → Type 0
-AreMade observers changes said = IsOfParts (IsNextMade observers) [] changes said
 
 -- ---- a generation
 

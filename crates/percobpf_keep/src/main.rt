@@ -2,6 +2,7 @@
 //! observers of the manifest, and then reads lines of standard input and answers each on standard output.
 //! `percobpf_keep --compact MANIFEST LOG` puts a log in its place that begins with a snapshot of the table, also for a manifest
 //! with other observers. `percobpf_keep --compact-at BYTES MANIFEST LOG` does so while it serves, where the log has so many bytes.
+//! `percobpf_keep --questions MANIFEST LOG` makes as many of the changes again as can be made, and answers questions alone.
 //!
 //! It is main alone: `pb_keep` does what a line asks for. Here the table is made, and words, manifest and log are taken
 //! from the system. With the manifest of examples/copy.json, `put 7 0 2a` is answered `made 2 runs 1`.
@@ -15,6 +16,7 @@ mod file;
 mod head;
 mod names;
 mod new_file;
+mod questions;
 mod service;
 mod table;
 mod watched;
@@ -22,6 +24,7 @@ mod watched;
 use anew::compact_alone;
 use anyhow::{Result, bail};
 use pb_reading::numeral_upto;
+use questions::answer_alone;
 use service::keep;
 use std::env::Args;
 use std::{env, fs};
@@ -31,6 +34,7 @@ const USAGE: &str = "\
 Usage: percobpf_keep [--limit ENTRIES] MANIFEST LOG
        percobpf_keep [--limit ENTRIES] --compact MANIFEST LOG
        percobpf_keep [--limit ENTRIES] --compact-at BYTES MANIFEST LOG
+       percobpf_keep [--limit ENTRIES] --questions MANIFEST LOG
 
 Keeps a table on a disk, with the observers of MANIFEST. LOG is opened, or made, and its changes are made again. Then each
 line of standard input is answered: `put ROW COL HEX; ..`, `del ROW COL; ..`, `if ROW COL COMMIT; put ..`, `get ROW COL`,
@@ -43,6 +47,10 @@ answered, where it has at least BYTES bytes and twice as many as after the last 
 
 With --limit, the table of a new LOG has ENTRIES entries at most, and 10000000 without it: a change of a table that has so many is
 refused. That of a LOG that is there has its own limit, which --compact changes.
+
+With --questions, LOG is opened up to the last change that can be made here: where memory is refused for one, the table is the one
+before it. The first line is `open N of M`: N of the M changes were made. Then `get`, `since`, `list`, `quiet?` and `stats` are
+answered, and other lines are refused with 80. LOG has to be there, and nothing is written to it.
 ";
 
 const ABOUT_HELP: &str = "two words are wanted, MANIFEST and LOG: `percobpf_keep --help` has more";
@@ -105,6 +113,10 @@ fn main(rt: HostRuntime) -> Result<()> {
             let least = number_of(words.next(), "BYTES")?;
             let (text, path) = last_words(&rt, words.next(), words)?;
             keep(&rt, &rt, text.as_str(), path.as_str(), least, limit)
+        }
+        "--questions" => {
+            let (text, path) = last_words(&rt, words.next(), words)?;
+            answer_alone(&rt, &rt, text.as_str(), path.as_str(), limit)
         }
         _ => {
             let (text, path) = last_words(&rt, Some(first), words)?;

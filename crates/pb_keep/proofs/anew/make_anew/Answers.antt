@@ -4,8 +4,10 @@ use Rattle.std.proofs.lemmas.List.{append_assoc, append-nil, length-append}
 use Rattle.pb_reading.proofs.Readings.{ok_is}
 use Rattle.pb_keep.specs.Words.{Keeps, Writes, kept_table}
 use Rattle.pb_keep.specs.Again.{KeepsMore}
+use Rattle.pb_keep.specs.First.{first_changes, room_after}
 use Rattle.pb_keep.specs.Kept.{reported_count}
 use Rattle.pb_keeper.proofs.BrokenOff.{nothing_begun}
+use Rattle.pb_keep.proofs.Firsts.{first_of_none, full_first, one_more_first}
 use Rattle.pb_keep.proofs.Mapping.{on_err}
 use Rattle.pb_keep.proofs.Records.{reported_on}
 use Rattle.pb_keep.proofs.Scripts.{empty_list}
@@ -18,6 +20,7 @@ loop-batch-init g c = record {
   same = refl;
   keeps = λ first changes k. subst (λ l. Keeps c.args.limit first l (kept_table c.args.state.now c.args.stats.now.items)) (sym (append-nil changes)) k;
   count = grind arith;
+  first = first_of_none (room_after c.args.most c.args.made.now);
 }
 
 pub loop-batch-preserved : goal.loop-batch-preserved
@@ -34,6 +37,7 @@ loop-batch-preserved g c =
       count =
           let more = length-append done (c.in-Some.batch ∷ []) in
           c.saturating_add.ensures ∙ ap (λ n. reported_count (n + 1)) i.count ∙ reported_on (c.args.made.now + length done) 1 ∙ ap reported_count (omega (arith, more));
+      first = one_more_first c.args.most c.is_full.ensures.range c.args.made.now c.loop-batch.made done c.in-Some.batch i.count (sym c.is_full.ensures.full ∙ c.if-is_full.false);
     }
 
 -- the record wasn't read
@@ -61,15 +65,33 @@ returns-in_err-make_counted-clause-left g c =
       count = i.count;
     })
 
+-- no more may be made
+pub returns-then-is_full-clause-keeps : goal.returns-then-is_full-clause-keeps
+returns-then-is_full-clause-keeps g c =
+    let i = c.loop-batch.invariant in
+    let done = c.loop-batch.yielded in
+    let rest = into_iter_items c.loop-batch.batch-iterator in
+    let gives : into_iter_items c.into_iter-batch-iterator.result ≡ c.in_ok-batches.batches.items = c.into_iter-batch-iterator.ensures.into_iter_gives.0 in
+    let all : c.in_ok-batches.batches.items ≡ done ++ rest = sym gives ∙ i.parts in
+    let first : first_changes (room_after c.args.most c.args.made.now) c.in_ok-batches.batches.items ≡ done =
+    ap (first_changes (room_after c.args.most c.args.made.now)) all ∙ full_first c.args.most c.args.made.now c.loop-batch.made done rest i.count (sym c.is_full.ensures.full ∙ c.if-is_full.true) i.first in
+    record {
+      script = c.in_ok-batches.batches.items;
+      reads = c.in_ok-batches.ensures.ok;
+      keeps = subst (λ l. KeepsMore c.args.limit (kept_table c.args.state.now c.args.stats.now.items) l (kept_table c.loop-batch.state c.loop-batch.stats.items)) (sym first) i.keeps;
+      count = i.count ∙ ap (λ l. reported_count (c.args.made.now + length l)) (sym first);
+    }
+
 pub returns-clause-keeps : goal.returns-clause-keeps
 returns-clause-keeps g c =
     let i = c.loop-batch.invariant in
     let none : into_iter_items c.loop-batch.batch-iterator ≡ [] = empty_list (into_iter_items c.loop-batch.batch-iterator) (sym i.counted ∙ c.in-None.ensures.steps.0) in
     let gives : into_iter_items c.into_iter-batch-iterator.result ≡ c.in_ok-batches.batches.items = c.into_iter-batch-iterator.ensures.into_iter_gives.0 in
     let all : c.loop-batch.yielded ≡ c.in_ok-batches.batches.items = sym (append-nil c.loop-batch.yielded) ∙ ap (λ l. c.loop-batch.yielded ++ l) (sym none) ∙ sym i.parts ∙ gives in
+    let first : c.loop-batch.yielded ≡ first_changes (room_after c.args.most c.args.made.now) c.in_ok-batches.batches.items = sym i.first ∙ ap (first_changes (room_after c.args.most c.args.made.now)) all in
     record {
       script = c.in_ok-batches.batches.items;
       reads = c.in_ok-batches.ensures.ok;
-      keeps = subst (λ l. KeepsMore c.args.limit (kept_table c.args.state.now c.args.stats.now.items) l (kept_table c.loop-batch.state c.loop-batch.stats.items)) all i.keeps;
-      count = i.count ∙ ap (λ l. reported_count (c.args.made.now + length l)) all;
+      keeps = subst (λ l. KeepsMore c.args.limit (kept_table c.args.state.now c.args.stats.now.items) l (kept_table c.loop-batch.state c.loop-batch.stats.items)) first i.keeps;
+      count = i.count ∙ ap (λ l. reported_count (c.args.made.now + length l)) first;
     }
