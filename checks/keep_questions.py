@@ -42,10 +42,13 @@ REFUSED = {
 # How many changes the log has whose table wants memory, how many of them are sent alone, and of how many a group is.
 MANY, SINGLE, GROUP = 4_000, 1_000, 500
 
-# How much memory there is, in bytes, from too little for any change on. How many tables there are at least that not all changes lead to,
-# and of these how many that end within a group.
-MEMORY = range(8 << 20, 96 << 20, 3 << 20)
+# How much memory there is, in MiB, from hardly enough to begin on. How many tables there are at least that not all changes lead to, and of
+# these how many that end within a group.
+MEMORY = (4, 6, 10, 14, 18, 22, 28, 40, 60, 90)
 LEAST_PARTS, LEAST_WITHIN = 5, 3
+
+# What is asked then has short answers. A long one may want more memory than is left.
+SHORT, LONG = [line for line in ASKED if line != "since 0" and line != "since 40"], "since 0"
 
 SECONDS = 120
 
@@ -131,38 +134,41 @@ def grouped(changes):
     return lines
 
 
-def is_table_of(room, changes, made, answers):
-    """These are the answers of a program that was given just the first changes, but for the size of the log."""
+def is_table_of(room, changes, made, answers, more):
+    """These are the answers of a program that was given just the first changes, but for the size of the log. A long answer is there whole, or
+    memory was refused for it."""
     log = room.log("first")
-    _, served, _ = room.run(log, [*changes[:made], *ASKED])
-    expect(f"a table of {made} changes", answers, without_size(served[1 + made :]))
+    _, served, _ = room.run(log, [*changes[:made], *SHORT, LONG])
+    wanted = without_size(served[1 + made :])
+    expect(f"a table of {made} changes", answers, wanted[: len(answers)])
+    status, out, errors = more
+    is_refused = (status, len(out), errors) == (1, 1, line_of("no memory"))
+    expect(f"a long answer about {made} changes", is_refused or (status, out[1:], errors) == (0, wanted[len(answers) :], ""), True)
 
 
 def try_memory(room, changes):
     """Asks about a log with less memory than its table takes. Answers how many tables of some changes there were, and how many of them end
     within a group."""
-    log, parts, refused = room.log("large"), set(), 0
+    log, parts, made = room.log("large"), set(), 0
     room.run(log, grouped(changes))
     _, whole, _ = room.run(log, ["stats"])
     size = [line for line in whole if line.startswith("log ")]
     for memory in MEMORY:
-        status, out, errors = asked(room, log, in_bytes(ASKED), memory=memory)
-        if status:
-            # too little for the program, for the file or for an answer
-            is_little = status == 1 and errors in (line_of("no memory"), line_of("out of memory")) and len(out) <= len(ASKED) * len(changes)
-            expect(f"{memory} bytes of memory: {errors!r}", is_little or status < 0 or status == 127, True)
-            refused += 1
+        status, out, errors = asked(room, log, in_bytes(SHORT), memory=memory << 20)
+        if not out:
+            # too little for the program itself
+            expect(f"{memory} MiB of memory: {errors!r}", status != 0 and not made, True)
             continue
         made, many = (int(word) for word in out[0].removeprefix("open ").split(" of "))
-        expect(f"the changes of a log, with {memory} bytes", many, len(changes))
+        expect(f"questions with {memory} MiB of memory", (status, many, errors), (0, len(changes), ""))
         expect("the size of a log of which some changes are made", [line for line in out if line.startswith("log ")], size)
-        is_table_of(room, changes, made, without_size(out[1:]))
+        is_table_of(room, changes, made, without_size(out[1:]), asked(room, log, [LONG.encode()], memory=memory << 20))
         if made == many:
             break
         parts.add(made)
-    expect("whether all changes are made at last", made, many)
-    within = sum(made > SINGLE and (made - SINGLE) % GROUP > 0 for made in parts)
-    expect(f"tables of some changes: {sorted(parts)}, {refused} refused", len(parts) >= LEAST_PARTS and within >= LEAST_WITHIN, True)
+    within = sum(its > SINGLE and (its - SINGLE) % GROUP > 0 for its in parts)
+    is_enough = made == len(changes) and len(parts) >= LEAST_PARTS and within >= LEAST_WITHIN
+    expect(f"tables of some changes: {sorted(parts)}, and one of {made}", is_enough, True)
     return len(parts), within
 
 

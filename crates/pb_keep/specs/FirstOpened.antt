@@ -45,9 +45,9 @@ IsOpenedTo observers manifest file most k (Opened.Made made all) = IsOpenedFirst
 IsOpenedTo observers manifest file most k (Opened.Stopped made why) = IsStoppedAfter k.limit observers manifest file k.table.state made × IsOfAnew why
 
 -- no change was stopped
-abbrev pub IsMade : Opened → Type 0
-IsMade (Opened.Made made all) = Unit {0}
-IsMade (Opened.Stopped made why) = ⊥
+abbrev pub IsNotStopped : Opened → Type 0
+IsNotStopped (Opened.Made made all) = Unit {0}
+IsNotStopped (Opened.Stopped made why) = ⊥
 
 -- where a change was stopped, fewer were made than may be: so another try, of these alone, is of fewer
 abbrev pub MakesFewer : Option ℕ → Opened → Type 0

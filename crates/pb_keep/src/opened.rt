@@ -5,7 +5,7 @@ ghost use Rattle.pb_keeper.specs.Keeps.{opened_table};
 ghost use Rattle.pb_keeper.specs.Stats.{kept_table};
 ghost use Rattle.pb_keep.specs.Causes.{WhyNotMadeAgain};
 ghost use Rattle.pb_keep.specs.Conversations.{keeper_view};
-ghost use Rattle.pb_keep.specs.FirstOpened.{IsMade, IsOpenedTo, MakesFewer};
+ghost use Rattle.pb_keep.specs.FirstOpened.{IsNotStopped, IsOpenedTo, MakesFewer};
 
 use crate::anew::{count_changes, make_first};
 use crate::fault::KeepFault;
@@ -47,7 +47,7 @@ impl<T: Tablet, D: Disk + Drop> Keeper<T, D> {
         ensures waiting { self.new.waiting ≡ self.old.waiting }
         ensures limit { self.new.limit ≡ self.old.limit }
         // Where no change was stopped, the table has the same observers.
-        ensures observers { IfOk result (λ opened. IsMade opened
+        ensures observers { IfOk result (λ opened. IsNotStopped opened
             → self.new.state.observers ≡ self.old.state.observers) }
         // The table keeps the first changes of the log, which still has all of them.
         ensures made { (written : Option (List ℕ)) → IfOk result (λ opened.
