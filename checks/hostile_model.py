@@ -1,7 +1,7 @@
 """What `percobpf_keep` does with the observers of hostile_observers.py, as a plain model, for `checks/hostile`.
 
 It is written from docs/TABLE.md ("Workers") and docs/KEEPING.md alone: passes over the marked cells, of which so many are made after a
-change, with so many runs; and what a compaction keeps. Cells are rows with columns, in this order.
+change, with so many runs; what a compaction keeps; and what a limit of entries refuses. Cells are rows with columns, in this order.
 """
 from __future__ import annotations
 
@@ -11,14 +11,18 @@ from dataclasses import dataclass, field
 
 from hostile_observers import MAX_PASSES, MAX_RUNS
 
+# How many entries a table may have where no other limit is named, and how many a run is reckoned with. A full table refuses a change.
+LIMIT, OF_RUN, FULL = 10_000_000, 34, "refused 79"
+
 
 @dataclass
 class HostileTable:
     """The commit of the newest write of each cell, and the cells whose newest write is a deletion; the marked cells; what each observer has
     acknowledged; how many versions of each cell and of each acknowledgment there are; the clock, and what it was when the log was compacted
-    last; and of each observer how many runs are committed."""
+    last; and of each observer how many runs are committed. It may have so many entries."""
 
     observers: tuple
+    limit: int = LIMIT
     newest: dict = field(default_factory=dict)
     deleted: set = field(default_factory=set)
     marks: set = field(default_factory=set)
@@ -94,10 +98,13 @@ class HostileTable:
 
     def change(self, cell):
         """A change of one cell, with what follows. Answers as the program does."""
+        left = self.limit - self.entries()
+        if left <= 0:
+            return FULL
         self.clock += 1
         self.write([cell], False)
         commit = self.clock
-        runs, rests = self.drain(MAX_RUNS)
+        runs, rests = self.drain(min(MAX_RUNS, left // OF_RUN))
         return f"made {commit} runs {runs}" if rests else f"made {commit} unquiet"
 
     def drain(self, most):

@@ -13,14 +13,18 @@ from dataclasses import dataclass
 from functools import partial
 from pathlib import Path
 
-from hostile_model import HostileTable
+from hostile_model import FULL, LIMIT, HostileTable
 from hostile_observers import QUIET, ROW, SHAPES
 
 # How long one answer may take, also that of a start, which makes all runs again. On a free processor it takes a second, and with sixteen
 # writes in each run six.
 ANSWER_SECONDS = 120
-# The line by which a log is compacted, and a cell that no observer observes, which is changed after that.
-COMPACT, MORE = "compact", (5, 15)
+# The line by which a log is compacted, and a cell that no observer observes, which is changed after that. To fill a table is to change
+# that cell until a change is refused.
+COMPACT, MORE, FILL = "compact", (5, 15), "fill"
+# The limit of a table that is filled, how many entries beyond it a change may leave, and for how long a processor may work on one answer
+# there: how long it takes depends on what else the machine does.
+FEW, OF_CHANGE, FEW_SECONDS = 3_401, 32, 1.0
 # How much memory a program may take, in bytes.
 MEMORY = 3 << 29
 # Less than the table of two changes takes whose observer doesn't come to rest, and what a start says that has so much: how many changes
@@ -48,12 +52,12 @@ def limited(memory=MEMORY):
 
 
 class Kept:
-    """A program over a log, whose answers have a time limit."""
+    """A program over a log, whose answers have a time limit, and one of what processors work on them."""
 
-    def __init__(self, tools, manifest, log):
+    def __init__(self, tools, manifest, log, options=(), worked=ANSWER_SECONDS):
         how = {"stdin": subprocess.PIPE, "stdout": subprocess.PIPE, "stderr": subprocess.PIPE}
-        self.running = subprocess.Popen([tools.program, manifest, log], preexec_fn=limited, **how)
-        self.had, self.slowest = b"", 0.0
+        self.running = subprocess.Popen([tools.program, *options, manifest, log], preexec_fn=limited, **how)
+        self.had, self.slowest, self.worked, self.most_worked = b"", 0.0, worked, 0.0
 
     def __enter__(self):
         return self
@@ -74,15 +78,23 @@ class Kept:
             raise Wrong(f"{asked}: it has ended with status {status}: {errors}")
         self.had += piece
 
+    def work(self):
+        """For how many seconds processors have worked for the program."""
+        fields = Path(f"/proc/{self.running.pid}/stat").read_text().rpartition(")")[2].split()
+        return (int(fields[11]) + int(fields[12])) / os.sysconf("SC_CLK_TCK")
+
     def answer(self, line, is_many=False):
         """The line that answers a line, or the lines up to `end`. No line asks for that of a start."""
-        begun, ending = time.monotonic(), b"end\n" if is_many else b"\n"
+        begun, before, ending = time.monotonic(), self.work(), b"end\n" if is_many else b"\n"
         if line:
             self.running.stdin.write(f"{line}\n".encode())
             self.running.stdin.flush()
         while not self.had.endswith(ending):
             self.more(begun + ANSWER_SECONDS, line or "the start")
-        self.slowest = max(self.slowest, time.monotonic() - begun)
+        self.slowest, worked = max(self.slowest, time.monotonic() - begun), self.work() - before
+        self.most_worked = max(self.most_worked, worked)
+        if worked > self.worked:
+            raise Wrong(f"{line or 'the start'}: processors worked {worked} s on the answer")
         said, self.had = self.had.decode().splitlines(), b""
         return said if is_many else said[0]
 
@@ -134,20 +146,32 @@ def ask_all(kept, shape, table):
 
 class Trial:
     """A table of a shape, whose program is started again and again: how many changes its log has since it was compacted; how many changes
-    were made, how many of them were left unquiet, and the slowest answer; and the lines of `stats` on its observers."""
+    were made, how many of them were left unquiet, how many were refused, and the slowest answer; and the lines of `stats` on its
+    observers. For so long processors may work on an answer, and have worked at most."""
 
-    def __init__(self, tools, place, shape):
-        self.tools, self.place, self.shape, self.table = tools, place, shape, HostileTable(shape.observers)
+    def __init__(self, tools, place, shape, limit=LIMIT, worked=ANSWER_SECONDS):
+        self.tools, self.place, self.shape, self.table = tools, place, shape, HostileTable(shape.observers, limit)
         self.manifest, self.log = manifest_of(tools, place, shape.observers), tools.folder / f"{place}.log"
-        self.found = self.changes = self.unquiet = 0
-        self.slowest, self.stats = 0.0, None
+        self.found = self.changes = self.unquiet = self.refused = 0
+        self.slowest, self.worked, self.most_worked, self.stats = 0.0, worked, 0.0, None
 
     def change(self, kept, cell):
         wanted = self.table.change(cell)
         expect("a change", kept.answer(f"put {cell[0]} {cell[1]} 2a"), wanted)
-        self.found += 1
-        self.changes += 1
+        is_made = wanted != FULL
+        self.found += is_made
+        self.changes += is_made
+        self.refused += not is_made
         self.unquiet += wanted.endswith(" unquiet")
+
+    def fill(self, kept):
+        """Changes a cell until a change is refused. The table never has more entries than its limit and a change."""
+        before = self.refused
+        while self.refused == before:
+            self.change(kept, MORE)
+            entries = next(line for line in kept.answer("stats", is_many=True) if line.startswith("entries "))
+            expect("entries", entries, f"entries {self.table.entries()}")
+            expect(f"{entries} under a limit of {self.table.limit}", int(entries.split()[1]) <= self.table.limit + OF_CHANGE, True)
 
     def compact(self, kept):
         """Compacts the log by a line. What is asked then is answered as before."""
@@ -165,7 +189,8 @@ class Trial:
     def serve(self, deeds):
         """Starts the program, which has to find the table of before, and has it do these: changes of cells, and compactions. Each question is
         asked before and after them."""
-        with Kept(self.tools, self.manifest, self.log) as kept:
+        options = () if self.table.limit == LIMIT or self.log.exists() else ("--limit", str(self.table.limit))
+        with Kept(self.tools, self.manifest, self.log, options, self.worked) as kept:
             expect("a start", kept.answer(None), f"open {self.found}")
             if is_asked := self.changes > 0:
                 self.ask(kept)
@@ -174,13 +199,15 @@ class Trial:
                     if not is_asked:
                         self.ask(kept, is_changed=True)
                     self.compact(kept)
+                elif deed == FILL:
+                    self.fill(kept)
                 else:
                     self.change(kept, deed)
                 is_asked = deed == COMPACT
             if not is_asked:
                 self.ask(kept, is_changed=True)
             kept.end()
-        self.slowest = max(self.slowest, kept.slowest)
+        self.slowest, self.most_worked = max(self.slowest, kept.slowest), max(self.most_worked, kept.most_worked)
 
     def start_with_little(self):
         """Starts the program with less and less than it takes. It says how many changes were made, and leaves the log as it is."""
@@ -238,10 +265,21 @@ def try_shape(tools, place, shape):
     return trial.changes, trial.unquiet, trial.slowest
 
 
+def try_filled(tools, place, shape):
+    """Keeps a table of this shape with few entries, and fills it, also once it is opened again, and once it is compacted. Answers how many
+    changes were made and refused, and for how long processors worked on one answer at most."""
+    trial = Trial(tools, f"{place}-filled", shape, FEW, FEW_SECONDS)
+    for deeds in ((*shape.changes, FILL), (FILL,), (COMPACT, FILL), ()):
+        trial.serve(deeds)
+    expect("how many changes were refused", trial.refused, 3)
+    trial.log.unlink()
+    return trial.changes, trial.refused, trial.most_worked
+
+
 def tried(tools, place):
-    """What is wrong with a shape, or None, and what it met."""
+    """What is wrong with a shape, or None, and what it met, with the limit of most tables and with few entries."""
     shape = SHAPES[place]
     try:
-        return None, try_shape(tools, place, shape)
+        return None, (try_filled(tools, place, shape), try_shape(tools, place, shape))
     except Wrong as fault:
-        return f"{shape.name}: {fault}", (0, 0, 0.0)
+        return f"{shape.name}: {fault}", ((0, 0, 0.0), (0, 0, 0.0))

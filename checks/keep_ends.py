@@ -53,10 +53,10 @@ def refused_files(manifest):
     whole = logs.log_of([header, change])
     hidden = bytes([logs.CLOSED]) + logs.log_of([header, change, change])[1:]
     return [
-        ("a newer log", logs.log_of([logs.header(manifest, "2"), change]), logs.NEWER),
-        ("a newer log without changes", logs.log_of([logs.header(manifest, "2")]), logs.NEWER),
-        ("a log of version 10", logs.log_of([logs.header(manifest, "10"), change]), logs.NEWER),
-        ("a newer log of another manifest", logs.log_of([logs.header(b"{}", "2")]), logs.NEWER),
+        ("a newer log", logs.log_of([logs.header(manifest, version="2"), change]), logs.NEWER),
+        ("a newer log without changes", logs.log_of([logs.header(manifest, version="2")]), logs.NEWER),
+        ("a log of version 10", logs.log_of([logs.header(manifest, version="10"), change]), logs.NEWER),
+        ("a newer log of another manifest", logs.log_of([logs.header(b"{}", version="2")]), logs.NEWER),
         ("a log of another manifest", logs.log_of([logs.header(b"{}"), change]), logs.OTHER_MANIFEST),
         ("a log of a manifest with one blank more", logs.log_of([logs.header(manifest + b" "), change]), logs.OTHER_MANIFEST),
         ("a log of a part of the manifest", logs.log_of([logs.header(manifest[:-1]), change]), logs.OTHER_MANIFEST),

@@ -275,7 +275,7 @@ def try_refused(room, its):
 
 def files_of(its):
     """Logs that aren't opened, for no manifest."""
-    yield "a newer log, for other observers", logs.log_of([logs.header(b"{}", "2")]), logs.NEWER
+    yield "a newer log, for other observers", logs.log_of([logs.header(b"{}", version="2")]), logs.NEWER
     yield "another file, for other observers", logs.log_of([b"other log 1\n"]), logs.NO_LOG
     yield "a damaged log, for other observers", its.before[:-1], f"the log is damaged at byte {len(its.before) - 1}"
     yield "a log of a manifest that is none, for other observers", logs.log_of([logs.header(b"{}")]), "code 51"

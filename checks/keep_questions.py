@@ -1,7 +1,7 @@
 """Logs about which questions alone are answered (`percobpf_keep --questions`), for `checks/keep`.
 
 - answers: each question about a log, with a snapshot and without one, is answered as by a program that serves the same log. Every other line
-  is refused: changes and what goes with them by 79, and a line of no form as in service.
+  is refused: changes and what goes with them by 76, and a line of no form as in service.
 - memory: of a log whose table takes more memory than there is, the first N changes are made, and each question is answered as by a program
   that was given just these. N goes from few to all with the memory, also within a group.
 - timestamps: the same where none is left for a change.
@@ -34,7 +34,7 @@ ASKED = ("list", "quiet?", "stats", "since 0", "since 40", "since 18446744073709
 
 # Lines that aren't answered, and their codes.
 REFUSED = {
-    **dict.fromkeys(("put 7 0 2a", "del 7 0; put 8 0 2b", "put", "if 7 0 0; put 7 0 2a", "begin", "end", "compact"), 79),
+    **dict.fromkeys(("put 7 0 2a", "del 7 0; put 8 0 2b", "put", "if 7 0 0; put 7 0 2a", "begin", "end", "compact"), 76),
     **dict.fromkeys(("", "gets 7 0", "get 7", "get 7 0 0", "list 7", "if 7 0 0", "since", "compact 1", "#", "x" * 5000), 70),
     **dict.fromkeys(("get 7 16", "since 18446744073709551616"), 71),
 }
@@ -114,7 +114,7 @@ def try_each(room):
     room.run(log, ["put 7 0 2a"])
     with room.start(log, ALONE) as running:
         expect("how many changes were made", running.stdout.readline(), b"open 1 of 1\n")
-        for line, answer in ((b"quiet?\n", b"quiet\n"), (b"put 7 0 2b\n", b"refused 79\n"), (b"get 7 0\n", b"value 2a commit 2\n")):
+        for line, answer in ((b"quiet?\n", b"quiet\n"), (b"put 7 0 2b\n", b"refused 76\n"), (b"get 7 0\n", b"value 2a commit 2\n")):
             running.stdin.write(line)
             running.stdin.flush()
             expect("a line that is answered as it comes", running.stdout.readline(), answer)

@@ -55,9 +55,9 @@ class Room:
         ended = subprocess.run(words, input=text, capture_output=True, env={**os.environ, **more}, timeout=120)
         return ended.returncode, ended.stdout.decode().split("\n")[:-1], ended.stderr.decode()
 
-    def compact(self, log, manifest=None, **more):
+    def compact(self, log, manifest=None, options=(), **more):
         """The status, the output, and the text of errors of a compaction."""
-        words = [*self.before, self.program, "--compact", manifest or self.manifest, log]
+        words = [*self.before, self.program, *options, "--compact", manifest or self.manifest, log]
         how = {"stdin": subprocess.DEVNULL, "capture_output": True, "env": {**os.environ, **more}, "timeout": 120}
         ended = subprocess.run(words, **how)
         return ended.returncode, ended.stdout.decode(), ended.stderr.decode()

@@ -13,9 +13,11 @@ from faults import LAST, Fault, number, read_change, taken
 from logs import Snapshot, Version
 
 MOST_BYTES, MOST_CHANGES = 4096, 10_000
-OUT_OF_PLACE, TOO_MANY, GONE, NOT_COMPACTED = 76, 75, 77, 78
-# How many runs follow a change at most.
-MOST_RUNS = 100_000
+OUT_OF_PLACE, TOO_MANY, GONE, NOT_COMPACTED, FULL = 76, 75, 77, 78, 79
+# How many runs follow a change at most, and how many entries a run leaves at most: of 16 cells and of an acknowledgment, two of each.
+MOST_RUNS, MOST_OF_RUN = 100_000, 2 * (16 + 1)
+# The last timestamp after which no change is taken: each of 10,000 changes may need two, and each of its runs.
+MOST_CLOCK = LAST - 10_000 * 2 * (1 + MOST_RUNS)
 
 # the words of one line alone, without operands
 ALONE = ("list", "quiet?", "stats", "begin", "end", "compact")
@@ -87,14 +89,19 @@ class KeptTable:
     and `groups` says which of them are of one group: from one place up to another. Of the writes up to `begun` some are gone, and `before`
     are the runs that were committed by then.
     It has begun anew so often: `generation`. `size` has the bytes of its log, if each line is sent once the one before it is answered. From
-    `least` bytes on it is compacted, and next from `limit` bytes on."""
+    `least` bytes on it is compacted, and next from `large` bytes on.
+    It may have so many entries: `limit`. So many changes of the record that isn't over yet were taken: `recorded`. And so often there
+    weren't all runs after a change that there would have been without a limit: `cut_off`."""
 
-    def __init__(self, manifest):
-        self.manifest = manifest
+    def __init__(self, manifest, limit=logs.DEFAULT_LIMIT):
+        self.manifest, self.limit = manifest, limit
+        # how many runs observers make as they catch up, beside one for each entry and each observer
+        self.catching_up = MOST_RUNS
+        self.recorded = self.cut_off = 0
         self.observers, self.known = model.observers_of(manifest), known_by(manifest)
         self.table = OneSeat(self.observers)
         self.begun, self.generation, self.lines, self.groups = 0, 0, [], []
-        self.size, self.least, self.limit = 0, LAST, LAST
+        self.size, self.least, self.large = 0, LAST, LAST
         self.log_has([])
         self.before = [0] * len(self.observers)
         # the answers of a group that hasn't ended, and the changes of it
@@ -139,7 +146,7 @@ class KeptTable:
 
     def log_has(self, records):
         """The log is one of these records, after its header."""
-        self.size = sum(13 + len(item) for item in (logs.header(self.manifest.encode()), *records))
+        self.size = sum(13 + len(item) for item in (logs.header(self.manifest.encode(), self.limit), *records))
 
     def make_all(self, lines):
         """Makes changes that share a record of the log, and answers each."""
@@ -148,13 +155,33 @@ class KeptTable:
 
     def make(self, line):
         """Makes a change, and answers it."""
-        before = len(self.table.transactions)
+        before, most = len(self.table.transactions), self.most_runs()
         model.ended(model.change(self.table, 0, model.writes_of(line)))
         commit = self.table.clock
-        is_at_rest = model.passes(self.table, 0, self.observers, MOST_RUNS)
+        is_at_rest = model.passes(self.table, 0, self.observers, most)
         self.lines.append(line)
         after = list(self.table.transactions.values())[before + 1 :]
+        self.cut_off += not is_at_rest and len(after) == most < MOST_RUNS
         return f"made {commit} runs {sum(it.phase == 'committed' for it in after)}" if is_at_rest else f"made {commit} unquiet"
+
+    def most_runs(self):
+        """How many runs the next change has at most after it: the table's limit has room for what each of them may leave."""
+        return min(MOST_RUNS, max(self.limit - self.entries(), 0) // MOST_OF_RUN)
+
+    def is_full(self):
+        """Whether the first change of a record is refused."""
+        return self.entries() >= self.limit or self.table.clock > MOST_CLOCK
+
+    def has_room(self):
+        """A change comes, and is one of the record, if there is room for it. That is looked at for the first change of a record."""
+        if self.recorded == 0 and self.is_full():
+            raise Fault(FULL)
+        self.recorded += 1
+
+    def end_record(self):
+        """What has come is kept, but for a group that hasn't ended. So the next change is the first one of a record."""
+        if self.waiting is None:
+            self.recorded = 0
 
     def get(self, row, column):
         newest = self.newest(row, column)
@@ -202,18 +229,18 @@ class KeptTable:
         if self.table.clock == LAST:
             return None
         versions = self.begin_anew()
-        self.limit = max(self.least, 2 * self.size)
+        self.large = max(self.least, 2 * self.size)
         return versions
 
     def start(self, least=LAST):
         """A program is started, by which its log is compacted from so many bytes on."""
-        self.least, self.limit = least, least
+        self.least, self.large = least, least
         self.compact_large()
 
     def compact_large(self):
         """Begins anew where its log is large. Where no timestamp is left, it is left until the log has twice the bytes."""
-        if self.size >= self.limit and self.compact() is None:
-            self.limit = 2 * self.size
+        if self.size >= self.large and self.compact() is None:
+            self.large = 2 * self.size
 
     def change_observers(self, manifest):
         """Goes on with the observers of this manifest: with those that it has, then with the others, and passes are made, until no cell is
@@ -239,7 +266,7 @@ class KeptTable:
         table.counts += [model.Counts() for _ in added]
         columns = {it.column for it in observers}
         table.marks |= {cell for cell, its in table.records.items() if its and model.is_data(cell) and cell[1] in columns}
-        model.passes(table, 0, self.observers, MOST_RUNS + self.entries() * len(self.observers))
+        model.passes(table, 0, self.observers, self.catching_up + self.entries() * len(self.observers))
         return sum(it.phase == "committed" for it in list(table.transactions.values())[before:])
 
     def since(self, above):
@@ -257,7 +284,10 @@ class KeptTable:
     def change_if(self, row, column, commit, operations):
         read_change(operations)
         newest = self.commit_of(row, column)
-        return self.make_all([operations]) if newest == commit else [f"unmade commit {newest}"]
+        if newest != commit:
+            return [f"unmade commit {newest}"]
+        self.has_room()
+        return self.make_all([operations])
 
     def grouped(self, verb, operands):
         """Takes a line of a group, of which nothing is answered before its end."""
@@ -265,6 +295,7 @@ class KeptTable:
             read_change(*operands)
             if len(self.changes) == MOST_CHANGES:
                 raise Fault(TOO_MANY)
+            self.has_room()
             self.changes.append((len(self.waiting), *operands))
             self.waiting.append(None)
         elif verb == "end":
@@ -284,10 +315,13 @@ class KeptTable:
         return answers
 
     def asked(self, verb, operands):
-        """Takes a line that stands in no group."""
+        """Takes a line that stands in no group. All but a change and an `end` are taken once what came before is kept."""
         if verb == "change":
             read_change(*operands)
+            self.has_room()
             return self.make_all(operands)
+        if verb != "end":
+            self.end_record()
         if verb == "if":
             return self.change_if(*operands)
         if verb == "begin":
@@ -306,8 +340,15 @@ class KeptTable:
             return [f"refused {NOT_COMPACTED}" if versions is None else f"compacted {versions}"]
         return self.get(*operands) if verb == "get" else self.since(*operands)
 
-    def take(self, line):
-        """Takes a line, and answers it; or, at the end of a group, all of its lines."""
+    def take(self, line, has_more=False):
+        """Takes a line, and answers it; or, at the end of a group, all of its lines. If a line more has come with it, what it changes waits
+        for that."""
+        answers = self.answers_to(line)
+        if not has_more:
+            self.end_record()
+        return answers
+
+    def answers_to(self, line):
         try:
             verb, *operands = read_request(line)
             return self.asked(verb, operands) if self.waiting is None else self.grouped(verb, operands)
@@ -320,4 +361,4 @@ class KeptTable:
 
     def drop_group(self):
         """The input ends within a group: nothing of it is made."""
-        self.waiting, self.changes = None, []
+        self.waiting, self.changes, self.recorded = None, [], 0

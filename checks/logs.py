@@ -1,12 +1,13 @@
 """A plain reader and writer of logs, for `checks/keep`.
 
-It is written from docs/decisions/100-log-format.md and the head of crates/pb_snapshots/src/lib.rt alone, so that the program and it
-have nothing in common but these. The sum is SipHash-1-3 with both keys 0, of the record's place in eight bytes and of the record's
+It is written from docs/decisions/100-log-format.md, docs/KEEPING.md ("A limit of entries") and the head of
+crates/pb_snapshots/src/lib.rt alone, so that the program and it have nothing in common but these. The sum is SipHash-1-3 with both keys 0, of the record's place in eight bytes and of the record's
 bytes; it is 1 where that is 0.
 """
 from __future__ import annotations
 
 import json
+import re
 import struct
 from dataclasses import dataclass
 from functools import lru_cache
@@ -19,6 +20,11 @@ NEWER = "the log is of a newer version"
 NO_LOG = "the file is no log"
 NO_SCRIPT = "a record of the log can't be read"
 NO_SNAPSHOT = "the snapshot of the log is damaged"
+
+# How many entries the table of a new log has at most, where nothing else is asked for; and that of a log that names no limit.
+DEFAULT_LIMIT, NO_LIMIT = 10_000_000, WORD
+# The line of the limit, which stands after that of the version.
+LIMIT_LINE = re.compile(rb"percobpf log 1\nlimit (0|[1-9][0-9]{0,19})\n")
 
 # How the record of a snapshot begins, and the kinds of its versions.
 SNAPSHOT = b"\xffsnapshot 1\n"
@@ -146,8 +152,21 @@ def snapshot_record(snapshot):
     return item
 
 
-def header(manifest, version="1"):
-    return f"percobpf log {version}\n".encode() + manifest
+def header(manifest, limit=DEFAULT_LIMIT, version="1"):
+    """The first record of a log. Without a limit it has no line of one."""
+    line = "" if limit == NO_LIMIT else f"limit {limit}\n"
+    return f"percobpf log {version}\n{line}".encode() + manifest
+
+
+def limit_of(first):
+    """How many entries the table of a log may have whose first record this is."""
+    found = LIMIT_LINE.match(first)
+    return min(int(found[1]), NO_LIMIT) if found else NO_LIMIT
+
+
+def limit_in(file):
+    """The same of a file that has a record."""
+    return limit_of(records_in(file)[0][1])
 
 
 def log_of(records):
@@ -196,12 +215,12 @@ def places_in(file):
     return places
 
 
-def parts_of(file, manifest):
+def parts_of(file, manifest, limit=DEFAULT_LIMIT):
     """The snapshot of a log of this manifest, or None, and its scripts, one for each record; or `Unreadable` is raised. A file without a
-    record is a new log, if it has no more bytes than a crash leaves before the header is there."""
+    record is a new log, if it has no more bytes than a crash leaves before the header is there, which has this limit."""
     records = [item for _, item in records_in(file)]
     if not records:
-        if len(file) > 14 + len(header(manifest)):
+        if len(file) > 14 + len(header(manifest, limit)):
             raise Unreadable(NO_LOG)
         return None, []
     first, *scripts = records
@@ -209,7 +228,7 @@ def parts_of(file, manifest):
         raise Unreadable(NO_LOG)
     if not first.startswith(b"percobpf log 1\n"):
         raise Unreadable(NEWER)
-    if first != header(manifest):
+    if first != header(manifest, limit_of(first)):
         raise Unreadable(OTHER_MANIFEST)
     if not scripts or not is_snapshot(scripts[0]):
         return None, scripts

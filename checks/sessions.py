@@ -5,9 +5,14 @@ input ends after a line, within a group, or within a last line; or the program i
 Some programs are started to compact logs of so many bytes: these get a line once the one before it is answered, so that the model knows
 when that is. Between two starts the log may be compacted, for some with other observers, and then it has to have the versions of the
 model. Some tables are left with something to do, and are compacted so.
+
+Some tables have a limit of few entries. Of these the model has to know which changes share a record, since the limit is looked at for the
+first one alone. So their lines come one by one, or so few at once that the program reads all of them at once. A compaction may give them
+another limit, and a program that is started with another one has to refuse that.
 """
 from __future__ import annotations
 
+import copy
 import json
 import random
 import re
@@ -28,6 +33,9 @@ from tables import manifest_of as manifest_with
 
 SECONDS = 60
 
+# What is reported where a start names another limit than the log's own.
+OTHER_LIMIT = "its limit is another one: --compact changes it"
+
 # A session is over once the table's clock is there, so that endless observers don't take the model minutes.
 LAST_TIMESTAMP = 3_000
 STARTS, BATCHES, LINES = (1, 2, 2, 3, 5), (1, 3, 6, 12), (1, 1, 1, 2, 5, 20, 60)
@@ -39,6 +47,12 @@ ABOVE = (-1, 0, 1, 40, 150, 400)
 STAYS, MOST_OBSERVERS = 0.8, 8
 # How likely a table that is left with something to do is compacted by a line.
 UNQUIET = 0.5
+# How likely a table has a limit of its own, these limits, and that of a table that has none; how likely lines of such a table come at once,
+# and how many bytes a pipe takes as one piece; how likely a start names a limit, and how likely a compaction names another one.
+LIMITED, LIMITS, AT_ONCE, ONE_PIECE = 0.35, (20, 40, 60, 100, 150, 250, 400), 0.5, 4_096
+NAMED, RENAMED, OTHER_NAMED = 0.3, 0.4, 0.3
+# In how many runs such a table has to come to rest with other observers: its limit doesn't bound these.
+FEW_RUNS = 2_000
 
 
 # A program that writes the cell of the row before its own, and none from row 0, so that each pass has one run, and marks one cell.
@@ -55,11 +69,13 @@ class Differs(Exception):
 class Session:
     """The program over a log, and the model of its table."""
 
-    def __init__(self, program, folder, manifest):
+    def __init__(self, program, folder, manifest, limits=None):
         self.program, self.folder = program, Path(folder)
         self.manifest, self.log = self.folder / "manifest.json", self.folder / "table.log"
         self.manifest.write_text(manifest)
-        self.kept = KeptTable(manifest)
+        # what chooses limits, of a table that has one of its own
+        self.limits = limits
+        self.kept = KeptTable(manifest, limit_from(limits) if limits else logs.DEFAULT_LIMIT)
         # all observers that the table had
         self.had = json.loads(manifest)["observers"]
         self.sent, self.met, self.timer = b"", Counter(), threading.Timer(SECONDS, bool)
@@ -75,6 +91,7 @@ class Session:
     def start(self, least=LAST):
         """Starts the program; from so many bytes on, it compacts the log."""
         self.is_in_turn, options = least != LAST, [] if least == LAST else ["--compact-at", str(least)]
+        options = [*self.limit_words(), *options]
         self.kept.size, generation = self.size(), self.kept.generation
         self.kept.start(least)
         self.met["compacted by a start"] += self.kept.generation - generation
@@ -84,6 +101,27 @@ class Session:
         self.watch()
         self.compare("the first line", self.running.stdout.readline(), f"open {len(self.kept.lines)}\n".encode())
         self.timer.cancel()
+
+    def limit_words(self):
+        """The words by which a start names the limit of a table that has one of its own: of a new log, and for some also of one that has
+        it. For some, another limit is named before that, and refused."""
+        if self.limits is None:
+            return []
+        is_there, words = self.log.exists(), ["--limit", str(self.kept.limit)]
+        if is_there and self.limits.random() < OTHER_NAMED:
+            other = limit_from(self.limits)
+            self.refuse_limit(other if other != self.kept.limit else other ^ 1)
+        return words if not is_there or self.limits.random() < NAMED else []
+
+    def refuse_limit(self, limit):
+        """A program that is started with another limit than that of the log refuses it, and leaves the log as it is."""
+        before = self.log.read_bytes()
+        words = [self.program, "--limit", str(limit), self.manifest, self.log]
+        ended = subprocess.run(words, input=b"put 7 0 2a\n", capture_output=True, timeout=SECONDS)
+        wanted = (1, b"", f"Error: {self.log}: {OTHER_LIMIT}\n".encode())
+        self.compare("another limit", (ended.returncode, ended.stdout, ended.stderr), wanted)
+        self.compare("the log that has another limit", self.log.read_bytes(), before)
+        self.met["other limits refused"] += 1
 
     def size(self):
         """How many bytes the log has up to the end of its last record, or will have as a new one."""
@@ -113,6 +151,7 @@ class Session:
         self.timer.cancel()
         file = self.log.read_bytes()
         self.compare("the log", logs.changes_in(file, self.manifest.read_bytes()), self.kept.lines)
+        self.compare("the log's limit", logs.limit_in(file), self.kept.limit)
         self.compare("groups that stand in two records", self.parted_groups(file), [])
         places = {(self.kept.generation, *place) for place in logs.places_in(file)}
         of_others = {it for it in self.reported if it[0] == self.kept.generation} - places
@@ -165,9 +204,9 @@ class Session:
             self.reported.add((*map(int, answer.removeprefix(LOG_OF).split(" ")), int(found[1])))
         return found is not None
 
-    def take(self, line):
+    def take(self, line, has_more=False):
         """What a line has to be answered. Where lines come in turn, the size of the log is known then, and whether it is too large."""
-        wanted = self.kept.take(line)
+        wanted = self.kept.take(line, has_more)
         if not self.is_in_turn:
             return wanted
         wanted = [f"log {self.kept.size}" if answer.startswith(LOG_OF) else answer for answer in wanted]
@@ -180,19 +219,24 @@ class Session:
 
     def batch(self, pick, field):
         """Some lines, and their answers."""
-        lines, wanted = [], []
+        lines, wanted, is_limited = [], [], self.limits is not None
+        is_one_piece = is_limited and not self.is_in_turn and self.limits.random() < AT_ONCE
         for _ in range(pick.choice(LINES)):
             if self.kept.table.clock >= LAST_TIMESTAMP:
                 break
             kind, line = line_from(pick, field, self.kept)
+            if is_one_piece and sum(map(len, lines)) + len(line) >= ONE_PIECE:
+                break
             self.met[f"{kind} lines"] += 1
             lines.append(line + b"\n")
-            wanted.append(self.take(line))
-        if self.is_in_turn:
+            wanted.append(self.take(line, has_more=is_one_piece))
+        self.kept.end_record()
+        if self.is_in_turn or (is_limited and not is_one_piece):
             for piece, its in zip(with_fronts(pick, lines), wanted):
                 self.exchange([piece], its)
         else:
-            self.exchange(parts_of(pick, b"".join(lines)), [answer for its in wanted for answer in its])
+            pieces = [b"".join(lines)] if is_limited else parts_of(pick, b"".join(lines))
+            self.exchange(pieces, [answer for its in wanted for answer in its])
 
     def compact(self, manifest=None):
         """Compacts the log, for a manifest with other observers where one is given, also where something is left to do."""
@@ -201,15 +245,25 @@ class Session:
         printed, is_left = f"open {len(kept.lines)}\n", kept.left() != "quiet"
         if manifest not in (None, kept.manifest):
             printed += self.change_observers(manifest)
-        words = [self.program, "--compact", file, self.log]
+        words = [self.program, *self.other_limit(), "--compact", file, self.log]
         ended = subprocess.run(words, stdin=subprocess.DEVNULL, capture_output=True, timeout=SECONDS)
-        snapshot = kept.snapshot()
+        snapshot, was_full = kept.snapshot(), kept.is_full()
         wanted = 0, f"{printed}compacted {kept.compact()}\n", ""
         self.compare("a compaction", (ended.returncode, ended.stdout.decode(), ended.stderr.decode()), wanted)
         self.met["compacted between"] += 1
         self.met["compacted between, unquiet"] += is_left
+        self.met["full no more"] += was_full and not kept.is_full()
         self.compare("the snapshot", logs.parts_of(self.log.read_bytes(), file.read_bytes()), (snapshot, []))
+        self.compare("the limit of a compacted log", logs.limit_in(self.log.read_bytes()), kept.limit)
         file.rename(self.manifest)
+
+    def other_limit(self):
+        """The words by which a compaction gives a table another limit, for some that have one of their own."""
+        if self.limits is None or self.limits.random() >= RENAMED:
+            return []
+        self.kept.limit = limit_from(self.limits)
+        self.met["other limits given"] += 1
+        return ["--limit", str(self.kept.limit)]
 
     def change_observers(self, manifest):
         """What is printed where the table gets the observers of this manifest."""
@@ -228,6 +282,16 @@ class Session:
         self.met["runs that caught up"] += runs
         self.had += [it for it in others if it not in self.had]
         return f"added {count} runs {runs} gone {gone}\n"
+
+    def rests_soon(self, manifest):
+        """Whether a table that has a limit of its own comes to rest soon with these observers. After a change they have few runs, and here
+        they may have so many that the model takes a minute. Other tables had as many after a change."""
+        if self.limits is None:
+            return True
+        trial = copy.deepcopy(self.kept)
+        trial.catching_up = FEW_RUNS
+        trial.change_observers(manifest)
+        return trial.left() == "quiet"
 
     def close(self, pick, field):
         """Ends a program that has answered all but a group that hasn't ended."""
@@ -272,7 +336,13 @@ class Session:
                 self.compact_unquiet(pick)
             self.close(pick, field)
             for _ in range(1 if self.kept.left() != "quiet" else pick.choice(COMPACTIONS)):
-                self.compact(others_from(pick, field, self.kept.manifest, self.had) if pick.random() < OTHERS else None)
+                others = others_from(pick, field, self.kept.manifest, self.had) if pick.random() < OTHERS else None
+                self.compact(others if others and self.rests_soon(others) else None)
+
+
+def limit_from(pick):
+    """A limit of few entries, or none, for some the one of most tables."""
+    return pick.choice(LIMITS) if pick.random() < 0.9 else pick.choice((0, 1, logs.DEFAULT_LIMIT, logs.NO_LIMIT))
 
 
 def parts_of(pick, text):
@@ -318,15 +388,16 @@ def kept_files(session, fault):
 
 def run(program, seed, number):
     """Has a session, and counts what it met; or answers why it differs."""
-    pick = random.Random(f"{seed} {number}")
+    pick, limits = random.Random(f"{seed} {number}"), random.Random(f"limits {seed} {number}")
     field = field_from(pick)
     with tempfile.TemporaryDirectory(prefix="session-") as folder:
-        session = Session(program, folder, manifest_of(pick, field))
+        session = Session(program, folder, manifest_of(pick, field), limits if limits.random() < LIMITED else None)
         try:
             session.go(pick, field)
         except Differs as fault:
             session.stop()
             return f"session {number} of seed {seed}: {fault} ({kept_files(session, fault)})"
+    session.met["drains cut off by a limit"] += session.kept.cut_off
     return session.met
 
 

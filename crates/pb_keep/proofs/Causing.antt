@@ -5,7 +5,7 @@ use Rattle.pb_log.specs.Causes.{IsNotBegun}
 use Rattle.pb_log.specs.Records.{blocks}
 use Rattle.pb_state.specs.declared.carry_fault.CarryFault.{CarryFault}
 use Rattle.pb_keeper.specs.Keeps.{BeginningKeepsNone}
-use Rattle.pb_keeper.specs.Stops.{IsStop, WantsMemory as StoppedForMemory}
+use Rattle.pb_keeper.specs.Stops.{IsStop, WantsMemory}
 use Rattle.pb_snapshots.specs.TakenOrder.{IsForMemory}
 use Rattle.pb_keep.specs.Words.{HasRecords, KeptTable, ObserverOf, StateOf, Stopped, WhyNotOpened, WhyNotPut, header}
 use Rattle.pb_keep.specs.declared.fault.KeepFault.{KeepFault}
@@ -15,9 +15,9 @@ use Rattle.pb_keep.specs.Again.{in_part, IsMadeInPart, WhyNotAllMade}
 use Rattle.pb_keep.specs.Causes.{IsOfAnew, IsOfFirst, IsOfPut, WhyNotKept, WhyNotMadeAgain, WhyNotServed}
 use Rattle.pb_keep.specs.Conversations.{KeeperView}
 use Rattle.pb_keep.specs.Kept.{head, origin_of, IsBegunWith}
-use Rattle.pb_keep.specs.Left.{fault_by, IsOfLog, IsOfMaking, WantsMemory}
+use Rattle.pb_keep.specs.Left.{fault_by, IsOfLog, IsOfMaking, IsRefusedMemory}
 
-pub stopped_for_memory : (e : Stopped) → StoppedForMemory e → WantsMemory (fault_by e)
+pub stopped_for_memory : (e : Stopped) → WantsMemory e → IsRefusedMemory (fault_by e)
 stopped_for_memory (Stopped.NoMemory refused) h = tt
 stopped_for_memory (Stopped.Refused why) h = absurd h
 stopped_for_memory Stopped.Conflict h = absurd h
@@ -103,7 +103,7 @@ module _ (before now : ℕ) (failed : Bool) (k : KeeperView) where
   not_put KeepFault.Output h = absurd h
   not_put KeepFault.Input h = absurd h
 
-  pub not_made : (e : KeepFault) → IsOfMaking e → WantsMemory e → WhyNotKept before now failed k e
+  pub not_made : (e : KeepFault) → IsOfMaking e → IsRefusedMemory e → WhyNotKept before now failed k e
   not_made (KeepFault.Log e) of right = absurd of
   not_made (KeepFault.NoMemory e) of right = tt
   not_made (KeepFault.MadeInPart e made all) of right = absurd of

@@ -8,9 +8,9 @@ pub no_limit : (manifest : List ℕ) → manifest ≡ head (2 ^ 64 - 1) manifest
 unfolding head
 no_limit manifest = refl
 
-pub limited : (limit : ℕ) (manifest : List ℕ) → (limit == (2 ^ 64 - 1)) ≡ false → codes "limit " ++ (decimal limit ++ (10 ∷ manifest)) ≡ head limit manifest
+pub limit_line : (limit : ℕ) (manifest : List ℕ) → (limit == (2 ^ 64 - 1)) ≡ false → codes "limit " ++ (decimal limit ++ (10 ∷ manifest)) ≡ head limit manifest
 unfolding head
-limited limit manifest e = rw (e) refl
+limit_line limit manifest e = rw (e) refl
 
 -- it is little more than the manifest
 pub head_few : (limit : ℕ) (manifest : List ℕ) → limit < 2 ^ 64 → length (head limit manifest) ≤ length manifest + 27

@@ -13,8 +13,8 @@ abbrev pub KeepsMore : ℕ → KeptTable → List Writes → KeptTable → Type 
 KeepsMore limit old more new = (first : KeptTable) (changes : List Writes) → Keeps limit first changes old → Keeps limit first (changes ++ more) new
 
 -- a change was begun on a table, and left; so no more than a part of one stands there
-abbrev pub IsLeftOf : StateOf → StateOf → Type 0
-IsLeftOf reached new = SaidLeads (IsOfChange MAX_RUNS) reached new
+abbrev pub IsBrokenOff : StateOf → StateOf → Type 0
+IsBrokenOff reached new = SaidLeads (IsOfChange MAX_RUNS) reached new
 
 -- the first changes of a record were made, as many as may follow those before, and so many more are counted
 pub record IsRecordMade (limit : ℕ) (most : Option ℕ) (bytes : List ℕ) (old new : KeptTable) (was made : ℕ) : Type 0 where
@@ -30,7 +30,7 @@ pub record IsRecordLeft (limit : ℕ) (bytes : List ℕ) (old : KeptTable) (new 
   pub begins : (script : List Writes) → script_of bytes ≡ Ok script → (rest : List Writes) × (script ≡ done ++ rest)
   pub reached : KeptTable
   pub keeps : KeepsMore limit old done reached
-  pub left : IsLeftOf reached.state new
+  pub left : IsBrokenOff reached.state new
   pub count : made ≡ reported_count (was + length done)
 
 -- the first of these changes were made, as many as may be, and counted
@@ -45,7 +45,7 @@ pub record AreSomeMade (limit : ℕ) (changes : List Writes) (old : KeptTable) (
   pub parts : changes ≡ done ++ rest
   pub reached : KeptTable
   pub keeps : KeepsMore limit old done reached
-  pub left : IsLeftOf reached.state new
+  pub left : IsBrokenOff reached.state new
   pub count : made ≡ reported_count (length done)
 
 -- So many changes of these records were made of so many: the first ones, by which a table was reached. The next one was begun at most.
@@ -58,7 +58,7 @@ pub record IsMadeInPart (limit : ℕ) (records : List (List ℕ)) (old : KeptTab
   pub parts : changes ≡ done ++ rest
   pub reached : KeptTable
   pub keeps : KeepsMore limit old done reached
-  pub left : IsLeftOf reached.state new
+  pub left : IsBrokenOff reached.state new
   pub made_is : made ≡ reported_count (length done)
 
 -- want of memory, with how many changes were made of how many

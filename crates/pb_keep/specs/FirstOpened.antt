@@ -2,7 +2,7 @@
 use Rattle.std.specs.Prelude.{◌≡◌, ℕ, false, List, ◌++◌, length, Option}
 use Rattle.pb_keep.specs.Words.{IsFirstTable, KeepsFrom, KeptTable, ObserverOf, StateOf, Writes}
 use Rattle.pb_keep.specs.declared.opened.Opened.{Opened}
-use Rattle.pb_keep.specs.Again.{IsLeftOf}
+use Rattle.pb_keep.specs.Again.{IsBrokenOff}
 use Rattle.pb_keep.specs.Causes.{IsOfAnew}
 use Rattle.pb_keep.specs.Conversations.{KeeperView}
 use Rattle.pb_keep.specs.First.{first_changes, is_full}
@@ -36,7 +36,7 @@ pub record IsStoppedAfter (limit : ℕ) (observers : List ObserverOf) (manifest 
   pub parts : found.changes ≡ done ++ rest
   pub reached : KeptTable
   pub keeps : (past : List Writes) → IsFirstTable past found.first → KeepsFrom limit found.first done reached
-  pub left : IsLeftOf reached.state new
+  pub left : IsBrokenOff reached.state new
   pub made_is : made ≡ reported_count (length done)
 
 -- how far a log was opened

@@ -25,9 +25,9 @@ fault_of_carried (CarryFault.NoMemory refused) = KeepFault.NoMemory refused
 fault_of_carried _ = KeepFault.Snapshot
 
 -- memory was refused, and nothing else
-abbrev pub WantsMemory : KeepFault → Type 0
-WantsMemory (KeepFault.NoMemory e) = Unit {0}
-WantsMemory _ = ⊥
+abbrev pub IsRefusedMemory : KeepFault → Type 0
+IsRefusedMemory (KeepFault.NoMemory e) = Unit {0}
+IsRefusedMemory _ = ⊥
 
 -- so many timestamps a change takes at most, with its runs
 abbrev pub most_timestamps : ℕ

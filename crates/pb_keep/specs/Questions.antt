@@ -3,7 +3,7 @@ use Rattle.std.specs.Prelude.{◌≡◌, ◌⊎◌, ℕ, Bool, true, false, List
 use Rattle.std.specs.Io.KnownBytes.{Appends, IsAtEnd}
 use Rattle.pb_keep.specs.Words.{AppendsPart, KeptTable, Request, ScriptCode, script_code}
 use Rattle.pb_keep.specs.declared.fault.KeepFault.{KeepFault}
-use Rattle.pb_keep.specs.declared.take.TheConstants.{QUESTIONS_ALONE}
+use Rattle.pb_keep.specs.declared.take.TheConstants.{OUT_OF_PLACE}
 use Rattle.pb_keep.specs.declared.waiting.Waits.{Waits}
 use Rattle.pb_keep.specs.Causes.{IsOfAnswer}
 use Rattle.pb_keep.specs.Held.{IsAnswerTo, IsReadAs}
@@ -20,7 +20,7 @@ refused_line code = other_line (Waits.Refused code)
 pub record IsOneAnswer (since : ℕ) (table : KeptTable) (log : ℕ) (request : Request) (text : List ℕ) : Type 0 where
   pub asked : is_question request ≡ true → IsAnswerTo since request table text
   pub names : is_question request ≡ true → NamesLog request table log text
-  pub other : is_question request ≡ false → text ≡ refused_line QUESTIONS_ALONE
+  pub other : is_question request ≡ false → text ≡ refused_line OUT_OF_PLACE
 
 -- the same of a line that may be of no form
 abbrev pub IsAnswerAlone : ℕ → KeptTable → ℕ → Result Request ScriptCode → List ℕ → Type 0

@@ -4,7 +4,7 @@ ghost use Rattle.pb_base.specs.Batch.{Writes};
 ghost use Rattle.pb_parse.specs.ScriptLines.{script_of};
 ghost use Rattle.pb_keeper.specs.Keeps.{Keeps};
 ghost use Rattle.pb_keeper.specs.Stats.{kept_table, KeptTable};
-ghost use Rattle.pb_keep.specs.Again.{in_part, AreFirstMade, AreSomeMade, IsLeftOf, IsRecordLeft, IsRecordMade, WhyNotAllMade};
+ghost use Rattle.pb_keep.specs.Again.{in_part, AreFirstMade, AreSomeMade, IsBrokenOff, IsRecordLeft, IsRecordMade, WhyNotAllMade};
 ghost use Rattle.pb_keep.specs.Causes.{IsOfAnew};
 ghost use Rattle.pb_keep.specs.First.{is_full};
 ghost use Rattle.pb_keep.specs.Kept.{changes_of, reported_count};
@@ -61,7 +61,7 @@ fn make_counted<T: Tablet>(
         → OnOk result (Keeps limit first (changes ++ batch ∷ [])
         (kept_table state.new stats.new.items)) }
     ensures observers { OnOk result (state.new.observers ≡ state.old.observers) }
-    ensures left { OnErr result (IsLeftOf state.old state.new) }
+    ensures left { OnErr result (IsBrokenOff state.old state.new) }
 {
     make(alloc, state, stats, batch, limit)?;
     Ok(())

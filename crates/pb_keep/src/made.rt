@@ -8,9 +8,9 @@ ghost use Rattle.pb_keeper.specs.Keeps.{Keeps};
 ghost use Rattle.pb_keeper.specs.Leads.{SaidLeads};
 ghost use Rattle.pb_keeper.specs.Made.{IsMade, comes_to_rest, runs_within};
 ghost use Rattle.pb_keeper.specs.Stats.{kept_table, Counted, KeptTable};
-ghost use Rattle.pb_keeper.specs.Stops.{WantsMemory as StoppedForMemory};
+ghost use Rattle.pb_keeper.specs.Stops.{WantsMemory};
 ghost use Rattle.pb_steps.specs.Readings.{last_timestamp};
-ghost use Rattle.pb_keep.specs.Left.{most_timestamps, AreInTime, IsOfMaking, WantsMemory};
+ghost use Rattle.pb_keep.specs.Left.{most_timestamps, AreInTime, IsOfMaking, IsRefusedMemory};
 ghost use Rattle.pb_keep.specs.Waits.{changes_in, made_line, AreAnswers, AreSomeAnswers, IsAnswer};
 
 use crate::fault::KeepFault;
@@ -80,7 +80,7 @@ fn make_counted<T: Tablet>(
     ensures clock { state.new.clock ≤ state.old.clock + most_timestamps }
     ensures in_time { (first : KeptTable) (changes : List Writes)
         → Keeps limit first changes (kept_table state.old stats.old.items)
-        → state.old.clock + most_timestamps < last_timestamp → IfErr result StoppedForMemory }
+        → state.old.clock + most_timestamps < last_timestamp → IfErr result WantsMemory }
 {
     make(alloc, state, stats, batch, limit)
 }
@@ -109,7 +109,7 @@ fn answer<T: Tablet>(
         ≤ state.old.clock + length (changes_in (item ∷ [])) * most_timestamps }
     ensures in_time { (first : KeptTable) (changes : List Writes)
         → Keeps limit first changes (kept_table state.old stats.old.items)
-        → AreInTime (item ∷ []) state.old → IfErr result WantsMemory }
+        → AreInTime (item ∷ []) state.old → IfErr result IsRefusedMemory }
 {
     match item {
         Waits::Change(batch) => {
@@ -148,7 +148,7 @@ pub(crate) fn make_and_answer<T: Tablet>(
     // With timestamps for all changes, nothing but memory is wanting.
     ensures in_time { (first : KeptTable) (changes : List Writes)
         → Keeps limit first changes (kept_table state.old stats.old.items)
-        → AreInTime items.items state.old → IfErr result WantsMemory }
+        → AreInTime items.items state.old → IfErr result IsRefusedMemory }
 {
     for item in items {
         answer(alloc, state, stats, item, text, limit)?;

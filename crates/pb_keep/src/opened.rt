@@ -57,8 +57,9 @@ impl<T: Tablet, D: Disk + Drop> Keeper<T, D> {
         ensures fewer { IfOk result (MakesFewer most) }
         // A fault of the log has its cause in the file or the disk.
         ensures cause { IfErr result (λ e. IsTrue (D.is_clean self.new.log.disk)
-            → WhyNotMadeAgain self.old.limit self.old.state.observers manifest.now (D.faults self.old.log.disk)
-            (D.faults self.new.log.disk) (D.seen self.old.log.disk) self.new.state e) }
+            → WhyNotMadeAgain self.old.limit self.old.state.observers manifest.now
+            (D.faults self.old.log.disk) (D.faults self.new.log.disk)
+            (D.seen self.old.log.disk) self.new.state e) }
     {
         // For the proof: as it begins, a table keeps no change of its own.
         tables_keep_their_changes();

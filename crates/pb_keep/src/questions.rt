@@ -10,7 +10,7 @@ ghost use Rattle.pb_keep.specs.Questions.{refused_line, AnswersAll, AnswersBegun
 use crate::fault::KeepFault;
 use crate::keeper::Keeper;
 use crate::lines::{Line, read_line};
-use crate::take::{QUESTIONS_ALONE, is_question, write};
+use crate::take::{OUT_OF_PLACE, is_question, write};
 use pb_base::{NoMemory, Sink};
 use pb_parse::ScriptCode;
 use pb_requests::{Request, parse_request};
@@ -66,7 +66,7 @@ impl<T: Tablet, D: Disk + Drop> Keeper<T, D> {
     {
         match asked {
             Ok(request) if is_question(&request) => self.answer_to(alloc, request),
-            Ok(_) => refused(alloc, QUESTIONS_ALONE),
+            Ok(_) => refused(alloc, OUT_OF_PLACE),
             Err(code) => refused(alloc, code.code()),
         }
     }

@@ -31,7 +31,8 @@ use pb_store::Tablet;
 use sqlite_disk::Disk;
 use std::alloc::Global;
 
-/// The code of a line that may not stand in a group, and of an `end` without its `begin`.
+/// The code of a line that may not stand in a group, of an `end` without its `begin`, and of a line that is no question where
+/// questions alone are answered.
 pub const OUT_OF_PLACE: u8 = 76;
 
 /// The code of a question about writes that are gone: those up to the snapshot that the log begins with.
@@ -39,9 +40,6 @@ pub const GONE: u8 = 77;
 
 /// The code of a change for which the table has no room: it has as many entries as its limit or more, or too few timestamps.
 pub const FULL: u8 = 79;
-
-/// The code of a line that is no question, where questions alone are answered.
-pub const QUESTIONS_ALONE: u8 = 80;
 
 /// What was done with a line.
 #[derive(Clone, Copy, PartialEq, Eq, Debug, Drop)]

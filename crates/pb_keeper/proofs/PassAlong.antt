@@ -4,7 +4,7 @@ use Rattle.std.proofs.Common.{arith, ◌≡◌, ◌≢◌, ℕ, ◌+◌, ◌-◌
 use Rattle.pb_keeper.specs.Words.{Writes, Cell, Ts, Step, Answer, StateOf, TableStep, IsNextMark, ObserverOf, Received, Outcome, told, IsWholeRun, RunOf, JobEnd, HasColumn, IsJobOn, IsRun, IsOfParts, EndsIn, one_part}
 use Rattle.pb_keeper.specs.Drains.{HasRuns, IsDrainWithin, IsTurnThat}
 use Rattle.pb_base.proofs.Logic.{one_value}
-use Rattle.pb_keeper.specs.Leads.{SaidLeads, IsAny, IsEndedChange}
+use Rattle.pb_keeper.specs.Leads.{SaidLeads, IsEndedChange}
 use Rattle.pb_keeper.specs.Counts.{commit_count, commits_of_end, CountsCommits}
 use Rattle.pb_keeper.specs.Made.{IsMade, comes_to_rest}
 use Rattle.pb_keeper.specs.Stats.{no_runs, added, Counted, RanAndDid}
@@ -65,7 +65,7 @@ mark_first {last = last} {answer = answer} {b1 = b1} taken g is =
     let r = told (Step.NextMark last) answer in
     record {
       said = r ∷ g.said;
-      form = counted_on {P = IsAny} {a = r ∷ []} (counted_none (refl, tt) tt) g.form (λ p q. record { form = (is g.said q.form.0, no_run_first r g.said refl ∙ q.form.1); count = q.count ∙ ap u64_saturate (sym (not_counted r g.said refl)) });
+      form = counted_on {P = λ said. Unit {0}} {a = r ∷ []} (counted_none (refl, tt) tt) g.form (λ p q. record { form = (is g.said q.form.0, no_run_first r g.said refl ∙ q.form.1); count = q.count ∙ ap u64_saturate (sym (not_counted r g.said refl)) });
       leads = (b1, taken, g.leads);
     }
 

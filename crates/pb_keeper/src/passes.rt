@@ -366,7 +366,7 @@ pub fn make<T: Tablet>(
     // Left, it has begun no other change, and no more runs than may be made.
     ensures err { OnErr result (SaidLeads (IsOfChange MAX_RUNS) state.old state.new) }
     ensures clock { state.new.clock ≤ state.old.clock + (2 + 2 * MAX_RUNS) }
-    // On a table that keeps changes and has timestamps for all of that, it wants nothing but memory.
+    // With timestamps for all of that, nothing but memory is wanting.
     ensures in_time { (first : KeptTable) (changes : List Writes)
         → Keeps limit first changes (kept_table state.old stats.old)
         → state.old.clock + (2 + 2 * MAX_RUNS) < last_timestamp

@@ -50,7 +50,7 @@ refused. That of a LOG that is there has its own limit, which --compact changes.
 
 With --questions, LOG is opened up to the last change that can be made here: where memory is refused for one, the table is the one
 before it. The first line is `open N of M`: N of the M changes were made. Then `get`, `since`, `list`, `quiet?` and `stats` are
-answered, and other lines are refused with 80. LOG has to be there, and nothing is written to it.
+answered, and other lines are refused with 76. LOG has to be there, and nothing is written to it.
 ";
 
 const ABOUT_HELP: &str = "two words are wanted, MANIFEST and LOG: `percobpf_keep --help` has more";

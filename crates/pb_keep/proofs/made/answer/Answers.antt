@@ -1,7 +1,7 @@
 use Rattle.std.proofs.Common.{refl, subst, sym}
 use Rattle.pb_keep.specs.Words.{kept_table}
 use Rattle.pb_keep.specs.Waits.{made_line, IsAnswer}
-use Rattle.pb_keep.specs.Left.{WantsMemory}
+use Rattle.pb_keep.specs.Left.{IsRefusedMemory}
 use Rattle.pb_keep.proofs.Causing.{stopped_for_memory}
 use Rattle.pb_keep.proofs.InTime.{one_in_time}
 use Rattle.pb_keep.proofs.Mapping.{passed_on}
@@ -20,4 +20,4 @@ returns-in_ok-push_made-in-Change-clause-answer g c =
 pub returns-in_err-made-in-Change-clause-in_time : goal.returns-in_err-made-in-Change-clause-in_time
 returns-in_err-made-in-Change-clause-in_time g c = λ first changes k room.
     passed_on c.from_residual.result c.from_residual.ensures.1
-    (λ e is. subst WantsMemory (sym is) (stopped_for_memory c.in_err-made-in-Change.field-0.0 (c.in_err-made-in-Change.ensures.in_time first changes k (one_in_time c.args.state.now c.in-Change.is room))))
+    (λ e is. subst IsRefusedMemory (sym is) (stopped_for_memory c.in_err-made-in-Change.field-0.0 (c.in_err-made-in-Change.ensures.in_time first changes k (one_in_time c.args.state.now c.in-Change.is room))))

@@ -5,7 +5,7 @@ use Rattle.pb_keep.specs.Words.{Keeps, kept_table}
 use Rattle.pb_keep.specs.Waits.{changes_in, AreAnswers, AreSomeAnswers}
 use Rattle.std.proofs.lemmas.List.{append_assoc, append-nil}
 use Rattle.pb_keep.proofs.Added.{changes_of_both}
-use Rattle.pb_keep.specs.Left.{WantsMemory}
+use Rattle.pb_keep.specs.Left.{IsRefusedMemory}
 use Rattle.pb_keep.proofs.InTime.{clock_on, next_in_time}
 use Rattle.pb_keep.proofs.Mapping.{passed_on}
 use Rattle.pb_keep.proofs.made.make_and_answer.Goals as goal
@@ -60,6 +60,6 @@ returns-in_err-answer-clause-some g c =
 pub returns-in_err-answer-clause-in_time : goal.returns-in_err-answer-clause-in_time
 returns-in_err-answer-clause-in_time g c = λ first changes k room.
     passed_on c.from_residual.result c.from_residual.ensures.1
-    (λ e is. subst WantsMemory (sym is) (c.in_err-answer.ensures.in_time first (changes ++ changes_in c.loop-item.yielded) (c.loop-item.invariant.keeps first changes k)
+    (λ e is. subst IsRefusedMemory (sym is) (c.in_err-answer.ensures.in_time first (changes ++ changes_in c.loop-item.yielded) (c.loop-item.invariant.keeps first changes k)
     (next_in_time c.args.items.items c.loop-item.yielded (into_iter_items c.next.new.self) c.in-Some.item c.args.state.now c.loop-item.state
     (c.loop-item.invariant.parts ∙ ap (λ l. c.loop-item.yielded ++ l) c.in-Some.ensures.steps.0) c.loop-item.invariant.clock room)))

@@ -63,7 +63,7 @@ returns-in_err-ran-clause-err g c =
     err_always c.from_residual-in_err-ran.result (SaidLeads (IsOfRuns c.args.left) c.args.state.now c.run_all.new.state)
     (broken_on observers left c.args.left (of_mark observers (parts_of_runs observers)) c.loop-next.invariant.leads rest (omega (arith, few)))
 
--- no mark was told
+-- the look for a mark was refused
 pub returns-in_err-next-clause-err : goal.returns-in_err-next-clause-err
 returns-in_err-next-clause-err g c =
     let observers = c.args.state.now.observers in
