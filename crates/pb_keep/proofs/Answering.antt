@@ -1,11 +1,11 @@
 -- Lines that waited are answered.
-use Rattle.std.proofs.Common.{◌≡◌, ◌==◌, ℕ, List, [], ◌∷◌, ◌++◌, length, refl, ap, sym, subst, ◌∙◌}
-use Rattle.pb_keep.specs.Words.{KeptTable, StateOf, Writes}
+use Rattle.std.proofs.Common.{arith, ◌≡◌, ◌+◌, ◌≤◌, ◌==◌, ℕ, List, [], ◌∷◌, ◌++◌, length, refl, ap, sym, subst, ◌∙◌}
+use Rattle.pb_keep.specs.Words.{MAX_CHANGES, KeptTable, StateOf, Writes}
 use Rattle.pb_keep.specs.declared.waiting.Waits.{Waits}
 use Rattle.pb_keep.specs.Waits.{changes_in, none, one_more, AreAnswers, Group, group_after, IsAnswer}
 use Rattle.pb_keep.specs.Held.{IsLineHeld}
 use Rattle.pb_keep.specs.Conversations.{one_answered, AreAnswered, none_held, one_held, AreHeld}
-use Rattle.std.proofs.lemmas.List.{append_assoc, append-nil}
+use Rattle.std.proofs.lemmas.List.{append_assoc, append-nil, length-append}
 use Rattle.pb_keep.proofs.Added.{changes_of_both}
 use Rattle.pb_keep.proofs.Lasts.{last_is_some, one_last}
 
@@ -59,32 +59,40 @@ pub none_waited : (limit : ℕ) (state : StateOf) (lines : List (List ℕ)) (ite
 none_waited limit state lines items group none_held e = refl
 none_waited limit state lines items group (one_held ls l is i g h any) e = absurd (last_is_some is i e)
 
-same_answered : (since limit : ℕ) (start now : KeptTable) (group : Group) (lines lines2 : List (List ℕ)) (made made2 : List Writes) (text text2 : List ℕ) → lines ≡ lines2 → made ≡ made2 → text ≡ text2 → AreAnswered since limit start lines made group now text → AreAnswered since limit start lines2 made2 group now text2
-same_answered since limit start now group lines lines2 made made2 text text2 e f g a =
-    subst (λ t. AreAnswered since limit start lines2 made2 group now t) g (subst (λ m. AreAnswered since limit start lines2 m group now text) f (subst (λ l. AreAnswered since limit start l made group now text) e a))
+same_answered : (since limit : ℕ) (start now : KeptTable) (group : Group) (m n : ℕ) (lines lines2 : List (List ℕ)) (made made2 : List Writes) (text text2 : List ℕ) → m ≡ n → lines ≡ lines2 → made ≡ made2 → text ≡ text2 → AreAnswered since limit start lines made group m now text → AreAnswered since limit start lines2 made2 group n now text2
+same_answered since limit start now group m n lines lines2 made made2 text text2 d e f g a =
+    subst (λ k. AreAnswered since limit start lines2 made2 group k now text2) d
+    (subst (λ t. AreAnswered since limit start lines2 made2 group m now t) g (subst (λ w. AreAnswered since limit start lines2 w group m now text) f (subst (λ l. AreAnswered since limit start l made group m now text) e a)))
 
-module _ (since limit : ℕ) (start old : KeptTable) (answered : List (List ℕ)) (made : List Writes) (text : List ℕ) (told : AreAnswered since limit start answered made Group.alone old text) where
+-- a line more has as many changes more
+changes_counted : (items : List Waits) (item : Waits) → length (changes_in (items ++ item ∷ [])) ≡ length (changes_in items) + length (changes_in (item ∷ []))
+changes_counted items item = ap length (changes_of_both items (item ∷ [])) ∙ length-append (changes_in items) (changes_in (item ∷ []))
+
+module _ (since limit : ℕ) (start old : KeptTable) (answered : List (List ℕ)) (made : List Writes) (text : List ℕ) (told : AreAnswered since limit start answered made Group.alone 0 old text) where
   one_held_answered : (lines : List (List ℕ)) (line : List ℕ) (items : List Waits) (item : Waits) (group : Group) (new : KeptTable) (more : List ℕ)
-      → ((between : KeptTable) (before : List ℕ) → AreAnswers limit items old between before → AreAnswered since limit start (answered ++ lines) (made ++ changes_in items) group between (text ++ before))
-      → ((s : StateOf) → (changes_in items ≡ [] → s ≡ old.state) → IsLineHeld limit (length (changes_in items) == 0) group s line item) → LastAnswer limit items item old new more
-      → AreAnswered since limit start (answered ++ (lines ++ line ∷ [])) (made ++ changes_in (items ++ item ∷ [])) (group_after group (length line) item) new (text ++ more)
-  one_held_answered lines line items item group new more first any l =
+      → ((between : KeptTable) (before : List ℕ) → AreAnswers limit items old between before → AreAnswered since limit start (answered ++ lines) (made ++ changes_in items) group (length (changes_in items)) between (text ++ before))
+      → ((s : StateOf) → (changes_in items ≡ [] → s ≡ old.state) → IsLineHeld limit (length (changes_in items) == 0) group s line item) → LastAnswer limit items item old new more → length (changes_in (items ++ item ∷ [])) ≤ MAX_CHANGES
+      → AreAnswered since limit start (answered ++ (lines ++ line ∷ [])) (made ++ changes_in (items ++ item ∷ [])) (group_after group (length line) item) (length (changes_in (items ++ item ∷ []))) new (text ++ more)
+  one_held_answered lines line items item group new more first any l few =
+      let both = changes_counted items item in
       let held = any l.between.state (λ none_before. ap (λ t. t.state) (unchanged limit items old l.between l.before l.front none_before)) in
-      same_answered since limit start new (group_after group (length line) item)
+      same_answered since limit start new (group_after group (length line) item) (length (changes_in items) + length (changes_in (item ∷ []))) (length (changes_in (items ++ item ∷ [])))
       ((answered ++ lines) ++ line ∷ []) (answered ++ (lines ++ line ∷ []))
       ((made ++ changes_in items) ++ changes_in (item ∷ [])) (made ++ changes_in (items ++ item ∷ []))
       ((text ++ l.before) ++ l.after) (text ++ more)
+      (sym both)
       (append_assoc answered lines (line ∷ []))
       (append_assoc made (changes_in items) (changes_in (item ∷ [])) ∙ ap (λ m. made ++ m) (sym (changes_of_both items (item ∷ []))))
       (append_assoc text l.before l.after ∙ ap (λ t. text ++ t) (sym l.text_is))
-      (one_answered (answered ++ lines) line (made ++ changes_in items) group item (length (changes_in items) == 0) l.between new (text ++ l.before) l.after (first l.between l.before l.front) held l.last)
+      (one_answered (answered ++ lines) line (made ++ changes_in items) group (length (changes_in items)) item l.between new (text ++ l.before) l.after (first l.between l.before l.front) held l.last (subst (λ n. n ≤ MAX_CHANGES) both few))
 
   -- lines that wait after lines that are answered, and now are answered too
-  pub held_answered : (pending : List (List ℕ)) (items : List Waits) (group : Group) (new : KeptTable) (more : List ℕ) → AreHeld limit old.state pending items group → AreAnswers limit items old new more
-      → AreAnswered since limit start (answered ++ pending) (made ++ changes_in items) group new (text ++ more)
-  held_answered pending items group new more none_held a =
+  pub held_answered : (pending : List (List ℕ)) (items : List Waits) (group : Group) (new : KeptTable) (more : List ℕ) → AreHeld limit old.state pending items group → AreAnswers limit items old new more → length (changes_in items) ≤ MAX_CHANGES
+      → AreAnswered since limit start (answered ++ pending) (made ++ changes_in items) group (length (changes_in items)) new (text ++ more)
+  held_answered pending items group new more none_held a few =
       let e = none_answered limit [] old new more a refl in
-      subst (λ s. AreAnswered since limit start (answered ++ []) (made ++ []) Group.alone s (text ++ more)) (sym e.0)
-      (same_answered since limit start old Group.alone answered (answered ++ []) made (made ++ []) text (text ++ more) (sym (append-nil answered)) (sym (append-nil made)) (sym (append-nil text) ∙ ap (λ t. text ++ t) (sym e.1)) told)
-  held_answered pending items group new more (one_held ls l is i g h any) a =
-      one_held_answered ls l is i g new more (λ between before b. held_answered ls is g between before h b) any (last_answer limit (is ++ i ∷ []) old new more a is i refl)
+      subst (λ s. AreAnswered since limit start (answered ++ []) (made ++ []) Group.alone 0 s (text ++ more)) (sym e.0)
+      (same_answered since limit start old Group.alone 0 0 answered (answered ++ []) made (made ++ []) text (text ++ more) refl (sym (append-nil answered)) (sym (append-nil made)) (sym (append-nil text) ∙ ap (λ t. text ++ t) (sym e.1)) told)
+  held_answered pending items group new more (one_held ls l is i g h any) a few =
+      let both = changes_counted is i in
+      one_held_answered ls l is i g new more (λ between before b. held_answered ls is g between before h b (omega (arith, both, few))) any (last_answer limit (is ++ i ∷ []) old new more a is i refl) few

@@ -2,7 +2,7 @@
 use Rattle.std.specs.Prelude.{string_bytes}
 use Rattle.std.proofs.Common.{arith, ◌≡◌, ◌==◌, ◌≤◌, ◌⊎◌, inl, inr, ℕ, Bool, true, false, List, [], ◌∷◌, ◌++◌, length, Option, Some, None, Result, Ok, Err, refl, ap, sym, subst, ◌∙◌}
 use Rattle.std.specs.Io.KnownBytes.{Appends}
-use Rattle.pb_keep.specs.Words.{AppendsPart, Condition, Keeps, KeptTable, Request, ScriptCode, StateOf, Writes}
+use Rattle.pb_keep.specs.Words.{AppendsPart, MAX_CHANGES, Condition, Keeps, KeptTable, Request, ScriptCode, StateOf, Writes}
 use Rattle.pb_keep.specs.declared.fault.KeepFault.{KeepFault}
 use Rattle.pb_keep.specs.declared.waiting.Waits.{Waits}
 use Rattle.pb_keep.specs.declared.waiting.Waiting.{Waiting}
@@ -10,7 +10,7 @@ use Rattle.pb_keep.specs.Kept.{kept_since, HasChanges, IsLogOf, Origin}
 use Rattle.pb_keep.specs.Waits.{changes_in, none as no_answer, AreAnswers, AreSomeAnswers, Group, group_after, group_of, grouped, IsNoLine}
 use Rattle.pb_keep.specs.Held.{refuses_changes, IsAnswerTo, IsLineHeld, IsHeldAs, IsReadAs}
 use Rattle.pb_keep.specs.Taken.{is_question, IsLineReady, IsReadyFor, MayHaveAnswered, WaitsNow}
-use Rattle.pb_keep.specs.Conversations.{beginning, none_yet, one_asked, AreAnswered, none_held, one_held, AreHeld, Beginning, KeeperView, LeavesFirst, Serves}
+use Rattle.pb_keep.specs.Conversations.{beginning, none_yet, one_asked, record_ended, AreAnswered, none_held, one_held, AreHeld, Beginning, KeeperView, LeavesFirst, Serves}
 use Rattle.pb_keep.specs.Left.{IsLeftBy, IsLeftInLog, IsLeftMade}
 use Rattle.std.proofs.lemmas.List.{append_assoc, append-nil}
 use Rattle.pb_keep.proofs.Putting.{rest_has_changes}
@@ -182,10 +182,10 @@ module _ {b : Beginning} {lines : List (List ℕ)} {k : KeeperView} (s : Serves 
   all_answered e = s.parts ∙ ap (λ l. s.answered ++ l) (none_waited b.origin.limit k.table.state s.pending k.waiting.items.items (group_of k.waiting) s.held e) ∙ append-nil s.answered
 
   answered_one : (line text : List ℕ) (question : Request) → k.waiting.items.items ≡ [] → IsReadAs line (Ok question) → IsAnswerTo k.since question k.table text
-      → AreAnswered (kept_since b.origin) b.origin.limit b.table (lines ++ line ∷ []) s.made Group.alone k.table (s.text ++ text)
+      → AreAnswered (kept_since b.origin) b.origin.limit b.table (lines ++ line ∷ []) s.made Group.alone 0 k.table (s.text ++ text)
   answered_one line text question none reads answer =
-      subst (λ l. AreAnswered (kept_since b.origin) b.origin.limit b.table (l ++ line ∷ []) s.made Group.alone k.table (s.text ++ text)) (sym (all_answered none))
-      (one_asked s.answered line s.made k.table s.text text s.told (record { request = question; reads = reads; answer = subst (λ n. IsAnswerTo n question k.table text) s.since answer }))
+      subst (λ l. AreAnswered (kept_since b.origin) b.origin.limit b.table (l ++ line ∷ []) s.made Group.alone 0 k.table (s.text ++ text)) (sym (all_answered none))
+      (one_asked s.answered line s.made 0 k.table s.text text s.told (record { request = question; reads = reads; answer = subst (λ n. IsAnswerTo n question k.table text) s.since answer }))
 
   -- a question more is answered
   pub serves_asked : (line text : List ℕ) (question : Request) (now : Option (List ℕ)) → IsNoLine k.waiting → IsReadAs line (Ok question) → IsAnswerTo k.since question k.table text → Appends k.written now text
@@ -206,19 +206,19 @@ module _ {b : Beginning} {lines : List (List ℕ)} {k : KeeperView} (s : Serves 
     held = none_waits_now b.origin.limit k.waiting k.table.state none;
   }
 
-  lines_answered : (new : KeptTable) (text : List ℕ) → k.waiting.is_group ≡ false → AreAnswers b.origin.limit k.waiting.items.items k.table new text
-      → AreAnswered (kept_since b.origin) b.origin.limit b.table lines (s.made ++ changes_in k.waiting.items.items) Group.alone new (s.text ++ text)
-  lines_answered new text alone a =
+  lines_answered : (new : KeptTable) (text : List ℕ) → k.waiting.is_group ≡ false → length (changes_in k.waiting.items.items) ≤ MAX_CHANGES → AreAnswers b.origin.limit k.waiting.items.items k.table new text
+      → AreAnswered (kept_since b.origin) b.origin.limit b.table lines (s.made ++ changes_in k.waiting.items.items) Group.alone 0 new (s.text ++ text)
+  lines_answered new text alone few a =
       let w = k.waiting in
-      subst (λ l. AreAnswered (kept_since b.origin) b.origin.limit b.table l (s.made ++ changes_in w.items.items) Group.alone new (s.text ++ text)) (sym s.parts)
-      (subst (λ g. AreAnswered (kept_since b.origin) b.origin.limit b.table (s.answered ++ s.pending) (s.made ++ changes_in w.items.items) (grouped g w.changes (length (string_bytes w.script))) new (s.text ++ text)) alone
-      (held_answered (kept_since b.origin) b.origin.limit b.table k.table s.answered s.made s.text s.told s.pending w.items.items (group_of w) new text s.held a))
+      subst (λ l. AreAnswered (kept_since b.origin) b.origin.limit b.table l (s.made ++ changes_in w.items.items) Group.alone 0 new (s.text ++ text)) (sym s.parts)
+      (record_ended (s.answered ++ s.pending) (s.made ++ changes_in w.items.items) (length (changes_in w.items.items)) new (s.text ++ text) (subst (λ g. AreAnswered (kept_since b.origin) b.origin.limit b.table (s.answered ++ s.pending) (s.made ++ changes_in w.items.items) (grouped g w.changes (length (string_bytes w.script))) (length (changes_in w.items.items)) new (s.text ++ text)) alone
+      (held_answered (kept_since b.origin) b.origin.limit b.table k.table s.answered s.made s.text s.told s.pending w.items.items (group_of w) new text s.held a few)))
 
   -- what waited is kept
-  pub serves_kept : (now : KeeperView) (text : List ℕ) → k.waiting.is_group ≡ false → IsNoLine now.waiting → now.since ≡ k.since → now.limit ≡ k.limit
+  pub serves_kept : (now : KeeperView) (text : List ℕ) → k.waiting.is_group ≡ false → length (changes_in k.waiting.items.items) ≤ MAX_CHANGES → IsNoLine now.waiting → now.since ≡ k.since → now.limit ≡ k.limit
       → IsLogOf b.origin ((b.changes ++ s.made) ++ changes_in k.waiting.items.items) now.seen now.may_leave now.end → Keeps k.limit b.first ((b.changes ++ s.made) ++ changes_in k.waiting.items.items) now.table
       → AreAnswers k.limit k.waiting.items.items k.table now.table text → Appends k.written now.written text → Serves b lines now
-  serves_kept now text alone none same same_limit log keeps a more =
+  serves_kept now text alone few none same same_limit log keeps a more =
       let all = append_assoc b.changes s.made (changes_in k.waiting.items.items) in
       record {
         answered = lines;
@@ -226,7 +226,7 @@ module _ {b : Beginning} {lines : List (List ℕ)} {k : KeeperView} (s : Serves 
         parts = sym (append-nil lines);
         made = s.made ++ changes_in k.waiting.items.items;
         text = s.text ++ text;
-        told = lines_answered now.table text alone (subst (λ n. AreAnswers n k.waiting.items.items k.table now.table text) s.limit a);
+        told = lines_answered now.table text alone few (subst (λ n. AreAnswers n k.waiting.items.items k.table now.table text) s.limit a);
         is_written = appends_both b.written k.written now.written s.text text s.is_written more;
         since = same ∙ s.since;
         limit = same_limit ∙ s.limit;

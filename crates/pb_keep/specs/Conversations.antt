@@ -1,8 +1,8 @@
 -- What was answered to lines, and what a log and a table have of them: the lines as they came, one after the other.
-use Rattle.std.specs.Prelude.{◌≡◌, ◌⊎◌, ◌==◌, ℕ, ◌≤◌, Bool, List, [], ◌∷◌, ◌++◌, length, Option}
+use Rattle.std.specs.Prelude.{◌≡◌, ◌⊎◌, ◌==◌, ℕ, ◌+◌, ◌≤◌, List, [], ◌∷◌, ◌++◌, length, Option}
 use Rattle.std.specs.Io.KnownBytes.{Appends}
 use Rattle.pb_keeper.specs.declared.room.TheConstants.{MAX_CLOCK}
-use Rattle.pb_keep.specs.Words.{AppendsPart, Keeps, KeptTable, StateOf, Writes, kept_table}
+use Rattle.pb_keep.specs.Words.{AppendsPart, MAX_CHANGES, Keeps, KeptTable, StateOf, Writes, kept_table}
 use Rattle.pb_keep.specs.declared.keeper.Keeper.{Keeper}
 use Rattle.pb_keep.specs.declared.waiting.Waits.{Waits}
 use Rattle.pb_keep.specs.declared.waiting.Waiting.{Waiting}
@@ -11,13 +11,16 @@ use Rattle.pb_keep.specs.Waits.{changes_in, AreSomeAnswers, Group, group_after, 
 use Rattle.pb_keep.specs.Held.{IsAsked, IsLineHeld}
 
 -- Lines are answered one after the other, from this table on, which has all writes above `since`: these changes were made, and this
--- text is the answers. The group is that in which the next line stands. A change is refused where the table has no room for it, unless
--- another one stands before it in its record.
-pub data AreAnswered (since limit : ℕ) (start : KeptTable) : List (List ℕ) → List Writes → Group → KeptTable → List ℕ → Type 0 where
-  none_yet : AreAnswered since limit start [] [] Group.alone start []
-  one_answered : (lines : List (List ℕ)) (line : List ℕ) (made : List Writes) (group : Group) (item : Waits) (is_first : Bool) (between new : KeptTable) (text more : List ℕ) → AreAnswered since limit start lines made group between text → IsLineHeld limit is_first group between.state line item → IsAnswer limit item between new more
-      → AreAnswered since limit start (lines ++ line ∷ []) (made ++ changes_in (item ∷ [])) (group_after group (length line) item) new (text ++ more)
-  one_asked : (lines : List (List ℕ)) (line : List ℕ) (made : List Writes) (table : KeptTable) (text more : List ℕ) → AreAnswered since limit start lines made Group.alone table text → IsAsked since table line more → AreAnswered since limit start (lines ++ line ∷ []) made Group.alone table (text ++ more)
+-- text is the answers. The group is that in which the next line stands, and the number that of the changes of its record so far, which are
+-- few. A record ends outside of a group, and before a question. Its first change is refused where the table has no room for it.
+pub data AreAnswered (since limit : ℕ) (start : KeptTable) : List (List ℕ) → List Writes → Group → ℕ → KeptTable → List ℕ → Type 0 where
+  none_yet : AreAnswered since limit start [] [] Group.alone 0 start []
+  one_answered : (lines : List (List ℕ)) (line : List ℕ) (made : List Writes) (group : Group) (n : ℕ) (item : Waits) (between new : KeptTable) (text more : List ℕ) → AreAnswered since limit start lines made group n between text
+      → IsLineHeld limit (n == 0) group between.state line item → IsAnswer limit item between new more → n + length (changes_in (item ∷ [])) ≤ MAX_CHANGES
+      → AreAnswered since limit start (lines ++ line ∷ []) (made ++ changes_in (item ∷ [])) (group_after group (length line) item) (n + length (changes_in (item ∷ []))) new (text ++ more)
+  one_asked : (lines : List (List ℕ)) (line : List ℕ) (made : List Writes) (n : ℕ) (table : KeptTable) (text more : List ℕ) → AreAnswered since limit start lines made Group.alone n table text → IsAsked since table line more
+      → AreAnswered since limit start (lines ++ line ∷ []) made Group.alone 0 table (text ++ more)
+  record_ended : (lines : List (List ℕ)) (made : List Writes) (n : ℕ) (table : KeptTable) (text : List ℕ) → AreAnswered since limit start lines made Group.alone n table text → AreAnswered since limit start lines made Group.alone 0 table text
 
 -- Lines wait as these, from this state on, on a table of this limit of entries. Only those before which no change waits may depend on the
 -- state: the others wait so in each.
@@ -60,7 +63,7 @@ pub record Serves (b : Beginning) (lines : List (List ℕ)) (k : KeeperView) : T
   pub parts : lines ≡ answered ++ pending
   pub made : List Writes
   pub text : List ℕ
-  pub told : AreAnswered (kept_since b.origin) b.origin.limit b.table answered made Group.alone k.table text
+  pub told : AreAnswered (kept_since b.origin) b.origin.limit b.table answered made Group.alone 0 k.table text
   pub is_written : Appends b.written k.written text
   pub since : k.since ≡ kept_since b.origin
   pub log : IsLogOf b.origin (b.changes ++ made) k.seen k.may_leave k.end
@@ -80,7 +83,7 @@ pub record LeavesFirst (b : Beginning) (lines : List (List ℕ)) (written : Opti
   pub made : List Writes
   pub table : KeptTable
   pub text : List ℕ
-  pub told : AreAnswered (kept_since b.origin) b.origin.limit b.table answered made Group.alone table text
+  pub told : AreAnswered (kept_since b.origin) b.origin.limit b.table answered made Group.alone 0 table text
   pub items : List Waits
   pub group : Group
   pub held : AreHeld b.origin.limit table.state pending items group

@@ -1,9 +1,9 @@
 //! What stands in the first record of a log: the limit of entries, and the manifest.
-ghost use Rattle.std.specs.Prelude.{◌≡◌, ◌≤◌, ◌+◌, length, IfOk};
+ghost use Rattle.std.specs.Prelude.{◌≡◌, ◌<◌, ◌≤◌, ◌+◌, ◌-◌, ◌^◌, ℕ, List, None, length, IfOk, IfSome};
 ghost use Rattle.pb_keep.specs.Kept.{head};
 
 use pb_base::NoMemory;
-use pb_reading::numeral_upto;
+use pb_reading::{first_line, numeral_upto};
 use std::alloc::Global;
 
 // The limit in a line, and then the manifest, or that alone where there is no limit.
@@ -19,11 +19,23 @@ pub(crate) fn head_of(alloc: Global, limit: u64, manifest: &[u8]) -> Result<Vec<
     Ok(bytes)
 }
 
-// The number of the first line, if that names a limit, and what stands after it.
-fn first_limit(text: &str) -> Option<(u64, &str)> {
-    let rest = text.strip_prefix("limit ")?;
-    let (word, manifest) = rest.split_once('\n')?;
-    match numeral_upto((), (), u64::MAX, word) {
+// The limit that stands in the first line, and what stands after it.
+fn first_limit(text: &str) -> Option<(u64, &str)>
+    ensures exact { IfSome result (λ r. text.now ≡ head r.0 r.1.now) }
+    ensures found { (limit : ℕ) (manifest : List ℕ) → limit < 2 ^ 64 - 1
+        → text.now ≡ head limit manifest
+        → IfSome result (λ r. (r.0 ≡ limit) × (r.1.now ≡ manifest)) }
+    ensures some { (limit : ℕ) (manifest : List ℕ) → limit < 2 ^ 64 - 1
+        → text.now ≡ head limit manifest → result ≡ None → ⊥ }
+{
+    let Some(rest) = text.strip_prefix("limit ") else {
+        return None;
+    };
+    let (word, after) = first_line(rest);
+    let Some(manifest) = after else {
+        return None;
+    };
+    match numeral_upto((), (), u64::MAX - 1, word) {
         Ok(limit) => Some((limit, manifest)),
         Err(()) => None,
     }
@@ -31,15 +43,15 @@ fn first_limit(text: &str) -> Option<(u64, &str)> {
 
 /// The limit of entries and the manifest that a first record has, of which this is the text after the version. Where no limit
 /// stands there, there is none, which is the greatest number.
-pub fn split_head(alloc: Global, text: &str) -> Result<(u64, &str), NoMemory>
-    ensures { IfOk result (λ r. text.now ≡ head r.0 r.1.now) }
+pub fn split_head(text: &str) -> (u64, &str)
+    ensures exact { text.now ≡ head result.0 result.1.now }
+    // A limit that stands there is found.
+    ensures found { (limit : ℕ) (manifest : List ℕ) → limit < 2 ^ 64 - 1
+        → text.now ≡ head limit manifest
+        → (result.0 ≡ limit) × (result.1.now ≡ manifest) }
 {
-    let Some((limit, manifest)) = first_limit(text) else {
-        return Ok((u64::MAX, text));
-    };
-    let bytes = head_of(alloc, limit, manifest.as_bytes())?;
-    if bytes.as_slice() == text.as_bytes() {
-        return Ok((limit, manifest));
+    match first_limit(text) {
+        Some(found) => found,
+        None => (u64::MAX, text),
     }
-    Ok((u64::MAX, text))
 }

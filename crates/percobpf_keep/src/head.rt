@@ -40,7 +40,7 @@ pub(crate) fn read_head<D: Disk>(
     let Ok(text) = String::from_utf8(bytes) else {
         bail!("{}: its manifest is not text", location.log)
     };
-    let (limit, manifest) = split_head(alloc, text.as_str())?;
+    let (limit, manifest) = split_head(text.as_str());
     let manifest = short_text(String::from_str(alloc, manifest)?)?;
     Ok(Some(Head { limit, manifest }))
 }

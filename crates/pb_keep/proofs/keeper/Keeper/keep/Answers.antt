@@ -10,7 +10,7 @@ pub returns-clause-serves : goal.returns-clause-serves
 returns-clause-serves g c = λ b lines s.
     let new = keeper_view g.D.Disk.seen g.D.Disk.may_leave c.put_and_make.new.self (g.S.Sink.taken c.put_and_make.new.out) in
     all_ok c.put_and_make.result c.put_and_make.ensures.idle (c.put_and_make.ensures.kept b.origin b.first (b.changes ++ s.made) s.log s.keeps) c.put_and_make.ensures.answers
-    (λ idle kept a. serves_kept s new a.0 c.requires.alone idle (ap (λ n. n.0) c.put_and_make.ensures.since) c.put_and_make.ensures.limit kept.0 kept.1 a.1 a.2)
+    (λ idle kept a. serves_kept s new a.0 c.requires.alone (subst (λ n. n ≤ MAX_CHANGES) c.requires.waiting.count c.requires.waiting.few) idle (ap (λ n. n.0) c.put_and_make.ensures.since) c.put_and_make.ensures.limit kept.0 kept.1 a.1 a.2)
 
 pub returns-clause-crash : goal.returns-clause-crash
 returns-clause-crash g c = λ b lines s file m.
