@@ -50,7 +50,7 @@ taken_if true Waits.Begun batch e = absurd cc
 taken_if true Waits.Ended batch e = absurd cc
 
 -- a change waits where the table isn't full
-not_full : (full : Bool) (group : Group) (state : StateOf) (line : List ℕ) (read : Result Request ScriptCode) (batch : Writes) → IsHeldAs full group state line read (Waits.Change batch) → full ≡ false
+pub not_full : (full : Bool) (group : Group) (state : StateOf) (line : List ℕ) (read : Result Request ScriptCode) (batch : Writes) → IsHeldAs full group state line read (Waits.Change batch) → full ≡ false
 not_full full group state line (Err code) batch h = absurd cc
 not_full full Group.alone state line (Ok Request.Change) batch h = taken_if full _ batch h
 not_full full Group.alone state line (Ok (Request.ChangeIf condition)) batch h = taken_if full _ batch h.held.is
