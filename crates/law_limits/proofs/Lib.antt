@@ -1,0 +1,4 @@
+pub mod Entries
+pub mod Prewrites
+pub mod Kept
+pub mod Served
