@@ -16,8 +16,8 @@ from pathlib import Path
 TOP = Path(__file__).resolve().parent.parent
 COPY, NO_OBSERVERS = (TOP / f"examples/{name}.json" for name in ("copy", "no-observers"))
 
-# How long a relay, or an answer of it, is waited for, how long it has for its end, and how much longer than without an attack another
-# client waits at most.
+# How long a relay, or an answer of it, is waited for, how long it has for its end, and how much longer another client waits at most
+# than one of a relay that nobody attacks.
 SECONDS, END, DELAY = 60, 20, 1.0
 # How long each attack goes on, how often the others have to be answered meanwhile, and how much memory the relay takes for it, in MiB.
 ATTACK, LEAST_ANSWERED, MOST_MEMORY = 1.2, 2, 64
@@ -71,6 +71,7 @@ class Relay:
     """A relay over a log, in a group of its own, while it is used; what it writes to standard error is `errors` after it."""
 
     def __init__(self, program, folder, name, manifest=COPY, limits=(), options=(), descriptors=None):
+        self.program, self.folder, self.name = program, folder, name
         self.socket, self.log, self.said = folder / f"{name}.socket", folder / f"{name}.log", folder / f"{name}.errors"
         relay = [sys.executable, "-c", LIMITED, TOP / "clients", *limits] if limits else [TOP / "clients/relay"]
         self.words = [*relay, "--program", program, *options, self.socket, str(manifest), self.log]
@@ -192,18 +193,18 @@ class Others:
 
 @contextmanager
 def undisturbed(name, relay):
-    """What is done in this, and until ATTACK seconds are over, delays others by DELAY at most, and takes MOST_MEMORY at most."""
-    with Others(relay) as calm:
-        time.sleep(ATTACK / 3)
-    before = relay.memory()
-    with Others(relay) as others:
-        deadline = time.monotonic() + ATTACK
-        yield
-        while time.monotonic() < deadline:
-            time.sleep(0.01)
-        taken = relay.memory() - before
+    """What is done in this, and until ATTACK seconds are over, delays others by DELAY at most, and takes MOST_MEMORY at most. A second
+    relay, which nobody attacks, shows how long an answer takes at that time, since the machine may be busy."""
+    with Relay(relay.program, relay.folder, f"{relay.name}-calm", NO_OBSERVERS) as other, Others(other) as calm:
+        before = relay.memory()
+        with Others(relay) as others:
+            deadline = time.monotonic() + ATTACK
+            yield
+            while time.monotonic() < deadline:
+                time.sleep(0.01)
+            taken = relay.memory() - before
     at_least(f"how often others were answered, {name}", others.count, LEAST_ANSWERED)
-    waited = f"others that waited for {others.longest:.2f} s, and {calm.longest:.2f} s before, {name}"
+    waited = f"others that waited for {others.longest:.2f} s, and {calm.longest:.2f} s at another relay, {name}"
     expect(waited, others.longest <= calm.longest + DELAY, True)
     expect(f"{taken:.0f} MiB that the relay took, {name}", taken <= MOST_MEMORY, True)
 
