@@ -110,10 +110,12 @@ class Table:
         self._is_owed, self._is_closed, self._user = False, False, os.getpid()
 
     @classmethod
-    def start(cls, manifest, log, program="./percobpf_keep", compact_at: int | None = None) -> Table:
+    def start(cls, manifest, log, program="./percobpf_keep", compact_at: int | None = None, limit: int | None = None) -> Table:
         """Starts the program over this log; it has made the log's changes again when this returns. With `compact_at` it compacts the log
-        by itself, from so many bytes on."""
-        options = [] if compact_at is None else ["--compact-at", str(compact_at)]
+        by itself, from so many bytes on. The table of a new log may have `limit` entries, and one that is there has its own number:
+        `Gone` is raised if this is another."""
+        named = {"--compact-at": compact_at, "--limit": limit}
+        options = [it for name, value in named.items() if value is not None for it in (name, str(value))]
         words = [os.fspath(program), *options, os.fspath(manifest), os.fspath(log)]
         # a socket has an end even if a process that was forked meanwhile holds it too
         end, its = socket.socketpair()
