@@ -11,7 +11,8 @@ from pathlib import Path
 
 TOP = Path(__file__).resolve().parent.parent
 SOURCES = ("src", "specs", "proofs")
-PLACES = ("wrong-bodies", "must-fail")
+# The folder of a crate with its wrong bodies.
+EDITS = "wrong-bodies"
 
 # What isn't code. A quote after a name is a prime of a clause's, and one before it a lifetime's.
 NOT_CODE = re.compile(r"""//[^\n]*|/\*.*?\*/|"(?:\\.|[^"\\])*"|(?<!\w)'(?:\\.[^']*|[^'\\\n])'""", re.S)
@@ -189,7 +190,7 @@ def texts_of(crate):
 
 def edits_of(crate):
     """The files of a crate's edits."""
-    return sorted(it for place in PLACES for it in (TOP / "crates" / crate / place).glob("*.edit"))
+    return sorted((TOP / "crates" / crate / EDITS).glob("*.edit"))
 
 
 def pairs_of(file):

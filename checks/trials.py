@@ -134,12 +134,22 @@ def library_of(crate, room):
     return built
 
 
-def prepare(crate, room, known):
-    """Has the libraries below the crate, and proves a copy of it as it stands, but in a quick room."""
+def libraries_below(crate, room, known):
+    """Has the libraries below the crate."""
     for name in crate.below:
         if name not in room.libraries:
             room.libraries[name] = library_of(known[name], room)
+
+
+def prove(crate, room, jobs):
+    """Proves a copy of the crate as it stands, whose libraries below are there, but in a quick room."""
     folder = based(crate, room)
-    status, said = (0, "") if room.is_quick else check(crate, folder, room, LANES)
+    status, said = (0, "") if room.is_quick else check(crate, folder, room, jobs)
     if status:
         sys.exit(f"wrong-bodies: {crate.name} isn't proved as it stands:\n{said[-2000:]}")
+
+
+def prepare(crate, room, known):
+    """Has the libraries below the crate, and proves a copy of it as it stands, with all processors."""
+    libraries_below(crate, room, known)
+    prove(crate, room, LANES)

@@ -14,10 +14,10 @@ import hashlib
 import subprocess
 from dataclasses import dataclass
 
-from sources import PLACES, SOURCES, TOP, code_of, edits_of, lines_of_crates
+from sources import EDITS, SOURCES, TOP, code_of, edits_of, lines_of_crates
 
 NOTES = TOP / "checks/wrong-bodies.tried"
-TOOL = ("wrong-bodies", "batches.py", "copies.py", "verdicts.py", "trials.py", "sources.py", "tried.py")
+TOOL = ("wrong-bodies", "goes.py", "batches.py", "copies.py", "verdicts.py", "trials.py", "sources.py", "tried.py")
 UNTRIED = "untried"
 # In the place of a kit's name, where the bodies weren't tried.
 NO_KIT = "-"
@@ -81,7 +81,7 @@ def basis_of(crate):
 
 def sum_of(crate):
     """A sum of all that the verdicts on a crate's edits rest on."""
-    return hashlib.sha256(f"{basis_of(crate)} {sum_of_parts(crate, PLACES)}".encode()).hexdigest()[:16]
+    return hashlib.sha256(f"{basis_of(crate)} {sum_of_parts(crate, (EDITS,))}".encode()).hexdigest()[:16]
 
 
 def notes():
