@@ -11,13 +11,13 @@ from batches import Batch
 from copies import as_copies, as_edited
 from settled import fault_of
 from sources import SOURCES, BadEdit, functions_changed, pairs_of, settled_of
-from trials import check, copy_parts
+from trials import NO_SUCH_PATH, check, copy_parts
 from verdicts import PLANTED, Said, set_aside
 
 # How often a body is tried at most, each time with more of its function's proof set aside.
 MOST_GOES = 4
-# The status of a check of functions one of which isn't there.
-NO_SUCH_PATH = 2
+# Why a body is unsettled.
+OPEN, AT_LIMIT = "the search found nothing", "the check came to a limit of the prover"
 
 
 @dataclass
@@ -142,7 +142,7 @@ class Goes:
         if is_alone and (line := said.unread()):
             return "bad", f"it can't be read: {line[:200]}"
         if is_alone and said.status == 3:
-            return "unsettled", "the check came to a limit of the prover"
+            return "unsettled", AT_LIMIT
         if is_alone and not said.is_refusal:
             return "bad", f"nothing was proved or refused: {said.text.strip()[-300:]}"
         if self.batch.is_planted and (said.waits(functions, self.crate.types) or not said.shows_why(functions)):
@@ -151,7 +151,7 @@ class Goes:
             return ("untold", "what isn't proved is no function that it changes") if is_alone else (None, "")
         if edit.label in self.gone | self.unkept:
             return "untold", "it falls by the text of its function's proof alone"
-        return "unsettled", "the search found nothing"
+        return "unsettled", OPEN
 
 
 def try_batch(crate, room, batch, tried):

@@ -11,6 +11,8 @@ from pathlib import Path
 from sources import SOURCES, TOP, lines_of_crates, types_in
 
 KIT = Path(subprocess.run(["rt", "doc"], stdout=subprocess.PIPE, text=True, check=True).stdout.strip()).parent
+# The status of a check of functions one of which isn't there.
+NO_SUCH_PATH = 2
 LANES = int(os.environ.get("RT_JOBS") or len(os.sched_getaffinity(0)))
 
 
@@ -141,10 +143,14 @@ def libraries_below(crate, room, known):
             room.libraries[name] = library_of(known[name], room)
 
 
-def prove(crate, room, jobs):
-    """Proves a copy of the crate as it stands, whose libraries below are there, but in a quick room."""
-    folder = based(crate, room)
-    status, said = (0, "") if room.is_quick else check(crate, folder, room, jobs)
+def prove(crate, room, jobs, paths=()):
+    """Proves a copy of the crate as it stands, whose libraries below are there, but in a quick room; of these functions alone and what
+    they call, where their paths in the crate are given."""
+    folder, only = based(crate, room), [word for it in paths for word in ("--only", f"{crate.name}::{it}")]
+    status, said = (0, "") if room.is_quick else check(crate, folder, room, jobs, *only)
+    # a name of the prover's own for a function, as of an `impl` for a type of another crate, fits no path
+    if status == NO_SUCH_PATH:
+        status, said = check(crate, folder, room, jobs)
     if status:
         sys.exit(f"wrong-bodies: {crate.name} isn't proved as it stands:\n{said[-2000:]}")
 
