@@ -72,6 +72,7 @@ ERROR_TYPE = r"Alloc(?:Error|Failed<[^;{}]*?>)"
 TYPES = re.compile(
     rf"\bFrom<{ERROR_TYPE}>(?=\s+for\b|\s*[,>+{{])"
     r"|\bfn\s+(?:from|with_value<T>)\(\w+\s*:\s*Alloc(?:Error|Failed<[\w<>]+>)\)"
+    rf"|\bfn\s+\w+[^(){{}}]*\([^(){{}};]*\bResult<[^(){{}};]*?,\s*{ERROR_TYPE}\s*>"
     rf"|(?:->|\blet\s+\w+:)\s*(?:core::result::)?Result<[^;{{}}]*?,\s*{ERROR_TYPE}\s*>"
     r"|\blet\s+AllocFailed\s*\{\s*value\s*\}\s*="
 )
@@ -292,6 +293,7 @@ use std::io::ErrorKind::*;
 use pb_base::NoMemory as Nothing;
 struct Kept { refused: AllocError }
 type Kept = AllocError;
+struct Kept { made: u8, refused: Result<u8, AllocError> }
 static LAST: Mutex<Option<NoMemory>> = Mutex::new(None);
 static mut LAST: Option<RunFault> = None;
 fn made(kind: u8) -> NoMemory { match kind { _ => NoMemory::from(AllocError), } }
@@ -318,6 +320,7 @@ RIGHT = """
 impl From<AllocError> for NoMemory {
 fn from(e: AllocError) -> LineFault<C> {
 fn push(&mut self, it: u8) -> Result<(), AllocFailed<u8>>
+fn added<'a>(one: Result<A<'a>, AllocError>, other: Result<A<'a>, AllocError>) {
 let words: Result<Vec<String>, AllocError> = args.collect(rt.alloc());
 Category::Memory => Err(ManifestCode::Memory(NoMemory::from(AllocError))),
 Err(error) if error.kind() == io::ErrorKind::OutOfMemory => { return Err(NoMemory::from(AllocError)) }

@@ -8,3 +8,4 @@ pub mod ScriptsRead
 pub mod LastReport
 pub mod ManifestNumbers
 pub mod OptionNumbers
+pub mod Taken

@@ -12,9 +12,11 @@
 mod numbers;
 mod reports;
 mod scripts;
+mod words;
 
 pub use numbers::{manifests_name_profiles_and_records, options_name_profiles_and_versions};
 pub use reports::reports_are_of_the_last_given;
 pub use scripts::{
     lines_are_read_as_written, operations_are_read_as_written, scripts_are_read_as_written,
 };
+pub use words::plain_words_are_taken;

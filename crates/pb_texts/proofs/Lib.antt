@@ -4,7 +4,5 @@ pub mod Clocks
 pub mod Counts
 pub mod Asked
 pub mod Faults
-pub mod Taken
 pub mod StoryFaults
 pub mod CellWords
-pub mod LocalArguments

@@ -38,9 +38,13 @@ workers_rule = number_rule (codes "workers") 1 most_workers
 abbrev pub swaps_rule : Rule
 swaps_rule = number_rule (codes "swaps") 0 most_swaps
 
+-- a subcommand that takes a manifest and a script
+abbrev pub scripted_app : Text → App
+scripted_app name = with_rule (with_rule (new_app name) (required_rule (codes "MANIFEST"))) (required_rule (codes "SCRIPT"))
+
 -- `run MANIFEST SCRIPT [--workers N] [--swaps M]`
 abbrev pub run_app : App
-run_app = with_rule (with_rule (with_rule (with_rule (new_app (codes "run")) (required_rule (codes "MANIFEST"))) (required_rule (codes "SCRIPT"))) workers_rule) swaps_rule
+run_app = with_rule (with_rule (scripted_app (codes "run")) workers_rule) swaps_rule
 
 -- the greatest number of `u64`
 abbrev pub last_clock : ℕ
@@ -52,7 +56,7 @@ clock_rule = number_rule (codes "clock") 0 last_clock
 
 -- `replay MANIFEST SCRIPT SCHEDULE [--clock N]`
 abbrev pub replay_app : App
-replay_app = with_rule (with_rule (with_rule (with_rule (new_app (codes "replay")) (required_rule (codes "MANIFEST"))) (required_rule (codes "SCRIPT"))) (required_rule (codes "SCHEDULE"))) clock_rule
+replay_app = with_rule (with_rule (scripted_app (codes "replay")) (required_rule (codes "SCHEDULE"))) clock_rule
 
 -- the profiles are numbered from 1 on
 abbrev pub last_profile : ℕ
@@ -85,13 +89,9 @@ check_app = with_rule (with_rule (with_rule (new_app (codes "check")) (required_
 abbrev pub needs_subcommand : App → App
 needs_subcommand = on_top (λ s. record s { subcommand_required = true })
 
--- the program, which needs a subcommand, with those that read texts
-abbrev pub texts_app : App
-texts_app = with_subcommand (with_subcommand (with_subcommand (needs_subcommand (new_app (codes "percobpf"))) run_app.top) replay_app.top) asm_app.top
-
--- the program
+-- the program, which needs a subcommand
 abbrev pub program_app : App
-program_app = with_subcommand (with_subcommand texts_app dis_app.top) check_app.top
+program_app = with_subcommand (with_subcommand (with_subcommand (with_subcommand (with_subcommand (needs_subcommand (new_app (codes "percobpf"))) run_app.top) replay_app.top) asm_app.top) dis_app.top) check_app.top
 
 -- what a command line can ask for: a manifest and a script to run by so many workers beside so many swaps, the same two with
 -- a schedule to replay from a clock on, a text to read and a path for its bytes, a file to list, and one to check

@@ -1,3 +1,4 @@
+pub mod Adding
 pub mod CommandLines
 pub mod TrialWords
 pub mod ExcerptWords

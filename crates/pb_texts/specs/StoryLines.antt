@@ -13,13 +13,9 @@ use Rattle.pb_texts.specs.TrialWords.{TrialRequest, trial_app, trial_in, trial_r
 abbrev pub frames_app : App
 frames_app = with_rule (with_rule (with_rule (new_app (codes "frames")) (required_rule (codes "FILE"))) profile_rule) record_rule
 
--- the story program, which needs a subcommand, with those that try nothing
-abbrev pub known_app : App
-known_app = with_subcommand (with_subcommand (needs_subcommand (new_app (codes "percobpf_story"))) frames_app.top) story_replay_app.top
-
--- the story program
+-- the story program, which needs a subcommand
 abbrev pub story_app : App
-story_app = with_subcommand known_app trial_app.top
+story_app = with_subcommand (with_subcommand (with_subcommand (needs_subcommand (new_app (codes "percobpf_story"))) frames_app.top) story_replay_app.top) trial_app.top
 
 -- what a command line can ask for: what `check` of the first program may be asked for, what its `replay` may, with the events
 -- whose lines are printed, or a trial

@@ -7,5 +7,5 @@ mod words;
 
 pub use words::{
     Excerpt, Options, ProgramFile, ReplayFiles, StoryOptions, Trial, TrialCell, options,
-    plain_words_are_taken, story_options,
+    story_options,
 };

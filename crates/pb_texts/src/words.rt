@@ -1,4 +1,5 @@
 //! The words of a command line.
+mod adding;
 mod choice;
 mod excerpt;
 mod parse;
@@ -6,5 +7,5 @@ mod story;
 mod trial;
 
 pub use choice::{Excerpt, Options, ProgramFile, ReplayFiles, StoryOptions, Trial, TrialCell};
-pub use parse::{options, plain_words_are_taken};
+pub use parse::options;
 pub use story::story_options;

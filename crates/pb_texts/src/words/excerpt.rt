@@ -1,9 +1,10 @@
 //! The words of a story's replay, read with `clap`, and which events' lines they ask for.
 ghost use Rattle.std.specs.Prelude.{◌≡◌, false, IfOk, codes};
-ghost use Rattle.clap.specs.Words.{app_of, first_of, found_of, kind_of, rows_of, rule_of};
-ghost use Rattle.clap.specs.declared.builder.command.Command.TheViews.{out-Command as fields_of};
+ghost use Rattle.clap.specs.Words.{first_of, found_of, kind_of, rows_of, rule_of};
+ghost use Rattle.pb_texts.specs.Adding.{IsSubcommand};
 ghost use Rattle.pb_texts.specs.ExcerptWords.{events_rule, idle_rule, story_replay_app, event_named, span_named, span_of, has_flag, excerpt_in};
 
+use crate::words::adding::with_arg;
 use crate::words::choice::Excerpt;
 use crate::words::parse::{replay_command, value_in};
 use clap::error::ErrorKind;
@@ -39,14 +40,14 @@ fn idle_option<'a>(alloc: Global) -> Arg<'a>
 
 /// The subcommand of the program's replays, with the options of a story.
 pub fn story_replay_command<'a>(alloc: Global) -> Result<Command<'a>, AllocError>
-    ensures app { IfOk result (λ c. app_of c ≡ story_replay_app) }
-    ensures local { IfOk result (λ c. (fields_of c).has_globals ≡ false) }
+    ensures { IsSubcommand result story_replay_app }
 {
-    let replay = replay_command(alloc)?;
-    replay
-        .about("Replays a schedule's events, and prints what each did, and then the report")
-        .arg(events_option(alloc))?
-        .arg(idle_option(alloc))
+    let about = "Replays a schedule's events, and prints what each did, and then the report";
+    let replay = replay_command(alloc)?.about(about);
+    with_arg(
+        with_arg(Ok(replay), events_option(alloc)),
+        idle_option(alloc),
+    )
 }
 
 fn event_named(text: &str) -> Option<u64>

@@ -2,11 +2,11 @@
 ghost use Rattle.std.specs.Prelude.{◌≡◌, ℕ, List, true, IfOk, Some, [], false, option_map, codes};
 ghost use Rattle.clap.specs.Words.{FailsBy, app_of, new_app, fault_of, first_of, found_of, kind_of, one_of, rows_of, rule_of, subcommand_of, subcommand_rows_of};
 ghost use Rattle.pb_reading.specs.Reading.{texts_of};
-ghost use Rattle.pb_texts.specs.CommandLines.{required_rule, number_rule, run_app, clock_rule, profile_rule, profile_numbered, profile_named, record_rule, version_numbered, version_of, replay_app, asm_app, dis_app, check_app, texts_app, program_app, is_within, count_named, workers_of, run_in, clock_of, replay_in, asm_in, dis_in, check_in, command_in, command_of, words_fault, request_of, replay_request, check_request, IsInRange, is_plain_word, is_workers, is_swaps, count_number, is_clock, clock_number, run_words, workers_words, swaps_words, replay_words, clock_words, asm_words, dis_words, check_words, Run, Replay, Asm, Dis, Check, AskFor, HaveBadValue, TakeProfiles, RefuseOtherProfiles, TakeVersions, RefuseOtherVersions};
-ghost use Rattle.pb_isa.specs.declared.profile.Profile.TheVariants.{One};
-ghost use Rattle.pb_helpers.specs.declared.change.Version.TheVariants.{First};
+ghost use Rattle.pb_texts.specs.CommandLines.{required_rule, number_rule, run_app, clock_rule, profile_rule, profile_numbered, profile_named, record_rule, version_numbered, version_of, replay_app, asm_app, dis_app, check_app, scripted_app, program_app, is_within, count_named, workers_of, run_in, clock_of, replay_in, asm_in, dis_in, check_in, command_in, command_of, words_fault, request_of, replay_request, check_request, IsInRange, Run, Replay, Asm, Dis, Check};
+ghost use Rattle.pb_texts.specs.Adding.{IsSubcommand, IsApp};
 ghost use Rattle.clap.specs.declared.builder.command.Command.TheViews.{out-Command as fields_of};
 
+use crate::words::adding::{with_arg, with_command};
 use crate::words::choice::{Options, ProgramFile, ReplayFiles};
 use clap::builder::ValueParser;
 use clap::error::ErrorKind;
@@ -70,21 +70,34 @@ fn number_option<'a>(
         .help(help)
 }
 
-fn run_command<'a>(alloc: Global) -> Result<Command<'a>, AllocError>
-    ensures app { IfOk result (λ c. app_of c ≡ run_app) }
-    ensures local { IfOk result (λ c. (fields_of c).has_globals ≡ false) }
+// A subcommand that takes a manifest and a script.
+fn scripted_command<'a>(
+    alloc: Global,
+    name: &'a str,
+    about: &'a str,
+) -> Result<Command<'a>, AllocError>
+    ensures { IsSubcommand result (scripted_app name.now) }
 {
-    let bare = bare_command(
-        alloc,
-        "run",
-        "Makes a script's changes, runs the observers on them, and prints the report",
-    );
+    let bare = Ok(bare_command(alloc, name, about));
+    let with_manifest = with_arg(bare, operand(alloc, "MANIFEST", MANIFEST));
+    with_arg(with_manifest, operand(alloc, "SCRIPT", SCRIPT))
+}
+
+fn run_command<'a>(alloc: Global) -> Result<Command<'a>, AllocError>
+    ensures { IsSubcommand result run_app }
+{
+    let about = "Makes a script's changes, runs the observers on them, and prints the report";
     let workers = "How many threads make the changes, 1 to 63 (1 if not given)";
     let swaps = "How many tablets are replaced while the workers run, 0 to 1000 (0 if not given)";
-    bare.arg(operand(alloc, "MANIFEST", MANIFEST))?
-        .arg(operand(alloc, "SCRIPT", SCRIPT))?
-        .arg(number_option(alloc, "workers", "N", 1, MAX_WORKERS, workers))?
-        .arg(number_option(alloc, "swaps", "M", 0, MAX_SWAPS, swaps))
+    let scripted = scripted_command(alloc, "run", about);
+    let crewed = with_arg(
+        scripted,
+        number_option(alloc, "workers", "N", 1, MAX_WORKERS, workers),
+    );
+    with_arg(
+        crewed,
+        number_option(alloc, "swaps", "M", 0, MAX_SWAPS, swaps),
+    )
 }
 
 fn clock_option<'a>(alloc: Global) -> Arg<'a>
@@ -99,19 +112,13 @@ fn clock_option<'a>(alloc: Global) -> Arg<'a>
 }
 
 pub fn replay_command<'a>(alloc: Global) -> Result<Command<'a>, AllocError>
-    ensures app { IfOk result (λ c. app_of c ≡ replay_app) }
-    ensures local { IfOk result (λ c. (fields_of c).has_globals ≡ false) }
+    ensures { IsSubcommand result replay_app }
 {
-    let bare = bare_command(
-        alloc,
-        "replay",
-        "Replays a schedule's events with a script's changes, and prints the report",
-    );
+    let about = "Replays a schedule's events with a script's changes, and prints the report";
     let schedule = "A text file with the events, one per line";
-    bare.arg(operand(alloc, "MANIFEST", MANIFEST))?
-        .arg(operand(alloc, "SCRIPT", SCRIPT))?
-        .arg(operand(alloc, "SCHEDULE", schedule))?
-        .arg(clock_option(alloc))
+    let scripted = scripted_command(alloc, "replay", about);
+    let scheduled = with_arg(scripted, operand(alloc, "SCHEDULE", schedule));
+    with_arg(scheduled, clock_option(alloc))
 }
 
 pub fn file_operand<'a>(alloc: Global) -> Arg<'a>
@@ -138,64 +145,49 @@ pub fn record_option<'a>(alloc: Global) -> Arg<'a>
 }
 
 fn asm_command<'a>(alloc: Global) -> Result<Command<'a>, AllocError>
-    ensures app { IfOk result (λ c. app_of c ≡ asm_app) }
-    ensures local { IfOk result (λ c. (fields_of c).has_globals ≡ false) }
+    ensures { IsSubcommand result asm_app }
 {
-    let bare = bare_command(alloc, "asm", "Writes the bytes of a program's text");
-    let output = "The file that the program's bytes are written to";
-    bare.arg(operand(alloc, "IN", "A text file with one instruction per line"))?
-        .arg(operand(alloc, "OUT", output))?
-        .arg(profile_option(alloc))
+    let bare = Ok(bare_command(alloc, "asm", "Writes the bytes of a program's text"));
+    let input = operand(alloc, "IN", "A text file with one instruction per line");
+    let output = operand(
+        alloc,
+        "OUT",
+        "The file that the program's bytes are written to",
+    );
+    with_arg(
+        with_arg(with_arg(bare, input), output),
+        profile_option(alloc),
+    )
 }
 
 fn dis_command<'a>(alloc: Global) -> Result<Command<'a>, AllocError>
-    ensures app { IfOk result (λ c. app_of c ≡ dis_app) }
-    ensures local { IfOk result (λ c. (fields_of c).has_globals ≡ false) }
+    ensures { IsSubcommand result dis_app }
 {
-    let bare = bare_command(
-        alloc,
-        "dis",
-        "Prints the text of a program's bytes, or where they are refused",
-    );
-    bare.arg(file_operand(alloc))?.arg(profile_option(alloc))
+    let about = "Prints the text of a program's bytes, or where they are refused";
+    let bare = Ok(bare_command(alloc, "dis", about));
+    with_arg(with_arg(bare, file_operand(alloc)), profile_option(alloc))
 }
 
 fn check_command<'a>(alloc: Global) -> Result<Command<'a>, AllocError>
-    ensures app { IfOk result (λ c. app_of c ≡ check_app) }
-    ensures local { IfOk result (λ c. (fields_of c).has_globals ≡ false) }
+    ensures { IsSubcommand result check_app }
 {
-    let bare = bare_command(
-        alloc,
-        "check",
-        "Prints whether a program's bytes are accepted, or where they are refused",
-    );
-    bare.arg(file_operand(alloc))?
-        .arg(profile_option(alloc))?
-        .arg(record_option(alloc))
-}
-
-// The program with the subcommands that read texts.
-fn texts_program<'a>(alloc: Global) -> Result<Command<'a>, AllocError>
-    ensures { IfOk result (λ c. app_of c ≡ texts_app) }
-{
-    let run = run_command(alloc)?;
-    let replay = replay_command(alloc)?;
-    let asm = asm_command(alloc)?;
-    let bare = bare_command(
-        alloc,
-        "percobpf",
-        "A table of cells with snapshot transactions, and BPF observers that run on its changes",
-    );
-    let bare = bare.subcommand_required(true);
-    bare.subcommand(run)?.subcommand(replay)?.subcommand(asm)
+    let about = "Prints whether a program's bytes are accepted, or where they are refused";
+    let bare = Ok(bare_command(alloc, "check", about));
+    let profiled = with_arg(with_arg(bare, file_operand(alloc)), profile_option(alloc));
+    with_arg(profiled, record_option(alloc))
 }
 
 fn program<'a>(alloc: Global) -> Result<Command<'a>, AllocError>
-    ensures { IfOk result (λ c. app_of c ≡ program_app) }
+    ensures { IsApp result program_app }
 {
-    let dis = dis_command(alloc)?;
-    let check = check_command(alloc)?;
-    texts_program(alloc)?.subcommand(dis)?.subcommand(check)
+    let about =
+        "A table of cells with snapshot transactions, and BPF observers that run on its changes";
+    let bare = Ok(bare_command(alloc, "percobpf", about).subcommand_required(true));
+    let runs = with_command(bare, run_command(alloc));
+    let replays = with_command(runs, replay_command(alloc));
+    let assembles = with_command(replays, asm_command(alloc));
+    let lists = with_command(assembles, dis_command(alloc));
+    with_command(lists, check_command(alloc))
 }
 
 fn matches_of<'a>(alloc: Global, words: &'a [&'a str]) -> Result<ArgMatches<'a>, Error>
@@ -364,18 +356,31 @@ fn command_in<'a>(matches: &ArgMatches<'a>) -> Option<Options<'a>>
     }
 }
 
+fn plus_text(alloc: Global, option: &str) -> Result<String, AllocError> {
+    format!(in alloc; "invalid value for '{option}': a plus stands before the digits")
+}
+
 // The error of a plus before the number of this option, with the usage of its subcommand.
 pub fn plus_told(
     alloc: Global,
-    command: Command,
+    command: Result<Command, AllocError>,
     name: &str,
     option: &str,
 ) -> Result<Error, AllocError>
     ensures { IfOk result (λ e. kind_of e ≡ ErrorKind.ValueValidation) }
 {
-    let text = format!(in alloc; "invalid value for '{option}': a plus stands before the digits")?;
-    let mut named = command.bin_name(name)?;
+    let mut named = command?.bin_name(name)?;
+    let text = plus_text(alloc, option)?;
     named.error(ErrorKind::ValueValidation, &text)
+}
+
+// The first option of `check` that has a plus before its number.
+fn checked_option(check: &ArgMatches) -> &'static str {
+    if profile_in(check).is_none() {
+        "--profile <N>"
+    } else {
+        "--record <N>"
+    }
 }
 
 // The error of a plus before a number, which names the first option that has one.
@@ -383,23 +388,16 @@ fn plus_error(alloc: Global, matches: &ArgMatches) -> Result<Error, AllocError>
     ensures { IfOk result (λ e. kind_of e ≡ ErrorKind.ValueValidation) }
 {
     match matches.subcommand() {
-        Some(("asm", _)) => plus_told(alloc, asm_command(alloc)?, "percobpf asm", "--profile <N>"),
-        Some(("dis", _)) => plus_told(alloc, dis_command(alloc)?, "percobpf dis", "--profile <N>"),
+        Some(("asm", _)) => plus_told(alloc, asm_command(alloc), "percobpf asm", "--profile <N>"),
+        Some(("dis", _)) => plus_told(alloc, dis_command(alloc), "percobpf dis", "--profile <N>"),
         Some(("check", check)) => {
-            let option = if profile_in(check).is_none() {
-                "--profile <N>"
-            } else {
-                "--record <N>"
-            };
-            plus_told(alloc, check_command(alloc)?, "percobpf check", option)
+            let option = checked_option(check);
+            plus_told(alloc, check_command(alloc), "percobpf check", option)
         }
-        Some((_, run)) if workers_in(run).is_none() => plus_told(
-            alloc,
-            run_command(alloc)?,
-            "percobpf run",
-            "--workers <N>",
-        ),
-        _ => plus_told(alloc, run_command(alloc)?, "percobpf run", "--swaps <M>"),
+        Some((_, run)) if workers_in(run).is_none() => {
+            plus_told(alloc, run_command(alloc), "percobpf run", "--workers <N>")
+        }
+        _ => plus_told(alloc, run_command(alloc), "percobpf run", "--swaps <M>"),
     }
 }
 
@@ -420,67 +418,3 @@ pub fn options<'a>(alloc: Global, words: &'a [&'a str]) -> Result<Options<'a>, E
         None => Err(plus_error(alloc, &matches)?),
     }
 }
-
-/// A subcommand with as many words after it as it has operands, none of which begins with a hyphen, is taken. So is `run`
-/// with `--workers` and a number of workers after them, or `--swaps` and a number of swaps, decimal digits alone, `replay`
-/// with `--clock` and a number of `u64`, and `asm`, `dis` and `check` with `--profile` and 1 or 2, decimal digits alone;
-/// with another such word there each is refused. Without `--profile` the profile is the first. So is `check` with
-/// `--record` and 1 or 2.
-pub fn plain_words_are_taken()
-    ensures run { (program manifest script : List ℕ) → is_plain_word manifest ≡ true
-        → is_plain_word script ≡ true
-        → AskFor (run_words program manifest script) (Run manifest script 1 0) }
-    ensures workers { (program manifest script workers : List ℕ) → is_plain_word manifest ≡ true
-        → is_plain_word script ≡ true → is_workers workers ≡ true
-        → AskFor (workers_words program manifest script workers)
-        (Run manifest script (count_number workers) 0) }
-    ensures other_workers { (program manifest script workers : List ℕ)
-        → is_plain_word manifest ≡ true
-        → is_plain_word script ≡ true → is_plain_word workers ≡ true → is_workers workers ≡ false
-        → HaveBadValue (workers_words program manifest script workers) }
-    ensures swaps { (program manifest script swaps : List ℕ) → is_plain_word manifest ≡ true
-        → is_plain_word script ≡ true → is_swaps swaps ≡ true
-        → AskFor (swaps_words program manifest script swaps)
-        (Run manifest script 1 (count_number swaps)) }
-    ensures other_swaps { (program manifest script swaps : List ℕ) → is_plain_word manifest ≡ true
-        → is_plain_word script ≡ true → is_plain_word swaps ≡ true → is_swaps swaps ≡ false
-        → HaveBadValue (swaps_words program manifest script swaps) }
-    ensures replay { (program manifest script schedule : List ℕ) → is_plain_word manifest ≡ true
-        → is_plain_word script ≡ true → is_plain_word schedule ≡ true
-        → AskFor (replay_words program manifest script schedule)
-        (Replay manifest script schedule 0) }
-    ensures clock { (program manifest script schedule clock : List ℕ)
-        → is_plain_word manifest ≡ true
-        → is_plain_word script ≡ true → is_plain_word schedule ≡ true → is_clock clock ≡ true
-        → AskFor (clock_words program manifest script schedule clock)
-        (Replay manifest script schedule (clock_number clock)) }
-    ensures other_clock { (program manifest script schedule clock : List ℕ)
-        → is_plain_word manifest ≡ true
-        → is_plain_word script ≡ true → is_plain_word schedule ≡ true → is_plain_word clock ≡ true
-        → is_clock clock ≡ false → HaveBadValue
-        (clock_words program manifest script schedule clock) }
-    ensures asm { (program input output : List ℕ) → is_plain_word input ≡ true
-        → is_plain_word output ≡ true
-        → AskFor (asm_words program input output) (Asm input output One) }
-    ensures asm_profile { (program input output : List ℕ) → is_plain_word input ≡ true
-        → is_plain_word output ≡ true
-        → TakeProfiles (asm_words program input output) (Asm input output) }
-    ensures other_asm_profile { (program input output : List ℕ) → is_plain_word input ≡ true
-        → is_plain_word output ≡ true → RefuseOtherProfiles (asm_words program input output) }
-    ensures dis { (program file : List ℕ) → is_plain_word file ≡ true
-        → AskFor (dis_words program file) (Dis file One) }
-    ensures dis_profile { (program file : List ℕ) → is_plain_word file ≡ true
-        → TakeProfiles (dis_words program file) (Dis file) }
-    ensures other_dis_profile { (program file : List ℕ) → is_plain_word file ≡ true
-        → RefuseOtherProfiles (dis_words program file) }
-    ensures check { (program file : List ℕ) → is_plain_word file ≡ true
-        → AskFor (check_words program file) (Check file One First) }
-    ensures check_profile { (program file : List ℕ) → is_plain_word file ≡ true
-        → TakeProfiles (check_words program file) (λ profile. Check file profile First) }
-    ensures other_check_profile { (program file : List ℕ) → is_plain_word file ≡ true
-        → RefuseOtherProfiles (check_words program file) }
-    ensures check_record { (program file : List ℕ) → is_plain_word file ≡ true
-        → TakeVersions (check_words program file) (Check file One) }
-    ensures other_check_record { (program file : List ℕ) → is_plain_word file ≡ true
-        → RefuseOtherVersions (check_words program file) }
-{}

@@ -1,10 +1,11 @@
 //! A command line of the story program, read with `clap`.
-ghost use Rattle.std.specs.Prelude.{◌≡◌, IfOk, Some, false, option_map};
-ghost use Rattle.clap.specs.Words.{FailsBy, app_of, fault_of, found_of, kind_of, rows_of, subcommand_of, subcommand_rows_of};
-ghost use Rattle.clap.specs.declared.builder.command.Command.TheViews.{out-Command as fields_of};
+ghost use Rattle.std.specs.Prelude.{◌≡◌, IfOk, Some, option_map};
+ghost use Rattle.clap.specs.Words.{FailsBy, fault_of, found_of, kind_of, rows_of, subcommand_of, subcommand_rows_of};
 ghost use Rattle.pb_reading.specs.Reading.{texts_of};
-ghost use Rattle.pb_texts.specs.StoryLines.{frames_app, known_app, story_app, story_replay_in, known_in, story_in, story_of, story_fault, story_request};
+ghost use Rattle.pb_texts.specs.Adding.{IsSubcommand, IsApp};
+ghost use Rattle.pb_texts.specs.StoryLines.{frames_app, story_app, story_replay_in, known_in, story_in, story_of, story_fault, story_request};
 
+use crate::words::adding::{with_arg, with_command};
 use crate::words::choice::StoryOptions;
 use crate::words::excerpt::{events_refused, excerpt_in, story_replay_command};
 use crate::words::parse::{
@@ -16,34 +17,25 @@ use clap::{ArgMatches, Command, Error};
 use std::alloc::{AllocError, Global};
 
 fn frames_command<'a>(alloc: Global) -> Result<Command<'a>, AllocError>
-    ensures app { IfOk result (λ c. app_of c ≡ frames_app) }
-    ensures local { IfOk result (λ c. (fields_of c).has_globals ≡ false) }
+    ensures { IsSubcommand result frames_app }
 {
-    let bare = Command::new(alloc, "frames");
-    bare.about("Prints what is known before each slot of a program, or where its bytes are refused")
-        .arg(file_operand(alloc))?
-        .arg(profile_option(alloc))?
-        .arg(record_option(alloc))
+    let bare = Ok(Command::new(alloc, "frames").about(
+        "Prints what is known before each slot of a program, or where its bytes are refused",
+    ));
+    let profiled = with_arg(with_arg(bare, file_operand(alloc)), profile_option(alloc));
+    with_arg(profiled, record_option(alloc))
 }
 
-// The program with the subcommands that try nothing.
-fn known_program<'a>(alloc: Global) -> Result<Command<'a>, AllocError>
-    ensures { IfOk result (λ c. app_of c ≡ known_app) }
+fn story_program<'a>(alloc: Global) -> Result<Command<'a>, AllocError>
+    ensures { IsApp result story_app }
 {
-    let frames = frames_command(alloc)?;
-    let replay = story_replay_command(alloc)?;
     let bare = Command::new(alloc, "percobpf_story").subcommand_required(true);
     let bare = bare.about(
         "What is known before each slot of a program, what each event of a replay did, and what one run does",
     );
-    bare.subcommand(frames)?.subcommand(replay)
-}
-
-fn story_program<'a>(alloc: Global) -> Result<Command<'a>, AllocError>
-    ensures { IfOk result (λ c. app_of c ≡ story_app) }
-{
-    let trial = trial_command(alloc)?;
-    known_program(alloc)?.subcommand(trial)
+    let frames = with_command(Ok(bare), frames_command(alloc));
+    let replays = with_command(frames, story_replay_command(alloc));
+    with_command(replays, trial_command(alloc))
 }
 
 fn story_matches<'a>(alloc: Global, words: &'a [&'a str]) -> Result<ArgMatches<'a>, Error>
@@ -101,7 +93,7 @@ fn frames_plus_error(alloc: Global, matches: &ArgMatches) -> Result<Error, Alloc
     };
     plus_told(
         alloc,
-        frames_command(alloc)?,
+        frames_command(alloc),
         "percobpf_story frames",
         option,
     )

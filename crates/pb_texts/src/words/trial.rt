@@ -1,10 +1,11 @@
 //! The words of a trial, read with `clap`, and its cells, read as a script's words are.
 ghost use Rattle.std.specs.Prelude.{◌≡◌, false, IfOk, option_map};
-ghost use Rattle.clap.specs.Words.{app_of, found_of, kind_of, rows_of, rule_of};
-ghost use Rattle.clap.specs.declared.builder.command.Command.TheViews.{out-Command as fields_of};
+ghost use Rattle.clap.specs.Words.{found_of, kind_of, rows_of, rule_of};
 ghost use Rattle.pb_reading.specs.Reading.{texts_of};
+ghost use Rattle.pb_texts.specs.Adding.{IsSubcommand};
 ghost use Rattle.pb_texts.specs.TrialWords.{text_rule, required_option, cell_rule, change_app, trial_app, row_named, column_named, value_named, trial_cell, cells_named, trial_cells_in, change_in, old_in, trial_with, trial_in, trial_request};
 
+use crate::words::adding::with_arg;
 use crate::words::choice::{Trial, TrialCell};
 use crate::words::parse::{
     check_in, file_operand, profile_in, profile_option, record_option, value_in, version_in,
@@ -63,28 +64,32 @@ fn cell_option<'a>(alloc: Global) -> Arg<'a>
 
 // The subcommand with the words that name the change.
 fn change_command<'a>(alloc: Global) -> Result<Command<'a>, AllocError>
-    ensures app { IfOk result (λ c. app_of c ≡ change_app) }
-    ensures local { IfOk result (λ c. (fields_of c).has_globals ≡ false) }
+    ensures { IsSubcommand result change_app }
 {
-    let bare = Command::new(alloc, "trial").after_help(TIMES);
-    bare.about(
-        "Runs a program once on the record of a change, and prints what it asks, writes and returns",
-    ).arg(file_operand(alloc))?
-        .arg(needed_option(alloc, "row", "R", "The row of the cell that was changed"))?
-        .arg(needed_option(alloc, "column", "C", "The column of that cell, 0 to 15"))?
-        .arg(needed_option(alloc, "value", "HEX", "The value that the change wrote"))
+    let bare = Ok(
+        Command::new(alloc, "trial").after_help(TIMES).about(
+            "Runs a program once on the record of a change, and prints what it asks, writes and returns",
+        ),
+    );
+    let row = needed_option(alloc, "row", "R", "The row of the cell that was changed");
+    let column = needed_option(alloc, "column", "C", "The column of that cell, 0 to 15");
+    let value = needed_option(alloc, "value", "HEX", "The value that the change wrote");
+    with_arg(
+        with_arg(with_arg(with_arg(bare, file_operand(alloc)), row), column),
+        value,
+    )
 }
 
 pub fn trial_command<'a>(alloc: Global) -> Result<Command<'a>, AllocError>
-    ensures app { IfOk result (λ c. app_of c ≡ trial_app) }
-    ensures local { IfOk result (λ c. (fields_of c).has_globals ≡ false) }
+    ensures { IsSubcommand result trial_app }
 {
     let old = "The acknowledged value of that cell (nothing is acknowledged if not given)";
-    change_command(alloc)?
-        .arg(text_option(alloc, "old", "HEX", old))?
-        .arg(cell_option(alloc))?
-        .arg(profile_option(alloc))?
-        .arg(record_option(alloc))
+    let with_old = with_arg(change_command(alloc), text_option(alloc, "old", "HEX", old));
+    let profiled = with_arg(
+        with_arg(with_old, cell_option(alloc)),
+        profile_option(alloc),
+    );
+    with_arg(profiled, record_option(alloc))
 }
 
 fn row_named(text: &str) -> Option<Row>

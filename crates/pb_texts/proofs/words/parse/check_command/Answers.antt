@@ -1,14 +1,4 @@
-use Rattle.std.proofs.Common.{arith, ap₂, codes, ◌≡◌, ◌∙◌}
-use Rattle.std.proofs.lemmas.Result.{IfOk-weaker}
-use Rattle.clap.specs.Words.{app_of, new_app, with_rule}
 use Rattle.pb_texts.proofs.words.parse.check_command.Goals as goal
 
-pub returns-clause-app : goal.returns-clause-app
-returns-clause-app c =
-    let bare : app_of c.bare_command-bare.result ≡ new_app (codes "check") = c.bare_command-bare.ensures.app in
-    let one = c.in_ok-arg.ensures.shape c.file_operand.ensures.local ∙ ap₂ with_rule bare c.file_operand.ensures.rule in
-    let two = c.in_ok-arg-2.ensures.shape c.profile_option.ensures.local ∙ ap₂ with_rule one c.profile_option.ensures.rule in
-    IfOk-weaker c.arg-3.result _ _ (λ r h. h.shape c.record_option.ensures.local ∙ ap₂ with_rule two c.record_option.ensures.rule) c.arg-3.ensures
-
-pub returns-clause-local : goal.returns-clause-local
-returns-clause-local c = grind arith
+pub returns : goal.returns
+returns c = c.with_arg-2.ensures _ _ (c.with_arg-profiled.ensures _ _ (c.with_arg.ensures _ _ (c.bare_command.ensures.app, c.bare_command.ensures.local) c.file_operand.ensures.rule) c.profile_option.ensures.rule) c.record_option.ensures.rule

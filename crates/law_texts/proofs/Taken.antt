@@ -7,9 +7,8 @@ use Rattle.clap.specs.Kinds.{Kinds, or_else}
 use Rattle.clap.specs.ValueTests.{is_unsigned_in}
 use Rattle.clap.specs.declared.error.kind.ErrorKind.{ErrorKind}
 use Rattle.clap.proofs.OnLiterals.{clap_on_literals}
-use Rattle.pb_isa.specs.declared.profile.Profile.{Profile}
-use Rattle.pb_helpers.specs.declared.change.Version.{Version}
-use Rattle.pb_texts.specs.CommandLines.{most_workers, most_swaps, last_profile, is_plain_word, is_count, is_workers, is_swaps, is_profile, profile_numbered, count_number, begins_with_plus, is_clock, clock_number, run_words, workers_words, swaps_words, replay_words, clock_words, asm_words, dis_words, check_words, profile_words, Run, Replay, Asm, Dis, Check, Request, AskFor, HaveBadValue, TakeProfiles, RefuseOtherProfiles, last_version, is_version, version_numbered, record_words, TakeVersions, RefuseOtherVersions}
+use Rattle.law_texts.specs.Words.{Profile, Version, count_number}
+use Rattle.pb_texts.specs.CommandLines.{most_workers, most_swaps, last_profile, is_plain_word, is_count, is_workers, is_swaps, is_profile, profile_numbered, begins_with_plus, is_clock, clock_number, run_words, workers_words, swaps_words, replay_words, clock_words, asm_words, dis_words, check_words, profile_words, Run, Replay, Asm, Dis, Check, Request, AskFor, HaveBadValue, TakeProfiles, RefuseOtherProfiles, last_version, is_version, version_numbered, record_words, TakeVersions, RefuseOtherVersions}
 use Rattle.pb_texts.proofs.Counts.{plus_no_count, plain_count}
 use Rattle.pb_base.proofs.Logic.{not_both as true_not_false}
 

@@ -1,5 +1,5 @@
-use Rattle.pb_texts.proofs.Taken.{run_taken, workers_taken, other_workers_refused, swaps_taken, other_swaps_refused, replay_taken, clock_taken, other_clock_refused, asm_taken, asm_profile_taken, other_asm_profile_refused, dis_taken, dis_profile_taken, other_dis_profile_refused, check_taken, check_profile_taken, other_check_profile_refused, check_record_taken, other_check_record_refused}
-use Rattle.pb_texts.proofs.words.parse.plain_words_are_taken.Goals as goal
+use Rattle.law_texts.proofs.Taken.{run_taken, workers_taken, other_workers_refused, swaps_taken, other_swaps_refused, replay_taken, clock_taken, other_clock_refused, asm_taken, asm_profile_taken, other_asm_profile_refused, dis_taken, dis_profile_taken, other_dis_profile_refused, check_taken, check_profile_taken, other_check_profile_refused, check_record_taken, other_check_record_refused}
+use Rattle.law_texts.proofs.words.plain_words_are_taken.Goals as goal
 
 pub returns-clause-run : goal.returns-clause-run
 returns-clause-run c = run_taken
