@@ -154,10 +154,8 @@ fn a_clear_list_keeps_its_room(rt: HostRuntime) -> Result<(), Fail> {
     list.put(5_u64, 1_u64);
     list.put(7, 2);
     list.put(5, 3);
-    assert_eq!(rt; list.at(0), Some((5, 3)));
-    assert_eq!(rt; list.len(), 2);
+    assert!(rt; list.at(0) == Some((5, 3)) && list.len() == 2);
     list.clear();
-    assert!(rt; list.is_empty());
-    assert_eq!(rt; list.at(0), None);
+    assert!(rt; list.is_empty() && list.at(0).is_none());
     Ok(())
 }
