@@ -9,7 +9,6 @@ mod running;
 
 use crate::running::{NoRun, last_of};
 use pb_asm::disassemble;
-use pb_base::NoMemory;
 use pb_decode::{decode_in, encode};
 use pb_helpers::HelperTable;
 use pb_isa::{AluOp, Extension, Insn, Operand, Profile, Program, Reg, Size, Width};
@@ -47,21 +46,24 @@ fn insn_at(place: u16) -> Insn {
     }
 }
 
-// The bytes of a program of so many slots, the last an exit; none where there is no such program.
-fn bytes_of(alloc: Global, slots: u16) -> Result<Option<Vec<u8>>, NoMemory> {
+fn insns_of(alloc: Global, slots: u16) -> Option<Vec<Insn>> {
     let mut insns = Vec::new(alloc);
     for place in 1..slots {
-        insns.push(insn_at(place - 1))?;
+        insns.push(insn_at(place - 1)).ok()?;
     }
-    insns.push(Insn::Exit)?;
+    insns.push(Insn::Exit).ok()?;
+    Some(insns)
+}
+
+// The bytes of a program of so many slots, the last an exit; none where there is no such program, or no memory.
+fn bytes_of(alloc: Global, slots: u16) -> Option<Vec<u8>> {
+    let insns = insns_of(alloc, slots)?;
     let profile = Profile::Two;
     if !profile.has_all(&insns) {
-        return Ok(None);
+        return None;
     }
-    match Program::new(alloc, profile, insns) {
-        Ok(program) => Ok(Some(encode(alloc, &program)?)),
-        Err(_) => Ok(None),
-    }
+    let program = Program::new(alloc, profile, insns).ok()?;
+    encode(alloc, &program).ok()
 }
 
 // How many bytes the listing of this program has; none where the bytes are no program's.
@@ -96,7 +98,7 @@ fn total_verified(alloc: Global, bytes: &[u8]) -> Option<u64> {
 
 // What `list` or `verify` of so many slots comes to.
 fn total_of(rt: &HostRuntime, word: &str, slots: &str) -> Option<u64> {
-    let bytes = bytes_of(rt.alloc(), slots.parse::<u16>().ok()?).ok()??;
+    let bytes = bytes_of(rt.alloc(), slots.parse::<u16>().ok()?)?;
     match word {
         "list" => total_listed(rt.alloc(), &bytes),
         "verify" => total_verified(rt.alloc(), &bytes),
@@ -105,8 +107,9 @@ fn total_of(rt: &HostRuntime, word: &str, slots: &str) -> Option<u64> {
 }
 
 // Prints what the last of so many runs left.
-fn tell_run(rt: &HostRuntime, path: &str, runs: &str, is_by_steps: bool) -> Option<bool> {
-    let runs = runs.parse::<u32>().ok()?;
+fn tell_run(rt: &HostRuntime, words: &[String], is_by_steps: bool) -> Option<bool> {
+    let path = words.get(2)?.as_str();
+    let runs = words.get(3)?.as_str().parse::<u32>().ok()?;
     match last_of(rt, path, runs, is_by_steps) {
         Ok(ran) => {
             let end = ran.finished.result();
@@ -126,12 +129,7 @@ fn tell_run(rt: &HostRuntime, path: &str, runs: &str, is_by_steps: bool) -> Opti
 pub fn is_done(rt: &HostRuntime, words: &[String]) -> Option<bool> {
     let word = words.get(1)?.as_str();
     if word == "run" || word == "step" {
-        return tell_run(
-            rt,
-            words.get(2)?.as_str(),
-            words.get(3)?.as_str(),
-            word == "step",
-        );
+        return tell_run(rt, words, word == "step");
     }
     let total = total_of(rt, word, words.get(2)?.as_str())?;
     Some(println!(rt; "{total}").is_ok())
