@@ -64,26 +64,31 @@ fn bytes_in(rt: &HostRuntime, path: &str) -> Option<Vec<u8>> {
     Some(bytes)
 }
 
-// What the words ask for, the program's own first; none where they ask for nothing that there is.
+fn choice_in(seed: &str, tenths: &str) -> Option<Choice> {
+    Choice::new(seed.parse::<u64>().ok()?, tenths.parse::<u32>().ok()?)
+}
+
+// What these words ask for, the program's own first; none where they ask for nothing that there is.
+fn task_in(rt: &HostRuntime, words: &[String]) -> Option<Task> {
+    let (choice, code) = match words {
+        [_, path, seed, tenths] => (
+            choice_in(seed.as_str(), tenths.as_str())?,
+            bytes_in(rt, path.as_str())?,
+        ),
+        [_] => (Choice::new(0, 10)?, bytes_of(rt.alloc(), &COPY).ok()?),
+        _ => return None,
+    };
+    Some(Task {
+        code,
+        choice,
+        is_told: words.len() > 1,
+    })
+}
+
 fn task_of(rt: &HostRuntime) -> Option<Task> {
     let args = env::args(rt).ok()?;
     let words: Vec<String> = args.collect(rt.alloc()).ok()?;
-    match words.as_slice() {
-        [_, path, seed, tenths] => Some(Task {
-            code: bytes_in(rt, path.as_str())?,
-            choice: Choice::new(
-                seed.as_str().parse::<u64>().ok()?,
-                tenths.as_str().parse::<u32>().ok()?,
-            )?,
-            is_told: true,
-        }),
-        [_] => Some(Task {
-            code: bytes_of(rt.alloc(), &COPY).ok()?,
-            choice: Choice::new(0, 10)?,
-            is_told: false,
-        }),
-        _ => None,
-    }
+    task_in(rt, &words)
 }
 
 fn main(rt: HostRuntime) -> ExitCode {

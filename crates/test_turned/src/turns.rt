@@ -19,7 +19,7 @@ pub struct Met {
 }
 
 /// A replaced byte: its place, its new value, and what was wrong then.
-#[derive(Debug, PartialEq, Eq, Drop, Error)]
+#[derive(Debug, Drop, Error)]
 #[error("byte {at} as {value}: {fault}")]
 pub struct Wrong {
     at: usize,

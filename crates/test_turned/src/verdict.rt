@@ -15,7 +15,7 @@ const PUT: Value = [42; 32];
 const FOUND: Value = [17; 32];
 
 /// What of a program isn't as it has to be, or that memory was refused.
-#[derive(Debug, PartialEq, Eq, Drop, Error)]
+#[derive(Debug, Drop, Error)]
 pub enum Fault {
     #[error("{0}")]
     NoMemory(NoMemory),
