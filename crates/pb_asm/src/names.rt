@@ -1,5 +1,6 @@
 //! The words of the text: the first word of each line, and the names of registers.
 ghost use Rattle.std.specs.Prelude.{◌≡◌};
+ghost use Rattle.pb_asm.specs.declared.names.Word.{Word};
 ghost use Rattle.pb_asm.specs.Names.{name, is_word_of, size_bits, word_in, word_named, reg_name, reg_spelled, reg_named};
 
 use pb_isa::{AluOp, Cmp, Extension, Profile, Reg, Size, Width};
@@ -21,66 +22,92 @@ pub enum Word {
     Exit,
 }
 
+// The names of operations, jumps and loads are functions of their own, since the prover's time grows with the square of the
+// cases of one.
+fn alu_name(op: AluOp, width: Width) -> &'static str
+    ensures { result.now ≡ name (Word.Alu op width) }
+{
+    match (op, width) {
+        (AluOp::Add, Width::Bits32) => "add32",
+        (AluOp::Add, Width::Bits64) => "add64",
+        (AluOp::Sub, Width::Bits32) => "sub32",
+        (AluOp::Sub, Width::Bits64) => "sub64",
+        (AluOp::Mul, Width::Bits32) => "mul32",
+        (AluOp::Mul, Width::Bits64) => "mul64",
+        (AluOp::Div, Width::Bits32) => "div32",
+        (AluOp::Div, Width::Bits64) => "div64",
+        (AluOp::Or, Width::Bits32) => "or32",
+        (AluOp::Or, Width::Bits64) => "or64",
+        (AluOp::And, Width::Bits32) => "and32",
+        (AluOp::And, Width::Bits64) => "and64",
+        (AluOp::Lsh, Width::Bits32) => "lsh32",
+        (AluOp::Lsh, Width::Bits64) => "lsh64",
+        (AluOp::Rsh, Width::Bits32) => "rsh32",
+        (AluOp::Rsh, Width::Bits64) => "rsh64",
+        (AluOp::Mod, Width::Bits32) => "mod32",
+        (AluOp::Mod, Width::Bits64) => "mod64",
+        (AluOp::Xor, Width::Bits32) => "xor32",
+        (AluOp::Xor, Width::Bits64) => "xor64",
+        (AluOp::Mov, Width::Bits32) => "mov32",
+        (AluOp::Mov, Width::Bits64) => "mov64",
+        (AluOp::Arsh, Width::Bits32) => "arsh32",
+        (AluOp::Arsh, Width::Bits64) => "arsh64",
+    }
+}
+
+fn jump_name(cmp: Cmp, width: Width) -> &'static str
+    ensures { result.now ≡ name (Word.JumpIf cmp width) }
+{
+    match (cmp, width) {
+        (Cmp::Eq, Width::Bits32) => "jeq32",
+        (Cmp::Eq, Width::Bits64) => "jeq64",
+        (Cmp::Gt, Width::Bits32) => "jgt32",
+        (Cmp::Gt, Width::Bits64) => "jgt64",
+        (Cmp::Ge, Width::Bits32) => "jge32",
+        (Cmp::Ge, Width::Bits64) => "jge64",
+        (Cmp::Set, Width::Bits32) => "jset32",
+        (Cmp::Set, Width::Bits64) => "jset64",
+        (Cmp::Ne, Width::Bits32) => "jne32",
+        (Cmp::Ne, Width::Bits64) => "jne64",
+        (Cmp::Sgt, Width::Bits32) => "jsgt32",
+        (Cmp::Sgt, Width::Bits64) => "jsgt64",
+        (Cmp::Sge, Width::Bits32) => "jsge32",
+        (Cmp::Sge, Width::Bits64) => "jsge64",
+        (Cmp::Lt, Width::Bits32) => "jlt32",
+        (Cmp::Lt, Width::Bits64) => "jlt64",
+        (Cmp::Le, Width::Bits32) => "jle32",
+        (Cmp::Le, Width::Bits64) => "jle64",
+        (Cmp::Slt, Width::Bits32) => "jslt32",
+        (Cmp::Slt, Width::Bits64) => "jslt64",
+        (Cmp::Sle, Width::Bits32) => "jsle32",
+        (Cmp::Sle, Width::Bits64) => "jsle64",
+    }
+}
+
+fn load_name(size: Size, extension: Extension) -> &'static str
+    ensures { result.now ≡ name (Word.Load size extension) }
+{
+    match (size, extension) {
+        (Size::B, Extension::Zeros) => "ldxb",
+        (Size::H, Extension::Zeros) => "ldxh",
+        (Size::W, Extension::Zeros) => "ldxw",
+        (Size::Dw, Extension::Zeros) => "ldxdw",
+        (Size::B, Extension::Sign) => "ldxsb",
+        (Size::H, Extension::Sign) => "ldxsh",
+        (Size::W, Extension::Sign) => "ldxsw",
+        (Size::Dw, Extension::Sign) => "ldxsdw",
+    }
+}
+
 impl Word {
     /// How it is written.
     pub fn name(self) -> &'static str
         ensures { result.now ≡ name self }
     {
         match self {
-            Word::Alu(AluOp::Add, Width::Bits32) => "add32",
-            Word::Alu(AluOp::Add, Width::Bits64) => "add64",
-            Word::Alu(AluOp::Sub, Width::Bits32) => "sub32",
-            Word::Alu(AluOp::Sub, Width::Bits64) => "sub64",
-            Word::Alu(AluOp::Mul, Width::Bits32) => "mul32",
-            Word::Alu(AluOp::Mul, Width::Bits64) => "mul64",
-            Word::Alu(AluOp::Div, Width::Bits32) => "div32",
-            Word::Alu(AluOp::Div, Width::Bits64) => "div64",
-            Word::Alu(AluOp::Or, Width::Bits32) => "or32",
-            Word::Alu(AluOp::Or, Width::Bits64) => "or64",
-            Word::Alu(AluOp::And, Width::Bits32) => "and32",
-            Word::Alu(AluOp::And, Width::Bits64) => "and64",
-            Word::Alu(AluOp::Lsh, Width::Bits32) => "lsh32",
-            Word::Alu(AluOp::Lsh, Width::Bits64) => "lsh64",
-            Word::Alu(AluOp::Rsh, Width::Bits32) => "rsh32",
-            Word::Alu(AluOp::Rsh, Width::Bits64) => "rsh64",
-            Word::Alu(AluOp::Mod, Width::Bits32) => "mod32",
-            Word::Alu(AluOp::Mod, Width::Bits64) => "mod64",
-            Word::Alu(AluOp::Xor, Width::Bits32) => "xor32",
-            Word::Alu(AluOp::Xor, Width::Bits64) => "xor64",
-            Word::Alu(AluOp::Mov, Width::Bits32) => "mov32",
-            Word::Alu(AluOp::Mov, Width::Bits64) => "mov64",
-            Word::Alu(AluOp::Arsh, Width::Bits32) => "arsh32",
-            Word::Alu(AluOp::Arsh, Width::Bits64) => "arsh64",
-            Word::JumpIf(Cmp::Eq, Width::Bits32) => "jeq32",
-            Word::JumpIf(Cmp::Eq, Width::Bits64) => "jeq64",
-            Word::JumpIf(Cmp::Gt, Width::Bits32) => "jgt32",
-            Word::JumpIf(Cmp::Gt, Width::Bits64) => "jgt64",
-            Word::JumpIf(Cmp::Ge, Width::Bits32) => "jge32",
-            Word::JumpIf(Cmp::Ge, Width::Bits64) => "jge64",
-            Word::JumpIf(Cmp::Set, Width::Bits32) => "jset32",
-            Word::JumpIf(Cmp::Set, Width::Bits64) => "jset64",
-            Word::JumpIf(Cmp::Ne, Width::Bits32) => "jne32",
-            Word::JumpIf(Cmp::Ne, Width::Bits64) => "jne64",
-            Word::JumpIf(Cmp::Sgt, Width::Bits32) => "jsgt32",
-            Word::JumpIf(Cmp::Sgt, Width::Bits64) => "jsgt64",
-            Word::JumpIf(Cmp::Sge, Width::Bits32) => "jsge32",
-            Word::JumpIf(Cmp::Sge, Width::Bits64) => "jsge64",
-            Word::JumpIf(Cmp::Lt, Width::Bits32) => "jlt32",
-            Word::JumpIf(Cmp::Lt, Width::Bits64) => "jlt64",
-            Word::JumpIf(Cmp::Le, Width::Bits32) => "jle32",
-            Word::JumpIf(Cmp::Le, Width::Bits64) => "jle64",
-            Word::JumpIf(Cmp::Slt, Width::Bits32) => "jslt32",
-            Word::JumpIf(Cmp::Slt, Width::Bits64) => "jslt64",
-            Word::JumpIf(Cmp::Sle, Width::Bits32) => "jsle32",
-            Word::JumpIf(Cmp::Sle, Width::Bits64) => "jsle64",
-            Word::Load(Size::B, Extension::Zeros) => "ldxb",
-            Word::Load(Size::H, Extension::Zeros) => "ldxh",
-            Word::Load(Size::W, Extension::Zeros) => "ldxw",
-            Word::Load(Size::Dw, Extension::Zeros) => "ldxdw",
-            Word::Load(Size::B, Extension::Sign) => "ldxsb",
-            Word::Load(Size::H, Extension::Sign) => "ldxsh",
-            Word::Load(Size::W, Extension::Sign) => "ldxsw",
-            Word::Load(Size::Dw, Extension::Sign) => "ldxsdw",
+            Word::Alu(op, width) => alu_name(op, width),
+            Word::JumpIf(cmp, width) => jump_name(cmp, width),
+            Word::Load(size, extension) => load_name(size, extension),
             Word::StoreImm(Size::B) => "stb",
             Word::StoreImm(Size::H) => "sth",
             Word::StoreImm(Size::W) => "stw",
