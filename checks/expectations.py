@@ -4,7 +4,7 @@ The list is written by hand, a line for each crate: its name, how many test func
 LLVM and by Rattle's own compiler, and the names of those of its wrong bodies that the gate tries. It isn't made of what is there.
 
 A crate with one such body has to be proved once more for it alone. So it is tried at a tenth of the commits, by their number; the
-others wait.
+others wait. The bodies of the other crates are tried again at a third of the commits, although it is noted how they ended.
 """
 from __future__ import annotations
 
@@ -18,6 +18,8 @@ LIST = TOP / "checks/expected.tsv"
 HEAD = "crate\ttests\truns\twrong bodies"
 # A crate with one wrong body is tried at one of so many commits.
 TURNS = 10
+# The noted bodies of a crate are tried again at one of so many.
+TURNS_OF_NOTED = 3
 
 
 @dataclass(frozen=True)
@@ -53,3 +55,9 @@ def waiting(wanted, number):
     """The crates whose one wrong body isn't tried at the commit of this number; none where it isn't known."""
     alone = sorted(name for name, its in wanted.items() if len(its.edits) == 1)
     return {name for at, name in enumerate(alone) if number is not None and number % TURNS != at % TURNS}
+
+
+def due(wanted, number):
+    """The crates whose bodies are tried at the commit of this number although they are noted; all where it isn't known."""
+    several = sorted(name for name, its in wanted.items() if len(its.edits) > 1)
+    return {name for at, name in enumerate(several) if number is None or number % TURNS_OF_NOTED == at % TURNS_OF_NOTED}
