@@ -4,6 +4,7 @@ use pb_base::{NoMemory, Reason, Refused, SinkFault};
 use pb_decode::DecodeFault;
 use pb_verify::VerifyFault;
 use std::alloc::Global;
+use std::fmt::Display;
 use std::process::Abort;
 use std::rt::HostRuntime;
 use std::test::*;
@@ -14,30 +15,45 @@ fn no_memory<R: Abort>(rt: &R, alloc: Global) -> NoMemory {
     refused(alloc).err().expect(rt, "no block is so large")
 }
 
+// Whether a value is shown as this text.
+fn is_shown<D: Display>(alloc: Global, value: &D, text: &str) -> bool {
+    match format!(in alloc; "{value}") {
+        Ok(shown) => shown.as_str() == text,
+        Err(_) => false,
+    }
+}
+
 #[test]
-fn faults_are_told_as_text(rt: HostRuntime) -> Result<(), Fail> {
+fn faults_are_told_as_text(rt: HostRuntime) {
     let alloc = rt.alloc();
     let refused = Refused { slot: 3, code: 26 };
-    let line = AsmFault::At { line: 7, code: 82 };
-    assert!(rt;
-        format!(in alloc; "{}", DecodeFault::NoMemory(no_memory(&rt, alloc)))?.as_str()
-            == "no memory"
-    );
-    assert!(rt;
-        format!(in alloc; "{}", DecodeFault::Refused(refused))?.as_str() == "refused slot 3 code 26"
-    );
-    assert!(rt;
-        format!(in alloc; "{}", VerifyFault::NoMemory(no_memory(&rt, alloc)))?.as_str()
-            == "no memory"
-    );
-    assert!(rt;
-        format!(in alloc; "{}", VerifyFault::Refused(refused))?.as_str() == "refused slot 3 code 26"
-    );
-    assert!(rt; format!(in alloc; "{line}")?.as_str() == "line 7 code 82");
-    assert!(rt; format!(in alloc; "{}", no_memory(&rt, alloc))?.as_str() == "no memory");
-    assert!(rt;
-        format!(in alloc; "{}", Reason::NoSuchObserver.refusal())?.as_str() == "refused with 47"
-    );
-    assert!(rt; format!(in alloc; "{SinkFault}")?.as_str() == "the write failed");
-    Ok(())
+    let are_shown = [
+        is_shown(
+            alloc,
+            &DecodeFault::NoMemory(no_memory(&rt, alloc)),
+            "no memory",
+        ),
+        is_shown(
+            alloc,
+            &DecodeFault::Refused(refused),
+            "refused slot 3 code 26",
+        ),
+        is_shown(
+            alloc,
+            &VerifyFault::NoMemory(no_memory(&rt, alloc)),
+            "no memory",
+        ),
+        is_shown(
+            alloc,
+            &VerifyFault::Refused(refused),
+            "refused slot 3 code 26",
+        ),
+        is_shown(alloc, &AsmFault::At { line: 7, code: 82 }, "line 7 code 82"),
+        is_shown(alloc, &no_memory(&rt, alloc), "no memory"),
+        is_shown(alloc, &Reason::NoSuchObserver.refusal(), "refused with 47"),
+        is_shown(alloc, &SinkFault, "the write failed"),
+    ];
+    for (place, is_shown) in are_shown.iter().enumerate() {
+        assert!(rt; *is_shown, "text {place}");
+    }
 }

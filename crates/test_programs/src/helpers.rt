@@ -36,12 +36,16 @@ fn numbers_of_codes(rt: HostRuntime) {
 #[test]
 fn tables(rt: HostRuntime) {
     for number in [-1, 0, 5, 257] {
-        assert!(rt; !HelperTable::all().declares(number), "{number}");
-        assert!(rt; HelperTable::none().with(number).is_none(), "{number}");
+        assert!(rt;
+            !HelperTable::all().declares(number) && HelperTable::none().with(number).is_none(),
+            "{number}"
+        );
     }
     for number in 1..5 {
-        assert!(rt; HelperTable::all().declares(number), "{number}");
-        assert!(rt; !HelperTable::none().declares(number), "{number}");
+        assert!(rt;
+            HelperTable::all().declares(number) && !HelperTable::none().declares(number),
+            "{number}"
+        );
     }
 }
 
@@ -51,9 +55,9 @@ fn tables_with_one_more(rt: HostRuntime) {
     let two = one.with(4).expect(&rt, "helper 4");
     let again = two.with(2).expect(&rt, "helper 2");
     for number in 0..6 {
-        assert!(rt; one.declares(number) == (number == 2), "{number}");
         assert!(rt;
-            two.declares(number) == (number == 2 || number == 4),
+            one.declares(number) == (number == 2)
+                && two.declares(number) == (number == 2 || number == 4),
             "{number}"
         );
     }
@@ -104,19 +108,13 @@ fn arguments(rt: HostRuntime) {
     for (row, column, place, read, write, delete) in table {
         let frame = frame_with(&rt, row, column, place);
         assert!(rt;
-            call_code(&frame, 1) == read,
+            call_code(&frame, 1) == read
+                && call_code(&frame, 2) == write
+                && call_code(&frame, 3) == delete
+                && call_code(&frame, 4) == 0
+                && call_code(&frame, 5) == 30,
             "{row:?} {column:?} {place:?}"
         );
-        assert!(rt;
-            call_code(&frame, 2) == write,
-            "{row:?} {column:?} {place:?}"
-        );
-        assert!(rt;
-            call_code(&frame, 3) == delete,
-            "{row:?} {column:?} {place:?}"
-        );
-        assert!(rt; call_code(&frame, 4) == 0, "{row:?} {column:?} {place:?}");
-        assert!(rt; call_code(&frame, 5) == 30, "{row:?} {column:?} {place:?}");
     }
 }
 

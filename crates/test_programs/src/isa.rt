@@ -134,8 +134,7 @@ fn programs(rt: HostRuntime) {
     for (exits, pairs, first, second) in table {
         let in_first = slots_of(&rt, rt.alloc(), Profile::One, exits, pairs);
         let in_second = slots_of(&rt, rt.alloc(), Profile::Two, exits, pairs);
-        assert!(rt; in_first == first, "{exits} {pairs}");
-        assert!(rt; in_second == second, "{exits} {pairs}");
+        assert!(rt; in_first == first && in_second == second, "{exits} {pairs}");
     }
 }
 
@@ -156,11 +155,11 @@ fn second_slots_have_no_instruction(rt: HostRuntime) {
     let program = Program::new(rt.alloc(), Profile::One, insns)
         .ok()
         .expect(&rt, "a program");
-    assert!(rt; program.slots() == 3);
-    assert!(rt; program.insns().len() == 2);
-    if program.slots() == 3 {
-        assert!(rt; program.at(0) == Some(pair));
-        assert!(rt; program.at(1) == None);
-        assert!(rt; program.at(2) == Some(last));
-    }
+    assert!(rt; program.slots() == 3 && program.insns().len() == 2);
+    assert!(rt;
+        program.slots() == 3
+            && program.at(0) == Some(pair)
+            && program.at(1).is_none()
+            && program.at(2) == Some(last)
+    );
 }

@@ -44,9 +44,12 @@ fn kinds_are_kept_where_they_are_equal(rt: HostRuntime) {
     ];
     for (a, b, wanted) in table {
         let joined = join(&frame_with(a, true, true), &frame_with(b, true, true));
-        assert!(rt; joined.kinds[1] == wanted, "{a:?} {b:?}");
-        assert!(rt; joined.kinds[10] == Kind::Stack(0), "{a:?} {b:?}");
-        assert!(rt; joined.kinds[0] == Kind::Unset, "{a:?} {b:?}");
+        assert!(rt;
+            joined.kinds[1] == wanted
+                && joined.kinds[10] == Kind::Stack(0)
+                && joined.kinds[0] == Kind::Unset,
+            "{a:?} {b:?}"
+        );
     }
 }
 
@@ -63,9 +66,10 @@ fn a_byte_is_written_where_both_say_so(rt: HostRuntime) {
             &frame_with(Kind::Number, a, b),
             &frame_with(Kind::Number, b, a),
         );
-        assert!(rt; joined.written[0] == wanted, "{a} {b}");
-        assert!(rt; joined.written[511] == wanted, "{a} {b}");
-        assert!(rt; !joined.written[256], "{a} {b}");
+        assert!(rt;
+            joined.written[0] == wanted && joined.written[511] == wanted && !joined.written[256],
+            "{a} {b}"
+        );
     }
 }
 
@@ -73,18 +77,15 @@ fn a_byte_is_written_where_both_say_so(rt: HostRuntime) {
 fn both_ends_of_the_stack_and_the_record(rt: HostRuntime) {
     for bytes in [1, 2, 4, 8, 32] {
         let size = i64::from(bytes);
-        assert!(rt; in_stack(-512, bytes), "{bytes}");
-        assert!(rt; !in_stack(-513, bytes), "{bytes}");
-        assert!(rt; in_stack(-size, bytes), "{bytes}");
-        assert!(rt; !in_stack(1 - size, bytes), "{bytes}");
-        assert!(rt; in_record(0, bytes), "{bytes}");
-        assert!(rt; !in_record(-1, bytes), "{bytes}");
-        assert!(rt; in_record(80 - size, bytes), "{bytes}");
-        assert!(rt; !in_record(81 - size, bytes), "{bytes}");
+        let are_in_stack = in_stack(-512, bytes) && in_stack(-size, bytes);
+        let is_one_beside_stack = in_stack(-513, bytes) || in_stack(1 - size, bytes);
+        assert!(rt; are_in_stack && !is_one_beside_stack, "{bytes}");
+        let are_in_record = in_record(0, bytes) && in_record(80 - size, bytes);
+        let is_one_beside_record = in_record(-1, bytes) || in_record(81 - size, bytes);
+        assert!(rt; are_in_record && !is_one_beside_record, "{bytes}");
     }
     for far in [i64::MIN, i64::MAX] {
-        assert!(rt; !in_stack(far, 8), "{far}");
-        assert!(rt; !in_record(far, 8), "{far}");
+        assert!(rt; !in_stack(far, 8) && !in_record(far, 8), "{far}");
     }
 }
 
@@ -102,8 +103,10 @@ fn written_bytes(rt: HostRuntime) {
         (-2, 2, false),
     ];
     for (at, bytes, wanted) in table {
-        assert!(rt; in_stack(at, bytes));
-        assert!(rt; frame.are_written(at, bytes) == wanted, "{at} {bytes}");
+        assert!(rt;
+            in_stack(at, bytes) && frame.are_written(at, bytes) == wanted,
+            "{at} {bytes}"
+        );
     }
 }
 
@@ -116,8 +119,9 @@ fn what_kinds_say(rt: HostRuntime) {
         (Kind::Record(0), false, false, true),
     ];
     for (kind, unset, number, pointer) in table {
-        assert!(rt; kind.is_unset() == unset, "{kind:?}");
-        assert!(rt; kind.is_number() == number, "{kind:?}");
-        assert!(rt; kind.is_pointer() == pointer, "{kind:?}");
+        assert!(rt;
+            kind.is_unset() == unset && kind.is_number() == number && kind.is_pointer() == pointer,
+            "{kind:?}"
+        );
     }
 }
