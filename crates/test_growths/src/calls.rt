@@ -1,10 +1,10 @@
 //! Each kind of step, called of shared tables and taken by states.
-use crate::observers::watchers;
+use crate::observers::{open_watched, watchers};
 use crate::refusals::Refusals;
 use crate::same::are_states_same;
 use crate::steps::steps;
 use crate::swaps::are_swapped;
-use crate::twins::{Twins, call_all, call_both, close, is_room_made, open_twice, two_tables};
+use crate::twins::{Twins, call_all, call_both, close, is_room_made, two_tables};
 use pb_base::Ts;
 use pb_memtablet::EitherTablet;
 use pb_state::State;
@@ -31,7 +31,7 @@ fn is_last_called(alloc: Global, steps: &[Step], refusals: &mut Refusals) -> Res
     let Some((last, before)) = steps.split_last() else {
         return Ok(true);
     };
-    let mut twins = open_twice(alloc, watchers(alloc)?, watchers(alloc)?)?;
+    let mut twins = open_watched(alloc)?;
     let held = call_all(&mut twins, before, refusals)
         && is_filled(&mut twins, refusals)
         && call_both(&mut twins, last, refusals).is_some();
@@ -42,7 +42,7 @@ fn is_last_called(alloc: Global, steps: &[Step], refusals: &mut Refusals) -> Res
 /// `Shared::call` with each step in turn, and then `Shared::swap`.
 pub fn shared_calls(alloc: Global, refusals: &mut Refusals) -> Result<bool, Unready> {
     let steps = steps(alloc)?;
-    let mut twins = open_twice(alloc, watchers(alloc)?, watchers(alloc)?)?;
+    let mut twins = open_watched(alloc)?;
     let held = call_all(&mut twins, &steps, refusals)
         && are_swapped(
             alloc,
@@ -80,10 +80,21 @@ fn are_rooms_made(twins: &mut Twins, refusals: &mut Refusals) -> bool {
 
 /// `Seat::make_room` before calls, as a worker makes it before it takes the lock.
 pub fn seats_make_room(alloc: Global, refusals: &mut Refusals) -> Result<bool, Unready> {
-    let mut twins = open_twice(alloc, watchers(alloc)?, watchers(alloc)?)?;
+    let mut twins = open_watched(alloc)?;
     let held = are_rooms_made(&mut twins, refusals);
     close(twins);
     Ok(held)
+}
+
+// The answer of a step; none where it or memory for it is refused.
+fn taken(state: &mut State<EitherTablet>, step: &Step) -> Option<Answer> {
+    if state.refused(0, step).is_some() {
+        return None;
+    }
+    match state.take(0, step) {
+        Ok(answer) => Some(answer),
+        Err(_) => None,
+    }
 }
 
 // The answer of a step, also where it is refused once; what the state is then, the other is too.
@@ -93,18 +104,14 @@ fn first_taken(
     step: &Step,
     refusals: &mut Refusals,
 ) -> Option<Answer> {
-    if state.refused(0, step).is_some() {
-        return None;
+    if let Some(answer) = taken(state, step) {
+        return Some(answer);
     }
-    match state.take(0, step) {
-        Ok(answer) => Some(answer),
-        Err(_) => {
-            refusals.note_step("State::take", step);
-            if !are_states_same(state, other) || state.refused(0, step).is_some() {
-                return None;
-            }
-            state.take(0, step).ok()
-        }
+    refusals.note_step("State::take", step);
+    if are_states_same(state, other) {
+        taken(state, step)
+    } else {
+        None
     }
 }
 
@@ -114,19 +121,11 @@ fn other_taken(
     step: &Step,
     refusals: &mut Refusals,
 ) -> Option<Answer> {
-    if other.refused(0, step).is_some() {
-        return None;
+    if let Some(answer) = taken(other, step) {
+        return Some(answer);
     }
-    match other.take(0, step) {
-        Ok(answer) => Some(answer),
-        Err(_) => {
-            refusals.note_step("State::take", step);
-            if other.refused(0, step).is_some() {
-                return None;
-            }
-            other.take(0, step).ok()
-        }
-    }
+    refusals.note_step("State::take", step);
+    taken(other, step)
 }
 
 fn takes(

@@ -4,9 +4,9 @@ ghost use Rattle.std.specs.Prelude.{◌≤◌, length, IfOk};
 use crate::copies::is_declared;
 use crate::machines;
 use crate::refusals::Refusals;
-use crate::steps::{batch, column, column_of, declares};
-use crate::twins::{call_all, close, open_twice};
-use pb_base::{Cell, NoMemory, ObserverNo, Row, Ts};
+use crate::steps::{NoSuchNumber, batch, column, column_of, declares};
+use crate::twins::{Twins, call_all, close, open_twice};
+use pb_base::{Cell, Column, NoMemory, ObserverNo, Row, Ts};
 use pb_finished::Finished;
 use pb_helpers::HelperTable;
 use pb_parse::{Event, Job, parse_schedule};
@@ -142,6 +142,13 @@ fn observer(
     })
 }
 
+/// Two tables with that observer each.
+pub fn open_twins(alloc: Global, program: &Arc<Accepted>) -> Result<Twins, Unready> {
+    let first = observers(alloc, program)?;
+    let second = observers(alloc, program)?;
+    open_twice(alloc, first, second)
+}
+
 /// Observers of the columns 0 to 2, which do nothing.
 pub fn watchers(alloc: Global) -> Result<Vec<Observer>, Unready>
     ensures { IfOk result (λ v. length v.items ≤ 32) }
@@ -152,6 +159,13 @@ pub fn watchers(alloc: Global) -> Result<Vec<Observer>, Unready>
     observers.push(observer(alloc, "second", 1, &program)?)?;
     observers.push(observer(alloc, "third", 2, &program)?)?;
     Ok(observers)
+}
+
+/// Two tables with such observers each.
+pub fn open_watched(alloc: Global) -> Result<Twins, Unready> {
+    let first = watchers(alloc)?;
+    let second = watchers(alloc)?;
+    open_twice(alloc, first, second)
 }
 
 const SCHEDULE: &str = "launch 1 run watch 7\nstep 1 100\nsettle ack watch 7\n";
@@ -200,43 +214,84 @@ fn keep_run(
     EndedRun::new(alloc, finished).ok()
 }
 
-/// `EndedRun::new`, and `Declaration::new` of a run.
-pub fn runs_are_ended(alloc: Global, refusals: &mut Refusals) -> Result<bool, Unready> {
-    let program = Arc::new(alloc, program(alloc)?)?;
-    let cell = Cell::Data(Row(7), column()?);
-    let (Some(watch), Some(first), Some(second), Some(same)) = (
-        ObserverNo::new(0),
-        finished_run(alloc, &program, &cell, refusals),
-        finished_run(alloc, &program, &cell, refusals),
-        finished_run(alloc, &program, &cell, refusals),
-    ) else {
-        return Ok(false);
-    };
-    let other = EndedRun::new(alloc, second)?;
-    let Some(run) = keep_run(alloc, first, &same, refusals) else {
-        return Ok(false);
-    };
-    let is_it = run.get().is_same(&same);
-    let declared = Declared::Run(watch, run);
-    let wanted = Declared::Run(watch, other);
-    Ok(is_it && is_declared(alloc, declared, &wanted, refusals))
+fn finished(
+    alloc: Global,
+    program: &Arc<Accepted>,
+    cell: &Cell,
+    refusals: &mut Refusals,
+) -> Result<Finished, Unready> {
+    match finished_run(alloc, program, cell, refusals) {
+        Some(finished) => Ok(finished),
+        None => Err(Unready::Other("no machine comes to its end")),
+    }
 }
 
-/// `Shared::call` with the steps of an observer's run, and what is marked before it commits and after.
-pub fn runs_are_declared(alloc: Global, refusals: &mut Refusals) -> Result<bool, Unready> {
-    let program = Arc::new(alloc, program(alloc)?)?;
+// Whether a run is declared, which is the same as the other.
+fn is_run_declared(
+    alloc: Global,
+    watch: ObserverNo,
+    run: EndedRun,
+    other: EndedRun,
+    refusals: &mut Refusals,
+) -> bool {
+    let wanted = Declared::Run(watch, other);
+    is_declared(alloc, Declared::Run(watch, run), &wanted, refusals)
+}
+
+/// The number of a table's one observer.
+pub fn observer_number() -> Result<ObserverNo, NoSuchNumber> {
+    match ObserverNo::new(0) {
+        Some(number) => Ok(number),
+        None => Err(NoSuchNumber),
+    }
+}
+
+/// The declaration of a run of the first observer, whose machine is made beside.
+pub fn declares_run(
+    alloc: Global,
+    watch: ObserverNo,
+    program: &Arc<Accepted>,
+    cell: &Cell,
+    refusals: &mut Refusals,
+) -> Result<Step, Unready> {
+    let run = EndedRun::new(alloc, finished(alloc, program, cell, refusals)?)?;
+    let what = Declaration::new(alloc, Declared::Run(watch, run))?;
+    Ok(Step::Declare(Ts(3), what))
+}
+
+/// `EndedRun::new`, and `Declaration::new` of a run.
+pub fn runs_are_ended(alloc: Global, refusals: &mut Refusals) -> Result<bool, Unready> {
+    let watch = observer_number()?;
     let cell = Cell::Data(Row(7), column()?);
-    let Some(watch) = ObserverNo::new(0) else {
-        return Ok(false);
-    };
-    let Some(finished) = finished_run(alloc, &program, &cell, refusals) else {
-        return Ok(false);
-    };
-    let ack = Cell::Ack(watch, Row(7), column()?);
-    let run = Declared::Run(watch, EndedRun::new(alloc, finished)?);
-    let steps = [
+    let program = Arc::new(alloc, program(alloc)?)?;
+    let first = finished(alloc, &program, &cell, refusals)?;
+    let second = finished(alloc, &program, &cell, refusals)?;
+    let same = finished(alloc, &program, &cell, refusals)?;
+    let other = EndedRun::new(alloc, second)?;
+    match keep_run(alloc, first, &same, refusals) {
+        Some(run) => {
+            let is_it = run.get().is_same(&same);
+            let is_declared = is_run_declared(alloc, watch, run, other, refusals);
+            Ok(is_it && is_declared)
+        }
+        None => Ok(false),
+    }
+}
+
+// The steps of a change of a cell, and of an observer's run on it, by what these declare, with what is marked before the run
+// commits and after.
+fn run_steps(
+    alloc: Global,
+    watch: ObserverNo,
+    column: Column,
+    change: Step,
+    run: Step,
+) -> Result<Vec<Step>, Unready> {
+    let cell = Cell::Data(Row(7), column);
+    let ack = Cell::Ack(watch, Row(7), column);
+    Ok(vec![in alloc;
         Step::Begin(Work::Script),
-        declares(alloc, Ts(1), batch(alloc)?)?,
+        change,
         Step::Prewrite(Ts(1), cell),
         Step::Stamp(Ts(1)),
         Step::CommitPrimary(Ts(1)),
@@ -244,17 +299,35 @@ pub fn runs_are_declared(alloc: Global, refusals: &mut Refusals) -> Result<bool,
         Step::Begin(Work::Run(watch, Row(7))),
         Step::Read(Ts(3), cell),
         Step::Read(Ts(3), ack),
-        Step::Declare(Ts(3), Declaration::new(alloc, run)?),
+        run,
         Step::Sweep(cell),
         Step::Prewrite(Ts(3), ack),
         Step::Stamp(Ts(3)),
         Step::CommitPrimary(Ts(3)),
         Step::Sweep(cell),
         Step::NextMark(None),
-    ];
-    let first = observers(alloc, &program)?;
-    let second = observers(alloc, &program)?;
-    let mut twins = open_twice(alloc, first, second)?;
+    ]?)
+}
+
+// The steps of a change, and of a run of this program on it.
+fn steps_of(
+    alloc: Global,
+    program: &Arc<Accepted>,
+    refusals: &mut Refusals,
+) -> Result<Vec<Step>, Unready> {
+    let watch = observer_number()?;
+    let column = column()?;
+    let cell = Cell::Data(Row(7), column);
+    let change = declares(alloc, Ts(1), batch(alloc)?)?;
+    let run = declares_run(alloc, watch, program, &cell, refusals)?;
+    run_steps(alloc, watch, column, change, run)
+}
+
+/// `Shared::call` with the steps of an observer's run, and what is marked before it commits and after.
+pub fn runs_are_declared(alloc: Global, refusals: &mut Refusals) -> Result<bool, Unready> {
+    let program = Arc::new(alloc, program(alloc)?)?;
+    let steps = steps_of(alloc, &program, refusals)?;
+    let mut twins = open_twins(alloc, &program)?;
     let held = call_all(&mut twins, &steps, refusals)
         && twins.shared.marks() == 0
         && twins.shared.locks() == 0;

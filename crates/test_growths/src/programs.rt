@@ -60,128 +60,139 @@ fn is_it(program: &Program) -> bool {
         && insns[1] == Insn::Exit
 }
 
-/// `Program::new`.
-pub fn programs_are_made(alloc: Global, refusals: &mut Refusals) -> Result<bool, Unready> {
+// Each attempt answers whether what it made is as it has to be; nothing where memory is refused for it.
+fn made(alloc: Global) -> Result<Option<bool>, NoMemory> {
     match make_program(alloc)? {
-        Ok(program) => Ok(is_it(&program)),
-        Err(NoProgram::NotInRange(_)) => Ok(false),
-        Err(NoProgram::NoMemory(_)) => {
-            refusals.note("Program::new");
-            match program(alloc) {
-                Ok(program) => Ok(is_it(&program)),
-                Err(_) => Ok(false),
-            }
-        }
+        Ok(program) => Ok(Some(is_it(&program))),
+        Err(NoProgram::NotInRange(_)) => Ok(Some(false)),
+        Err(NoProgram::NoMemory(_)) => Ok(None),
+    }
+}
+
+/// `Program::new`.
+pub fn programs_are_made(alloc: Global, refusals: &mut Refusals) -> Result<bool, NoMemory> {
+    if let Some(held) = made(alloc)? {
+        return Ok(held);
+    }
+    refusals.note("Program::new");
+    Ok(made(alloc)? == Some(true))
+}
+
+fn decoded(alloc: Global) -> Option<bool> {
+    match decode(alloc, BYTES) {
+        Ok(program) => Some(is_it(&program)),
+        Err(DecodeFault::Refused(_)) => Some(false),
+        Err(DecodeFault::NoMemory(_)) => None,
     }
 }
 
 /// `decode`.
-pub fn bytes_are_decoded(alloc: Global, refusals: &mut Refusals) -> Result<bool, NoMemory> {
-    match decode(alloc, BYTES) {
-        Ok(program) => Ok(is_it(&program)),
-        Err(DecodeFault::Refused(_)) => Ok(false),
-        Err(DecodeFault::NoMemory(_)) => {
-            refusals.note("decode");
-            match decode(alloc, BYTES) {
-                Ok(program) => Ok(is_it(&program)),
-                Err(_) => Ok(false),
-            }
-        }
+pub fn bytes_are_decoded(alloc: Global, refusals: &mut Refusals) -> bool {
+    if let Some(held) = decoded(alloc) {
+        return held;
+    }
+    refusals.note("decode");
+    decoded(alloc) == Some(true)
+}
+
+fn encoded(alloc: Global, program: &Program) -> Option<bool> {
+    match encode(alloc, program) {
+        Ok(bytes) => Some(is_it(program) && bytes.as_slice() == BYTES),
+        Err(_) => None,
     }
 }
 
 /// `encode`.
 pub fn programs_are_encoded(alloc: Global, refusals: &mut Refusals) -> Result<bool, Unready> {
     let program = program(alloc)?;
-    let bytes = match encode(alloc, &program) {
-        Ok(bytes) => bytes,
-        Err(_) => {
-            refusals.note("encode");
-            match encode(alloc, &program) {
-                Ok(bytes) => bytes,
-                Err(_) => return Ok(false),
-            }
-        }
-    };
-    Ok(is_it(&program) && bytes.as_slice() == BYTES)
+    if let Some(held) = encoded(alloc, &program) {
+        return Ok(held);
+    }
+    refusals.note("encode");
+    Ok(encoded(alloc, &program) == Some(true))
 }
 
 /// `assemble`.
-pub fn texts_are_assembled(alloc: Global, refusals: &mut Refusals) -> Result<bool, NoMemory> {
+pub fn texts_are_assembled(alloc: Global, refusals: &mut Refusals) -> bool {
+    let fault = match assemble(alloc, TEXT) {
+        Ok(program) => return is_it(&program),
+        Err(fault) => fault,
+    };
+    refusals.note("assemble");
     match assemble(alloc, TEXT) {
-        Ok(program) => Ok(is_it(&program)),
-        Err(fault) => {
-            refusals.note("assemble");
-            match assemble(alloc, TEXT) {
-                Ok(program) => Ok(fault.line() == 0 && fault.code() == 1 && is_it(&program)),
-                Err(_) => Ok(false),
-            }
-        }
+        Ok(program) => fault.line() == 0 && fault.code() == 1 && is_it(&program),
+        Err(_) => false,
+    }
+}
+
+fn listed(alloc: Global, program: &Program) -> Option<bool> {
+    match disassemble(alloc, program) {
+        Ok(text) => Some(is_it(program) && text.as_str() == LISTING),
+        Err(_) => None,
     }
 }
 
 /// `disassemble`.
 pub fn programs_are_listed(alloc: Global, refusals: &mut Refusals) -> Result<bool, Unready> {
     let program = program(alloc)?;
-    let text = match disassemble(alloc, &program) {
-        Ok(text) => text,
-        Err(_) => {
-            refusals.note("disassemble");
-            match disassemble(alloc, &program) {
-                Ok(text) => text,
-                Err(_) => return Ok(false),
-            }
-        }
-    };
-    Ok(is_it(&program) && text.as_str() == LISTING)
+    if let Some(held) = listed(alloc, &program) {
+        return Ok(held);
+    }
+    refusals.note("disassemble");
+    Ok(listed(alloc, &program) == Some(true))
+}
+
+fn verified(alloc: Global) -> Result<Option<bool>, Unready> {
+    match verify(alloc, program(alloc)?, HelperTable::none()) {
+        Ok(accepted) => Ok(Some(is_it(accepted.program()))),
+        Err(VerifyFault::Refused(_)) => Ok(Some(false)),
+        Err(VerifyFault::NoMemory(_)) => Ok(None),
+    }
 }
 
 /// `verify`, which drops the program where memory is refused.
 pub fn programs_are_verified(alloc: Global, refusals: &mut Refusals) -> Result<bool, Unready> {
-    match verify(alloc, program(alloc)?, HelperTable::none()) {
-        Ok(accepted) => Ok(is_it(accepted.program())),
-        Err(VerifyFault::Refused(_)) => Ok(false),
-        Err(VerifyFault::NoMemory(_)) => {
-            refusals.note("verify");
-            match verify(alloc, program(alloc)?, HelperTable::none()) {
-                Ok(accepted) => Ok(is_it(accepted.program())),
-                Err(_) => Ok(false),
-            }
-        }
+    if let Some(held) = verified(alloc)? {
+        return Ok(held);
     }
+    refusals.note("verify");
+    Ok(verified(alloc)? == Some(true))
 }
 
 fn branching(alloc: Global) -> Result<Program, Unready> {
     Ok(assemble(alloc, BRANCHING)?)
 }
 
+fn verified_with_jumps(alloc: Global) -> Result<Option<bool>, Unready> {
+    match verify(alloc, branching(alloc)?, HelperTable::none()) {
+        Ok(accepted) => Ok(Some(accepted.slots() == 8)),
+        Err(VerifyFault::Refused(_)) => Ok(Some(false)),
+        Err(VerifyFault::NoMemory(_)) => Ok(None),
+    }
+}
+
 /// `verify` of a program with jumps.
 pub fn jumps_are_verified(alloc: Global, refusals: &mut Refusals) -> Result<bool, Unready> {
-    match verify(alloc, branching(alloc)?, HelperTable::none()) {
-        Ok(accepted) => Ok(accepted.slots() == 8),
-        Err(VerifyFault::Refused(_)) => Ok(false),
-        Err(VerifyFault::NoMemory(_)) => {
-            refusals.note("verify");
-            match verify(alloc, branching(alloc)?, HelperTable::none()) {
-                Ok(accepted) => Ok(accepted.slots() == 8),
-                Err(_) => Ok(false),
-            }
-        }
+    if let Some(held) = verified_with_jumps(alloc)? {
+        return Ok(held);
+    }
+    refusals.note("verify");
+    Ok(verified_with_jumps(alloc)? == Some(true))
+}
+
+fn told(alloc: Global, program: &Program) -> Option<bool> {
+    match frames(alloc, program) {
+        Ok(known) => Some(known.len() == 8 && known.iter().all(|frame| frame.is_some())),
+        Err(_) => None,
     }
 }
 
 /// `frames` of a program with jumps, each slot of which is led to.
 pub fn frames_are_told(alloc: Global, refusals: &mut Refusals) -> Result<bool, Unready> {
     let program = branching(alloc)?;
-    let known = match frames(alloc, &program) {
-        Ok(known) => known,
-        Err(_) => {
-            refusals.note("frames");
-            match frames(alloc, &program) {
-                Ok(known) => known,
-                Err(_) => return Ok(false),
-            }
-        }
-    };
-    Ok(known.len() == 8 && known.iter().all(|frame| frame.is_some()))
+    if let Some(held) = told(alloc, &program) {
+        return Ok(held);
+    }
+    refusals.note("frames");
+    Ok(told(alloc, &program) == Some(true))
 }

@@ -6,6 +6,57 @@ use pb_state::State;
 use pb_store::{Table, Tablet};
 use pb_verify::Observer;
 
+/// What two values can be compared by.
+pub trait Alike {
+    /// Whether the other is the same.
+    fn is_alike(&self, other: &Self) -> bool;
+}
+
+impl Alike for KeptCall {
+    fn is_alike(&self, other: &KeptCall) -> bool {
+        self.is_same(other)
+    }
+}
+
+impl Alike for KeptEntry {
+    fn is_alike(&self, other: &KeptEntry) -> bool {
+        self.seat() == other.seat() && self.call().is_same(other.call())
+    }
+}
+
+impl Alike for Seat {
+    fn is_alike(&self, other: &Seat) -> bool {
+        self.number() == other.number() && are_alike(self.received(), other.received())
+    }
+}
+
+impl Alike for Observer {
+    fn is_alike(&self, other: &Observer) -> bool {
+        self.name.as_str() == other.name.as_str()
+            && self.column == other.column
+            && self.program.is_same(&other.program)
+    }
+}
+
+impl Alike for Batch {
+    fn is_alike(&self, other: &Batch) -> bool {
+        self.is_same(other)
+    }
+}
+
+/// Whether two lists have the same values, in the same order.
+pub fn are_alike<T: Alike>(a: &[T], b: &[T]) -> bool {
+    if a.len() != b.len() {
+        return false;
+    }
+    for (value, other) in a.iter().zip(b) {
+        if !value.is_alike(other) {
+            return false;
+        }
+    }
+    true
+}
+
 // More than any table here has.
 const MOST: usize = 100;
 
@@ -52,32 +103,8 @@ pub fn are_states_same<T: Tablet>(a: &State<T>, b: &State<T>) -> bool {
     }
     a.clock() == b.clock()
         && a.seats() == b.seats()
-        && are_observers_same(a.observers(), b.observers())
+        && are_alike(a.observers(), b.observers())
         && are_tables_same(a.table(), b.table())
-}
-
-fn are_entries_told_same(a: &[KeptEntry], b: &[KeptEntry]) -> bool {
-    if a.len() != b.len() {
-        return false;
-    }
-    for (entry, other) in a.iter().zip(b) {
-        if entry.seat() != other.seat() || !entry.call().is_same(other.call()) {
-            return false;
-        }
-    }
-    true
-}
-
-fn are_received_same(a: &[KeptCall], b: &[KeptCall]) -> bool {
-    if a.len() != b.len() {
-        return false;
-    }
-    for (received, other) in a.iter().zip(b) {
-        if !received.is_same(other) {
-            return false;
-        }
-    }
-    true
 }
 
 fn are_phases_same<T: Tablet>(a: &Shared<T>, b: &Shared<T>) -> bool {
@@ -94,7 +121,7 @@ fn are_openings_same<T: Tablet>(a: &Shared<T>, b: &Shared<T>) -> bool {
     a.opened() == b.opened()
         && a.limit() == b.limit()
         && a.seats() == b.seats()
-        && are_observers_same(a.observers(), b.observers())
+        && are_alike(a.observers(), b.observers())
 }
 
 /// Whether two tables with their journals have the same entries, marks, clock, phases and journal, and were opened so.
@@ -103,53 +130,5 @@ pub fn are_shared_same<T: Tablet>(a: &Shared<T>, b: &Shared<T>) -> bool {
         && are_openings_same(a, b)
         && are_tables_same(a.table(), b.table())
         && are_phases_same(a, b)
-        && are_entries_told_same(a.journal(), b.journal())
-}
-
-/// Whether two seats have one number, and received the same.
-pub fn are_seats_same(a: &Seat, b: &Seat) -> bool {
-    a.number() == b.number() && are_received_same(a.received(), b.received())
-}
-
-/// Whether two lists are of the same seats.
-pub fn are_all_seats_same(a: &[Seat], b: &[Seat]) -> bool {
-    if a.len() != b.len() {
-        return false;
-    }
-    for (seat, other) in a.iter().zip(b) {
-        if !are_seats_same(seat, other) {
-            return false;
-        }
-    }
-    true
-}
-
-fn is_observer_same(a: &Observer, b: &Observer) -> bool {
-    a.name.as_str() == b.name.as_str() && a.column == b.column && a.program.is_same(&b.program)
-}
-
-/// Whether two lists are of the same observers.
-pub fn are_observers_same(a: &[Observer], b: &[Observer]) -> bool {
-    if a.len() != b.len() {
-        return false;
-    }
-    for (observer, other) in a.iter().zip(b) {
-        if !is_observer_same(observer, other) {
-            return false;
-        }
-    }
-    true
-}
-
-/// Whether two lists are of the same batches.
-pub fn are_batches_same(a: &[Batch], b: &[Batch]) -> bool {
-    if a.len() != b.len() {
-        return false;
-    }
-    for (batch, other) in a.iter().zip(b) {
-        if !batch.is_same(other) {
-            return false;
-        }
-    }
-    true
+        && are_alike(a.journal(), b.journal())
 }

@@ -5,26 +5,26 @@ use std::alloc::Global;
 use test_fixtures::Unready;
 
 /// Column 0.
-pub fn column() -> Result<Column, NoSuchColumn> {
+pub fn column() -> Result<Column, NoSuchNumber> {
     column_of(0)
 }
 
-/// There is no column of a number. It is a type of its own, since no proof is made for what takes a `Column` beside the words
-/// of an `Unready`.
+/// There is no column, or no observer, of a number. It is a type of its own, since no proof is made for what takes a `Column`
+/// beside the words of an `Unready`.
 #[derive(Drop)]
-pub struct NoSuchColumn;
+pub struct NoSuchNumber;
 
-impl From<NoSuchColumn> for Unready {
-    fn from(_e: NoSuchColumn) -> Unready {
-        Unready::Other("there is no such column")
+impl From<NoSuchNumber> for Unready {
+    fn from(_e: NoSuchNumber) -> Unready {
+        Unready::Other("there is no such number")
     }
 }
 
 /// The column of this number.
-pub fn column_of(number: u8) -> Result<Column, NoSuchColumn> {
+pub fn column_of(number: u8) -> Result<Column, NoSuchNumber> {
     match Column::new(number) {
         Some(column) => Ok(column),
-        None => Err(NoSuchColumn),
+        None => Err(NoSuchNumber),
     }
 }
 
@@ -34,7 +34,7 @@ fn row_in(number: u8) -> Row {
 }
 
 /// The cell in this column.
-pub fn cell_of(number: u8) -> Result<Cell, NoSuchColumn> {
+pub fn cell_of(number: u8) -> Result<Cell, NoSuchNumber> {
     Ok(Cell::Data(row_in(number), column_of(number)?))
 }
 

@@ -85,11 +85,9 @@ fn are_parted_in<T: Tablet>(
 
 /// `Tablet::apply` of both sorts where chunks are parted.
 pub fn chunks_are_parted(alloc: Global, refusals: &mut Refusals) -> Result<bool, NoMemory> {
-    let list = ListTablet::new(alloc);
-    let slab = SlabTablet::new(alloc);
     Ok(
-        are_parted_in(list, "ListTablet::apply", refusals)?
-            && are_parted_in(slab, "SlabTablet::apply", refusals)?,
+        are_parted_in(ListTablet::new(alloc), "ListTablet::apply", refusals)?
+            && are_parted_in(SlabTablet::new(alloc), "SlabTablet::apply", refusals)?,
     )
 }
 

@@ -4,7 +4,7 @@ ghost use Rattle.pb_steps.specs.Answers.{CanAnswer};
 ghost use Rattle.pb_store.specs.Contents.{nothing};
 
 use crate::refusals::Refusals;
-use crate::same::{are_seats_same, are_shared_same};
+use crate::same::{Alike, are_shared_same};
 use pb_base::Ts;
 use pb_core::{Seat, Shared};
 use pb_memtablet::EitherTablet;
@@ -105,8 +105,7 @@ fn first_called(twins: &mut Twins, step: &Step, refusals: &mut Refusals) -> Opti
         Ok(answer) => Some(answer),
         Err(refusal) => {
             refusals.note_step("Shared::call", step);
-            let is_same = are_shared_same(&twins.shared, &twins.other)
-                && are_seats_same(seat, other);
+            let is_same = are_shared_same(&twins.shared, &twins.other) && seat.is_alike(other);
             if refusal.code() != 1 || !is_same {
                 return None;
             }
@@ -139,10 +138,7 @@ pub fn call_both(twins: &mut Twins, step: &Step, refusals: &mut Refusals) -> Opt
     let told = other_called(twins, step, refusals)?;
     let seat = twins.seats.first()?;
     let other = twins.others.first()?;
-    if told == answer
-        && are_shared_same(&twins.shared, &twins.other)
-        && are_seats_same(seat, other)
-    {
+    if told == answer && are_shared_same(&twins.shared, &twins.other) && seat.is_alike(other) {
         Some(answer)
     } else {
         None
@@ -160,11 +156,11 @@ pub fn is_room_made(twins: &mut Twins, refusals: &mut Refusals) -> bool {
     };
     if seat.make_room().is_err() {
         refusals.note("Seat::make_room");
-        if !are_seats_same(seat, other) || seat.make_room().is_err() {
+        if !seat.is_alike(other) || seat.make_room().is_err() {
             return false;
         }
     }
-    are_seats_same(seat, other)
+    seat.is_alike(other)
 }
 
 /// Whether each of these calls is answered.
