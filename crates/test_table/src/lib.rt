@@ -19,12 +19,17 @@ mod step;
 mod tablets;
 mod words;
 
+ghost use Rattle.std.specs.Prelude.{◌≡◌, ◌≤◌, length};
+ghost use Rattle.pb_base.specs.declared.limits.TheConstants.{MAX_ENTRIES, MAX_OBSERVERS};
+ghost use Rattle.pb_store.specs.Contents.{nothing};
+
 use pb_base::{MAX_ENTRIES, Ts};
 use pb_core::{Seat, Shared};
 use pb_memtablet::EitherTablet;
 use pb_steps::Step;
 use pb_store::{Table, Tablet};
 use pb_story::{add_answer, add_step};
+use pb_verify::Observer;
 use std::alloc::{AllocError, Global};
 use step::step_of;
 use tablets::{add_entries, add_refused, add_swap, parts_in};
@@ -55,7 +60,19 @@ fn add_end<T: Tablet>(
     }
 }
 
-// Adds the step of a seat, and how it ends.
+// Adds a step, and how it ends.
+fn add_call<T: Tablet>(
+    text: &mut String,
+    shared: &mut Shared<T>,
+    seat: &mut Seat,
+    step: &Step,
+) -> Result<(), AllocError> {
+    add_step(text, shared.observers(), step)?;
+    text.push_str(" -> ")?;
+    add_end(text, shared, seat, step)
+}
+
+// Adds the number of a seat, its step, and how that ends.
 fn add_step_of<T: Tablet>(
     alloc: Global,
     text: &mut String,
@@ -65,12 +82,10 @@ fn add_step_of<T: Tablet>(
 ) -> Option<()> {
     let mut words = Words::of(asked);
     let number = words.next().parse::<usize>().ok()?;
-    let step = step_of(alloc, shared.observers(), &mut words)?;
     let seat = seats.get_mut(number)?;
     write!(text, "{number} ").ok()?;
-    add_step(text, shared.observers(), &step).ok()?;
-    text.push_str(" -> ").ok()?;
-    add_end(text, shared, seat, &step).ok()
+    let step = step_of(alloc, shared.observers(), &mut words)?;
+    add_call(text, shared, seat, &step).ok()
 }
 
 // Adds the line of a step, of a swap or of the entries.
@@ -106,25 +121,41 @@ fn add_lines(
     writeln!(text, "marks {} locks {}", shared.marks(), shared.locks()).ok()
 }
 
+// Adds the lines of steps that a table of these observers takes.
+fn add_taken(
+    alloc: Global,
+    text: &mut String,
+    table: Table<EitherTablet>,
+    observers: Vec<Observer>,
+    last: Ts,
+    limit: usize,
+    steps: &[String],
+) -> Option<()>
+    requires empty { table.contents ≡ nothing }
+    requires few { length observers.items ≤ MAX_OBSERVERS }
+    requires bounded { limit ≤ MAX_ENTRIES }
+{
+    let (mut shared, mut seats) = open_table_over(alloc, table, observers, 3, last, limit).ok()?;
+    let told = add_lines(alloc, text, &mut shared, &mut seats, steps);
+    shared.close();
+    told
+}
+
 // What the words ask for.
 fn told_by(alloc: Global, words: &[String]) -> Option<String> {
-    let parts = parts_in(alloc, words.get(1)?.as_str())?;
-    let last = words.get(2)?.as_str().parse::<u64>().ok()?;
-    let limit = words.get(3)?.as_str().parse::<usize>().ok()?;
-    let observers = observers_of(alloc, words.get(4)?.as_str()).ok()?;
-    let steps = words.get(5..)?;
+    let [_, tablets, last, limit, manifest, steps @ ..] = words else {
+        return None;
+    };
+    let last = Ts(last.as_str().parse::<u64>().ok()?);
+    let limit = limit.as_str().parse::<usize>().ok()?;
     if limit > MAX_ENTRIES {
         return None;
     }
+    let observers = observers_of(alloc, manifest.as_str()).ok()?;
+    let parts = parts_in(alloc, tablets.as_str())?;
     let mut text = String::new(alloc);
     let told = match Table::new(parts) {
-        Ok(table) => {
-            let opened = open_table_over(alloc, table, observers, 3, Ts(last), limit);
-            let (mut shared, mut seats) = opened.ok()?;
-            let told = add_lines(alloc, &mut text, &mut shared, &mut seats, steps);
-            shared.close();
-            told
-        }
+        Ok(table) => add_taken(alloc, &mut text, table, observers, last, limit, steps),
         Err((parts, refusal)) => add_refused(&mut text, &parts, refusal).ok(),
     };
     told?;

@@ -1,7 +1,7 @@
 //! Steps by their words.
 use crate::run::run_in;
 use crate::words::Words;
-use pb_base::{Batch, MAX_CELLS};
+use pb_base::{Batch, MAX_CELLS, Ts};
 use pb_steps::{Declaration, Declared, Step, Work};
 use pb_verify::Observer;
 use std::alloc::Global;
@@ -37,16 +37,15 @@ fn declared_in(alloc: Global, observers: &[Observer], words: &mut Words) -> Opti
 }
 
 // A read, which names a timestamp of its own after its cell, or none.
-fn read_in(observers: &[Observer], words: &mut Words) -> Option<Step> {
-    let (start, cell) = (words.ts()?, words.cell(observers)?);
+fn read_in(start: Ts, observers: &[Observer], words: &mut Words) -> Option<Step> {
+    let cell = words.cell(observers)?;
     match words.next() {
         "at" => Some(Step::ReadAt(start, cell, words.ts()?)),
         _ => Some(Step::Read(start, cell)),
     }
 }
 
-fn commit_in(observers: &[Observer], words: &mut Words) -> Option<Step> {
-    let start = words.ts()?;
+fn commit_in(start: Ts, observers: &[Observer], words: &mut Words) -> Option<Step> {
     if words.is_empty() {
         return Some(Step::CommitPrimary(start));
     }
@@ -61,22 +60,42 @@ fn next_mark_in(observers: &[Observer], words: &mut Words) -> Option<Step> {
     }
 }
 
+// A step that names a cell alone.
+fn cell_step_in(word: &str, observers: &[Observer], words: &mut Words) -> Option<Step> {
+    let cell = words.cell(observers)?;
+    match word {
+        "settle" => Some(Step::Settle(cell)),
+        "clear" => Some(Step::Clear(cell)),
+        _ => Some(Step::Sweep(cell)),
+    }
+}
+
+// A step of a transaction, which names its start first.
+fn started_step_in(
+    alloc: Global,
+    word: &str,
+    observers: &[Observer],
+    words: &mut Words,
+) -> Option<Step> {
+    let start = words.ts()?;
+    match word {
+        "read" => read_in(start, observers, words),
+        "declare" => Some(Step::Declare(start, declared_in(alloc, observers, words)?)),
+        "prewrite" => Some(Step::Prewrite(start, words.cell(observers)?)),
+        "stamp" => Some(Step::Stamp(start)),
+        "commit" => commit_in(start, observers, words),
+        _ => None,
+    }
+}
+
 /// The step that the words name.
 pub fn step_of(alloc: Global, observers: &[Observer], words: &mut Words) -> Option<Step> {
     match words.next() {
         "begin" => Some(Step::Begin(work_in(observers, words)?)),
-        "read" => read_in(observers, words),
-        "declare" => {
-            let start = words.ts()?;
-            Some(Step::Declare(start, declared_in(alloc, observers, words)?))
-        }
-        "prewrite" => Some(Step::Prewrite(words.ts()?, words.cell(observers)?)),
-        "stamp" => Some(Step::Stamp(words.ts()?)),
-        "commit" => commit_in(observers, words),
-        "settle" => Some(Step::Settle(words.cell(observers)?)),
-        "clear" => Some(Step::Clear(words.cell(observers)?)),
         "next" => next_mark_in(observers, words),
-        "sweep" => Some(Step::Sweep(words.cell(observers)?)),
-        _ => None,
+        "settle" => cell_step_in("settle", observers, words),
+        "clear" => cell_step_in("clear", observers, words),
+        "sweep" => cell_step_in("sweep", observers, words),
+        word => started_step_in(alloc, word, observers, words),
     }
 }

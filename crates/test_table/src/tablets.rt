@@ -1,6 +1,6 @@
 //! Tablets: those that a table begins with, those that are swapped in, and what is in them.
 use crate::words::Words;
-use pb_base::{Cell, Content, NoMemory, Refusal, Row};
+use pb_base::{Cell, Content, Refusal, Row};
 use pb_core::Shared;
 use pb_memtablet::EitherTablet;
 use pb_script::digits_of;
@@ -8,15 +8,20 @@ use pb_store::{Item, Slot, Table, Tablet};
 use std::alloc::{AllocError, Global};
 use test_fixtures::{mark_edit, put_edit};
 
+// The first row of a tablet, and whether it is a slab.
+fn tablet_in(word: &str) -> Option<(u64, bool)> {
+    let (first, is_slab) = match word.strip_suffix('s') {
+        Some(first) => (first, true),
+        None => (word.strip_suffix('l')?, false),
+    };
+    Some((first.parse::<u64>().ok()?, is_slab))
+}
+
 /// The tablets that a text names.
 pub fn parts_in(alloc: Global, text: &str) -> Option<Vec<(Row, EitherTablet)>> {
     let mut parts = Vec::new(alloc);
     for word in text.split_whitespace() {
-        let (first, is_slab) = match word.strip_suffix('s') {
-            Some(first) => (first, true),
-            None => (word.strip_suffix('l')?, false),
-        };
-        let first = first.parse::<u64>().ok()?;
+        let (first, is_slab) = tablet_in(word)?;
         parts
             .push((Row(first), EitherTablet::new(alloc, is_slab)))
             .ok()?;
@@ -37,27 +42,37 @@ pub fn add_refused<T: Tablet>(
     text.push_str("\n")
 }
 
-// Adds the sort of a tablet that comes back, and that something is in it, if it is.
-fn add_back(text: &mut String, tablet: &EitherTablet) -> Result<(), AllocError> {
-    text.push_str(match tablet {
-        EitherTablet::List(_) => "l",
-        EitherTablet::Slab(_) => "s",
-    })?;
-    if tablet.is_empty() && tablet.len() == 0 {
+fn end<T: Tablet>(tablet: T) {
+    let mut tablet = tablet;
+    tablet.clear();
+    tablet.end();
+}
+
+// Ends a tablet that comes back, and adds its sort, and that something was in it, if it was.
+fn add_back(text: &mut String, tablet: EitherTablet) -> Result<(), AllocError> {
+    let is_slab = matches!(&tablet, EitherTablet::Slab(_));
+    let is_empty = tablet.is_empty() && tablet.len() == 0;
+    end(tablet);
+    text.push_str(if is_slab { "s" } else { "l" })?;
+    if is_empty {
         return Ok(());
     }
     text.push_str(" not empty")
 }
 
 // The spare that the words name, with a lock or a mark in it where that is asked for.
-fn spare_in(alloc: Global, words: &mut Words) -> Result<EitherTablet, NoMemory> {
+fn spare_in(alloc: Global, words: &mut Words) -> Option<EitherTablet> {
     let mut spare = EitherTablet::new(alloc, words.next() == "s");
-    match words.next() {
-        "locked" => spare.apply(&[put_edit(4, 6)])?,
-        "marked" => spare.apply(&[mark_edit(4, 0)])?,
-        _ => {}
+    let is_ready = match words.next() {
+        "locked" => spare.apply(&[put_edit(4, 6)]).is_ok(),
+        "marked" => spare.apply(&[mark_edit(4, 0)]).is_ok(),
+        _ => true,
+    };
+    if is_ready {
+        return Some(spare);
     }
-    Ok(spare)
+    end(spare);
+    None
 }
 
 /// Swaps a spare in, and adds what comes back.
@@ -68,12 +83,17 @@ pub fn add_swap(
     words: &mut Words,
 ) -> Option<()> {
     let place = words.next().parse::<usize>().ok()?;
-    let spare = spare_in(alloc, words).ok()?;
+    let spare = spare_in(alloc, words)?;
     match shared.swap(place, spare) {
-        Ok(old) => add_back(text, &old).ok(),
+        Ok(old) => add_back(text, old).ok(),
         Err((spare, refusal)) => {
-            write!(text, "refused {} ", refusal.code()).ok()?;
-            add_back(text, &spare).ok()
+            let is_added = write!(text, "refused {} ", refusal.code()).is_ok();
+            let is_back_added = add_back(text, spare).is_ok();
+            if is_added && is_back_added {
+                Some(())
+            } else {
+                None
+            }
         }
     }
 }
