@@ -8,13 +8,13 @@ use pb_helpers::HelperTable;
 use pb_history::KeptEntry;
 use pb_notify::{JobEnd, Need, ObserverJob};
 use pb_registry::accept;
-use pb_steps::{Declaration, Declared, EndedRun, Step, Work};
+use pb_steps::{Step, Work};
 use pb_txn::{ChangeJob, Outcome};
 use pb_verify::Accepted;
 use std::alloc::Global;
 use std::sync::Arc;
 use test_fixtures::Unready;
-use test_growths::observers::{finished_run, observers};
+use test_growths::observers::{declares_run, observer_number, open_twins};
 use test_growths::refusals::Refusals;
 use test_growths::steps::{batch, column, column_of, declares, three_cells};
 use test_growths::twins::{Twins, call_all, call_both, close, open_twice};
@@ -67,25 +67,36 @@ fn changes(twins: &mut Twins, job: &mut ChangeJob, refusals: &mut Refusals) -> b
     false
 }
 
+// Whether the job of a batch commits it at 2.
+fn commits(
+    alloc: Global,
+    twins: &mut Twins,
+    batch: Batch,
+    same: &Batch,
+    refusals: &mut Refusals,
+) -> bool {
+    match job_of(alloc, batch, same, refusals) {
+        Some(job) => {
+            let mut job = job;
+            changes(twins, &mut job, refusals) && job.outcome() == Some(Outcome::Committed(Ts(2)))
+        }
+        None => false,
+    }
+}
+
+// Whether the journal has the nine entries of a change, which begins with this declaration.
+fn is_made(journal: &[KeptEntry], declaration: Step) -> bool {
+    journal.len() == 9 && are_entries(&journal[..2], &[Step::Begin(Work::Script), declaration])
+}
+
 /// `ChangeJob::new`, and all that the job asks.
 pub fn changes_are_made(alloc: Global, refusals: &mut Refusals) -> Result<bool, Unready> {
     let batch = three_cells(alloc)?;
     let same = batch.copy()?;
-    let steps = [
-        Step::Begin(Work::Script),
-        declares(alloc, Ts(1), batch.copy()?)?,
-    ];
+    let declaration = declares(alloc, Ts(1), batch.copy()?)?;
     let mut twins = open_twice(alloc, Vec::new(alloc), Vec::new(alloc))?;
-    let held = match job_of(alloc, batch, &same, refusals) {
-        Some(job) => {
-            let mut job = job;
-            changes(&mut twins, &mut job, refusals)
-                && job.outcome() == Some(Outcome::Committed(Ts(2)))
-        }
-        None => false,
-    };
-    let journal = twins.shared.journal();
-    let is_made = journal.len() == 9 && are_entries(&journal[..2], &steps);
+    let held = commits(alloc, &mut twins, batch, &same, refusals);
+    let is_made = is_made(twins.shared.journal(), declaration);
     close(twins);
     Ok(held && is_made)
 }
@@ -105,7 +116,7 @@ fn answers(twins: &mut Twins, job: &mut ObserverJob, refusals: &mut Refusals) ->
 }
 
 // How a machine's instructions are done.
-#[derive(Clone, Copy, PartialEq, Eq)]
+#[derive(Clone, Copy)]
 enum Pace {
     /// One by a call.
     Steps,
@@ -180,15 +191,11 @@ fn steps_of(
     cell: Cell,
     refusals: &mut Refusals,
 ) -> Result<Vec<Step>, Unready> {
-    let Some(finished) = finished_run(alloc, program, &cell, refusals) else {
-        return Err(Unready::Other("no machine comes to its end"));
-    };
-    let what = Declared::Run(watch, EndedRun::new(alloc, finished)?);
     let ack = Cell::Ack(watch, Row(7), column()?);
     let asked = Cell::Data(Row(7), column_of(1)?);
     let deleted = Cell::Data(Row(5), column_of(15)?);
     let change = declares(alloc, Ts(1), batch(alloc)?)?;
-    let run = Declaration::new(alloc, what)?;
+    let run = declares_run(alloc, watch, program, &cell, refusals)?;
     Ok(vec![in alloc;
         Step::Begin(Work::Script),
         change,
@@ -199,7 +206,7 @@ fn steps_of(
         Step::Read(Ts(3), cell),
         Step::Read(Ts(3), ack),
         Step::Read(Ts(3), asked),
-        Step::Declare(Ts(3), run),
+        run,
         Step::Prewrite(Ts(3), ack),
         Step::Prewrite(Ts(3), deleted),
         Step::Stamp(Ts(3)),
@@ -209,6 +216,23 @@ fn steps_of(
     ]?)
 }
 
+// Whether a job comes to its end at this pace after so many calls, and asks those of the steps that come after the change.
+fn asks_the_rest(
+    alloc: Global,
+    twins: &mut Twins,
+    job: &mut ObserverJob,
+    steps: &[Step],
+    pace: Pace,
+    count: u32,
+    refusals: &mut Refusals,
+) -> bool {
+    steps.len() > 5
+        && call_all(twins, &steps[..5], refusals)
+        && follow_to_end(alloc, twins, job, pace, refusals) == Some(count)
+        && job.needs() == Need::Over(JobEnd::Ran(0))
+        && are_entries(twins.shared.journal(), steps)
+}
+
 // Whether a job comes to its end at this pace after so many calls, and asks all that it is to.
 fn observer_runs(
     alloc: Global,
@@ -216,23 +240,12 @@ fn observer_runs(
     count: u32,
     refusals: &mut Refusals,
 ) -> Result<bool, Unready> {
+    let (watch, column) = (observer_number()?, column()?);
     let program = program(alloc)?;
-    let Some(watch) = ObserverNo::new(0) else {
-        return Ok(false);
-    };
-    let cell = Cell::Data(Row(7), column()?);
-    let steps = steps_of(alloc, watch, &program, cell, refusals)?;
-    if steps.len() < 5 {
-        return Ok(false);
-    }
-    let first = observers(alloc, &program)?;
-    let second = observers(alloc, &program)?;
-    let mut job = ObserverJob::new(watch, program, Row(7), column()?);
-    let mut twins = open_twice(alloc, first, second)?;
-    let held = call_all(&mut twins, &steps[..5], refusals)
-        && follow_to_end(alloc, &mut twins, &mut job, pace, refusals) == Some(count)
-        && job.needs() == Need::Over(JobEnd::Ran(0))
-        && are_entries(twins.shared.journal(), &steps);
+    let steps = steps_of(alloc, watch, &program, Cell::Data(Row(7), column), refusals)?;
+    let mut twins = open_twins(alloc, &program)?;
+    let mut job = ObserverJob::new(watch, program, Row(7), column);
+    let held = asks_the_rest(alloc, &mut twins, &mut job, &steps, pace, count, refusals);
     close(twins);
     Ok(held)
 }

@@ -26,15 +26,21 @@ use test_growths::{calls, copies, machines, observers, programs, swaps, tablets}
 // How many tablets are swapped beside workers.
 const SWAPS: usize = 3;
 
-// Calls on programs, and machines.
+// Calls on programs.
 fn programs_hold(alloc: Global, refusals: &mut Refusals) -> Result<bool, Unready> {
     Ok(
         programs::programs_are_made(alloc, refusals)?
-            && programs::bytes_are_decoded(alloc, refusals)?
+            && programs::bytes_are_decoded(alloc, refusals)
             && programs::programs_are_encoded(alloc, refusals)?
-            && programs::texts_are_assembled(alloc, refusals)?
-            && programs::programs_are_listed(alloc, refusals)?
-            && programs::programs_are_verified(alloc, refusals)?
+            && programs::texts_are_assembled(alloc, refusals)
+            && programs::programs_are_listed(alloc, refusals)?,
+    )
+}
+
+// Calls that judge programs, and machines.
+fn verdicts_hold(alloc: Global, refusals: &mut Refusals) -> Result<bool, Unready> {
+    Ok(
+        programs::programs_are_verified(alloc, refusals)?
             && programs::jumps_are_verified(alloc, refusals)?
             && programs::frames_are_told(alloc, refusals)?
             && observers::programs_are_accepted(alloc, refusals)?
@@ -42,19 +48,31 @@ fn programs_hold(alloc: Global, refusals: &mut Refusals) -> Result<bool, Unready
     )
 }
 
-// Calls on batches, steps, tables and states.
-fn tables_hold(alloc: Global, refusals: &mut Refusals) -> Result<bool, Unready> {
+// Calls on batches and steps.
+fn steps_hold(alloc: Global, refusals: &mut Refusals) -> Result<bool, Unready> {
     Ok(
         copies::batch_copies(alloc, refusals)?
             && copies::step_copies(alloc, refusals)?
             && copies::batches_are_declared(alloc, refusals)?
-            && observers::runs_are_ended(alloc, refusals)?
-            && tablets::chunks_are_parted(alloc, refusals)?
+            && observers::runs_are_ended(alloc, refusals)?,
+    )
+}
+
+// Calls on tablets, tables and states.
+fn tables_hold(alloc: Global, refusals: &mut Refusals) -> Result<bool, Unready> {
+    Ok(
+        tablets::chunks_are_parted(alloc, refusals)?
             && tablets::tables_apply(alloc, refusals)?
             && swaps::tablets_are_swapped(alloc, refusals)?
             && calls::states_take(alloc, refusals)?
-            && runs::tables_open(alloc, refusals)?
-            && calls::shared_calls(alloc, refusals)?
+            && runs::tables_open(alloc, refusals)?,
+    )
+}
+
+// Calls on tables with their journals.
+fn calls_hold(alloc: Global, refusals: &mut Refusals) -> Result<bool, Unready> {
+    Ok(
+        calls::shared_calls(alloc, refusals)?
             && calls::shared_grows(alloc, refusals)?
             && calls::seats_make_room(alloc, refusals)?
             && observers::runs_are_declared(alloc, refusals)?
@@ -62,17 +80,23 @@ fn tables_hold(alloc: Global, refusals: &mut Refusals) -> Result<bool, Unready> 
     )
 }
 
-// Calls on texts, jobs, worlds and workers.
+// Calls on texts.
+fn texts_hold(alloc: Global, refusals: &mut Refusals) -> Result<bool, Unready> {
+    Ok(
+        runs::scripts_are_read(alloc, refusals)?
+            && observers::manifests_are_read(alloc, refusals)?
+            && observers::schedules_are_read(alloc, refusals)?,
+    )
+}
+
+// Calls on jobs, worlds and workers.
 fn runs_hold<R: Threads + Wait + Sync>(
     rt: &R,
     alloc: Global,
     refusals: &mut Refusals,
 ) -> Result<bool, Unready> {
     Ok(
-        runs::scripts_are_read(alloc, refusals)?
-            && observers::manifests_are_read(alloc, refusals)?
-            && observers::schedules_are_read(alloc, refusals)?
-            && jobs::changes_are_made(alloc, refusals)?
+        jobs::changes_are_made(alloc, refusals)?
             && jobs::observers_run(alloc, refusals)?
             && worlds::worlds_run(alloc, refusals)?
             && workers::workers_run(rt, alloc, 0, refusals)?,
@@ -87,7 +111,11 @@ fn all<R: Threads + Wait + Sync>(
 ) -> Result<bool, Unready> {
     Ok(
         programs_hold(alloc, refusals)?
+            && verdicts_hold(alloc, refusals)?
+            && steps_hold(alloc, refusals)?
             && tables_hold(alloc, refusals)?
+            && calls_hold(alloc, refusals)?
+            && texts_hold(alloc, refusals)?
             && runs_hold(rt, alloc, refusals)?,
     )
 }
@@ -122,12 +150,12 @@ fn checks_hold<R: Threads + Wait + Sync>(
         return Err(Unready::Other("the words can't be read"));
     };
     let words: Vec<String> = args.collect(rt.alloc())?;
-    match (words.get(1), words.get(2), words.get(3)) {
-        (None, _, _) => all(threads, rt.alloc(), refusals),
-        (Some(word), None, None) if word.as_str() == "swap" => {
+    match words.as_slice() {
+        [] | [_] => all(threads, rt.alloc(), refusals),
+        [_, word] if word.as_str() == "swap" => {
             workers::workers_run(threads, rt.alloc(), SWAPS, refusals)
         }
-        (Some(word), Some(path), Some(count)) => {
+        [_, word, path, count, ..] => {
             held_in(rt, word.as_str(), path.as_str(), count.as_str(), refusals)
         }
         _ => Ok(false),

@@ -10,8 +10,8 @@ use std::alloc::Global;
 use test_fixtures::{Unready, table_of};
 use test_growths::observers::watchers;
 use test_growths::refusals::Refusals;
-use test_growths::same::are_observers_same;
-use test_growths::steps::{NoSuchColumn, column_of};
+use test_growths::same::are_alike;
+use test_growths::steps::{NoSuchNumber, column_of};
 use test_growths::twins::SORTS;
 
 /// Two changes, of three cells.
@@ -24,7 +24,7 @@ fn value(first: u8) -> Content {
     Content::Value(bytes)
 }
 
-fn cell_at(row: u64, column: u8) -> Result<Cell, NoSuchColumn> {
+fn cell_at(row: u64, column: u8) -> Result<Cell, NoSuchNumber> {
     Ok(Cell::Data(Row(row), column_of(column)?))
 }
 
@@ -74,7 +74,7 @@ fn is_opened(shared: &Shared<EitherTablet>, seats: &[Seat], observers: &[Observe
         && shared.limit() == 100
         && shared.journal().is_empty()
         && shared.table().is_empty()
-        && are_observers_same(shared.observers(), observers)
+        && are_alike(shared.observers(), observers)
 }
 
 // Whether the table opens once more with all that was handed back.
@@ -89,7 +89,7 @@ fn is_opened_again(alloc: Global, refused: OpenRefused<EitherTablet>, same: &[Ob
     let is_handed_back = refusal.code() == 1
         && table.is_empty()
         && table.places() == 2
-        && are_observers_same(&observers, same);
+        && are_alike(&observers, same);
     if !is_handed_back {
         table.close();
         return false;

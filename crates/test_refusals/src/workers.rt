@@ -19,7 +19,7 @@ use std::sync::Wait;
 use std::thread::Threads;
 use test_fixtures::{Unready, spares_of};
 use test_growths::refusals::Refusals;
-use test_growths::same::{are_all_seats_same, are_batches_same, are_shared_same};
+use test_growths::same::{are_alike, are_shared_same};
 use test_growths::twins::SORTS;
 
 // What happens before: a run that only begins, with timestamp 1, and a sweep by the main seat, so
@@ -36,7 +36,7 @@ const REPORT: &[u8] =
 const ENTRIES: usize = 41;
 
 // What is left: all that the script makes; or what one seat left that was refused a growth; or something else.
-#[derive(Clone, Copy, Debug, PartialEq, Eq, Drop)]
+#[derive(Clone, Copy, PartialEq, Eq, Drop)]
 enum Remains {
     Whole,
     Short,
@@ -80,8 +80,8 @@ fn are_handed_back(
     let spares = spares_of(alloc, SORTS, count)?;
     let (shared, seats) = open_used_table(alloc)?;
     let held = are_shared_same(&handed.shared, &shared)
-        && are_all_seats_same(&handed.seats, &seats)
-        && are_batches_same(&handed.batches, &batches)
+        && are_alike(&handed.seats, &seats)
+        && are_alike(&handed.batches, &batches)
         && are_spares_same(&handed.spares, &spares);
     shared.close();
     Ok(held)

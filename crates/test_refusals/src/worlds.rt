@@ -15,7 +15,7 @@ use std::alloc::Global;
 use test_fixtures::{Unready, open_table_over, table_of};
 use test_growths::observers::observers;
 use test_growths::refusals::Refusals;
-use test_growths::same::{are_all_seats_same, are_batches_same, are_shared_same};
+use test_growths::same::{are_alike, are_shared_same};
 use test_growths::steps::{batch, three_cells};
 use test_growths::twins::SORTS;
 
@@ -74,6 +74,22 @@ fn left_after(
     }
 }
 
+// A table with an observer, and its seats.
+fn open_observed(
+    alloc: Global,
+    seats: u32,
+    limit: usize,
+) -> Result<(Shared<EitherTablet>, Vec<Seat>), Unready>
+    requires some { 1 ≤ seats }
+    requires few { seats ≤ MAX_SEATS }
+    requires bounded { limit ≤ MAX_ENTRIES }
+    ensures { IfOk result (λ s. AreSeats s.0 s.1.items) }
+{
+    let observers = observers(alloc, &program(alloc)?)?;
+    let table = table_of(alloc, &SORTS)?;
+    open_table_over(alloc, table, observers, seats, Ts(0), limit)
+}
+
 /// A table with an observer, and its seats, once the events of a schedule happened there.
 pub fn used(
     alloc: Global,
@@ -90,9 +106,7 @@ pub fn used(
     opened_worlds_are_sound();
     let events = events(alloc, schedule)?;
     let batches = batches(alloc)?;
-    let observers = observers(alloc, &program(alloc)?)?;
-    let table = table_of(alloc, &SORTS)?;
-    let (shared, seats) = open_table_over(alloc, table, observers, seats, Ts(0), limit)?;
+    let (shared, seats) = open_observed(alloc, seats, limit)?;
     match World::open(alloc, shared, seats, batches) {
         Ok(world) => left_after(alloc, world, &events),
         Err((shared, _seats, _batches, refused)) => {
@@ -112,8 +126,8 @@ fn are_handed_back(
     let batches = batches(alloc)?;
     let (other, others) = used(alloc, BEFORE, 4, 100)?;
     let held = are_shared_same(shared, &other)
-        && are_all_seats_same(seats, &others)
-        && are_batches_same(changes, &batches);
+        && are_alike(seats, &others)
+        && are_alike(changes, &batches);
     other.close();
     Ok(held)
 }
@@ -211,7 +225,7 @@ fn happen(
 fn leave_the_same(first: World<EitherTablet>, second: World<EitherTablet>) -> bool {
     let (shared, seats) = first.close();
     let (other, others) = second.close();
-    let is_same = are_shared_same(&shared, &other) && are_all_seats_same(&seats, &others);
+    let is_same = are_shared_same(&shared, &other) && are_alike(&seats, &others);
     shared.close();
     other.close();
     is_same
