@@ -118,17 +118,10 @@ fn second_bytes(
         < COLUMNS }
     ensures size { length (record_with_old cell found.now acknowledged.0 old) ≡ MAX_RECORD_BYTES }
 {
-    // From the last to the first, as the bytes of version 1.
-    let mut bytes = [0; MAX_RECORD_BYTES];
+    // The bytes of version 1 stand in front. What follows them is written from the last part to the first, as there.
+    let mut bytes = first_bytes(cell, found, acknowledged);
     bytes[88..].copy_from_slice(&old_value(old));
     bytes[80..88].copy_from_slice(&flag_of(old).to_le_bytes());
-    bytes[48..80].copy_from_slice(&value_of(found.content));
-    bytes[40..48].copy_from_slice(&acknowledged.0.to_le_bytes());
-    bytes[32..40].copy_from_slice(&present(found.content).to_le_bytes());
-    bytes[24..32].copy_from_slice(&found.commit.0.to_le_bytes());
-    bytes[16..24].copy_from_slice(&found.start.0.to_le_bytes());
-    bytes[8..16].copy_from_slice(&u64::from(cell.column().number()).to_le_bytes());
-    bytes[..8].copy_from_slice(&cell.row().0.to_le_bytes());
     bytes
 }
 
