@@ -250,6 +250,14 @@ fn look_at(second: bool, locked: u8, place: &mut RunPlace, answer: Answer)
     *place = place_after(second, locked, before, answer);
 }
 
+// Leaves a place for the next. The one before is dropped here alone, since each drop of a place is many cases to prove.
+#[inline(always)]
+fn set_place(place: &mut RunPlace, next: RunPlace)
+    ensures { place.new ≡ next }
+{
+    *place = next;
+}
+
 /// Takes the answer of the next step where the place stands, and returns whether it is a plan,
 /// which goes on.
 pub fn take_answer(second: bool, locked: u8, place: &mut RunPlace, answer: Answer) -> bool
@@ -265,7 +273,7 @@ pub fn take_answer(second: bool, locked: u8, place: &mut RunPlace, answer: Answe
                 None => true,
                 Some(outcome) => {
                     let end = *end;
-                    *place = after_outcome(end, outcome);
+                    set_place(place, after_outcome(end, outcome));
                     false
                 }
             }
@@ -273,17 +281,18 @@ pub fn take_answer(second: bool, locked: u8, place: &mut RunPlace, answer: Answe
         // These looks and the sweep are taken where they stand, since every run has them.
         RunPlace::Observing(start, look) => {
             let (start, look) = (*start, *look);
-            *place = after_cell(start, look_after(locked, look, answer));
+            set_place(place, after_cell(start, look_after(locked, look, answer)));
             false
         }
         RunPlace::Acknowledging(start, version, look) => {
             let (start, version, look) = (*start, *version, *look);
-            *place = after_acknowledgment(second, start, version, look_after(locked, look, answer));
+            let looked = look_after(locked, look, answer);
+            set_place(place, after_acknowledgment(second, start, version, looked));
             false
         }
         RunPlace::Sweeping(end) => {
             let end = *end;
-            *place = RunPlace::Over(end);
+            set_place(place, RunPlace::Over(end));
             false
         }
         _ => {
@@ -360,13 +369,25 @@ pub fn begin(
     let moved = machine.local();
     match place_after_insn(alloc, observer, start, machine, moved) {
         Ok(next) => {
-            *place = next;
+            set_place(place, next);
             Ok(())
         }
         // The first instruction is the exit, and its declaration was refused: the machine goes, since a start leads
         // there again.
         Err((_, refused)) => Err(refused),
     }
+}
+
+// Takes the machine out of the place where its turn is.
+#[inline(always)]
+fn take_machine(place: &mut RunPlace) -> (Ts, Machine)
+    requires { (s : Ts) × (v : Position) × (place.old ≡ places.Computing s v) }
+    ensures { place.old ≡ places.Computing result.0 result.1 }
+{
+    let RunPlace::Computing(start, machine) = mem::replace(place, RunPlace::Beginning) else {
+        unreachable!()
+    };
+    (start, machine)
 }
 
 /// Leaves the machine's turn after an ask or an exit, which was done where the machine stands. Refused for memory, as
@@ -385,16 +406,14 @@ pub fn leave_turn(
     ensures same { (s : Ts) (v : Position) → MovesAlong s v moved place.old
         → OnErr result ((place.new ≡ places.Computing s v) × IsAtExit v) }
 {
-    let RunPlace::Computing(start, machine) = mem::replace(place, RunPlace::Beginning) else {
-        unreachable!()
-    };
+    let (start, machine) = take_machine(place);
     match place_after_insn(alloc, observer, start, machine, moved) {
         Ok(next) => {
-            *place = next;
+            set_place(place, next);
             Ok(())
         }
         Err((machine, refused)) => {
-            *place = RunPlace::Computing(start, machine);
+            set_place(place, RunPlace::Computing(start, machine));
             Err(refused)
         }
     }

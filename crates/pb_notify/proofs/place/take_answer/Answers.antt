@@ -11,5 +11,5 @@ ended_at second locked old r p a o place is ends leads = leads (answered p a) �
 
 pub returns-in-Some-clause-place : goal.returns-in-Some-clause-place
 returns-in-Some-clause-place c =
-    ended_at c.args.second c.args.locked c.args.place.now c.in-Planning.end c.in-Planning.plan c.args.answer c.in-Some.outcome c.after_outcome.result c.in-Planning.is
+    c.set_place.ensures ∙ ended_at c.args.second c.args.locked c.args.place.now c.in-Planning.end c.in-Planning.plan c.args.answer c.in-Some.outcome c.after_outcome.result c.in-Planning.is
     (sym c.plan_outcome_after.ensures.outcome ∙ c.in-Some.is) c.after_outcome.ensures
