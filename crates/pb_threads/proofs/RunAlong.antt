@@ -3,20 +3,15 @@ use Rattle.std.proofs.Common.{arith, ◌≡◌, ◌≢◌, ℕ, List, Some, sym,
 use Rattle.pb_conversations.proofs.Joining.{parts_join}
 use Rattle.pb_threads.specs.Words.{Cell, row_of, Refusal, Step, Answer, CanAnswer, ObserverOf, SeatOf, told, JobEnd, Need, RunOf, watch_of, need_of, HasNext, HearsLook, ComputesOn, Reaches, took, no_part, one_part, JobsConverse, JobsEnd}
 use Rattle.pb_notify.specs.Runs.{next_of, answered}
-use Rattle.pb_passes.specs.Passes.{IsObserverOf, HasColumn, IsRun, IsJobOn, job_on}
+use Rattle.pb_passes.specs.Passes.{HasColumn, IsRun, IsJobOn, job_on}
 use Rattle.pb_passes.specs.Begun.{IsRunBegun}
 use Rattle.pb_threads.specs.Gains.{OpeningOf, Gains, Told, IsSeatStop}
+use Rattle.pb_threads.specs.Runs.{HasRunTo}
 use Rattle.pb_threads.specs.Stops.{Stops}
 use Rattle.pb_threads.proofs.Gaining.{gains_none, gains_as, gains_on, gains_more, gains_left}
 
--- what the seat gained led the run to where it stands
-pub record IsAlong (observers : List ObserverOf) (n : ℕ) (x : Cell) (a b : SeatOf) (job : RunOf) : Type 0 where
-  pub o : ObserverOf
-  pub observer : IsObserverOf observers n x o
-  pub gains : Gains (λ said. Reaches (job_on n o x) said job) a b
-
 -- before its first step the seat has gained nothing
-pub run_at_first : (observers : List ObserverOf) (n : ℕ) (x : Cell) (a : SeatOf) (known : HasColumn observers n x) → IsAlong observers n x a a (job_on n known.0 x)
+pub run_at_first : (observers : List ObserverOf) (n : ℕ) (x : Cell) (a : SeatOf) (known : HasColumn observers n x) → HasRunTo observers n x a a (job_on n known.0 x)
 run_at_first observers n x a known = record { o = known.0; observer = known.1; gains = gains_none no_part }
 
 -- a run begins with a call, and not in its machine
@@ -30,9 +25,9 @@ job_is observers n x job known is = grind arith
 pub first_calls : (observers : List ObserverOf) (n : ℕ) (x : Cell) (job : RunOf) → HasColumn observers n x → IsJobOn observers n x job → need_of job ≢ Need.Local
 first_calls observers n x job known is = subst (λ j. need_of j ≢ Need.Local) (sym (job_is observers n x job known is)) (begins n known.0 x)
 
-module _ {observers : List ObserverOf} {n : ℕ} {x : Cell} {a b : SeatOf} {job : RunOf} (along : IsAlong observers n x a b job) where
+module _ {observers : List ObserverOf} {n : ℕ} {x : Cell} {a b : SeatOf} {job : RunOf} (along : HasRunTo observers n x a b job) where
   -- its next step was answered, and its machine did what instructions it could
-  pub run_after_step : {step : Step} {answer : Answer} {c : SeatOf} {l k : RunOf} → next_of job ≡ Some step → CanAnswer step answer → Told b step answer c → l ≡ answered job answer → HearsLook job answer l → ComputesOn l k → IsAlong observers n x a c k
+  pub run_after_step : {step : Step} {answer : Answer} {c : SeatOf} {l k : RunOf} → next_of job ≡ Some step → CanAnswer step answer → Told b step answer c → l ≡ answered job answer → HearsLook job answer l → ComputesOn l k → HasRunTo observers n x a c k
   run_after_step {step} {answer} {l = l} {k = k} e can t is hears on = record {
     o = along.o;
     observer = along.observer;
@@ -54,7 +49,7 @@ over job calls none some Need.Call e = let has = some e in absurd (grind arith)
 over job calls none some (Need.Over end) e = (end, e)
 
 -- at its end a run is a whole one
-pub run_ends : {observers : List ObserverOf} {n : ℕ} {x : Cell} {a b : SeatOf} {job : RunOf} → IsAlong observers n x a b job → JobsEnd → need_of job ≢ Need.Local → next_of job ≡ None → (need_of job ≡ Need.Call → HasNext job) → Gains (IsRun observers n x) a b
+pub run_ends : {observers : List ObserverOf} {n : ℕ} {x : Cell} {a b : SeatOf} {job : RunOf} → HasRunTo observers n x a b job → JobsEnd → need_of job ≢ Need.Local → next_of job ≡ None → (need_of job ≡ Need.Call → HasNext job) → Gains (IsRun observers n x) a b
 run_ends {n = n} {x = x} {job = job} along law calls none some =
     let ends = over job calls none some (need_of job) refl in
     gains_as

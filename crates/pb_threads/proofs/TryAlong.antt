@@ -8,16 +8,12 @@ use Rattle.pb_txn.specs.Plans as plans
 use Rattle.pb_txn.specs.Changes.{next_of, answered}
 use Rattle.pb_txn.proofs.ChangeConversation.{HasBegun, answered_has_begun}
 use Rattle.pb_threads.specs.Gains.{OpeningOf, Gains, Told, IsSeatStop}
-use Rattle.pb_threads.specs.Tries.{IsTry, committed_in, is_commit, has_commit}
+use Rattle.pb_threads.specs.Tries.{HasTriedTo, IsTry, committed_in, is_commit, has_commit}
 use Rattle.pb_threads.specs.Stops.{Stops, IsTryBegun}
 use Rattle.pb_threads.proofs.Gaining.{gains_none, gains_as, gains_more, gains_left}
 
--- what the seat gained led the change to where it stands, and shows whether the transaction is committed
-abbrev pub IsAlong : Writes → SeatOf → SeatOf → ChangeOf → Bool → Type 0
-IsAlong batch a b job committed = Gains (λ said. Converses (new_change batch) said job × (committed ≡ has_commit said)) a b
-
 -- before its first step the conversation is empty, and nothing is committed
-pub try_at_first : (batch : Writes) (a : SeatOf) → IsAlong batch a a (new_change batch) false
+pub try_at_first : (batch : Writes) (a : SeatOf) → HasTriedTo batch a a (new_change batch) false
 try_at_first batch a = gains_none (no_part, refl)
 
 -- one answer more reports a commit or doesn't
@@ -25,8 +21,8 @@ commit_on : (said : List Received) (r : Received) → has_commit (said ++ r ∷ 
 commit_on [] r = or_false (is_commit r.answer)
 commit_on (s ∷ ss) r = ap (λ b. is_commit s.answer || b) (commit_on ss r) ∙ sym (or_assoc (is_commit s.answer) (has_commit ss) (is_commit r.answer))
 
-module _ {batch : Writes} {a b : SeatOf} {job : ChangeOf} {committed : Bool} (along : IsAlong batch a b job committed) where
-  pub try_after_step : {step : Step} {answer : Answer} {c : SeatOf} {k : ChangeOf} {now : Bool} → next_of job ≡ Some step → CanAnswer step answer → Told b step answer c → k ≡ answered job answer → now ≡ (committed || is_commit answer) → IsAlong batch a c k now
+module _ {batch : Writes} {a b : SeatOf} {job : ChangeOf} {committed : Bool} (along : HasTriedTo batch a b job committed) where
+  pub try_after_step : {step : Step} {answer : Answer} {c : SeatOf} {k : ChangeOf} {now : Bool} → next_of job ≡ Some step → CanAnswer step answer → Told b step answer c → k ≡ answered job answer → now ≡ (committed || is_commit answer) → HasTriedTo batch a c k now
   try_after_step {step} {answer} {k = k} e can t is now-is =
       gains_more along t (λ said h. (one_part job k said _ h.0 (took (told step answer) e can is), now-is ∙ (ap (λ b. b || is_commit answer) h.1 ∙ sym (commit_on said (told step answer)))))
 
@@ -56,5 +52,5 @@ whole_try : (batch : Writes) (said : List Received) (q : ChangeOf) → batch ≢
 whole_try batch [] q some stop end t e = absurd (some_none (Step.Begin Work.Script) (ap next_of (sym (conversation_unfolds next_of answered (new_change batch) q [] t)) ∙ e))
 whole_try batch (r ∷ rest) q some stop end t e = ended_by batch r rest q some stop end t e (answered_has_begun batch r rest q t)
 
-pub try_ends : {batch : Writes} {a b : SeatOf} {job : ChangeOf} {committed : Bool} → IsAlong batch a b job committed → batch ≢ [] → PlansStop → ChangesEnd → next_of job ≡ None → Gains (IsTry batch (committed_in (outcome_of job))) a b
+pub try_ends : {batch : Writes} {a b : SeatOf} {job : ChangeOf} {committed : Bool} → HasTriedTo batch a b job committed → batch ≢ [] → PlansStop → ChangesEnd → next_of job ≡ None → Gains (IsTry batch (committed_in (outcome_of job))) a b
 try_ends {batch} {job = job} along some stop end e = gains_as (λ said h. whole_try batch said job some stop end h.0 e) along

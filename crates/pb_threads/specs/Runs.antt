@@ -1,11 +1,19 @@
 -- A run of an observer between two of its calls, and how it ended.
-use Rattle.std.specs.Prelude.{◌≢◌, Bool, true, false}
-use Rattle.pb_threads.specs.Words.{JobEnd, Need, RunOf, need_of, ComputesOn}
+use Rattle.std.specs.Prelude.{◌≢◌, ℕ, Bool, true, false, List}
+use Rattle.pb_threads.specs.Words.{Cell, ObserverOf, SeatOf, JobEnd, Need, RunOf, need_of, ComputesOn, Reaches}
+use Rattle.pb_passes.specs.Passes.{IsObserverOf, job_on}
+use Rattle.pb_threads.specs.Gains.{Gains}
 
 -- it goes on by its machine's instructions alone, and isn't at one
 pub record IsComputed (j k : RunOf) : Type 0 where
   pub on : ComputesOn j k
   pub calls : need_of k ≢ Need.Local
+
+-- what the seat gained led the run to where it stands
+pub record HasRunTo (observers : List ObserverOf) (n : ℕ) (x : Cell) (a b : SeatOf) (job : RunOf) : Type 0 where
+  pub o : ObserverOf
+  pub observer : IsObserverOf observers n x o
+  pub gains : Gains (λ said. Reaches (job_on n o x) said job) a b
 
 -- the end of a run that committed
 abbrev pub is_ran_end : JobEnd → Bool

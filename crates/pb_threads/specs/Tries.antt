@@ -1,7 +1,8 @@
 -- The changes of one worker: each is tried until a try of it commits, or so often as may be.
 use Rattle.std.specs.Prelude.{◌≡◌, ℕ, ◌+◌, ◌*◌, ◌<◌, ◌≤◌, Bool, true, false, ◌||◌, List, [], ◌∷◌, ◌++◌, length, Option, Some, None, slice_get}
-use Rattle.pb_threads.specs.Words.{Ts, Writes, Answer, Received, Outcome, IsWholeChange, IsOfParts, EndsIn, IsNextOf}
+use Rattle.pb_threads.specs.Words.{Ts, Writes, Answer, Received, Outcome, SeatOf, ChangeOf, new_change, Converses, IsWholeChange, IsOfParts, EndsIn, IsNextOf}
 use Rattle.pb_threads.specs.declared.tries.TheConstants.{MAX_TRIES}
+use Rattle.pb_threads.specs.Gains.{Gains}
 
 -- the outcome of a committed transaction, at whatever timestamp
 abbrev pub is_commit_outcome : Outcome → Bool
@@ -22,6 +23,10 @@ is_commit _ = false
 abbrev pub has_commit : List Received → Bool
 has_commit [] = false
 has_commit (r ∷ rs) = is_commit r.answer || has_commit rs
+
+-- what the seat gained led the change to where it stands, and shows whether the transaction is committed
+abbrev pub HasTriedTo : Writes → SeatOf → SeatOf → ChangeOf → Bool → Type 0
+HasTriedTo batch a b job committed = Gains (λ said. Converses (new_change batch) said job × (committed ≡ has_commit said)) a b
 
 -- a whole try of a change of this batch, and whether it committed
 pub record IsTry (batch : Writes) (committed : Bool) (said : List Received) : Type 0 where

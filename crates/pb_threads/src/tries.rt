@@ -1,9 +1,11 @@
 //! Changes, each tried until it commits.
-ghost use Rattle.std.specs.Prelude.{◌≡◌, ◌||◌, ◌<◌, ◌≤◌, ◌++◌, ◌∷◌, [], length, vec_len, vec_capacity, IfOk, IfErr, OnOk};
+ghost use Rattle.std.specs.Prelude.{◌≡◌, ◌||◌, ◌<◌, ◌≤◌, ◌≢◌, ◌++◌, ◌∷◌, [], false, length, vec_len, vec_capacity, IfOk, IfErr, OnOk};
+ghost use Rattle.pb_base.specs.Batch.{Writes};
 ghost use Rattle.pb_base.specs.declared.limits.TheConstants.{MAX_SEATS};
+ghost use Rattle.pb_core.specs.Calls.{SeatOf};
 ghost use Rattle.pb_txn.specs.Changes.{new_change, outcome_of};
 ghost use Rattle.pb_threads.specs.Gains.{Gains, IsWant};
-ghost use Rattle.pb_threads.specs.Tries.{IsTry, AreTries, AreAllTried, committed_in, is_commit};
+ghost use Rattle.pb_threads.specs.Tries.{HasTriedTo, IsTry, AreTries, AreAllTried, committed_in, is_commit};
 ghost use Rattle.pb_threads.specs.Stops.{Stops, IsTryBegun, AreTriesBegun, AreChangesBegun};
 
 use crate::desk::{Callee, Caller};
@@ -64,6 +66,41 @@ fn has_committed(job: &ChangeJob) -> bool
     matches!(job.outcome(), Some(Outcome::Committed(_)))
 }
 
+// Follows a change to its end, and returns whether it committed. It is lent, so that no refusal drops it here.
+fn try_to_end<R: Wait, C: Callee, G: Gate>(
+    caller: &Caller<R, C, G>,
+    seat: &mut Seat,
+    job: &mut ChangeJob,
+) -> Result<bool, Cut>
+    ensures ok { (batch : Writes) (a : SeatOf) → batch ≢ []
+        → HasTriedTo batch a seat.old job.old false
+        → IfOk result (λ committed. Gains (IsTry batch committed) a seat.new) }
+    ensures err { (batch : Writes) (a : SeatOf) → batch ≢ []
+        → HasTriedTo batch a seat.old job.old false
+        → IfErr result
+        (λ cut. Gains (Stops C.opening a.number (IsTryBegun batch cut.committed) cut.refusal)
+        a seat.new) }
+{
+    // For the proof: what a change has asked is a beginning of its conversation, and at its end a whole one.
+    plans_converse();
+    changes_converse();
+    let mut committed = false;
+    for _turn in caller.rt.forever() {
+        let Some(step) = job.next() else {
+            return Ok(has_committed(job));
+        };
+        match caller.ask(seat, step) {
+            Ok(answer) => {
+                // Noted at once, since a step after the commit may be refused.
+                committed = or_commits(committed, &answer);
+                job.took(answer);
+            }
+            Err(refusal) => return Err(Cut { refusal, committed }),
+        }
+    }
+    unreachable!()
+}
+
 // One try of a change, and whether it committed. It may be left with its transaction committed, and some of its cells
 // still locked.
 fn try_once<R: Wait, C: Callee, G: Gate>(
@@ -77,33 +114,19 @@ fn try_once<R: Wait, C: Callee, G: Gate>(
         (Stops C.opening seat.old.number (IsTryBegun batch.now cut.committed) cut.refusal)
         seat.old seat.new) }
 {
-    // For the proof: a batch has some cells; and what a change has asked is a beginning of its conversation, and at
-    // its end a whole one.
+    // For the proof: a batch has some cells, and a change that asked nothing yet is a beginning of its conversation.
     batch.known();
-    plans_converse();
     changes_converse();
-    let mut committed = false;
-    let mut job = match job_of(caller.alloc, batch) {
-        Ok(job) => job,
+    match job_of(caller.alloc, batch) {
+        Ok(mut job) => try_to_end(caller, seat, &mut job),
         Err(refused) => {
             let refusal = Refusal::from(refused);
-            return Err(Cut { refusal, committed });
-        }
-    };
-    for _turn in caller.rt.forever() {
-        let Some(step) = job.next() else {
-            return Ok(has_committed(&job));
-        };
-        match caller.ask(seat, step) {
-            Ok(answer) => {
-                // Noted at once, since a step after the commit may be refused.
-                committed = or_commits(committed, &answer);
-                job.took(answer);
-            }
-            Err(refusal) => return Err(Cut { refusal, committed }),
+            Err(Cut {
+                refusal,
+                committed: false,
+            })
         }
     }
-    unreachable!()
 }
 
 // Tries a change until it commits, or so often as may be, and returns whether it committed.
