@@ -421,14 +421,14 @@ impl<T: Tablet> Shared<T> {
         ensures table { OnErr result (self.new ≡ self.old) }
         ensures seat { OnErr result (seat.new ≡ seat.old) }
     {
-        let kept = step.copy()?;
-        let told = step.copy()?;
         let number = seat.number;
         let place = self.journal.len() as u32;
         let book = &mut self.books[number as usize];
         make_rooms(&mut self.journal, &mut book.places, &mut seat.received)?;
         seat.journal_room.make()?;
         seat.room.make()?;
+        let kept = step.copy()?;
+        let told = step.copy()?;
         let answer = self.state.take_admitted(number, admitted)?;
         append(&mut book.places, place);
         let entry = entry_of(number, kept, &answer, &mut seat.journal_room);
