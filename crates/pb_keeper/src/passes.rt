@@ -8,8 +8,9 @@ ghost use Rattle.pb_steps.specs.Readings.{last_timestamp};
 ghost use Rattle.pb_store.specs.Contents.{IsNextMark};
 ghost use Rattle.pb_keeper.specs.Counts.{CountsCommits, commit_count};
 ghost use Rattle.pb_keeper.specs.Keeps.{Keeps};
-ghost use Rattle.pb_keeper.specs.Stats.{Counted, KeptTable, kept_table};
-ghost use Rattle.pb_passes.specs.Passes.{HasColumn};
+ghost use Rattle.pb_keeper.specs.Stats.{Counted, KeptTable, RanAndDid, kept_table};
+ghost use Rattle.pb_notify.specs.Runs.{RunOf};
+ghost use Rattle.pb_passes.specs.Passes.{HasColumn, IsJobOn};
 ghost use Rattle.pb_keeper.specs.Drains.{end_after, AreRunsThat, HasRuns, IsDrainWithin, IsPassWithEnd, IsTurnThat};
 ghost use Rattle.pb_keeper.specs.BrokenOff.{IsOfChange, IsOfRuns};
 ghost use Rattle.pb_keeper.specs.Leads.{SaidLeads};
@@ -18,7 +19,7 @@ ghost use Rattle.pb_keeper.specs.Stops.{WasKept, IsStop, WantsMemory};
 ghost use Rattle.pb_keeper.specs.declared.passes.PassEnd.TheVariants as ends;
 
 use crate::change::{Stopped, ask, commit};
-use crate::run::run_one;
+use crate::run::{RunDone, run_one};
 use crate::stats::{ObserverStats, add_run};
 use pb_base::{Batch, Cell, ObserverNo, Ts};
 use pb_generations::{jobs_are_in_time, jobs_keep_tables, snapshots_serve};
@@ -99,7 +100,31 @@ fn clock_fits<T: Tablet>(state: &State<T>)
     let _last = state.clock();
 }
 
-// Runs the observer of this number on the cell, and returns how many runs were committed.
+// Runs the observer of this number on the cell.
+fn run_number<T: Tablet>(
+    alloc: Global,
+    state: &mut State<T>,
+    number: ObserverNo,
+    cell: &Cell,
+) -> Result<RunDone, Stopped>
+    requires within { number < length state.old.observers }
+    requires column { HasColumn state.old.observers number cell.now }
+    ensures ok { IfOk result (λ ran. (job : RunOf)
+        × IsJobOn state.old.observers number cell.now job
+        × SaidLeads (RanAndDid job ran.end ran.stats) state.old state.new) }
+    ensures err { OnErr result (SaidLeads (IsOfRuns 1) state.old state.new) }
+    ensures stops { WasKept state.old → IfErr result (λ e. IsStop e state.new) }
+{
+    let mut job = match job_on(state.observers(), number, *cell) {
+        Ok(job) => job,
+        Err(refused) => return Err(Stopped::NoMemory(refused)),
+    };
+    // For the proof: its row and its column are numbers that a record has room for.
+    fits(cell);
+    run_one(alloc, state, &mut job)
+}
+
+// Runs the observer at this place on the cell, and returns how many runs were committed.
 fn run_place<T: Tablet>(
     alloc: Global,
     state: &mut State<T>,
@@ -115,18 +140,12 @@ fn run_place<T: Tablet>(
     ensures err { OnErr result (SaidLeads (IsOfRuns 1) state.old state.new) }
     ensures stops { WasKept state.old → IfErr result (λ e. IsStop e state.new) }
 {
-    let observers = state.observers();
-    // A table has no more observers than there are numbers.
+    // For the proof: a table has no more observers than there are numbers.
+    let _observers = state.observers();
     let Some(number) = ObserverNo::new(place as u8) else {
         unreachable!()
     };
-    let mut job = match job_on(observers, number, *cell) {
-        Ok(job) => job,
-        Err(refused) => return Err(Stopped::NoMemory(refused)),
-    };
-    // For the proof: its row and its column are numbers that a record has room for.
-    fits(cell);
-    let ran = run_one(alloc, state, &mut job)?;
+    let ran = run_number(alloc, state, number, cell)?;
     add_run(stats, place, &ran.stats);
     match ran.end {
         JobEnd::Ran(_) => Ok(1),
