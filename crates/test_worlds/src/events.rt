@@ -7,29 +7,37 @@ fn actor_in(word: &str) -> Option<u32> {
     word.parse::<u32>().ok()
 }
 
+fn column_in(word: &str) -> Option<Column> {
+    Column::new(word.parse::<u8>().ok()?)
+}
+
 fn row_in(word: &str) -> Option<Row> {
     Some(Row(word.parse::<u64>().ok()?))
 }
 
-// Adds the event that these words name. No event is handed on by `?`, since the toolchain doesn't find the type `Job` there.
+// Adds the event that these words name. No event is handed on by `?`, or to a function of its own, since the toolchain doesn't find
+// the type `Job` there.
 fn add_event(events: &mut Vec<Event>, words: &[&str]) -> Option<()> {
-    let event = match words {
+    match words {
         ["launch", actor, "change", number] => {
-            Event::Launch(actor_in(actor)?, Job::Change(number.parse::<u32>().ok()?))
+            let (actor, number) = (actor_in(actor)?, number.parse::<u32>().ok()?);
+            events.push(Event::Launch(actor, Job::Change(number))).ok()
         }
         ["launch", actor, "run", observer, row] => {
+            let (actor, row) = (actor_in(actor)?, row_in(row)?);
             let observer = ObserverNo::new(observer.parse::<u8>().ok()?)?;
-            Event::Launch(actor_in(actor)?, Job::Run(observer, row_in(row)?))
+            events
+                .push(Event::Launch(actor, Job::Run(observer, row)))
+                .ok()
         }
-        ["step", actor] => Event::Step(actor_in(actor)?),
-        ["crash", actor] => Event::Crash(actor_in(actor)?),
+        ["step", actor] => events.push(Event::Step(actor_in(actor)?)).ok(),
+        ["crash", actor] => events.push(Event::Crash(actor_in(actor)?)).ok(),
         ["clear", row, column] => {
-            let column = Column::new(column.parse::<u8>().ok()?)?;
-            Event::Clear(Cell::Data(row_in(row)?, column))
+            let (row, column) = (row_in(row)?, column_in(column)?);
+            events.push(Event::Clear(Cell::Data(row, column))).ok()
         }
-        _ => return None,
-    };
-    events.push(event).ok()
+        _ => None,
+    }
 }
 
 /// The events of a list.

@@ -10,6 +10,7 @@
 //! With `--help` it names its words. It has no answer where there are no such words or no memory.
 #![tactic(auto)]
 
+ghost use Rattle.std.specs.Option.{IfSome};
 ghost use Rattle.pb_core.specs.Calls.{AreSeats};
 
 mod events;
@@ -103,20 +104,43 @@ fn is_run(
     }
 }
 
-/// Whether what these words ask for, the crate's own first, was done and printed.
-pub fn are_words_done(rt: &HostRuntime, words: &[String]) -> Option<bool> {
-    let alloc = rt.alloc();
-    if words.get(1)?.as_str() == "--help" {
-        return Some(println!(rt; "{WORDS}").is_ok());
-    }
-    let seats = words.get(1)?.as_str().parse::<u32>().ok()?;
-    let limit = words.get(2)?.as_str().parse::<usize>().ok()?;
-    let observers = observers_of(alloc, words.get(3)?.as_str()).ok()?;
-    let batches = batches_of(alloc, words.get(4)?.as_str()).ok()?;
-    let lists = words.get(5..)?;
+// The table of a manifest's observers, with the seats and the room for entries that words name.
+fn opened_by(
+    alloc: Global,
+    seats: &str,
+    limit: &str,
+    manifest: &str,
+) -> Option<(Shared<ListTablet>, Vec<Seat>)>
+    ensures { IfSome result (λ s. AreSeats s.0 s.1.items) }
+{
+    let seats = seats.parse::<u32>().ok()?;
+    let limit = limit.parse::<usize>().ok()?;
     if seats < 1 || seats > MAX_SEATS || limit > MAX_ENTRIES {
         return None;
     }
-    let (shared, seats) = open_table(alloc, observers, seats, Ts(0), limit).ok()?;
+    let observers = observers_of(alloc, manifest).ok()?;
+    open_table(alloc, observers, seats, Ts(0), limit).ok()
+}
+
+// Whether what the words ask for was done.
+fn is_done(rt: &HostRuntime, words: &[String]) -> Option<bool> {
+    let [_, seats, limit, manifest, script, lists @ ..] = words else {
+        return None;
+    };
+    let batches = batches_of(rt.alloc(), script.as_str()).ok()?;
+    let (shared, seats) = opened_by(
+        rt.alloc(),
+        seats.as_str(),
+        limit.as_str(),
+        manifest.as_str(),
+    )?;
     Some(is_run(rt, shared, seats, batches, lists))
+}
+
+/// Whether what these words ask for, the crate's own first, was done and printed.
+pub fn are_words_done(rt: &HostRuntime, words: &[String]) -> Option<bool> {
+    if words.get(1)?.as_str() == "--help" {
+        return Some(println!(rt; "{WORDS}").is_ok());
+    }
+    is_done(rt, words)
 }
