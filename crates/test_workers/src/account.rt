@@ -12,7 +12,7 @@ use std::io;
 
 /// What is printed in addition to the refusals, the seats, the changes that are left and the
 /// report.
-#[derive(Clone, Copy, Debug, PartialEq, Eq)]
+#[derive(Clone, Copy)]
 pub enum How {
     /// Nothing.
     Told,

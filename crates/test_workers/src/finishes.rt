@@ -139,6 +139,22 @@ fn after_all(alloc: Global, moved: Moved, operations: &[String]) -> Option<Moved
     Some(moved)
 }
 
+// Table and seats after a task.
+fn left_of<R: Threads + Wait + Sync>(
+    rt: &R,
+    alloc: Global,
+    task: &Task,
+) -> Option<(Shared<CountedTablet>, Vec<Seat>)> {
+    let parts = parts_of(alloc, task, None).ok()?;
+    let Worked {
+        shared,
+        seats,
+        refusals: _,
+        unfinished: _,
+    } = do_work(rt, alloc, task, parts, Vec::new(alloc), &Open).ok()?;
+    Some((shared, seats))
+}
+
 // What two workers leave of a script, with the seats of two that did another.
 fn work_of_two<R: Threads + Wait + Sync>(
     rt: &R,
@@ -146,21 +162,9 @@ fn work_of_two<R: Threads + Wait + Sync>(
     first: &Task,
     second: &Task,
 ) -> Option<Moved> {
-    let parts = parts_of(alloc, second, None).ok()?;
-    let Worked {
-        shared: other,
-        seats: others,
-        refusals: _,
-        unfinished: _,
-    } = do_work(rt, alloc, second, parts, Vec::new(alloc), &Open).ok()?;
+    let (other, others) = left_of(rt, alloc, second)?;
     other.close();
-    let parts = parts_of(alloc, first, None).ok()?;
-    let Worked {
-        shared,
-        seats,
-        refusals: _,
-        unfinished: _,
-    } = do_work(rt, alloc, first, parts, Vec::new(alloc), &Open).ok()?;
+    let (shared, seats) = left_of(rt, alloc, first)?;
     Some(Moved {
         shared,
         seats,
@@ -175,10 +179,11 @@ pub fn are_told<R: Threads + Wait + Sync>(
     rt: &HostRuntime,
     words: &[String],
 ) -> Option<bool> {
-    let manifest = words.get(0)?.as_str();
-    let first = Task::of_two(manifest, words.get(1)?.as_str());
-    let second = Task::of_two(manifest, words.get(2)?.as_str());
-    let operations = words.get(3..)?;
+    let [manifest, script, other, operations @ ..] = words else {
+        return None;
+    };
+    let first = Task::of_two(manifest.as_str(), script.as_str());
+    let second = Task::of_two(manifest.as_str(), other.as_str());
     let moved = work_of_two(threads, rt.alloc(), &first, &second)?;
     let Moved {
         shared,

@@ -28,6 +28,7 @@ use std::thread::Threads;
 use std::time::Clock;
 use tablets::{Count, Spares, parts_of, spares_in};
 use task::Task;
+use test_fixtures::CountedTablet;
 use turns::{Marks, Turns};
 use work::do_work;
 
@@ -61,6 +62,25 @@ fn are_passes_told(rt: &HostRuntime, passed: &[AtomicU64]) -> bool {
     println!(rt; "").is_ok()
 }
 
+// Whether all holds were in time, and how often each seat passed the gate.
+fn are_turns_told(rt: &HostRuntime, marks: &Marks) -> bool {
+    let word = if marks.are_in_time() { "kept" } else { "late" };
+    println!(rt; "turns {word}").is_ok() && are_passes_told(rt, marks.passed())
+}
+
+// Whether workers did a task in these turns beside these spares, and what they left was printed.
+fn is_left_told<R: Threads + Wait + Clock + Sync>(
+    rt: &HostRuntime,
+    how: How,
+    task: &Task,
+    turns: &Turns<R>,
+    spares: Vec<(usize, CountedTablet)>,
+) -> Option<bool> {
+    let parts = parts_of(rt.alloc(), task, turns.marks.until()).ok()?;
+    let worked = do_work(turns.rt, rt.alloc(), task, parts, spares, turns).ok()?;
+    Some(is_told(rt, worked, how))
+}
+
 // Whether workers worked as the words state, and that was printed.
 fn work_is_told<R: Threads + Wait + Clock + Sync>(
     threads: &R,
@@ -69,25 +89,12 @@ fn work_is_told<R: Threads + Wait + Clock + Sync>(
     words: &[String],
 ) -> Option<bool> {
     let task = Task::of(words)?;
-    let Spares {
-        parts: spares,
-        counts,
-    } = spares_in(rt.alloc(), words.get(8..)?).ok()?;
-    let turns = Turns {
-        rt: threads,
-        marks: Marks::new(rt.alloc(), &task, &counts).ok()?,
-    };
-    let parts = parts_of(rt.alloc(), &task, turns.marks.until()).ok()?;
-    let worked = do_work(threads, rt.alloc(), &task, parts, spares, &turns).ok()?;
-    let is_told = is_told(rt, worked, how);
-    let word = if turns.marks.are_in_time() {
-        "kept"
-    } else {
-        "late"
-    };
-    let are_kept_told = println!(rt; "turns {word}").is_ok();
-    let are_passes_told = are_passes_told(rt, turns.marks.passed());
-    Some(is_told && are_kept_told && are_passes_told && are_counts_told(rt, &counts))
+    let Spares { parts, counts } = spares_in(rt.alloc(), words.get(8..)?)?;
+    let marks = Marks::new(rt.alloc(), &task, &counts).ok()?;
+    let turns = Turns { rt: threads, marks };
+    let is_told = is_left_told(rt, how, &task, &turns, parts)?;
+    let are_turns_told = are_turns_told(rt, &turns.marks);
+    Some(is_told && are_turns_told && are_counts_told(rt, &counts))
 }
 
 /// Whether what these words ask for, the crate's own first, was done and printed.

@@ -6,7 +6,7 @@ use pb_store::Tablet;
 use std::alloc::Global;
 use std::sync::Arc;
 use std::sync::atomic::AtomicUsize;
-use test_fixtures::{CountedTablet, Unready, mark_edit};
+use test_fixtures::{CountedTablet, mark_edit};
 
 /// How often a tablet was changed.
 pub type Count = Arc<AtomicUsize>;
@@ -20,16 +20,17 @@ pub fn no_changes(alloc: Global) -> Result<Count, NoMemory> {
 fn tablet(
     alloc: Global,
     letter: u8,
-    count: &Count,
+    calls: Count,
     refused: Option<usize>,
-) -> Result<CountedTablet, NoMemory> {
-    Ok(CountedTablet {
+    until: Option<Count>,
+) -> CountedTablet {
+    CountedTablet {
         inner: EitherTablet::new(alloc, letter == b's'),
-        calls: count.clone()?,
+        calls,
         refused,
-        until: None,
+        until,
         alloc,
-    })
+    }
 }
 
 /// The tablets of a task's table, a thousand rows apart. Their changes are counted together, and the end of the first waits for a
@@ -43,10 +44,12 @@ pub fn parts_of(
     let mut parts = Vec::new(alloc);
     let mut first: u64 = 0;
     for letter in task.sorts.as_bytes() {
-        let mut part = tablet(alloc, *letter, &count, task.refused)?;
-        if let (0, Some(until)) = (first, until) {
-            part.until = Some(until.clone()?);
-        }
+        let calls = count.clone()?;
+        let until = match (first, until) {
+            (0, Some(until)) => Some(until.clone()?),
+            _ => None,
+        };
+        let part = tablet(alloc, *letter, calls, task.refused, until);
         parts.push((Row(first), part))?;
         first = first.saturating_add(1000);
     }
@@ -58,36 +61,39 @@ pub fn place_of(digit: u8) -> usize {
     usize::from(digit.wrapping_sub(b'0'))
 }
 
-// The spare that a word names, with a mark in it where that is asked for, or refusing its first change.
-fn spare(alloc: Global, word: &[u8], count: &Count) -> Result<(usize, CountedTablet), Unready> {
-    let (Some(place), Some(letter)) = (word.get(0), word.get(1)) else {
-        return Err(Unready::Other("the word names no spare"));
-    };
-    let refused = match word.get(2) {
-        Some(b'r') => Some(0),
-        _ => None,
-    };
-    let mut tablet = tablet(alloc, *letter, count, refused)?;
-    if word.get(2) == Some(&b'm') {
-        tablet.apply(&[mark_edit(4, 0)])?;
-    }
-    Ok((place_of(*place), tablet))
-}
-
 /// Spares, each with its place, and how often each was changed.
+#[derive(Drop)]
 pub struct Spares {
     pub parts: Vec<(usize, CountedTablet)>,
     pub counts: Vec<Count>,
 }
 
+// Adds the spare that a word names, with a mark in it where that is asked for, or refusing its first change.
+fn add_spare(alloc: Global, spares: &mut Spares, word: &[u8]) -> Option<()> {
+    let [place, letter, more @ ..] = word else {
+        return None;
+    };
+    let refused = if more.first() == Some(&b'r') {
+        Some(0)
+    } else {
+        None
+    };
+    let count = no_changes(alloc).ok()?;
+    spares.counts.push(count.clone().ok()?).ok()?;
+    let mut part = tablet(alloc, *letter, count, refused, None);
+    let is_ready = more.first() != Some(&b'm') || part.apply(&[mark_edit(4, 0)]).is_ok();
+    spares.parts.push((place_of(*place), part)).ok()?;
+    if is_ready { Some(()) } else { None }
+}
+
 /// The spares that words name.
-pub fn spares_in(alloc: Global, words: &[String]) -> Result<Spares, Unready> {
-    let mut parts = Vec::new(alloc);
-    let mut counts = Vec::new(alloc);
+pub fn spares_in(alloc: Global, words: &[String]) -> Option<Spares> {
+    let mut spares = Spares {
+        parts: Vec::new(alloc),
+        counts: Vec::new(alloc),
+    };
     for word in words {
-        let count = no_changes(alloc)?;
-        parts.push(spare(alloc, word.as_bytes(), &count)?)?;
-        counts.push(count)?;
+        add_spare(alloc, &mut spares, word.as_bytes())?;
     }
-    Ok(Spares { parts, counts })
+    Some(spares)
 }

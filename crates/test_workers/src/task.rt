@@ -3,7 +3,7 @@ use crate::turns::Order;
 use pb_base::MAX_ENTRIES;
 
 /// How many workers work, in which turns, on which tablets and texts.
-#[derive(Clone, Copy, Debug)]
+#[derive(Clone, Copy)]
 pub struct Task<'a> {
     pub order: Order,
     pub workers: u32,
@@ -22,15 +22,29 @@ pub struct Task<'a> {
 impl<'a> Task<'a> {
     /// The task that these words begin with.
     pub fn of(words: &'a [String]) -> Option<Task<'a>> {
+        let [
+            order,
+            workers,
+            last,
+            limit,
+            sorts,
+            refused,
+            manifest,
+            script,
+            ..
+        ] = words
+        else {
+            return None;
+        };
         Some(Task {
-            order: Order::of(words.get(0)?.as_str())?,
-            workers: words.get(1)?.as_str().parse::<u32>().ok()?,
-            last: words.get(2)?.as_str().parse::<u64>().ok()?,
-            limit: words.get(3)?.as_str().parse::<usize>().ok()?,
-            sorts: words.get(4)?.as_str(),
-            refused: words.get(5)?.as_str().parse::<usize>().ok(),
-            manifest: words.get(6)?.as_str(),
-            script: words.get(7)?.as_str(),
+            order: Order::of(order.as_str())?,
+            workers: workers.as_str().parse::<u32>().ok()?,
+            last: last.as_str().parse::<u64>().ok()?,
+            limit: limit.as_str().parse::<usize>().ok()?,
+            sorts: sorts.as_str(),
+            refused: refused.as_str().parse::<usize>().ok(),
+            manifest: manifest.as_str(),
+            script: script.as_str(),
         })
     }
 

@@ -13,7 +13,7 @@ use std::time::{Clock, Duration};
 const MAX_TURNS: u32 = 10_000;
 
 /// In which turns seats work.
-#[derive(Clone, Copy, Debug, PartialEq, Eq)]
+#[derive(Clone, Copy, PartialEq, Eq)]
 pub enum Order {
     /// In none.
     Free,
@@ -66,10 +66,10 @@ impl Marks {
     /// Those of a task before it begins, beside spares whose changes are counted so.
     pub fn new(alloc: Global, task: &Task, counts: &[Count]) -> Result<Marks, NoMemory> {
         let mut passed = Vec::new(alloc);
-        passed.push(AtomicU64::new(0))?;
-        for _ in 0..task.workers {
+        for _ in 0..=task.workers {
             passed.push(AtomicU64::new(0))?;
         }
+        let until = no_changes(alloc)?;
         let spare = match counts.get(1) {
             Some(count) => Some(count.clone()?),
             None => None,
@@ -83,7 +83,7 @@ impl Marks {
             first: [AtomicU64::new(0), AtomicU64::new(0)],
             second: [AtomicU64::new(0), AtomicU64::new(0)],
             passed,
-            until: no_changes(alloc)?,
+            until,
             spare,
         })
     }
