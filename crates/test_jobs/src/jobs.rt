@@ -65,18 +65,23 @@ pub fn jobs_of(alloc: Global, tasks: &str, program: &Arc<Accepted>) -> Option<Ve
     Some(jobs)
 }
 
-/// The one observer of column 0, whose program may call all helpers.
-pub fn observer_of(alloc: Global, digits: &str) -> Option<Observer> {
+// The program of these digits, which may call all helpers.
+fn program_of(alloc: Global, digits: &str) -> Option<Arc<Accepted>> {
     let (digits, profile, version) = match digits.split_once(":") {
         Some(("2", rest)) => (rest, Profile::Two, Version::Second),
         _ => (digits, Profile::One, Version::First),
     };
     let bytes = hex::decode(alloc, digits).ok()?;
     let program = accept_in(alloc, profile, version, &bytes, HelperTable::all()).ok()?;
+    Arc::new(alloc, program).ok()
+}
+
+/// The one observer of column 0, with the program of these digits.
+pub fn observer_of(alloc: Global, digits: &str) -> Option<Observer> {
     Some(Observer {
-        name: String::from_str(alloc, "watch").ok()?,
         column: Column::new(0)?,
-        program: Arc::new(alloc, program).ok()?,
+        program: program_of(alloc, digits)?,
+        name: String::from_str(alloc, "watch").ok()?,
     })
 }
 

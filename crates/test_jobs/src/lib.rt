@@ -18,27 +18,45 @@ mod turns;
 use jobs::{Job, jobs_of, observer_of, observers_of};
 use pb_base::{NoMemory, Ts};
 use pb_core::Shared;
+use pb_steps::{Answer, Step};
 use pb_store::Tablet;
 use pb_story::{add_answer, add_step};
 use pb_verify::Observer;
-use std::alloc::Global;
+use std::alloc::{AllocError, Global};
 use test_fixtures::open_table;
 use turns::stopped_at;
 
 const WORDS: &str = "DIGITS FROM TASKS TURNS";
 
+// Adds an entry of a seat, in a line.
+fn add_entry(
+    text: &mut String,
+    observers: &[Observer],
+    seat: u32,
+    step: &Step,
+    answer: &Answer,
+) -> Result<(), AllocError> {
+    write!(text, "{seat} ")?;
+    add_step(text, observers, step)?;
+    text.push_str(" -> ")?;
+    add_answer(text, observers, answer)?;
+    text.push_str("\n")
+}
+
 // The entries of the seats from this one on, each in a line, and a line of the marks and locks that stand.
 fn table_text<T: Tablet>(alloc: Global, shared: &Shared<T>, from: u32) -> Result<String, NoMemory> {
     let mut text = String::new(alloc);
-    let observers = shared.observers();
     for entry in shared.journal() {
-        if entry.seat() >= from {
+        let seat = entry.seat();
+        if seat >= from {
             let call = entry.call().get()?;
-            write!(text, "{} ", entry.seat())?;
-            add_step(&mut text, observers, &call.step)?;
-            text.push_str(" -> ")?;
-            add_answer(&mut text, observers, &call.answer)?;
-            text.push_str("\n")?;
+            add_entry(
+                &mut text,
+                shared.observers(),
+                seat,
+                &call.step,
+                &call.answer,
+            )?;
         }
     }
     writeln!(text, "marks {} locks {}", shared.marks(), shared.locks())?;
@@ -68,10 +86,13 @@ fn told_of(
 
 // What the words ask for.
 fn told_by(alloc: Global, words: &[String]) -> Option<String> {
-    let observer = observer_of(alloc, words.get(1)?.as_str())?;
-    let from = words.get(2)?.as_str().parse::<u32>().ok()?;
-    let jobs = jobs_of(alloc, words.get(3)?.as_str(), &observer.program)?;
-    told_of(alloc, observer, jobs, words.get(4)?.as_str(), from)
+    let [_, digits, from, tasks, turns, ..] = words else {
+        return None;
+    };
+    let from = from.as_str().parse::<u32>().ok()?;
+    let observer = observer_of(alloc, digits.as_str())?;
+    let jobs = jobs_of(alloc, tasks.as_str(), &observer.program)?;
+    told_of(alloc, observer, jobs, turns.as_str(), from)
 }
 
 /// Whether what these words ask for, the crate's own first, was done and printed.
