@@ -11,21 +11,22 @@ ghost use Rattle.pb_keep.specs.Waits.{IsWaiting};
 ghost use Rattle.pb_registry.specs.Judging.{ReadsManifest};
 
 use crate::compact::compact;
-use crate::head::{limit_of, next_limit, read_head};
+use crate::head::{Head, limit_of, next_limit, read_head};
 use crate::names::{Location, open_at};
-use crate::table::{Kept, new_keeper, new_state, observers_of, open_log};
+use crate::table::{Kept, close, new_keeper, new_log, new_state, observers_of, open_log};
 use anyhow::{Result, bail};
+use pb_keep::Keeper;
 use pb_keeper::{places_of, split_known};
-use pb_log::Log;
+use pb_memtablet::ListTablet;
 use pb_verify::Observer;
 use sqlite_disk::{Disk, Unknown};
 use sqlite_std_file::FileFrom;
 use std::alloc::Global;
 
 // At which places of the table's observers these stand.
-fn places_in(
+fn places_in<D: Disk + Drop>(
     alloc: Global,
-    keeper: &Kept,
+    keeper: &Keeper<ListTablet, D>,
     observers: &[Observer],
     location: &Location,
 ) -> Result<Vec<usize>>
@@ -39,9 +40,9 @@ fn places_in(
 
 // Goes on with these observers, which the table has, and then with others. Returns how many runs were committed
 // while these caught up.
-fn change_observers(
+fn change_observers<D: Disk + Drop>(
     alloc: Global,
-    keeper: &mut Kept,
+    keeper: &mut Keeper<ListTablet, D>,
     staying: Vec<Observer>,
     added: Vec<Observer>,
     location: &Location,
@@ -61,9 +62,9 @@ fn change_observers(
 
 // Goes on with those of these observers that the table has, and then with the others, which catch up. Prints how many these are, how
 // many runs were committed meanwhile, and how many observers are gone.
-fn observe_others(
+fn observe_others<D: Disk + Drop>(
     rt: &HostRuntime,
-    keeper: &mut Kept,
+    keeper: &mut Keeper<ListTablet, D>,
     observers: Vec<Observer>,
     location: &Location,
 ) -> Result<()>
@@ -100,9 +101,9 @@ fn are_all_in_order(places: &[usize], many: usize) -> bool
 }
 
 // Brings the observers of the table into the order of this manifest. It has the same ones, since others were added before.
-fn order_observers(
+fn order_observers<D: Disk + Drop>(
     alloc: Global,
-    keeper: &mut Kept,
+    keeper: &mut Keeper<ListTablet, D>,
     manifest: &str,
     location: &Location,
 ) -> Result<()>
@@ -121,9 +122,9 @@ fn order_observers(
 }
 
 // Goes on with the observers of this manifest, if it is another than the one whose observers the table has.
-fn observe_manifest(
+fn observe_manifest<D: Disk + Drop>(
     rt: &HostRuntime,
-    keeper: &mut Kept,
+    keeper: &mut Keeper<ListTablet, D>,
     manifest: &str,
     observers: Option<Vec<Observer>>,
     location: &Location,
@@ -201,8 +202,64 @@ fn compact_file(
 {
     let mut keeper = new_keeper(rt.alloc(), own, own_limit, disk)?;
     let done = open_and_compact(rt, &mut keeper, own, limit, manifest, observers, location);
-    keeper.close();
+    close(keeper);
     done
+}
+
+// Compacts a log of another manifest, of which this is the head.
+fn compact_other(
+    rt: &HostRuntime,
+    disk: FileFrom<Unknown>,
+    own: &Head,
+    manifest: &str,
+    wanted: Option<u64>,
+    location: &mut Location,
+) -> Result<()>
+    requires own { length (string_bytes own.now.manifest) < 2 ^ 30 }
+    requires short { length manifest.now < 2 ^ 30 }
+    requires usable { IsTrue (⟦<FileFrom<Unknown> as Disk>⟧.is_usable disk) }
+    requires restarted { Only (⟦<FileFrom<Unknown> as Disk>⟧.seen disk)
+        (⟦<FileFrom<Unknown> as Disk>⟧.may_leave disk) }
+{
+    let observers = observers_of(rt.alloc(), manifest)?;
+    compact_file(
+        rt,
+        disk,
+        own.limit,
+        own.manifest.as_str(),
+        next_limit(own.limit, wanted),
+        manifest,
+        Some(observers),
+        location,
+    )
+}
+
+// Compacts the log in this file, of whatever manifest.
+fn compact_at(
+    rt: &HostRuntime,
+    disk: FileFrom<Unknown>,
+    manifest: &str,
+    wanted: Option<u64>,
+    location: &mut Location,
+) -> Result<()>
+    requires short { length manifest.now < 2 ^ 30 }
+    requires usable { IsTrue (⟦<FileFrom<Unknown> as Disk>⟧.is_usable disk) }
+    requires restarted { Only (⟦<FileFrom<Unknown> as Disk>⟧.seen disk)
+        (⟦<FileFrom<Unknown> as Disk>⟧.may_leave disk) }
+{
+    let mut log = new_log(disk);
+    match read_head(rt, &mut log, location)? {
+        Some(head) if head.manifest.as_str() != manifest => {
+            compact_other(rt, log.disk, &head, manifest, wanted, location)
+        }
+        own => {
+            let limit = limit_of(&own, None, location)?;
+            let next = next_limit(limit, wanted);
+            compact_file(
+                rt, log.disk, limit, manifest, next, manifest, None, location,
+            )
+        }
+    }
 }
 
 /// Puts a log of this manifest that begins with a snapshot of the table in the place of this one, and prints how many versions it
@@ -217,34 +274,5 @@ pub(crate) fn compact_alone(
     requires short { length manifest.now < 2 ^ 30 }
 {
     let (mut location, db) = open_at(rt, path)?;
-    let mut log = Log::new(db);
-    match read_head(rt, &mut log, &location)? {
-        Some(head) if head.manifest.as_str() != manifest => {
-            let observers = observers_of(rt.alloc(), manifest)?;
-            compact_file(
-                rt,
-                log.disk,
-                head.limit,
-                head.manifest.as_str(),
-                next_limit(head.limit, wanted),
-                manifest,
-                Some(observers),
-                &mut location,
-            )
-        }
-        own => {
-            let limit = limit_of(&own, None, &location)?;
-            let next = next_limit(limit, wanted);
-            compact_file(
-                rt,
-                log.disk,
-                limit,
-                manifest,
-                next,
-                manifest,
-                None,
-                &mut location,
-            )
-        }
-    }
+    compact_at(rt, db, manifest, wanted, &mut location)
 }

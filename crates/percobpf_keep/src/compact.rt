@@ -10,7 +10,7 @@ ghost use Rattle.pb_registry.specs.Judging.{ReadsManifest};
 use crate::file::LogFile;
 use crate::names::Location;
 use crate::new_file::{NewFile, make_new_file, remove_new};
-use crate::table::{Kept, new_keeper, open_log};
+use crate::table::{Kept, KeptLog, close, new_keeper, new_log, open_log};
 use anyhow::{Result, bail};
 use pb_keep::{Keeper, SnapshotFault};
 use pb_log::Log;
@@ -69,7 +69,7 @@ fn write_new(
     manifest: &str,
     old: &LogFile,
     new: &NewFile,
-) -> Result<Result<(Log<FileFrom<Unknown>>, usize), SnapshotFault>>
+) -> Result<Result<(KeptLog, usize), SnapshotFault>>
     requires short { length manifest.now < 2 ^ 30 }
     requires manifest { ReadsManifest manifest.now (Ok keeper.now.state.observers) }
     ensures begun { IfOk result (λ wrote. IfOk wrote (λ w.
@@ -78,7 +78,7 @@ fn write_new(
         (⟦<FileFrom<Unknown> as Disk>⟧.seen w.0.disk)
         (⟦<FileFrom<Unknown> as Disk>⟧.may_leave w.0.disk) w.0.end)) }
 {
-    let mut log = Log::new(new.open(rt)?);
+    let mut log = new_log(new.open(rt)?);
     new.give_as(old)?;
     match write_log(rt.alloc(), keeper, &mut log, limit, manifest)? {
         Ok(versions) => Ok(Ok((log, versions))),
@@ -130,7 +130,7 @@ fn try_new(
     match open_new(rt, &mut keeper, manifest, location, new) {
         Ok(()) => Ok(keeper),
         Err(fault) => {
-            keeper.close();
+            close(keeper);
             Err(fault)
         }
     }
@@ -195,7 +195,7 @@ pub(crate) fn compact(
                 },
             ),
         ) => {
-            mem::replace(keeper, new).close();
+            close(mem::replace(keeper, new));
             location.file = file;
             return Ok(Ok(versions));
         }

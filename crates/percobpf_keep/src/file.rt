@@ -1,5 +1,5 @@
 //! The file of a log, which is locked while it is open.
-ghost use Rattle.std.specs.Prelude.{false, IfOk, IsTrue};
+ghost use Rattle.std.specs.Prelude.{◌≡◌, false, IfOk, IsTrue, Ok};
 ghost use Rattle.sqlite_std_file.specs.File.{IsFresh};
 
 use anyhow::{Result, bail};
@@ -66,26 +66,39 @@ impl LogFile {
     }
 }
 
-// Makes the file of this name, where nothing has it, a link neither.
-fn make_there(rt: &HostRuntime, path: &str) -> io::Result<File> {
+/// What was done with a file, or why it wasn't, after the name of the file.
+pub(crate) fn named<T: Drop>(path: &str, done: io::Result<T>) -> Result<T>
+    ensures { IfOk result (λ x. done ≡ Ok x) }
+{
+    match done {
+        Ok(x) => Ok(x),
+        Err(fault) => bail!("{path}: {fault}"),
+    }
+}
+
+/// Makes the file of this name, with these rights, where nothing has it, a link neither.
+pub(crate) fn make_there(rt: &HostRuntime, path: &str, mode: u32) -> io::Result<File> {
     OpenOptions::new()
         .read(true)
         .write(true)
         .create_new(true)
-        .mode(0o644)
+        .mode(mode)
         .open(rt, path)
+}
+
+// The file that this name leads to.
+fn open_to_write(rt: &HostRuntime, path: &str) -> io::Result<File> {
+    OpenOptions::new().read(true).write(true).open(rt, path)
 }
 
 // The file of this name, which is made where there is none. None is made where a link leads.
 fn hold(rt: &HostRuntime, path: &str) -> io::Result<File> {
-    let mut options = OpenOptions::new();
-    options.read(true).write(true);
     match fs::metadata(rt, path) {
-        Ok(found) if found.is_file() => options.open(rt, path),
+        Ok(found) if found.is_file() => open_to_write(rt, path),
         Ok(_) => Err(io::ErrorKind::Unsupported.into()),
-        Err(fault) if fault.kind() == io::ErrorKind::NotFound => match make_there(rt, path) {
+        Err(fault) if fault.kind() == io::ErrorKind::NotFound => match make_there(rt, path, 0o644) {
             // Another program has made it meanwhile, or a link leads to nothing, which is reported so.
-            Err(fault) if fault.kind() == io::ErrorKind::AlreadyExists => options.open(rt, path),
+            Err(fault) if fault.kind() == io::ErrorKind::AlreadyExists => open_to_write(rt, path),
             made => made,
         },
         Err(fault) => Err(fault),
@@ -94,10 +107,8 @@ fn hold(rt: &HostRuntime, path: &str) -> io::Result<File> {
 
 /// Makes the file of a log, where there is none.
 pub(crate) fn make_log(rt: &HostRuntime, path: &str) -> Result<()> {
-    match hold(rt, path) {
-        Ok(_file) => Ok(()),
-        Err(fault) => bail!("{path}: {fault}"),
-    }
+    let _file = named(path, hold(rt, path))?;
+    Ok(())
 }
 
 /// The file that has this name itself, and not by a link.
@@ -105,7 +116,7 @@ pub(crate) fn open_there(rt: &HostRuntime, path: &str) -> io::Result<LogFile> {
     if !fs::symlink_metadata(rt, path)?.is_file() {
         return Err(io::ErrorKind::Unsupported.into());
     }
-    LogFile::new(OpenOptions::new().read(true).write(true).open(rt, path)?)
+    LogFile::new(open_to_write(rt, path)?)
 }
 
 // Whether this file has this name, and no other program has it as a log.
@@ -115,11 +126,10 @@ fn is_own_there(rt: &HostRuntime, log: &LogFile, path: &str) -> io::Result<bool>
 
 // Reports the name of a file whose place another one has taken, by what is so of it.
 fn refuse_other(path: &str, is_same: io::Result<bool>) -> Result<()> {
-    match is_same {
-        Ok(true) => Ok(()),
-        Ok(false) => bail!("{path}: another log was put in its place, start again"),
-        Err(fault) => bail!("{path}: {fault}"),
+    if !named(path, is_same)? {
+        bail!("{path}: another log was put in its place, start again");
     }
+    Ok(())
 }
 
 /// This file once more, with the lock of a log. It has this name.
@@ -141,9 +151,8 @@ pub(crate) fn open_locked(rt: &HostRuntime, log: &LogFile, path: &str) -> Result
 
 /// Reports a file that no longer has this name.
 pub(crate) fn check_name(rt: &HostRuntime, id: FileId, path: &str) -> Result<()> {
-    match id.has_name(rt, path) {
-        Ok(true) => Ok(()),
-        Ok(false) => bail!("{path}: the log was removed, renamed or replaced"),
-        Err(fault) => bail!("{path}: {fault}"),
+    if !named(path, id.has_name(rt, path))? {
+        bail!("{path}: the log was removed, renamed or replaced");
     }
+    Ok(())
 }

@@ -3,11 +3,11 @@ ghost use Rattle.std.specs.Prelude.{◌<◌, ◌^◌, length, string_bytes, IfOk
 ghost use Rattle.sqlite_disk.specs.Disk.{Only};
 
 use crate::names::Location;
-use crate::table::short_text;
+use crate::table::{KeptLog, short_text};
 use anyhow::{Result, bail};
 use pb_keep::split_head;
-use pb_log::Log;
-use sqlite_disk::Disk;
+use sqlite_disk::{Disk, Unknown};
+use sqlite_std_file::FileFrom;
 
 // How many entries the table of a new log may have. These take some 4 GB.
 const DEFAULT_LIMIT: u64 = 10_000_000;
@@ -22,15 +22,17 @@ pub(crate) struct Head {
 }
 
 /// What the first record of the log has, if there is one.
-pub(crate) fn read_head<D: Disk>(
+pub(crate) fn read_head(
     rt: &HostRuntime,
-    log: &mut Log<D>,
+    log: &mut KeptLog,
     location: &Location,
 ) -> Result<Option<Head>>
-    requires usable { IsTrue (D.is_usable log.old.disk) }
-    ensures usable { IsTrue (D.is_usable log.new.disk) }
-    ensures restarted { Only (D.seen log.old.disk) (D.may_leave log.old.disk)
-        → Only (D.seen log.new.disk) (D.may_leave log.new.disk) }
+    requires usable { IsTrue (⟦<FileFrom<Unknown> as Disk>⟧.is_usable log.old.disk) }
+    ensures usable { IsTrue (⟦<FileFrom<Unknown> as Disk>⟧.is_usable log.new.disk) }
+    ensures restarted { Only (⟦<FileFrom<Unknown> as Disk>⟧.seen log.old.disk)
+        (⟦<FileFrom<Unknown> as Disk>⟧.may_leave log.old.disk)
+        → Only (⟦<FileFrom<Unknown> as Disk>⟧.seen log.new.disk)
+        (⟦<FileFrom<Unknown> as Disk>⟧.may_leave log.new.disk) }
     ensures short { IfOk result (λ o. IfSome o (λ h. length (string_bytes h.manifest) < 2 ^ 30)) }
 {
     let alloc = rt.alloc();
@@ -62,6 +64,24 @@ pub(crate) fn limit_of(
         ),
         _ => Ok(head.limit),
     }
+}
+
+/// The limit that the log has or, where it is new, gets.
+pub(crate) fn limit_in(
+    rt: &HostRuntime,
+    log: &mut KeptLog,
+    location: &Location,
+    wanted: Option<u64>,
+) -> Result<u64>
+    requires usable { IsTrue (⟦<FileFrom<Unknown> as Disk>⟧.is_usable log.old.disk) }
+    ensures usable { IsTrue (⟦<FileFrom<Unknown> as Disk>⟧.is_usable log.new.disk) }
+    ensures restarted { Only (⟦<FileFrom<Unknown> as Disk>⟧.seen log.old.disk)
+        (⟦<FileFrom<Unknown> as Disk>⟧.may_leave log.old.disk)
+        → Only (⟦<FileFrom<Unknown> as Disk>⟧.seen log.new.disk)
+        (⟦<FileFrom<Unknown> as Disk>⟧.may_leave log.new.disk) }
+{
+    let own = read_head(rt, log, location)?;
+    limit_of(&own, wanted, location)
 }
 
 /// The limit of a log that is put in the place of another one: the one that is wanted, if any is, or that of the other.

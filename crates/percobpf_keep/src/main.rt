@@ -23,10 +23,12 @@ mod watched;
 
 use anew::compact_alone;
 use anyhow::{Result, bail};
+use file::named;
 use pb_reading::numeral_upto;
 use questions::answer_alone;
 use service::keep;
 use std::env::Args;
+use std::sync::Wait;
 use std::{env, fs};
 use table::short_text;
 
@@ -68,6 +70,21 @@ fn number_of(word: Option<String>, name: &str) -> Result<u64> {
     }
 }
 
+// The limit of entries, if one stands first, and the word after it.
+fn first_words(words: &mut Args) -> Result<(Option<u64>, String)> {
+    let Some(first) = words.next() else {
+        bail!("{ABOUT_HELP}");
+    };
+    if first.as_str() != "--limit" {
+        return Ok((None, first));
+    }
+    let limit = number_of(words.next(), "ENTRIES")?;
+    match words.next() {
+        Some(word) => Ok((Some(limit), word)),
+        None => bail!("{ABOUT_HELP}"),
+    }
+}
+
 // The text of the manifest, and the name of the log: the last words.
 fn last_words(
     rt: &HostRuntime,
@@ -79,9 +96,56 @@ fn last_words(
     let (Some(manifest), Some(path), None) = (manifest, words.next(), words.next()) else {
         bail!("{ABOUT_HELP}");
     };
-    match fs::read_to_string(rt, manifest.as_str()) {
-        Ok(text) => Ok((short_text(text)?, path)),
-        Err(fault) => bail!("{manifest}: {fault}"),
+    let text = named(manifest.as_str(), fs::read_to_string(rt, manifest.as_str()))?;
+    Ok((short_text(text)?, path))
+}
+
+// What is done with a log.
+#[derive(Clone, Copy)]
+enum Asked {
+    // Lines are served, and it is compacted where it has so many bytes.
+    Serve(u64),
+    Compact,
+    Questions,
+}
+
+// Does it, with the manifest and the log of the last words.
+fn do_asked<R: Wait>(
+    waits: &R,
+    rt: &HostRuntime,
+    asked: Asked,
+    manifest: Option<String>,
+    words: Args,
+    limit: Option<u64>,
+) -> Result<()> {
+    let (text, path) = last_words(rt, manifest, words)?;
+    match asked {
+        Asked::Serve(least) => keep(waits, rt, text.as_str(), path.as_str(), least, limit),
+        Asked::Compact => compact_alone(rt, text.as_str(), path.as_str(), limit),
+        Asked::Questions => answer_alone(waits, rt, text.as_str(), path.as_str(), limit),
+    }
+}
+
+// Does what the words ask for of which this is the first after a limit.
+fn do_words<R: Wait>(
+    waits: &R,
+    rt: &HostRuntime,
+    first: String,
+    mut words: Args,
+    limit: Option<u64>,
+) -> Result<()> {
+    match first.as_str() {
+        "--help" => {
+            print!(rt; "{USAGE}")?;
+            Ok(())
+        }
+        "--compact" => do_asked(waits, rt, Asked::Compact, words.next(), words, limit),
+        "--compact-at" => {
+            let least = number_of(words.next(), "BYTES")?;
+            do_asked(waits, rt, Asked::Serve(least), words.next(), words, limit)
+        }
+        "--questions" => do_asked(waits, rt, Asked::Questions, words.next(), words, limit),
+        _ => do_asked(waits, rt, Asked::Serve(u64::MAX), Some(first), words, limit),
     }
 }
 
@@ -89,38 +153,6 @@ fn last_words(
 fn main(rt: HostRuntime) -> Result<()> {
     let mut words = env::args(&rt)?;
     let _name = words.next();
-    let Some(mut first) = words.next() else {
-        bail!("{ABOUT_HELP}");
-    };
-    let mut limit = None;
-    if first.as_str() == "--limit" {
-        limit = Some(number_of(words.next(), "ENTRIES")?);
-        first = match words.next() {
-            Some(word) => word,
-            None => bail!("{ABOUT_HELP}"),
-        };
-    }
-    match first.as_str() {
-        "--help" => {
-            print!(&rt; "{USAGE}")?;
-            Ok(())
-        }
-        "--compact" => {
-            let (text, path) = last_words(&rt, words.next(), words)?;
-            compact_alone(&rt, text.as_str(), path.as_str(), limit)
-        }
-        "--compact-at" => {
-            let least = number_of(words.next(), "BYTES")?;
-            let (text, path) = last_words(&rt, words.next(), words)?;
-            keep(&rt, &rt, text.as_str(), path.as_str(), least, limit)
-        }
-        "--questions" => {
-            let (text, path) = last_words(&rt, words.next(), words)?;
-            answer_alone(&rt, &rt, text.as_str(), path.as_str(), limit)
-        }
-        _ => {
-            let (text, path) = last_words(&rt, Some(first), words)?;
-            keep(&rt, &rt, text.as_str(), path.as_str(), u64::MAX, limit)
-        }
-    }
+    let (limit, first) = first_words(&mut words)?;
+    do_words(&rt, &rt, first, words, limit)
 }

@@ -3,7 +3,7 @@ ghost use Rattle.std.specs.Prelude.{◌↔◌, false, IfOk, IsTrue, OnOk, string
 ghost use Rattle.sqlite_std_file.specs.File.{IsFresh};
 ghost use Rattle.percobpf_keep.specs.Names.{IsReserved};
 
-use crate::file::{LogFile, open_locked, open_there};
+use crate::file::{LogFile, named, open_locked, open_there};
 use anyhow::{Result, bail};
 use sqlite_disk::{Disk, Unknown};
 use sqlite_std_file::FileFrom;
@@ -44,19 +44,13 @@ pub(crate) fn open_at(rt: &HostRuntime, path: &str) -> Result<(Location, FileFro
     ensures fresh { IfOk result (λ at. IsFresh false at.1) }
     ensures free { IfOk result (λ at. IsReserved (string_bytes at.0.log) → ⊥) }
 {
-    let mut real = match fs::canonicalize(rt, path) {
-        Ok(real) => real,
-        Err(fault) => bail!("{path}: {fault}"),
-    };
+    let mut real = named(path, fs::canonicalize(rt, path))?;
     let alloc = rt.alloc();
     let log = String::from_str(alloc, real.as_str())?;
     refuse_reserved(log.as_str())?;
     real.pop();
     let folder = String::from_str(alloc, real.as_str())?;
-    let file = match open_there(rt, log.as_str()) {
-        Ok(file) => file,
-        Err(fault) => bail!("{log}: {fault}"),
-    };
+    let file = named(log.as_str(), open_there(rt, log.as_str()))?;
     let db = open_locked(rt, &file, log.as_str())?;
     Ok((Location { log, folder, file }, db))
 }

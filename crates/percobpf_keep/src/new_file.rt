@@ -4,15 +4,15 @@ ghost use Rattle.sqlite_std_file.specs.File.{IsFresh};
 ghost use Rattle.percobpf_keep.specs.Names.{name_beside, new_name, AreNewNames};
 ghost use Rattle.percobpf_keep.specs.Left.{IsBeginning, MayHave};
 
-use crate::file::{LogFile, check_name, open_locked, open_there};
+use crate::file::{LogFile, check_name, make_there, named, open_locked, open_there};
 use crate::names::Location;
 use anyhow::{Result, bail};
 use sqlite_disk::{Disk, Unknown};
 use sqlite_std_file::FileFrom;
 use std::alloc::{AllocError, Global};
-use std::fs::{self, File, OpenOptions};
+use std::fs::{self, File};
 use std::io;
-use std::os::unix::fs::{FileExt, MetadataExt, OpenOptionsExt, PermissionsExt, fchown};
+use std::os::unix::fs::{FileExt, MetadataExt, PermissionsExt, fchown};
 
 // How many names a new log may have, of which the first is taken that is free.
 const NAMES: u8 = 9;
@@ -113,10 +113,7 @@ fn is_free(rt: &HostRuntime, path: &str) -> io::Result<bool> {
 
 // The same, with the name in what is reported.
 fn is_name_free(rt: &HostRuntime, path: &str) -> Result<bool> {
-    match is_free(rt, path) {
-        Ok(is_free) => Ok(is_free),
-        Err(fault) => bail!("{path}: {fault}"),
-    }
+    named(path, is_free(rt, path))
 }
 
 /// Removes what is left of new logs that aren't in the place of this one. Returns the first names that are free then for a new one,
@@ -137,14 +134,7 @@ pub(crate) fn remove_new(rt: &HostRuntime, log: &str) -> Result<Option<(String, 
 }
 
 fn make(rt: &HostRuntime, path: &str) -> io::Result<LogFile> {
-    LogFile::new(
-        OpenOptions::new()
-            .read(true)
-            .write(true)
-            .create_new(true)
-            .mode(0o600)
-            .open(rt, path)?,
-    )
+    LogFile::new(make_there(rt, path, 0o600)?)
 }
 
 /// Makes the file of a new log, which nobody else may open yet.
@@ -155,10 +145,8 @@ pub(crate) fn make_new_file(rt: &HostRuntime, location: &Location) -> Result<New
     let Some((path, beside)) = remove_new(rt, location.log.as_str())? else {
         bail!("{}: all names for a new log are taken", location.log);
     };
-    match make(rt, path.as_str()) {
-        Ok(file) => Ok(NewFile { path, beside, file }),
-        Err(fault) => bail!("{path}: {fault}"),
-    }
+    let file = named(path.as_str(), make(rt, path.as_str()))?;
+    Ok(NewFile { path, beside, file })
 }
 
 fn unless_denied(given: io::Result<()>) -> io::Result<()> {
@@ -195,19 +183,15 @@ impl NewFile {
 
     /// Gives it to those who may read and write the old log.
     pub(crate) fn give_as(&self, old: &LogFile) -> Result<()> {
-        match give(&self.file.file, &old.file) {
-            Ok(()) => Ok(()),
-            Err(fault) => bail!("{}: {fault}", self.path),
-        }
+        named(self.path.as_str(), give(&self.file.file, &old.file))
     }
 
     /// Puts it in the place of the old log, waits until that is on the disk, and removes the file beside it.
     pub(crate) fn put_in_place(&self, rt: &HostRuntime, location: &Location) -> Result<()> {
         check_name(rt, location.file.id, location.log.as_str())?;
         check_name(rt, self.file.id, self.path.as_str())?;
-        if let Err(fault) = rename_synced(rt, self.path.as_str(), location) {
-            bail!("{}: {fault}", location.log);
-        }
+        let renamed = rename_synced(rt, self.path.as_str(), location);
+        named(location.log.as_str(), renamed)?;
         check_name(rt, self.file.id, location.log.as_str())?;
         is_name_free(rt, self.beside.as_str())?;
         Ok(())

@@ -1,17 +1,21 @@
 //! Questions alone, about a log of which as many changes are made as can be.
-ghost use Rattle.std.specs.Prelude.{◌<◌, ◌^◌, length, IfOk, IsTrue};
+ghost use Rattle.std.specs.Prelude.{◌≡◌, ◌<◌, ◌^◌, length, IfOk, IsTrue};
+ghost use Rattle.sqlite_disk.specs.Disk.{Only};
+ghost use Rattle.pb_keeper.specs.Keeps.{opened_table};
+ghost use Rattle.pb_keeper.specs.Stats.{kept_table};
 ghost use Rattle.pb_keep.specs.FirstOpened.{MakesFewer};
 
 use crate::file::open_locked;
 use crate::head::{limit_of, read_head};
 use crate::names::{Location, open_at};
-use crate::table::{Kept, new_keeper};
+use crate::table::{Kept, close, new_keeper, new_log};
 use anyhow::{Result, bail};
 use pb_base::{Out, Sink};
-use pb_keep::{Opened, answer_questions};
-use pb_log::Log;
+use pb_keep::{Keeper, Opened, answer_questions};
+use pb_memtablet::ListTablet;
 use sqlite_disk::{Disk, Unknown};
 use sqlite_std_file::FileFrom;
+use std::alloc::Global;
 use std::io::{BufRead, BufReader};
 use std::sync::Wait;
 
@@ -19,7 +23,7 @@ use std::sync::Wait;
 const ROOM: usize = 65_536;
 
 // The limit of entries that the log has. A file in which no log was begun is reported, since opening it would begin one.
-fn limit_in(
+fn limit_there(
     rt: &HostRuntime,
     disk: FileFrom<Unknown>,
     location: &Location,
@@ -27,12 +31,29 @@ fn limit_in(
 ) -> Result<u64>
     requires usable { IsTrue (⟦<FileFrom<Unknown> as Disk>⟧.is_usable disk) }
 {
-    let mut log = Log::new(disk);
+    let mut log = new_log(disk);
     let own = read_head(rt, &mut log, location)?;
     if own.is_none() {
         bail!("{}: no log was begun in it", location.log);
     }
     limit_of(&own, wanted, location)
+}
+
+// Opens the log of this manifest, whose observers the table has, and makes its first changes again, as many as may be.
+fn open_first<D: Disk + Drop>(
+    alloc: Global,
+    keeper: &mut Keeper<ListTablet, D>,
+    manifest: &str,
+    most: Option<u64>,
+) -> Result<Opened>
+    requires usable { IsTrue (D.is_usable keeper.old.log.disk) }
+    requires restarted { Only (D.seen keeper.old.log.disk) (D.may_leave keeper.old.log.disk) }
+    requires short { length manifest.now < 2 ^ 30 }
+    requires opened { kept_table keeper.old.state keeper.old.stats.items
+        ≡ opened_table keeper.old.state.observers }
+    ensures fewer { IfOk result (MakesFewer most) }
+{
+    Ok(keeper.open_first(alloc, manifest.as_bytes(), most)?)
 }
 
 // Opens the log once more, and makes its first changes again, at most `most` where a number is given. Returns how far that went.
@@ -48,11 +69,11 @@ fn open_once(
 {
     let db = open_locked(rt, &location.file, location.log.as_str())?;
     let mut keeper = new_keeper(rt.alloc(), manifest, limit, db)?;
-    match keeper.open_first(rt.alloc(), manifest.as_bytes(), most) {
+    match open_first(rt.alloc(), &mut keeper, manifest, most) {
         Ok(opened) => Ok((keeper, opened)),
         Err(fault) => {
-            keeper.close();
-            Err(fault.into())
+            close(keeper);
+            Err(fault)
         }
     }
 }
@@ -72,14 +93,14 @@ fn open_as_far(
         Opened::Made(made, all) => return Ok((first, made, all)),
         Opened::Stopped(made, _) => made,
     };
-    first.close();
+    close(first);
     'tries: loop {
         let (keeper, opened) = open_once(rt, limit, manifest, location, Some(most))?;
         match opened {
             Opened::Made(made, all) => return Ok((keeper, made, all)),
             Opened::Stopped(made, _) => most = made,
         }
-        keeper.close();
+        close(keeper);
     }
 }
 
@@ -114,9 +135,9 @@ pub(crate) fn answer_alone<R: Wait>(
     // What lines are read into is there before the table takes the memory that it can get.
     let mut input = BufReader::with_capacity(rt.alloc(), ROOM, rt.reader())?;
     let (location, db) = open_at(rt, path)?;
-    let limit = limit_in(rt, db, &location, wanted)?;
+    let limit = limit_there(rt, db, &location, wanted)?;
     let (keeper, made, all) = open_as_far(rt, limit, manifest, &location)?;
     let done = answer_lines(waits, rt, &keeper, &mut input, made, all);
-    keeper.close();
+    close(keeper);
     done
 }

@@ -8,18 +8,17 @@ ghost use Rattle.pb_registry.specs.Judging.{ReadsManifest};
 
 use crate::compact::compact;
 use crate::file::make_log;
-use crate::head::{limit_of, read_head};
+use crate::head::limit_in;
 use crate::names::{Location, open_at, refuse_reserved};
-use crate::table::{Kept, new_keeper, open_log};
+use crate::table::{Kept, close, new_keeper, new_log, open_log};
 use crate::watched::WatchedOut;
 use anyhow::Result;
 use pb_base::Sink;
 use pb_keep::{Paused, serve};
-use pb_log::Log;
 use sqlite_disk::{Disk, Unknown};
 use sqlite_std_file::FileFrom;
 use std::alloc::Global;
-use std::io::{BufReader, Write};
+use std::io::{BufReader, Read, Write};
 use std::sync::Wait;
 
 // How many bytes are read at once at most, and so about how many may wait.
@@ -98,7 +97,42 @@ fn print_found<S: Sink>(alloc: Global, out: &mut S, found: u64) -> Result<()> {
     Ok(())
 }
 
-// Serves lines until the input ends. Where a line asks for it, and where the log has `first` bytes, it is compacted.
+// Serves the lines of an input until it ends. Where a line asks for it, and where the log has `first` bytes, it is compacted.
+fn serve_input<R: Wait, I: Read + Drop, W: Write + Drop>(
+    waits: &R,
+    rt: &HostRuntime,
+    keeper: &mut Kept,
+    manifest: &str,
+    location: &mut Location,
+    input: &mut BufReader<I>,
+    out: &mut WatchedOut<'_, W>,
+    least: u64,
+    first: u64,
+) -> Result<()>
+    requires short { length manifest.now < 2 ^ 30 }
+    requires usable { IsTrue (⟦<FileFrom<Unknown> as Disk>⟧.is_usable keeper.old.log.disk) }
+    requires waiting { IsWaiting keeper.old.waiting }
+    requires manifest { ReadsManifest manifest.now (Ok keeper.old.state.observers) }
+{
+    let mut limit = first;
+    for _pause in waits.forever() {
+        let is_done = match serve(waits, rt.alloc(), keeper, input, out, limit)? {
+            Paused::Ended => return Ok(()),
+            Paused::Asked => answer_compact(rt, keeper, manifest, location, out)?,
+            Paused::Large => {
+                compact_large(rt, keeper, manifest, location)?;
+                out.follow(location);
+                true
+            }
+        };
+        if is_done {
+            limit = next_limit(least, keeper.log.end);
+        }
+    }
+    unreachable!()
+}
+
+// The same, of standard input.
 fn serve_lines<R: Wait, W: Write + Drop>(
     waits: &R,
     rt: &HostRuntime,
@@ -114,24 +148,10 @@ fn serve_lines<R: Wait, W: Write + Drop>(
     requires waiting { IsWaiting keeper.old.waiting }
     requires manifest { ReadsManifest manifest.now (Ok keeper.old.state.observers) }
 {
-    let alloc = rt.alloc();
-    let mut input = BufReader::with_capacity(alloc, ROOM, rt.reader())?;
-    let mut limit = first;
-    for _pause in waits.forever() {
-        let is_done = match serve(waits, alloc, keeper, &mut input, out, limit)? {
-            Paused::Ended => return Ok(()),
-            Paused::Asked => answer_compact(rt, keeper, manifest, location, out)?,
-            Paused::Large => {
-                compact_large(rt, keeper, manifest, location)?;
-                out.follow(location);
-                true
-            }
-        };
-        if is_done {
-            limit = next_limit(least, keeper.log.end);
-        }
-    }
-    unreachable!()
+    let mut input = BufReader::with_capacity(rt.alloc(), ROOM, rt.reader())?;
+    serve_input(
+        waits, rt, keeper, manifest, location, &mut input, out, least, first,
+    )
 }
 
 // Opens the log, compacts it if it is large, and serves lines.
@@ -170,6 +190,30 @@ fn open_and_serve<R: Wait, W: Write + Drop>(
     serve_lines(waits, rt, keeper, manifest, location, out, least, limit)
 }
 
+// Serves lines over the log in this file.
+fn serve_file<R: Wait, W: Write + Drop>(
+    waits: &R,
+    rt: &HostRuntime,
+    disk: FileFrom<Unknown>,
+    manifest: &str,
+    location: &mut Location,
+    out: &mut WatchedOut<'_, W>,
+    least: u64,
+    wanted: Option<u64>,
+) -> Result<()>
+    requires short { length manifest.now < 2 ^ 30 }
+    requires usable { IsTrue (⟦<FileFrom<Unknown> as Disk>⟧.is_usable disk) }
+    requires restarted { Only (⟦<FileFrom<Unknown> as Disk>⟧.seen disk)
+        (⟦<FileFrom<Unknown> as Disk>⟧.may_leave disk) }
+{
+    let mut log = new_log(disk);
+    let limit = limit_in(rt, &mut log, location, wanted)?;
+    let mut keeper = new_keeper(rt.alloc(), manifest, limit, log.disk)?;
+    let done = open_and_serve(waits, rt, &mut keeper, manifest, location, out, least);
+    close(keeper);
+    done
+}
+
 /// Serves lines over the log, which is made where there is none, with this limit of entries, if one is wanted. It is compacted where a line asks for it. Where it has at least
 /// so many bytes, and twice as many as after the last time, it is compacted too, if its table can be.
 pub(crate) fn keep<R: Wait>(
@@ -186,19 +230,15 @@ pub(crate) fn keep<R: Wait>(
     make_log(rt, path)?;
     let (mut location, db) = open_at(rt, path)?;
     let mut out = WatchedOut::new(rt, rt.stdout(), &location)?;
-    let mut log = Log::new(db);
-    let own = read_head(rt, &mut log, &location)?;
-    let limit = limit_of(&own, wanted, &location)?;
-    let mut keeper = new_keeper(rt.alloc(), manifest, limit, log.disk)?;
-    let done = open_and_serve(
+    let done = serve_file(
         waits,
         rt,
-        &mut keeper,
+        db,
         manifest,
         &mut location,
         &mut out,
         least,
+        wanted,
     );
-    keeper.close();
     out.end(done)
 }

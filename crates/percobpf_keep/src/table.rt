@@ -13,6 +13,7 @@ use anyhow::{Result, bail};
 use pb_base::{MAX_OBSERVERS, Row, Ts};
 use pb_keep::Keeper;
 use pb_keeper::no_stats;
+use pb_log::Log;
 use pb_memtablet::ListTablet;
 use pb_registry::Registry;
 use pb_state::State;
@@ -24,6 +25,9 @@ use std::alloc::Global;
 
 /// A table that is kept in a file of which nothing is supposed.
 pub(crate) type Kept = Keeper<ListTablet, FileFrom<Unknown>>;
+
+/// A log in such a file.
+pub(crate) type KeptLog = Log<FileFrom<Unknown>>;
 
 // The most bytes of a manifest, which the first record of a log has.
 const MAX_MANIFEST: usize = 16_777_216;
@@ -69,13 +73,25 @@ pub(crate) fn new_state(alloc: Global, observers: Vec<Observer>) -> Result<State
     Ok(State::new(alloc, table(alloc)?, observers, 1, Ts(0)))
 }
 
-/// A keeper of a table with no entry, the observers of this manifest and this limit of entries, over this disk.
-pub(crate) fn new_keeper<D: Disk + Drop>(
+/// The log of a file, which isn't opened yet.
+pub(crate) fn new_log(disk: FileFrom<Unknown>) -> KeptLog
+    ensures { result.disk ≡ disk }
+{
+    Log::new(disk)
+}
+
+/// Ends a table, and closes its file.
+pub(crate) fn close(keeper: Kept) {
+    keeper.close();
+}
+
+/// A keeper of a table with no entry, the observers of this manifest and this limit of entries, over this file.
+pub(crate) fn new_keeper(
     alloc: Global,
     manifest: &str,
     limit: u64,
-    disk: D,
-) -> Result<Keeper<ListTablet, D>>
+    disk: FileFrom<Unknown>,
+) -> Result<Kept>
     ensures disk { IfOk result (λ k. k.log.disk ≡ disk) }
     ensures opened { IfOk result (λ k. kept_table k.state k.stats.items
         ≡ opened_table k.state.observers) }

@@ -23,7 +23,7 @@ chosen_in_order places old new so many order = same_lists old new (sym many ∙ 
     subst (λ y. slice_get new n ≡ Some y) same e.2)
 
 pub returns-then-are_all_in_order-clause-manifest : goal.returns-then-are_all_in_order-clause-manifest
-returns-then-are_all_in_order-clause-manifest c =
+returns-then-are_all_in_order-clause-manifest g c =
     let old = c.args.keeper.now.state.observers in
     let new = c.in_ok-observers.observers.items in
     let places = c.in_ok-places.places.items in
