@@ -49,7 +49,7 @@ impl Sink for Sheet {
 }
 
 /// Why a file in memory isn't read or written.
-#[derive(Clone, Copy, Debug, PartialEq, Eq, Drop)]
+#[derive(Clone, Copy, Drop)]
 pub enum Unread {
     Failed,
     TooLarge,
@@ -245,4 +245,9 @@ pub fn is_cut(outcome: Result<Outcome, Unready>, taken: usize, text: &[u8]) -> b
         }
         Err(_) => false,
     }
+}
+
+/// Whether a command printed this text, and nothing was wrong.
+pub fn has_printed(outcome: &Outcome, text: &[u8]) -> bool {
+    outcome.status == 0 && outcome.err.is_empty() && outcome.out.as_slice() == text
 }

@@ -3,7 +3,7 @@ ghost use Rattle.std.specs.Prelude.{◌≡◌, ◌∷◌, [], true, IfOk};
 ghost use Rattle.std.specs.Str.{bytes_eq};
 ghost use Rattle.pb_command.specs.Commands.{IsSequential};
 
-use crate::carried::{File, Outcome, Unread, carry, copy_of, has_told, is_cut};
+use crate::carried::{File, Outcome, Unread, carry, copy_of, has_printed, has_told, is_cut};
 use pb_files::{PathFault, Paths};
 use pb_isa::Profile;
 use pb_texts::Options;
@@ -142,14 +142,13 @@ fn bytes_are_not_read(rt: HostRuntime) {
 fn what_was_written_is_read(rt: HostRuntime) {
     let mut folder = holding(rt.alloc(), b"exit");
     let outcome = asm(&rt, &mut folder).expect(&rt, "memory");
-    assert!(rt; outcome.status == 0);
+    assert!(rt; has_printed(&outcome, b""));
     let listing = Options::Dis {
         file: "o",
         profile: Profile::One,
     };
     let outcome = carry(&rt, &listing, &mut folder, usize::MAX, true).expect(&rt, "memory");
-    assert!(rt; outcome.status == 0);
-    assert!(rt; outcome.out.as_slice() == b"exit\n".as_slice());
+    assert!(rt; has_printed(&outcome, b"exit\n"));
 }
 
 #[test]

@@ -47,7 +47,8 @@ fn output_of_a_replay_may_fail(rt: HostRuntime) {
             for fails in [true, false] {
                 let files = case.files(rt.alloc());
                 let outcome = replay(&rt, files, case.clock, j, fails);
-                assert!(rt; is_cut(outcome, j, report), "{j} {fails} {case:?}");
+                let schedule = case.schedule;
+                assert!(rt; is_cut(outcome, j, report), "{j} {fails} {schedule}");
             }
         }
     }

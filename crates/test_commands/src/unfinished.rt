@@ -23,8 +23,7 @@ fn faults_of(alloc: Global, changes: u32) -> Result<String, NoMemory> {
     faults.push_str("worker 1 code 1\n")?;
     for before in 1..changes {
         let number = before.saturating_add(1);
-        let line = format!(in alloc; "change {number} conflicts\n")?;
-        faults.push_str(line.as_str())?;
+        writeln!(faults, "change {number} conflicts")?;
     }
     Ok(faults)
 }
@@ -67,13 +66,10 @@ fn changes_that_are_left_are_told_after_the_report(rt: HostRuntime) -> Result<()
         let script = script_of(rt.alloc(), changes)?;
         let outcome = outcome_of(&rt, rt.alloc(), script.as_str())?;
         let faults = faults_of(rt.alloc(), changes)?;
-        assert!(rt; outcome.status == 1, "{changes}");
         assert!(rt;
-            outcome.out.as_slice() == b"cell 7 0 commit 2 value 2a\nquiet\n".as_slice(),
-            "{changes}"
-        );
-        assert!(rt;
-            outcome.err.as_slice() == faults.as_str().as_bytes(),
+            outcome.status == 1
+                && outcome.out.as_slice() == b"cell 7 0 commit 2 value 2a\nquiet\n".as_slice()
+                && outcome.err.as_slice() == faults.as_str().as_bytes(),
             "{changes}"
         );
     }
