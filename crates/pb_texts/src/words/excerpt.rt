@@ -6,7 +6,7 @@ ghost use Rattle.pb_texts.specs.ExcerptWords.{events_rule, idle_rule, story_repl
 
 use crate::words::adding::with_arg;
 use crate::words::choice::Excerpt;
-use crate::words::parse::{replay_command, value_in};
+use crate::words::parse::{replay_command, value_error, value_in};
 use clap::error::ErrorKind;
 use clap::{Arg, ArgAction, ArgMatches, Command, Error};
 use pb_reading::numeral_upto;
@@ -110,6 +110,5 @@ pub fn events_refused(alloc: Global) -> Result<Error, AllocError>
     ensures { IfOk result (λ e. kind_of e ≡ ErrorKind.ValueValidation) }
 {
     let text = format!(in alloc; "invalid value for '--events <A-B>': {NO_EVENTS}")?;
-    let mut named = story_replay_command(alloc)?.bin_name("percobpf_story replay")?;
-    named.error(ErrorKind::ValueValidation, &text)
+    value_error(story_replay_command(alloc), "percobpf_story replay", &text)
 }

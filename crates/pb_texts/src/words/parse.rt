@@ -2,7 +2,7 @@
 ghost use Rattle.std.specs.Prelude.{◌≡◌, ℕ, List, true, IfOk, Some, [], false, option_map, codes};
 ghost use Rattle.clap.specs.Words.{FailsBy, app_of, new_app, fault_of, first_of, found_of, kind_of, one_of, rows_of, rule_of, subcommand_of, subcommand_rows_of};
 ghost use Rattle.pb_reading.specs.Reading.{texts_of};
-ghost use Rattle.pb_texts.specs.CommandLines.{required_rule, number_rule, run_app, clock_rule, profile_rule, profile_numbered, profile_named, record_rule, version_numbered, version_of, replay_app, asm_app, dis_app, check_app, scripted_app, program_app, is_within, count_named, workers_of, run_in, clock_of, replay_in, asm_in, dis_in, check_in, command_in, command_of, words_fault, request_of, replay_request, check_request, IsInRange, Run, Replay, Asm, Dis, Check};
+ghost use Rattle.pb_texts.specs.CommandLines.{required_rule, number_rule, run_app, needs_subcommand, clock_rule, profile_rule, profile_numbered, profile_named, record_rule, version_numbered, version_of, replay_app, asm_app, dis_app, check_app, scripted_app, program_app, is_within, count_named, workers_of, run_in, clock_of, replay_in, asm_in, dis_in, check_in, command_in, command_of, words_fault, request_of, replay_request, check_request, IsInRange, Run, Replay, Asm, Dis, Check};
 ghost use Rattle.pb_texts.specs.Adding.{IsSubcommand, IsApp};
 ghost use Rattle.clap.specs.declared.builder.command.Command.TheViews.{out-Command as fields_of};
 
@@ -177,13 +177,19 @@ fn check_command<'a>(alloc: Global) -> Result<Command<'a>, AllocError>
     with_arg(profiled, record_option(alloc))
 }
 
-fn program<'a>(alloc: Global) -> Result<Command<'a>, AllocError>
-    ensures { IsApp result program_app }
+// The program without its subcommands.
+fn bare_program<'a>(alloc: Global) -> Command<'a>
+    ensures { app_of result ≡ needs_subcommand (new_app (codes "percobpf")) }
 {
     let about =
         "A table of cells with snapshot transactions, and BPF observers that run on its changes";
-    let bare = Ok(bare_command(alloc, "percobpf", about).subcommand_required(true));
-    let runs = with_command(bare, run_command(alloc));
+    bare_command(alloc, "percobpf", about).subcommand_required(true)
+}
+
+fn program<'a>(alloc: Global) -> Result<Command<'a>, AllocError>
+    ensures { IsApp result program_app }
+{
+    let runs = with_command(Ok(bare_program(alloc)), run_command(alloc));
     let replays = with_command(runs, replay_command(alloc));
     let assembles = with_command(replays, asm_command(alloc));
     let lists = with_command(assembles, dis_command(alloc));
@@ -342,22 +348,57 @@ pub fn check_in<'a>(check: &ArgMatches<'a>) -> Option<ProgramFile<'a>>
     })
 }
 
+fn replay_options<'a>(replay: &ArgMatches<'a>) -> Option<Options<'a>>
+    ensures { option_map request_of result ≡ replay_in (rows_of (found_of replay.now)) }
+{
+    Some(Options::Replay(replay_in(replay)?))
+}
+
+fn check_options<'a>(check: &ArgMatches<'a>) -> Option<Options<'a>>
+    ensures { option_map request_of result ≡ check_in (rows_of (found_of check.now)) }
+{
+    Some(Options::Check(check_in(check)?))
+}
+
+// What the matches of the subcommand of this name name.
+fn subcommand_in<'a>(name: &str, found: &ArgMatches<'a>) -> Option<Options<'a>>
+    ensures { option_map request_of result
+        ≡ command_in (Some (name.now, rows_of (found_of found.now))) }
+{
+    match name {
+        "run" => run_in(found),
+        "replay" => replay_options(found),
+        "asm" => asm_in(found),
+        "dis" => dis_in(found),
+        "check" => check_options(found),
+        _ => None,
+    }
+}
+
 // What the matches of a command line name.
 fn command_in<'a>(matches: &ArgMatches<'a>) -> Option<Options<'a>>
     ensures { option_map request_of result ≡ command_in (subcommand_rows_of matches.now) }
 {
     match matches.subcommand() {
-        Some(("run", run)) => run_in(run),
-        Some(("replay", replay)) => Some(Options::Replay(replay_in(replay)?)),
-        Some(("asm", asm)) => asm_in(asm),
-        Some(("dis", dis)) => dis_in(dis),
-        Some(("check", check)) => Some(Options::Check(check_in(check)?)),
-        _ => None,
+        Some((name, found)) => subcommand_in(name, found),
+        None => None,
     }
 }
 
 fn plus_text(alloc: Global, option: &str) -> Result<String, AllocError> {
     format!(in alloc; "invalid value for '{option}': a plus stands before the digits")
+}
+
+/// The error of a value that isn't read, with this text and the usage of its subcommand.
+pub fn value_error(
+    command: Result<Command, AllocError>,
+    name: &str,
+    text: &str,
+) -> Result<Error, AllocError>
+    ensures { IfOk result (λ e. kind_of e ≡ ErrorKind.ValueValidation) }
+{
+    let mut named = command?.bin_name(name)?;
+    named.error(ErrorKind::ValueValidation, text)
 }
 
 // The error of a plus before the number of this option, with the usage of its subcommand.
@@ -369,9 +410,8 @@ pub fn plus_told(
 ) -> Result<Error, AllocError>
     ensures { IfOk result (λ e. kind_of e ≡ ErrorKind.ValueValidation) }
 {
-    let mut named = command?.bin_name(name)?;
     let text = plus_text(alloc, option)?;
-    named.error(ErrorKind::ValueValidation, &text)
+    value_error(command, name, &text)
 }
 
 // The first option of `check` that has a plus before its number.
@@ -383,21 +423,37 @@ fn checked_option(check: &ArgMatches) -> &'static str {
     }
 }
 
-// The error of a plus before a number, which names the first option that has one.
+// The first option of `run` that has one.
+fn run_option(run: &ArgMatches) -> &'static str {
+    if workers_in(run).is_none() {
+        "--workers <N>"
+    } else {
+        "--swaps <M>"
+    }
+}
+
+// The error of a plus before a number of the subcommand of this name, which names the first option that has one.
+fn subcommand_plus_error(alloc: Global, name: &str, found: &ArgMatches) -> Result<Error, AllocError>
+    ensures { IfOk result (λ e. kind_of e ≡ ErrorKind.ValueValidation) }
+{
+    match name {
+        "asm" => plus_told(alloc, asm_command(alloc), "percobpf asm", "--profile <N>"),
+        "dis" => plus_told(alloc, dis_command(alloc), "percobpf dis", "--profile <N>"),
+        "check" => {
+            let option = checked_option(found);
+            plus_told(alloc, check_command(alloc), "percobpf check", option)
+        }
+        _ => plus_told(alloc, run_command(alloc), "percobpf run", run_option(found)),
+    }
+}
+
+// The error of a plus before a number.
 fn plus_error(alloc: Global, matches: &ArgMatches) -> Result<Error, AllocError>
     ensures { IfOk result (λ e. kind_of e ≡ ErrorKind.ValueValidation) }
 {
     match matches.subcommand() {
-        Some(("asm", _)) => plus_told(alloc, asm_command(alloc), "percobpf asm", "--profile <N>"),
-        Some(("dis", _)) => plus_told(alloc, dis_command(alloc), "percobpf dis", "--profile <N>"),
-        Some(("check", check)) => {
-            let option = checked_option(check);
-            plus_told(alloc, check_command(alloc), "percobpf check", option)
-        }
-        Some((_, run)) if workers_in(run).is_none() => {
-            plus_told(alloc, run_command(alloc), "percobpf run", "--workers <N>")
-        }
-        _ => plus_told(alloc, run_command(alloc), "percobpf run", "--swaps <M>"),
+        Some((name, found)) => subcommand_plus_error(alloc, name, found),
+        None => plus_told(alloc, run_command(alloc), "percobpf run", "--swaps <M>"),
     }
 }
 

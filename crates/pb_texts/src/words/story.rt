@@ -1,8 +1,9 @@
 //! A command line of the story program, read with `clap`.
-ghost use Rattle.std.specs.Prelude.{◌≡◌, IfOk, Some, option_map};
-ghost use Rattle.clap.specs.Words.{FailsBy, fault_of, found_of, kind_of, rows_of, subcommand_of, subcommand_rows_of};
+ghost use Rattle.std.specs.Prelude.{◌≡◌, IfOk, Some, option_map, codes};
+ghost use Rattle.clap.specs.Words.{FailsBy, app_of, new_app, fault_of, found_of, kind_of, rows_of, subcommand_of, subcommand_rows_of};
 ghost use Rattle.pb_reading.specs.Reading.{texts_of};
 ghost use Rattle.pb_texts.specs.Adding.{IsSubcommand, IsApp};
+ghost use Rattle.pb_texts.specs.CommandLines.{needs_subcommand};
 ghost use Rattle.pb_texts.specs.StoryLines.{frames_app, story_app, story_replay_in, known_in, story_in, story_of, story_fault, story_request};
 
 use crate::words::adding::{with_arg, with_command};
@@ -26,14 +27,20 @@ fn frames_command<'a>(alloc: Global) -> Result<Command<'a>, AllocError>
     with_arg(profiled, record_option(alloc))
 }
 
+// The program without its subcommands.
+fn bare_story_program<'a>(alloc: Global) -> Command<'a>
+    ensures { app_of result ≡ needs_subcommand (new_app (codes "percobpf_story")) }
+{
+    let bare = Command::new(alloc, "percobpf_story").subcommand_required(true);
+    bare.about(
+        "What is known before each slot of a program, what each event of a replay did, and what one run does",
+    )
+}
+
 fn story_program<'a>(alloc: Global) -> Result<Command<'a>, AllocError>
     ensures { IsApp result story_app }
 {
-    let bare = Command::new(alloc, "percobpf_story").subcommand_required(true);
-    let bare = bare.about(
-        "What is known before each slot of a program, what each event of a replay did, and what one run does",
-    );
-    let frames = with_command(Ok(bare), frames_command(alloc));
+    let frames = with_command(Ok(bare_story_program(alloc)), frames_command(alloc));
     let replays = with_command(frames, story_replay_command(alloc));
     with_command(replays, trial_command(alloc))
 }

@@ -1,6 +1,7 @@
 //! The words of a trial, read with `clap`, and its cells, read as a script's words are.
-ghost use Rattle.std.specs.Prelude.{◌≡◌, false, IfOk, option_map};
-ghost use Rattle.clap.specs.Words.{found_of, kind_of, rows_of, rule_of};
+ghost use Rattle.std.specs.Prelude.{◌≡◌, false, IfOk, option_map, codes};
+ghost use Rattle.clap.specs.Words.{app_of, new_app, found_of, kind_of, rows_of, rule_of};
+ghost use Rattle.clap.specs.declared.builder.command.Command.TheViews.{out-Command as fields_of};
 ghost use Rattle.pb_reading.specs.Reading.{texts_of};
 ghost use Rattle.pb_texts.specs.Adding.{IsSubcommand};
 ghost use Rattle.pb_texts.specs.TrialWords.{text_rule, required_option, cell_rule, change_app, trial_app, row_named, column_named, value_named, trial_cell, cells_named, trial_cells_in, change_in, old_in, trial_with, trial_in, trial_request};
@@ -8,7 +9,8 @@ ghost use Rattle.pb_texts.specs.TrialWords.{text_rule, required_option, cell_rul
 use crate::words::adding::with_arg;
 use crate::words::choice::{Trial, TrialCell};
 use crate::words::parse::{
-    check_in, file_operand, profile_in, profile_option, record_option, value_in, version_in,
+    check_in, file_operand, profile_in, profile_option, record_option, value_error, value_in,
+    version_in,
 };
 use clap::error::ErrorKind;
 use clap::{Arg, ArgAction, ArgMatches, Command, Error};
@@ -62,22 +64,27 @@ fn cell_option<'a>(alloc: Global) -> Arg<'a>
         .help("Another cell with its value (a cell that isn't given is absent)")
 }
 
+// The subcommand without operands and options.
+fn bare_trial<'a>(alloc: Global) -> Command<'a>
+    ensures app { app_of result ≡ new_app (codes "trial") }
+    ensures local { (fields_of result).has_globals ≡ false }
+{
+    Command::new(alloc, "trial").after_help(TIMES).about(
+        "Runs a program once on the record of a change, and prints what it asks, writes and returns",
+    )
+}
+
 // The subcommand with the words that name the change.
 fn change_command<'a>(alloc: Global) -> Result<Command<'a>, AllocError>
     ensures { IsSubcommand result change_app }
 {
-    let bare = Ok(
-        Command::new(alloc, "trial").after_help(TIMES).about(
-            "Runs a program once on the record of a change, and prints what it asks, writes and returns",
-        ),
-    );
-    let row = needed_option(alloc, "row", "R", "The row of the cell that was changed");
-    let column = needed_option(alloc, "column", "C", "The column of that cell, 0 to 15");
-    let value = needed_option(alloc, "value", "HEX", "The value that the change wrote");
-    with_arg(
-        with_arg(with_arg(with_arg(bare, file_operand(alloc)), row), column),
-        value,
-    )
+    let row = "The row of the cell that was changed";
+    let column = "The column of that cell, 0 to 15";
+    let value = "The value that the change wrote";
+    let filed = with_arg(Ok(bare_trial(alloc)), file_operand(alloc));
+    let rowed = with_arg(filed, needed_option(alloc, "row", "R", row));
+    let placed = with_arg(rowed, needed_option(alloc, "column", "C", column));
+    with_arg(placed, needed_option(alloc, "value", "HEX", value))
 }
 
 pub fn trial_command<'a>(alloc: Global) -> Result<Command<'a>, AllocError>
@@ -246,6 +253,5 @@ pub fn trial_refused(alloc: Global, trial: &ArgMatches) -> Result<Error, AllocEr
 {
     let (option, why) = unread(trial);
     let text = format!(in alloc; "invalid value for '{option}': {why}")?;
-    let mut named = trial_command(alloc)?.bin_name("percobpf_story trial")?;
-    named.error(ErrorKind::ValueValidation, &text)
+    value_error(trial_command(alloc), "percobpf_story trial", &text)
 }

@@ -1,12 +1,8 @@
-use Rattle.std.proofs.Common.{rules, codes, ◌≡◌}
-use Rattle.clap.specs.Words.{app_of, new_app}
-use Rattle.pb_texts.specs.CommandLines.{needs_subcommand}
 use Rattle.pb_texts.proofs.words.parse.program.Goals as goal
 
 pub returns : goal.returns
 returns c =
-    let bare : app_of c.subcommand_required.result ≡ needs_subcommand (new_app (codes "percobpf")) = search rules in
-    let runs = c.with_command-runs.ensures _ _ bare c.run_command.ensures in
+    let runs = c.with_command-runs.ensures _ _ c.bare_program.ensures c.run_command.ensures in
     let replays = c.with_command-replays.ensures _ _ runs c.replay_command.ensures in
     let assembles = c.with_command-assembles.ensures _ _ replays c.asm_command.ensures in
     let lists = c.with_command-lists.ensures _ _ assembles c.dis_command.ensures in

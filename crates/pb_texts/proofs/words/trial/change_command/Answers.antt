@@ -1,10 +1,8 @@
-use Rattle.std.proofs.Common.{rules, codes, ◌≡◌, false}
-use Rattle.clap.specs.Words.{app_of, new_app}
-use Rattle.clap.specs.declared.builder.command.Command.TheViews.{out-Command as fields_of}
 use Rattle.pb_texts.proofs.words.trial.change_command.Goals as goal
 
 pub returns : goal.returns
 returns c =
-    let bare : app_of c.about.result ≡ new_app (codes "trial") = search rules in
-    let local : (fields_of c.about.result).has_globals ≡ false = search rules in
-    c.with_arg-4.ensures _ _ (c.with_arg-3.ensures _ _ (c.with_arg-2.ensures _ _ (c.with_arg.ensures _ _ (bare, local) c.file_operand.ensures.rule) c.needed_option-row.ensures.rule) c.needed_option-column.ensures.rule) c.needed_option-value.ensures.rule
+    let filed = c.with_arg-filed.ensures _ _ (c.bare_trial.ensures.app, c.bare_trial.ensures.local) c.file_operand.ensures.rule in
+    let rowed = c.with_arg-rowed.ensures _ _ filed c.needed_option.ensures.rule in
+    let placed = c.with_arg-placed.ensures _ _ rowed c.needed_option-2.ensures.rule in
+    c.with_arg.ensures _ _ placed c.needed_option-3.ensures.rule
