@@ -7,20 +7,21 @@ use Rattle.pb_state.specs.declared.carry_fault.CarryFault.{CarryFault}
 use Rattle.pb_keeper.specs.Keeps.{BeginningKeepsNone}
 use Rattle.pb_keeper.specs.Stops.{IsStop, WantsMemory}
 use Rattle.pb_snapshots.specs.TakenOrder.{IsForMemory}
-use Rattle.pb_keep.specs.Words.{HasRecords, KeptTable, ObserverOf, StateOf, Stopped, WhyNotOpened, WhyNotPut, header}
+use Rattle.pb_keep.specs.Words.{HasRecords, IsSnapshotTaken, KeptTable, ObserverOf, SnapshotOf, StateOf, Stopped, WhyNotOpened, WhyNotPut, header}
 use Rattle.pb_keep.specs.declared.fault.KeepFault.{KeepFault}
 use Rattle.pb_keep.specs.declared.waiting.Waits.{Waits}
+use Rattle.pb_keep.specs.declared.compact.SnapshotFault.{SnapshotFault}
+use Rattle.pb_keep.specs.Anew.{WhyNoRecord, WhyNotAnew, WhyNotBegun}
 use Rattle.pb_keep.specs.Changed.{why_refused, why_stopped, WhyNotChanged}
 use Rattle.pb_keep.specs.Again.{in_part, IsMadeInPart, WhyNotAllMade}
-use Rattle.pb_keep.specs.Causes.{IsOfAnew, IsOfFirst, IsOfPut, WhyNotKept, WhyNotMadeAgain, WhyNotServed}
+use Rattle.pb_keep.specs.Causes.{IsOfAnew, IsOfAnswer, IsOfFirst, IsOfPut, WhyNotKept, WhyNotMadeAgain, WhyNotServed}
 use Rattle.pb_keep.specs.Conversations.{KeeperView}
 use Rattle.pb_keep.specs.Kept.{head, origin_of, IsBegunWith}
 use Rattle.pb_keep.specs.Left.{fault_by, IsOfLog, IsOfMaking, IsRefusedMemory}
 
 pub stopped_for_memory : (e : Stopped) → WantsMemory e → IsRefusedMemory (fault_by e)
 stopped_for_memory (Stopped.NoMemory refused) h = tt
-stopped_for_memory (Stopped.Refused why) h = absurd h
-stopped_for_memory Stopped.Conflict h = absurd h
+stopped_for_memory _ h = absurd h
 
 -- ---- where a table goes on with other observers
 
@@ -31,11 +32,28 @@ not_changed_by_stop waiting old new Stopped.Conflict h = absurd h
 
 pub not_changed_for_memory : (waiting : List Waits) (old new : StateOf) (e : CarryFault) → IsForMemory e → WhyNotChanged waiting old new (why_refused e)
 not_changed_for_memory waiting old new (CarryFault.NoMemory refused) h = tt
-not_changed_for_memory waiting old new CarryFault.NotAboveStart h = absurd h
-not_changed_for_memory waiting old new CarryFault.AboveLast h = absurd h
-not_changed_for_memory waiting old new CarryFault.OutOfOrder h = absurd h
-not_changed_for_memory waiting old new CarryFault.NotItsContent h = absurd h
-not_changed_for_memory waiting old new CarryFault.NoItsObserver h = absurd h
+not_changed_for_memory waiting old new _ h = absurd h
+
+-- ---- where no log is begun with a snapshot
+
+module _ (waiting : List Waits) (table : KeptTable) (first file : List ℕ) (before now : ℕ) where
+  pub not_taken : (e : SnapshotFault) → WhyNotChanged waiting table.state table.state e → WhyNotAnew waiting table first before now file e
+  not_taken (SnapshotFault.NoMemory e) h = tt
+  not_taken SnapshotFault.LinesWait h = h
+  not_taken SnapshotFault.NoTimestamp h = h
+  not_taken _ h = absurd h
+
+  pub no_record : (s : SnapshotOf) → IsSnapshotTaken table s → (e : SnapshotFault) → WhyNoRecord s e → WhyNotAnew waiting table first before now file e
+  no_record s taken (SnapshotFault.NoMemory e) h = tt
+  no_record s taken SnapshotFault.Unwritable h = (s, taken, h)
+  no_record s taken SnapshotFault.TooLarge h = (s, taken, h)
+  no_record s taken _ h = absurd h
+
+  pub no_log : (e : SnapshotFault) → WhyNotBegun first before now file e → WhyNotAnew waiting table first before now file e
+  no_log (SnapshotFault.NoMemory e) h = tt
+  no_log (SnapshotFault.Log e) h = h
+  no_log SnapshotFault.NotNew h = h
+  no_log _ h = absurd h
 
 -- ---- where the log fails
 
@@ -44,31 +62,16 @@ pub put_why : (before now was end : ℕ) (e : LogFault) → WhyNotPut before now
 put_why before now was end (LogFault.NoMemory n) h same = tt
 put_why before now was end (LogFault.Disk e) h same = h
 put_why before now was end LogFault.Full h same = subst (λ n. 2 ^ 62 ≤ n) (sym (same tt)) h
-put_why before now was end (LogFault.Damaged at) h same = absurd h
-put_why before now was end LogFault.OtherManifest h same = absurd h
-put_why before now was end LogFault.NewerVersion h same = absurd h
-put_why before now was end LogFault.NoHeader h same = absurd h
+put_why before now was end _ h same = absurd h
 
 pub of_put : (before now end : ℕ) (e : KeepFault) → IsOfPut before now end e → IsOfLog e
 of_put before now end (KeepFault.Log e) h = tt
-of_put before now end (KeepFault.NoMemory e) h = absurd h
-of_put before now end (KeepFault.MadeInPart e made all) h = absurd h
-of_put before now end KeepFault.Record h = absurd h
-of_put before now end KeepFault.Snapshot h = absurd h
-of_put before now end KeepFault.NoTimestamp h = absurd h
-of_put before now end KeepFault.Output h = absurd h
-of_put before now end KeepFault.Input h = absurd h
+of_put before now end _ h = absurd h
 
 -- the log failed, or what came after
 pub not_both : (e : KeepFault) → IsOfMaking e → IsOfLog e → ⊥
 not_both (KeepFault.Log e) making of = absurd making
-not_both (KeepFault.NoMemory e) making of = of
-not_both (KeepFault.MadeInPart e made all) making of = of
-not_both KeepFault.Record making of = of
-not_both KeepFault.Snapshot making of = of
-not_both KeepFault.NoTimestamp making of = of
-not_both KeepFault.Output making of = of
-not_both KeepFault.Input making of = of
+not_both _ making of = of
 
 -- ---- a log of a header alone
 
@@ -85,64 +88,46 @@ pub put_as_opened : (manifest : List ℕ) (before now end : ℕ) (file : List �
 put_as_opened manifest before now end file (LogFault.NoMemory n) low h = tt
 put_as_opened manifest before now end file (LogFault.Disk e) low h = h
 put_as_opened manifest before now end file LogFault.Full low h = omega (arith, low, h)
-put_as_opened manifest before now end file (LogFault.Damaged at) low h = absurd h
-put_as_opened manifest before now end file LogFault.OtherManifest low h = absurd h
-put_as_opened manifest before now end file LogFault.NewerVersion low h = absurd h
-put_as_opened manifest before now end file LogFault.NoHeader low h = absurd h
+put_as_opened manifest before now end file _ low h = absurd h
 
 -- ---- why what waits isn't kept
 
 module _ (before now : ℕ) (failed : Bool) (k : KeeperView) where
   pub not_put : (e : KeepFault) → IsOfPut before now k.end e → WhyNotKept before now failed k e
   not_put (KeepFault.Log e) h = h
-  not_put (KeepFault.NoMemory e) h = absurd h
-  not_put (KeepFault.MadeInPart e made all) h = absurd h
-  not_put KeepFault.Record h = absurd h
-  not_put KeepFault.Snapshot h = absurd h
-  not_put KeepFault.NoTimestamp h = absurd h
-  not_put KeepFault.Output h = absurd h
-  not_put KeepFault.Input h = absurd h
+  not_put _ h = absurd h
 
   pub not_made : (e : KeepFault) → IsOfMaking e → IsRefusedMemory e → WhyNotKept before now failed k e
-  not_made (KeepFault.Log e) of right = absurd of
   not_made (KeepFault.NoMemory e) of right = tt
-  not_made (KeepFault.MadeInPart e made all) of right = absurd of
-  not_made KeepFault.Record of right = absurd of
-  not_made KeepFault.Snapshot of right = absurd of
   not_made KeepFault.NoTimestamp of right = absurd right
-  not_made KeepFault.Output of right = absurd of
-  not_made KeepFault.Input of right = absurd of
+  not_made _ of right = absurd of
 
   pub not_written : (e : KeepFault) → e ≡ KeepFault.Output → failed ≡ true → WhyNotKept before now failed k e
   not_written e is has = subst (λ f. WhyNotKept before now failed k f) (sym is) has
+
+  pub not_answered : (e : KeepFault) → IsOfAnswer failed e → WhyNotKept before now failed k e
+  not_answered (KeepFault.NoMemory e) of = tt
+  not_answered KeepFault.Output of = of
+  not_answered _ of = absurd of
 
   -- keeping is a part of serving
   pub not_served : (e : KeepFault) → WhyNotKept before now failed k e → WhyNotServed before now failed k e
   not_served (KeepFault.Log e) h = h
   not_served (KeepFault.NoMemory e) h = tt
-  not_served (KeepFault.MadeInPart e made all) h = absurd h
-  not_served KeepFault.Record h = absurd h
-  not_served KeepFault.Snapshot h = absurd h
-  not_served KeepFault.NoTimestamp h = absurd h
   not_served KeepFault.Output h = h
-  not_served KeepFault.Input h = absurd h
+  not_served _ h = absurd h
 
 -- ---- when a log is opened
 
 -- a fault in the midst of the changes of records
 pub why_left : (limit : ℕ) (records : List (List ℕ)) (old : KeptTable) (new : StateOf) (e : KeepFault) (made all : ℕ) → IsOfAnew e → IsMadeInPart limit records old new made all → WhyNotAllMade limit records old new (in_part e made all)
 why_left limit records old new (KeepFault.NoMemory e) made all of part = part
-why_left limit records old new (KeepFault.MadeInPart e m n) made all of part = absurd of
-why_left limit records old new (KeepFault.Log e) made all of part = absurd of
 why_left limit records old new KeepFault.Record made all of part = tt
-why_left limit records old new KeepFault.Snapshot made all of part = absurd of
 why_left limit records old new KeepFault.NoTimestamp made all of part = tt
-why_left limit records old new KeepFault.Output made all of part = absurd of
-why_left limit records old new KeepFault.Input made all of part = absurd of
+why_left limit records old new _ made all of part = absurd of
 
 pub not_made_again : BeginningKeepsNone → (limit : ℕ) (observers : List ObserverOf) (manifest : List ℕ) (before now since : ℕ) (file : List ℕ) (records scripts : List (List ℕ)) (first : KeptTable) (new : StateOf) → IsBegunWith observers records scripts since first
     → HasRecords (head limit manifest) records file → (e : KeepFault) → WhyNotAllMade limit scripts first new e → WhyNotMadeAgain limit observers manifest before now file new e
-not_made_again beginning limit observers manifest before now since file records scripts first new b has (KeepFault.Log e) of = absurd of
 not_made_again beginning limit observers manifest before now since file records scripts first new b has (KeepFault.NoMemory e) of = tt
 not_made_again beginning limit observers manifest before now since file records scripts first new b has (KeepFault.MadeInPart e made all) part = record {
   origin = origin_of limit manifest b.snapshot;
@@ -162,17 +147,10 @@ not_made_again beginning limit observers manifest before now since file records 
   made_is = part.made_is;
 }
 not_made_again beginning limit observers manifest before now since file records scripts first new b has KeepFault.Record of = tt
-not_made_again beginning limit observers manifest before now since file records scripts first new b has KeepFault.Snapshot of = absurd of
 not_made_again beginning limit observers manifest before now since file records scripts first new b has KeepFault.NoTimestamp of = tt
-not_made_again beginning limit observers manifest before now since file records scripts first new b has KeepFault.Output of = absurd of
-not_made_again beginning limit observers manifest before now since file records scripts first new b has KeepFault.Input of = absurd of
+not_made_again beginning limit observers manifest before now since file records scripts first new b has _ of = absurd of
 
 pub not_begun : (limit : ℕ) (observers : List ObserverOf) (manifest : List ℕ) (before now : ℕ) (file : List ℕ) (records : List (List ℕ)) (new : StateOf) (e : KeepFault) → IsOfFirst observers records e → HasRecords (head limit manifest) records file → WhyNotMadeAgain limit observers manifest before now file new e
-not_begun limit observers manifest before now file records new (KeepFault.Log e) of has = absurd of
 not_begun limit observers manifest before now file records new (KeepFault.NoMemory e) of has = tt
-not_begun limit observers manifest before now file records new (KeepFault.MadeInPart e made all) of has = absurd of
-not_begun limit observers manifest before now file records new KeepFault.Record of has = absurd of
 not_begun limit observers manifest before now file records new KeepFault.Snapshot of has = (records, has, of)
-not_begun limit observers manifest before now file records new KeepFault.NoTimestamp of has = absurd of
-not_begun limit observers manifest before now file records new KeepFault.Output of has = absurd of
-not_begun limit observers manifest before now file records new KeepFault.Input of has = absurd of
+not_begun limit observers manifest before now file records new _ of has = absurd of

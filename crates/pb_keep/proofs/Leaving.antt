@@ -12,23 +12,12 @@ use Rattle.pb_keep.proofs.Putting.{rest_has_changes}
 module _ (limit : ℕ) (origin : Origin) (changes : List Writes) (items : List Waits) (old new : KeptTable) (was_written written : Option (List ℕ)) (may_leave : List ℕ → Type 0) where
   pub left_in_log : (e : KeepFault) → IsOfLog e → IsLeftInLog origin changes items old new was_written written may_leave → IsLeftBy limit origin changes items old new was_written written may_leave e
   left_in_log (KeepFault.Log e) of l = l
-  left_in_log (KeepFault.NoMemory e) of l = absurd of
-  left_in_log (KeepFault.MadeInPart e made all) of l = absurd of
-  left_in_log KeepFault.Record of l = absurd of
-  left_in_log KeepFault.Snapshot of l = absurd of
-  left_in_log KeepFault.NoTimestamp of l = absurd of
-  left_in_log KeepFault.Output of l = absurd of
-  left_in_log KeepFault.Input of l = absurd of
+  left_in_log _ of l = absurd of
 
   pub left_in_making : (e : KeepFault) → IsOfMaking e → IsLeftMade limit origin changes items old was_written written may_leave → IsLeftBy limit origin changes items old new was_written written may_leave e
-  left_in_making (KeepFault.Log e) of l = absurd of
   left_in_making (KeepFault.NoMemory e) of l = l
-  left_in_making (KeepFault.MadeInPart e made all) of l = absurd of
-  left_in_making KeepFault.Record of l = absurd of
-  left_in_making KeepFault.Snapshot of l = absurd of
   left_in_making KeepFault.NoTimestamp of l = l
-  left_in_making KeepFault.Output of l = absurd of
-  left_in_making KeepFault.Input of l = absurd of
+  left_in_making _ of l = absurd of
 
   pub left_in_writing : (e : KeepFault) → e ≡ KeepFault.Output → IsLeftMade limit origin changes items old was_written written may_leave → IsLeftBy limit origin changes items old new was_written written may_leave e
   left_in_writing e is l = subst (λ f. IsLeftBy limit origin changes items old new was_written written may_leave f) (sym is) l

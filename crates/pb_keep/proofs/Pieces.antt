@@ -11,7 +11,7 @@ use Rattle.std.proofs.KnownBytes.{Consumes-trans}
 use Rattle.pb_requests.specs.declared.parse.TheConstants.{MAX_LINE}
 use Rattle.pb_keep.specs.declared.lines.Line.{Line}
 use Rattle.pb_keep.specs.declared.lines.Piece.{Piece}
-use Rattle.pb_keep.specs.Input.{is_newline, HasNoNewline, IsNextLine, IsLineRead, IsHeldFront, TakesPiece}
+use Rattle.pb_keep.specs.Input.{is_newline, HasNoNewline, IsNextLine, IsLineRead, IsReadSoFar, TakesPiece}
 
 -- ---- the front of a buffer
 
@@ -55,13 +55,6 @@ no_newline found bytes is none = by_case (ltb at (length bytes)) refl
 -- bytes of one line, and more of it
 of_one_line : (front more : List ℕ) → HasNoNewline front → HasNoNewline more → HasNoNewline (front ++ more)
 of_one_line front more p q = list_any-append is_newline front more ∙ ap₂ (λ a b. a || b) p q
-
--- what was taken of an input so far is the front of a line, and is held
-pub record IsReadSoFar (old now : Option (List ℕ)) (line : List ℕ) (is_long : Bool) : Type 0 where
-  pub front : List ℕ
-  pub of_line : HasNoNewline front
-  pub read : Consumes old now front
-  pub held : IsHeldFront front line is_long
 
 module _ (old mid new : Option (List ℕ)) (before after : List ℕ) (was_long is_long : Bool) (so_far : IsReadSoFar old mid before was_long) where
   -- with a part of the line it is still its front

@@ -11,7 +11,7 @@ use Rattle.pb_keep.specs.Conversations.{Beginning, KeeperView, LeavesFirst, Serv
 use Rattle.pb_keep.specs.Held.{IsReadAs}
 use Rattle.pb_keep.specs.Waits.{IsNoLine, IsWaiting}
 use Rattle.pb_keep.specs.Input.{none, one_more, AreLinesRead, IsNextLine}
-use Rattle.pb_keep.specs.Served.{LeavesRead, ServesAll, ServesNext, ServesRead, ServesToAsked, ServesToLarge}
+use Rattle.pb_keep.specs.Served.{IsKeptAtEnd, LeavesRead, ServesAll, ServesNext, ServesRead, ServesToAsked, ServesToLarge}
 use Rattle.std.proofs.lemmas.List.{append_assoc, append-nil}
 
 -- ---- as what lines are read
@@ -84,11 +84,10 @@ module _ {b : Beginning} {lines : List (List ℕ)} {from between : Option (List 
   serves_to_large to now limit idle large t = record { read = serves_on to now t; some = is_some_line before.more t.0; idle = idle; large = large }
 
   -- or none, and then what waits was kept
-  pub serves_to_the_end : (to : Option (List ℕ)) (now last : KeeperView) → ServesNext b (lines ++ before.more) between to now Went.End
-      → ((all : List (List ℕ)) → Serves b all now → Serves b all last) → (last.waiting.is_group ≡ false → IsNoLine last.waiting) → IsWaiting last.waiting → ServesAll b lines from last
-  serves_to_the_end to now last t on kept waits = record {
+  pub serves_to_the_end : (to : Option (List ℕ)) (now : KeeperView) → ServesNext b (lines ++ before.more) between to now Went.End → IsKeptAtEnd Went.End now.waiting → IsWaiting now.waiting → ServesAll b lines from now
+  serves_to_the_end to now t kept waits = record {
     to = between;
-    read = record { more = before.more; read = before.read; serves = on (lines ++ before.more) t.1 };
+    read = record { more = before.more; read = before.read; serves = t.1 };
     ended = t.0;
     kept = kept;
     open_group = waits.open_group;
@@ -115,12 +114,8 @@ module _ {b : Beginning} {k : KeeperView} (lines : List (List ℕ)) (from to : O
   turn_kept (Went.Line Took.Asked) now t on idle = (t.0, t.1, record { serves = on lines t.2.serves; idle = idle t.2.idle; asks = t.2.asks })
   turn_kept Went.End now t on idle = (t.0, on lines t.1)
 
--- what waits was kept, unless it is a group
-pub kept_all : (asked : Bool) (old now : Waiting) → asked ≡ not old.is_group → (asked ≡ true → IsNoLine now) → (asked ≡ false → now ≡ old) → now.is_group ≡ false → IsNoLine now
-kept_all true old now e kept same alone = kept refl
-kept_all false old now e kept same alone =
-    let group : old.is_group ≡ false = ap (λ w. w.is_group) (sym (same refl)) ∙ alone in
-    absurd (both_false old.is_group e group) where
-      both_false : (group : Bool) → false ≡ not group → group ≡ false → ⊥
-      both_false true e f = absurd cc
-      both_false false e f = absurd cc
+-- where the input has ended, what waits was kept, unless it is a group
+pub kept_at_end : (turn : Went) (kept : Bool) (old now : Waiting) → (kept ≡ false → turn ≡ Went.End → old.is_group ≡ true) → (kept ≡ true → IsNoLine now) → (kept ≡ false → now ≡ old) → IsKeptAtEnd turn now
+kept_at_end (Went.Line took) kept old now group all same = tt
+kept_at_end Went.End true old now group all same = λ alone. all refl
+kept_at_end Went.End false old now group all same = λ alone. let both : true ≡ false = sym (group refl refl) ∙ sym (ap (λ w. w.is_group) (same refl)) ∙ alone in absurd cc

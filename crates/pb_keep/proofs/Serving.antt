@@ -283,13 +283,7 @@ module _ {b : Beginning} {lines : List (List ℕ)} {k : KeeperView} (s : Serves 
   pub leaves_left : (new : KeptTable) (now : Option (List ℕ)) (may_leave : List ℕ → Type 0) (e : KeepFault) → IsLeftBy k.limit b.origin (b.changes ++ s.made) k.waiting.items.items k.table new k.written now may_leave e
       → (file : List ℕ) → may_leave file → LeavesFirst b lines now file
   leaves_left new now may_leave (KeepFault.Log e) l file m = left_in_log new now may_leave l file m
-  leaves_left new now may_leave (KeepFault.NoMemory e) l file m = left_made now may_leave l file m
-  leaves_left new now may_leave (KeepFault.MadeInPart e made all) l file m = left_made now may_leave l file m
-  leaves_left new now may_leave KeepFault.Record l file m = left_made now may_leave l file m
-  leaves_left new now may_leave KeepFault.Snapshot l file m = left_made now may_leave l file m
-  leaves_left new now may_leave KeepFault.NoTimestamp l file m = left_made now may_leave l file m
-  leaves_left new now may_leave KeepFault.Output l file m = left_made now may_leave l file m
-  leaves_left new now may_leave KeepFault.Input l file m = left_made now may_leave l file m
+  leaves_left new now may_leave _ l file m = left_made now may_leave l file m
 
   -- where a question could not be answered, those of the lines before it
   pub leaves_asked : (line : List ℕ) (question : Request) (now : Option (List ℕ)) → IsNoLine k.waiting → IsReadAs line (Ok question) → MayHaveAnswered k.since question k.table k.written now

@@ -28,3 +28,17 @@ WhyNotAnew waiting table first before now file SnapshotFault.NoTimestamp = table
 WhyNotAnew waiting table first before now file SnapshotFault.NotNew = (records : List (List ℕ)) × (records ≢ []) × HasRecords first records file
 WhyNotAnew waiting table first before now file SnapshotFault.Unwritable = HasAmiss table (λ s. are_of_their_cells s.cells ≡ false)
 WhyNotAnew waiting table first before now file SnapshotFault.TooLarge = HasAmiss table (λ s. 2 ^ 32 ≤ length (snapshot_bytes s))
+
+-- why a snapshot has no record
+abbrev pub WhyNoRecord : SnapshotOf → SnapshotFault → Type 0
+WhyNoRecord s (SnapshotFault.NoMemory e) = Unit {0}
+WhyNoRecord s SnapshotFault.Unwritable = are_of_their_cells s.cells ≡ false
+WhyNoRecord s SnapshotFault.TooLarge = 2 ^ 32 ≤ length (snapshot_bytes s)
+WhyNoRecord s _ = ⊥
+
+-- why no log is begun in this file, of whose disk so many calls had failed before and have failed now
+abbrev pub WhyNotBegun : List ℕ → ℕ → ℕ → List ℕ → SnapshotFault → Type 0
+WhyNotBegun first before now file (SnapshotFault.NoMemory e) = Unit {0}
+WhyNotBegun first before now file (SnapshotFault.Log e) = WhyNotOpened first before now file e
+WhyNotBegun first before now file SnapshotFault.NotNew = (records : List (List ℕ)) × (records ≢ []) × HasRecords first records file
+WhyNotBegun first before now file _ = ⊥

@@ -39,6 +39,13 @@ pub record IsHeldFront (front line : List ℕ) (is_long : Bool) : Type 0 where
 abbrev pub HoldsMore : List ℕ → List ℕ → Bool → List ℕ → Bool → Type 0
 HoldsMore more before was_long after is_long = (front : List ℕ) → IsHeldFront front before was_long → IsHeldFront (front ++ more) after is_long
 
+-- what was taken of an input so far is the front of a line, and is held
+pub record IsReadSoFar (old now : Option (List ℕ)) (line : List ℕ) (is_long : Bool) : Type 0 where
+  pub front : List ℕ
+  pub of_line : HasNoNewline front
+  pub read : Consumes old now front
+  pub held : IsHeldFront front line is_long
+
 -- what was taken of an input: these bytes, the newline after the last ones, or nothing at its end
 abbrev pub IsPiece : Piece → List ℕ → Option (List ℕ) → Option (List ℕ) → Type 0
 IsPiece Piece.Part bytes old new = Consumes old new bytes

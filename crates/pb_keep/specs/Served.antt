@@ -6,6 +6,7 @@ use Rattle.pb_keep.specs.Words.{Request}
 use Rattle.pb_keep.specs.declared.service.Paused.{Paused}
 use Rattle.pb_keep.specs.declared.service.Went.{Went}
 use Rattle.pb_keep.specs.declared.take.Took.{Took}
+use Rattle.pb_keep.specs.declared.waiting.Waiting.{Waiting}
 use Rattle.pb_keep.specs.Waits.{IsNoLine, IsOpenGroup}
 use Rattle.pb_keep.specs.Held.{IsReadAs}
 use Rattle.pb_keep.specs.Input.{AreLinesRead, IsNextLine}
@@ -47,6 +48,11 @@ ServesLine b lines line k Took.Asked = IsCompactionAsked b lines line k
 abbrev pub ServesNext : Beginning → List (List ℕ) → Option (List ℕ) → Option (List ℕ) → KeeperView → Went → Type 0
 ServesNext b lines from to k (Went.Line took) = (line : List ℕ) × IsNextLine line from to × ServesLine b lines line k took
 ServesNext b lines from to k Went.End = IsAtEnd from × Serves b lines k
+
+-- where the input has ended, no line waits but those of a group without its end
+abbrev pub IsKeptAtEnd : Went → Waiting → Type 0
+IsKeptAtEnd (Went.Line took) waiting = Unit {0}
+IsKeptAtEnd Went.End waiting = waiting.is_group ≡ false → IsNoLine waiting
 
 -- ---- where a service pauses
 

@@ -4,14 +4,15 @@ ghost use Rattle.pb_base.specs.Batch.{Writes};
 ghost use Rattle.pb_parse.specs.ScriptLines.{script_of};
 ghost use Rattle.pb_keeper.specs.Keeps.{Keeps};
 ghost use Rattle.pb_keeper.specs.Stats.{kept_table, KeptTable};
-ghost use Rattle.pb_keep.specs.Again.{in_part, AreFirstMade, AreSomeMade, IsBrokenOff, IsRecordLeft, IsRecordMade, WhyNotAllMade};
+ghost use Rattle.pb_keep.specs.Again.{in_part, AreFirstMade, AreSomeMade, IsRecordLeft, IsRecordMade, WhyNotAllMade};
 ghost use Rattle.pb_keep.specs.Causes.{IsOfAnew};
 ghost use Rattle.pb_keep.specs.First.{is_full};
 ghost use Rattle.pb_keep.specs.Kept.{changes_of, reported_count};
 
 use crate::fault::KeepFault;
+use crate::made::make_counted;
 use pb_base::Batch;
-use pb_keeper::{ObserverStats, Stopped, make};
+use pb_keeper::ObserverStats;
 use pb_parse::parse_script;
 use pb_reading::TextFault;
 use pb_state::State;
@@ -46,25 +47,6 @@ pub(crate) fn count_changes(alloc: Global, records: &[Vec<u8>]) -> Result<u64, K
         count = count.saturating_add(batches.len() as u64);
     }
     Ok(count)
-}
-
-// Makes a change, and counts what the runs did that followed it.
-fn make_counted<T: Tablet>(
-    alloc: Global,
-    state: &mut State<T>,
-    stats: &mut Vec<ObserverStats>,
-    batch: Batch,
-    limit: u64,
-) -> Result<(), Stopped>
-    ensures keeps { (first : KeptTable) (changes : List Writes)
-        → Keeps limit first changes (kept_table state.old stats.old.items)
-        → OnOk result (Keeps limit first (changes ++ batch ∷ [])
-        (kept_table state.new stats.new.items)) }
-    ensures observers { OnOk result (state.new.observers ≡ state.old.observers) }
-    ensures left { OnErr result (IsBrokenOff state.old state.new) }
-{
-    make(alloc, state, stats, batch, limit)?;
-    Ok(())
 }
 
 // Whether so many changes are made that no more may be.

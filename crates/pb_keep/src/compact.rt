@@ -1,10 +1,14 @@
 //! A log that begins with a snapshot, in the place of all that led to it.
-ghost use Rattle.std.specs.Prelude.{◌≡◌, ◌≢◌, ◌<◌, ◌^◌, [], true, false, length, IfOk, IfErr, IsTrue};
+ghost use Rattle.std.specs.Prelude.{◌≡◌, ◌≢◌, ◌<◌, ◌^◌, ◌∷◌, [], true, false, length, map, IfOk, IfErr, OnOk, IsTrue};
+ghost use Rattle.std.specs.List.Sorted.{IsStrictlySortedBy};
 ghost use Rattle.sqlite_disk.specs.Disk.{Only};
+ghost use Rattle.pb_snapshots.specs.Snapshot.{snapshot_value};
+ghost use Rattle.pb_snapshots.specs.VersionWalks.{commit_cmp, commit_of_version};
 ghost use Rattle.pb_keeper.specs.Stats.{kept_table};
-ghost use Rattle.pb_keep.specs.Anew.{BeginsAnew, WhyNotAnew};
+ghost use Rattle.pb_keep.specs.Anew.{BeginsAnew, WhyNoRecord, WhyNotAnew, WhyNotBegun};
 ghost use Rattle.pb_keep.specs.Kept.{head};
-ghost use Rattle.pb_keep.specs.Changed.{why_refused, why_stopped};
+ghost use Rattle.pb_keep.specs.Changed.{why_refused, why_stopped, WhyNotChanged};
+ghost use Rattle.pb_keep.specs.Words.{FitsSnapshot, IsAtRest, IsSnapshotTaken, header, last_timestamp, snapshot_bytes};
 ghost use Rattle.pb_base.specs.Growths.{refused_growth};
 ghost use Rattle.pb_keep.specs.declared.compact.SnapshotFault.TheVariants as ends;
 
@@ -13,7 +17,7 @@ use crate::keeper::Keeper;
 use pb_base::NoMemory;
 use pb_keeper::Stopped;
 use pb_log::{Log, LogFault};
-use pb_snapshots::{snapshot_record, take_snapshot};
+use pb_snapshots::{Snapshot, snapshot_record, take_snapshot};
 use pb_state::CarryFault;
 use pb_store::Tablet;
 use sqlite_disk::Disk;
@@ -88,13 +92,76 @@ impl From<Stopped> for SnapshotFault {
     }
 }
 
+// The record of a snapshot.
+fn record_of(alloc: Global, snapshot: &Snapshot) -> Result<Vec<u8>, SnapshotFault>
+    ensures bytes { IfOk result (λ v. v.items ≡ snapshot_bytes (snapshot_value snapshot.now)) }
+    ensures fits { OnOk result (FitsSnapshot (snapshot_value snapshot.now)) }
+    ensures short { IfOk result (λ v. length v.items < 2 ^ 32) }
+    ensures why { IfErr result (WhyNoRecord (snapshot_value snapshot.now)) }
+{
+    let Some(record) = snapshot_record(alloc, snapshot)? else {
+        return Err(SnapshotFault::Unwritable);
+    };
+    if record.len() >= TOO_LONG {
+        return Err(SnapshotFault::TooLarge);
+    }
+    Ok(record)
+}
+
+// Begins a new log of this limit and this manifest with a record.
+fn begin_log<E: Disk + Drop>(
+    alloc: Global,
+    log: &mut Log<E>,
+    limit: u64,
+    manifest: &[u8],
+    record: &[u8],
+) -> Result<(), SnapshotFault>
+    requires usable { IsTrue (E.is_usable log.old.disk) }
+    requires restarted { Only (E.seen log.old.disk) (E.may_leave log.old.disk) }
+    requires short { length manifest.now < 2 ^ 30 }
+    requires small { length record.now < 2 ^ 32 }
+    ensures begun { OnOk result (IsTrue (E.is_clean log.new.disk)
+        → IsAtRest (E.seen log.new.disk) (E.may_leave log.new.disk) log.new.end
+        (header (head limit manifest.now) ∷ record.now ∷ [])) }
+    ensures why { IfErr result (λ e. IsTrue (E.is_clean log.new.disk)
+        → WhyNotBegun (head limit manifest.now) (E.faults log.old.disk)
+        (E.faults log.new.disk) (E.seen log.old.disk) e) }
+{
+    let head = head_of(alloc, limit, manifest)?;
+    if !log.open(alloc, &head)?.is_empty() {
+        return Err(SnapshotFault::NotNew);
+    }
+    log.put(alloc, record)?;
+    Ok(())
+}
+
 impl<T: Tablet, D: Disk + Drop> Keeper<T, D> {
     // Whether no line waits.
-    pub(crate) fn is_idle(&self) -> bool
+    fn is_idle(&self) -> bool
         ensures idle { result ≡ true → self.now.waiting.items.items ≡ [] }
         ensures busy { result ≡ false → self.now.waiting.items.items ≢ [] }
     {
         self.waiting.items.is_empty()
+    }
+
+    // A snapshot of the table. It is taken where no line waits, and a timestamp is left.
+    pub(crate) fn snapshot(&self, alloc: Global) -> Result<Snapshot, SnapshotFault>
+        ensures room { OnOk result (self.now.state.clock < last_timestamp) }
+        ensures taken { IfOk result (λ s. IsSnapshotTaken
+            (kept_table self.now.state self.now.stats.items) (snapshot_value s)) }
+        ensures rising { IfOk result (λ s. IsStrictlySortedBy commit_cmp
+            (map commit_of_version s.cells.items)) }
+        ensures why { IfErr result (WhyNotChanged self.now.waiting.items.items self.now.state
+            self.now.state) }
+    {
+        if !self.is_idle() {
+            return Err(SnapshotFault::LinesWait);
+        }
+        if self.state.clock().0 == u64::MAX {
+            return Err(SnapshotFault::NoTimestamp);
+        }
+        let snapshot = take_snapshot(alloc, &self.state, &self.stats)?;
+        Ok(snapshot)
     }
 
     /// Begins a new log of this limit of entries and this manifest with a snapshot of the table: the newest version of each cell, and all versions of the
@@ -120,24 +187,9 @@ impl<T: Tablet, D: Disk + Drop> Keeper<T, D> {
             (head limit manifest.now) (E.faults log.old.disk) (E.faults log.new.disk)
             (E.seen log.old.disk) e) }
     {
-        if !self.is_idle() {
-            return Err(SnapshotFault::LinesWait);
-        }
-        if self.state.clock().0 == u64::MAX {
-            return Err(SnapshotFault::NoTimestamp);
-        }
-        let snapshot = take_snapshot(alloc, &self.state, &self.stats)?;
-        let Some(record) = snapshot_record(alloc, &snapshot)? else {
-            return Err(SnapshotFault::Unwritable);
-        };
-        if record.len() >= TOO_LONG {
-            return Err(SnapshotFault::TooLarge);
-        }
-        let head = head_of(alloc, limit, manifest)?;
-        if !log.open(alloc, &head)?.is_empty() {
-            return Err(SnapshotFault::NotNew);
-        }
-        log.put(alloc, &record)?;
+        let snapshot = self.snapshot(alloc)?;
+        let record = record_of(alloc, &snapshot)?;
+        begin_log(alloc, log, limit, manifest, &record)?;
         Ok(snapshot.cells.len())
     }
 }

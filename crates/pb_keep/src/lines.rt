@@ -1,8 +1,9 @@
 //! Lines of an input, as they come.
-ghost use Rattle.std.specs.Prelude.{◌≡◌, ◌≤◌, ◌<◌, length, nat_lt, IfOk, OnOk, OnErr};
+ghost use Rattle.std.specs.Prelude.{◌≡◌, ◌≤◌, ◌<◌, ℕ, Bool, List, Option, None, length, nat_lt, IfOk, IfSome, OnOk, OnErr};
 ghost use Rattle.std.specs.List.{position_or_len};
 ghost use Rattle.std.specs.Io.KnownBytes.{Keeps};
-ghost use Rattle.pb_keep.specs.Input.{is_newline, IsLineRead, HoldsMore, TakesPiece, TakesPartOfLine};
+ghost use Rattle.pb_keep.specs.Input.{is_newline, IsLineRead, IsReadSoFar, HoldsMore, TakesPiece, TakesPartOfLine};
+ghost use Rattle.pb_keep.specs.declared.lines.Piece.TheVariants.{Part};
 ghost use Rattle.pb_requests.specs.declared.parse.TheConstants.{MAX_LINE};
 
 use pb_requests::MAX_LINE;
@@ -10,7 +11,7 @@ use std::io::{self, BufRead};
 use std::sync::Wait;
 
 /// What was read of an input.
-#[derive(Clone, Copy, PartialEq, Eq, Debug, Drop)]
+#[derive(Clone, Copy)]
 pub enum Line {
     /// A whole line, without its newline, or the last, which has none.
     Read,
@@ -21,7 +22,7 @@ pub enum Line {
 }
 
 // What was taken of an input at once.
-#[derive(Clone, Copy, Drop)]
+#[derive(Clone, Copy)]
 enum Piece {
     // Bytes of a line that goes on.
     Part,
@@ -83,6 +84,24 @@ fn take_piece<I: BufRead>(
     Ok(Piece::Part)
 }
 
+// What was read once this piece was taken, if it was the last.
+fn line_after(piece: Piece, is_long: bool, line: &[u8]) -> Option<Line>
+    ensures read { (from between to : Option (List ℕ)) (before : List ℕ) (was_long : Bool)
+        → IsReadSoFar from between before was_long
+        → TakesPiece piece between to before was_long line.now is_long
+        → IfSome result (λ r. IsLineRead r line.now from to) }
+    ensures more { result ≡ None → piece ≡ Part }
+{
+    match piece {
+        Piece::Part => None,
+        Piece::Last if is_long => Some(Line::TooLong),
+        Piece::Last => Some(Line::Read),
+        Piece::End if is_long => Some(Line::TooLong),
+        Piece::End if line.is_empty() => Some(Line::End),
+        Piece::End => Some(Line::Read),
+    }
+}
+
 /// Reads a line, of which no more is held than one may have. A last line without a newline is a line.
 pub fn read_line<R: Wait, I: BufRead>(rt: &R, input: &mut I, line: &mut Vec<u8>) -> io::Result<Line>
     ensures read { IfOk result
@@ -93,13 +112,9 @@ pub fn read_line<R: Wait, I: BufRead>(rt: &R, input: &mut I, line: &mut Vec<u8>)
     line.clear();
     let mut is_long = false;
     for _turn in rt.forever() {
-        match take_piece(input, line, &mut is_long)? {
-            Piece::Part => {}
-            Piece::Last if is_long => return Ok(Line::TooLong),
-            Piece::Last => return Ok(Line::Read),
-            Piece::End if is_long => return Ok(Line::TooLong),
-            Piece::End if line.is_empty() => return Ok(Line::End),
-            Piece::End => return Ok(Line::Read),
+        let piece = take_piece(input, line, &mut is_long)?;
+        if let Some(read) = line_after(piece, is_long, line.as_slice()) {
+            return Ok(read);
         }
     }
     unreachable!()

@@ -10,8 +10,9 @@ ghost use Rattle.pb_keeper.specs.Made.{IsMade, comes_to_rest, runs_within};
 ghost use Rattle.pb_keeper.specs.Stats.{kept_table, Counted, KeptTable};
 ghost use Rattle.pb_keeper.specs.Stops.{WantsMemory};
 ghost use Rattle.pb_steps.specs.Readings.{last_timestamp};
+ghost use Rattle.pb_keep.specs.Again.{IsBrokenOff};
 ghost use Rattle.pb_keep.specs.Left.{most_timestamps, AreInTime, IsOfMaking, IsRefusedMemory};
-ghost use Rattle.pb_keep.specs.Waits.{changes_in, made_line, AreAnswers, AreSomeAnswers, IsAnswer};
+ghost use Rattle.pb_keep.specs.Waits.{changes_in, made_line, other_line, AreAnswers, AreSomeAnswers, IsAnswer};
 
 use crate::fault::KeepFault;
 use crate::waiting::Waits;
@@ -56,8 +57,23 @@ fn push_unmade(alloc: Global, text: &mut String, newest: Ts) -> Result<(), NoMem
     Ok(())
 }
 
+// Adds the answer to a line that changes nothing.
+fn push_other(alloc: Global, text: &mut String, item: &Waits) -> Result<(), NoMemory>
+    ensures line { OnOk result (string_bytes text.new
+        ≡ string_bytes text.old ++ other_line item.now) }
+    ensures same { OnErr result (string_bytes text.new ≡ string_bytes text.old) }
+{
+    match item {
+        Waits::Change(_) => Ok(()),
+        Waits::Unmade(newest) => push_unmade(alloc, text, *newest),
+        Waits::Refused(code) => push_refused(alloc, text, *code),
+        Waits::Begun => Ok(text.push_str("begun\n")?),
+        Waits::Ended => Ok(text.push_str("ended\n")?),
+    }
+}
+
 // Makes a change, and counts what the runs did that followed it.
-fn make_counted<T: Tablet>(
+pub(crate) fn make_counted<T: Tablet>(
     alloc: Global,
     state: &mut State<T>,
     stats: &mut Vec<ObserverStats>,
@@ -81,6 +97,7 @@ fn make_counted<T: Tablet>(
     ensures in_time { (first : KeptTable) (changes : List Writes)
         → Keeps limit first changes (kept_table state.old stats.old.items)
         → state.old.clock + most_timestamps < last_timestamp → IfErr result WantsMemory }
+    ensures left { OnErr result (IsBrokenOff state.old state.new) }
 {
     make(alloc, state, stats, batch, limit)
 }
@@ -116,10 +133,7 @@ fn answer<T: Tablet>(
             let made = make_counted(alloc, state, stats, batch, limit)?;
             push_made(alloc, text, &made)?;
         }
-        Waits::Unmade(newest) => push_unmade(alloc, text, newest)?,
-        Waits::Refused(code) => push_refused(alloc, text, code)?,
-        Waits::Begun => text.push_str("begun\n")?,
-        Waits::Ended => text.push_str("ended\n")?,
+        other => push_other(alloc, text, &other)?,
     }
     Ok(())
 }

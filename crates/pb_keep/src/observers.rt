@@ -16,7 +16,7 @@ use crate::compact::SnapshotFault;
 use crate::keeper::Keeper;
 use pb_answers::entries_of;
 use pb_keeper::{ObserverStats, catching_up_bound, observe_also};
-use pb_snapshots::{choose_observers, chosen_are_accepted, chosen_begin, take_snapshot};
+use pb_snapshots::{choose_observers, chosen_are_accepted, chosen_begin};
 use pb_state::State;
 use pb_store::Tablet;
 use pb_verify::Observer;
@@ -53,13 +53,7 @@ impl<T: Tablet, D: Disk + Drop> Keeper<T, D> {
         // For the proof: what is chosen of a table that keeps changes begins another one, and no version of it is refused.
         chosen_begin();
         chosen_are_accepted();
-        if !self.is_idle() {
-            return Err(SnapshotFault::LinesWait);
-        }
-        if self.state.clock().0 == u64::MAX {
-            return Err(SnapshotFault::NoTimestamp);
-        }
-        let snapshot = take_snapshot(alloc, &self.state, &self.stats)?;
+        let snapshot = self.snapshot(alloc)?;
         let chosen = choose_observers(alloc, &snapshot, places)?;
         state.carry_over(chosen.clock, &chosen.cells)?;
         state.mark_behind()?;

@@ -18,7 +18,7 @@ use sqlite_disk::Disk;
 use std::alloc::Global;
 
 /// How many changes of a log were made again.
-#[derive(Debug, Drop)]
+#[derive(Drop)]
 pub enum Opened {
     /// So many of so many: all of them, or as many as were asked for. Each of both numbers is at most the greatest `u64`.
     Made(u64, u64),

@@ -1,12 +1,13 @@
 //! Lines taken as they come, until the input ends or the log is to be compacted.
-ghost use Rattle.std.specs.Prelude.{◌≡◌, ◌≤◌, ◌∷◌, ◌++◌, [], ℕ, List, Option, Err, true, IfOk, IfErr, OnOk, IsTrue};
+ghost use Rattle.std.specs.Prelude.{◌≡◌, ◌≤◌, ◌∷◌, ◌++◌, [], ℕ, List, Option, Err, true, false, IfOk, IfErr, OnOk, IsTrue};
 ghost use Rattle.std.specs.Io.Buffered.{reader_remaining};
 ghost use Rattle.pb_parse.specs.declared.script.code.ScriptCode.TheVariants.{Form};
 ghost use Rattle.pb_steps.specs.State.{StateOf};
 ghost use Rattle.pb_keep.specs.Conversations.{keeper_view, Beginning, LeavesFirst, Serves};
 ghost use Rattle.pb_keep.specs.Input.{IsLineRead};
 ghost use Rattle.pb_keep.specs.Causes.{WhyNotKept, WhyNotServed};
-ghost use Rattle.pb_keep.specs.Served.{LeavesRead, ServesLine, ServesNext, ServesUntil};
+ghost use Rattle.pb_keep.specs.Served.{IsKeptAtEnd, LeavesRead, ServesLine, ServesNext, ServesUntil};
+ghost use Rattle.pb_keep.specs.declared.service.Went.TheVariants as turns;
 ghost use Rattle.pb_keep.specs.Taken.{WaitsNow};
 ghost use Rattle.pb_keep.specs.Waits.{IsNoLine, IsWaiting};
 
@@ -24,7 +25,7 @@ use std::io::{BufReader, Read};
 use std::sync::Wait;
 
 /// Why lines are taken no further.
-#[derive(Clone, Copy, PartialEq, Eq, Debug, Drop)]
+#[derive(Clone, Copy)]
 pub enum Paused {
     /// The input has ended.
     Ended,
@@ -35,7 +36,7 @@ pub enum Paused {
 }
 
 // How a turn of the service went.
-#[derive(Clone, Copy, PartialEq, Eq, Debug, Drop)]
+#[derive(Clone, Copy)]
 enum Went {
     // A line was read, and this was done with it.
     Line(Took),
@@ -136,6 +137,14 @@ fn has_line<I: Read + Drop>(input: &BufReader<I>) -> bool {
     input.buffer().contains(&b'\n')
 }
 
+// Whether what waits is kept after a turn: no line more has come, or the input has ended, and no group is open.
+fn is_kept_after(went: Went, waiting: &Waiting, has_more: bool) -> bool
+    ensures alone { result ≡ true → waiting.now.is_group ≡ false }
+    ensures ended { result ≡ false → went ≡ turns.End → waiting.now.is_group ≡ true }
+{
+    !waiting.is_group && (matches!(went, Went::End) || !has_more)
+}
+
 // Reads a line, takes it, and keeps what waits unless a line more has come.
 fn turn<R: Wait, I: Read + Drop, T: Tablet, D: Disk + Drop, S: Sink>(
     rt: &R,
@@ -166,11 +175,12 @@ fn turn<R: Wait, I: Read + Drop, T: Tablet, D: Disk + Drop, S: Sink>(
         (S.failed out.new) (keeper_view D.seen D.may_leave keeper.new (S.taken out.new))) }
     ensures faultless { OnOk result
         (D.faults keeper.new.log.disk ≡ D.faults keeper.old.log.disk) }
+    ensures ended { IfOk result (λ went. IsKeptAtEnd went keeper.new.waiting) }
 {
     match read_line(rt, input, line) {
         Ok(read) => {
             let went = take_read(alloc, keeper, out, read, line.as_slice())?;
-            let is_kept = !keeper.waiting.is_group && !has_line(input);
+            let is_kept = is_kept_after(went, &keeper.waiting, has_line(input));
             keeper.keep_if(alloc, out, is_kept)?;
             Ok(went)
         }
@@ -231,11 +241,7 @@ pub fn serve<R: Wait, I: Read + Drop, T: Tablet, D: Disk + Drop, S: Sink>(
             Went::Line(Took::Served) if is_large(keeper, limit) => return Ok(Paused::Large),
             Went::Line(Took::Served) => {}
             Went::Line(Took::Asked) => return Ok(Paused::Asked),
-            Went::End => {
-                let is_kept = !keeper.waiting.is_group;
-                keeper.keep_if(alloc, out, is_kept)?;
-                return Ok(Paused::Ended);
-            }
+            Went::End => return Ok(Paused::Ended),
         }
     }
     unreachable!()

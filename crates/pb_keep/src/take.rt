@@ -42,7 +42,7 @@ pub const GONE: u8 = 77;
 pub const FULL: u8 = 79;
 
 /// What was done with a line.
-#[derive(Clone, Copy, PartialEq, Eq, Debug, Drop)]
+#[derive(Clone, Copy)]
 pub enum Took {
     /// It waits, or it is answered.
     Served,
@@ -396,10 +396,10 @@ impl<T: Tablet, D: Disk + Drop> Keeper<T, D> {
         ensures faultless { OnOk result
             (D.faults self.new.log.disk ≡ D.faults self.old.log.disk) }
     {
-        if is_asked {
-            self.keep(alloc, out)?;
+        if !is_asked {
+            return Ok(());
         }
-        Ok(())
+        self.keep(alloc, out)
     }
 
     /// Takes one line. A change waits, and so does the answer to a line that is refused; a question is answered after all that

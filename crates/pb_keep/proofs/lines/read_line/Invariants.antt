@@ -1,4 +1,4 @@
-use Rattle.pb_keep.proofs.Pieces.{IsReadSoFar}
+use Rattle.pb_keep.specs.Input.{IsReadSoFar}
 use Rattle.pb_keep.proofs.lines.read_line.Given as goal
 
 -- what was read so far is the front of a line, and is held

@@ -2,12 +2,12 @@ use Rattle.std.proofs.Common.{◌≡◌, ◌++◌, ◌∙◌, arith, not, refl, 
 use Rattle.std.specs.Io.Buffered.{reader_remaining}
 use Rattle.pb_keep.specs.Conversations.{keeper_view}
 use Rattle.pb_keep.specs.Causes.{WhyNotServed}
-use Rattle.pb_keep.specs.Served.{ServesNext}
+use Rattle.pb_keep.specs.Served.{IsKeptAtEnd, ServesNext}
 use Rattle.pb_keep.specs.declared.service.Went.{Went}
 use Rattle.pb_keep.specs.declared.take.Took.{Took}
 use Rattle.pb_keep.proofs.Causing.{not_served}
 use Rattle.pb_keep.proofs.Mapping.{passed_on}
-use Rattle.pb_keep.proofs.Reading.{after_turn, kept_all, leaves_on, serves_on, serves_read_none, serves_to_asked, serves_to_large, serves_to_the_end, turn_leaves}
+use Rattle.pb_keep.proofs.Reading.{leaves_on, serves_on, serves_read_none, serves_to_asked, serves_to_large, serves_to_the_end, turn_leaves}
 use Rattle.pb_keep.proofs.service.serve.Goals as goal
 
 pub loop-turn-init : goal.loop-turn-init
@@ -85,42 +85,12 @@ returns-in-End-clause-serves g c = λ b lines s.
     let from = reader_remaining g.I.Read.remaining c.loop-turn.input in
     let to = reader_remaining g.I.Read.remaining c.turn.new.input in
     let now = keeper_view g.D.Disk.seen g.D.Disk.may_leave c.turn.new.keeper (g.S.Sink.taken c.turn.new.out) in
-    let last = keeper_view g.D.Disk.seen g.D.Disk.may_leave c.keep_if.new.self (g.S.Sink.taken c.keep_if.new.out) in
-    let waited = c.turn.new.keeper.waiting in
-    serves_to_the_end before to now last
+    serves_to_the_end before to now
     (subst (λ w. ServesNext b (lines ++ before.more) from to now w) c.in-End.is (c.in_ok-went.ensures.serves b (lines ++ before.more) before.serves))
-    (λ all served. c.in_ok-keep_if-in-End.ensures.serves b all served)
-    (kept_all (not waited.is_group) waited last.waiting refl c.in_ok-keep_if-in-End.ensures.kept (λ e. ap (λ k. k.waiting) (c.keep_if.ensures.same e)))
-    c.in_ok-keep_if-in-End.ensures.waiting
-
-pub returns-in_err-keep_if-in-End-clause-crash : goal.returns-in_err-keep_if-in-End-clause-crash
-returns-in_err-keep_if-in-End-clause-crash g c = λ b lines s file m.
-    let before = c.loop-turn.invariant.served b lines s in
-    let between = reader_remaining g.I.Read.remaining c.loop-turn.input in
-    let to = reader_remaining g.I.Read.remaining c.turn.new.input in
-    let written = g.S.Sink.taken c.keep_if.new.out in
-    leaves_on before written file
-    (turn_leaves (lines ++ before.more) between to c.in_ok-went.went written file (c.in_ok-went.ensures.serves b (lines ++ before.more) before.serves) (λ all serves. c.keep_if.ensures.crash b all serves file m))
+    (subst (λ w. IsKeptAtEnd w now.waiting) c.in-End.is c.in_ok-went.ensures.ended)
+    c.in_ok-went.ensures.waiting
 
 pub returns-in-End-clause-crash : goal.returns-in-End-clause-crash
 returns-in-End-clause-crash g c = λ b lines s file m.
     let before = c.loop-turn.invariant.served b lines s in
-    let between = reader_remaining g.I.Read.remaining c.loop-turn.input in
-    let to = reader_remaining g.I.Read.remaining c.turn.new.input in
-    let written = g.S.Sink.taken c.keep_if.new.out in
-    leaves_on before written file
-    (turn_leaves (lines ++ before.more) between to c.in_ok-went.went written file (c.in_ok-went.ensures.serves b (lines ++ before.more) before.serves) (λ all serves. c.keep_if.ensures.crash b all serves file m))
-
-pub returns-in_err-keep_if-in-End-clause-cause : goal.returns-in_err-keep_if-in-End-clause-cause
-returns-in_err-keep_if-in-End-clause-cause g c = λ b lines s.
-    let before = c.loop-turn.invariant.served b lines s in
-    let last = keeper_view g.D.Disk.seen g.D.Disk.may_leave c.keep_if.new.self (g.S.Sink.taken c.keep_if.new.out) in
-    let was = g.D.Disk.faults c.turn.new.keeper.log.disk in
-    let faults = g.D.Disk.faults c.keep_if.new.self.log.disk in
-    let failed = g.S.Sink.failed c.keep_if.new.out in
-    let between = reader_remaining g.I.Read.remaining c.loop-turn.input in
-    let to = reader_remaining g.I.Read.remaining c.turn.new.input in
-    passed_on c.from_residual-in_err-keep_if-in-End.result c.from_residual-in_err-keep_if-in-End.ensures.1
-    (λ e is. subst (λ n. WhyNotServed n faults failed last e) (c.in_ok-went.ensures.faultless ∙ c.loop-turn.invariant.faultless)
-    (subst (λ f. WhyNotServed was faults failed last f) (sym is) (not_served was faults failed last c.in_err-keep_if-in-End.field-0.0
-    (after_turn (lines ++ before.more) between to c.in_ok-went.went (c.in_ok-went.ensures.serves b (lines ++ before.more) before.serves) (λ all served. c.in_err-keep_if-in-End.ensures.cause b all served)))))
+    leaves_on before (g.S.Sink.taken c.turn.new.out) file (c.in_ok-went.ensures.crash b (lines ++ before.more) before.serves file m)

@@ -1,11 +1,11 @@
-use Rattle.std.proofs.Common.{subst, sym}
+use Rattle.std.proofs.Common.{ap, subst, sym}
 use Rattle.std.specs.Io.Buffered.{reader_remaining}
 use Rattle.pb_keep.specs.Conversations.{keeper_view}
 use Rattle.pb_keep.specs.Input.{IsLineRead}
 use Rattle.pb_keep.specs.Causes.{WhyNotServed}
 use Rattle.pb_keep.proofs.Causing.{not_served}
 use Rattle.pb_keep.proofs.Mapping.{passed_on}
-use Rattle.pb_keep.proofs.Reading.{after_turn, leaves_none, turn_kept, turn_leaves}
+use Rattle.pb_keep.proofs.Reading.{after_turn, kept_at_end, leaves_none, turn_kept, turn_leaves}
 use Rattle.pb_keep.proofs.Serving.{leaves_served}
 use Rattle.pb_keep.proofs.service.turn.Goals as goal
 
@@ -66,3 +66,7 @@ returns-in_err-keep_if-in-Ok-clause-cause g c = λ b lines s.
     (λ e is. subst (λ n. WhyNotServed n faults failed now e) c.in_ok-went-in-Ok.ensures.faultless
     (subst (λ f. WhyNotServed was faults failed now f) (sym is) (not_served was faults failed now c.in_err-keep_if-in-Ok.field-0.0
     (after_turn lines from to c.in_ok-went-in-Ok.went (c.in_ok-went-in-Ok.ensures.serves b lines from to read s) (λ all served. c.in_err-keep_if-in-Ok.ensures.cause b all served)))))
+
+pub returns-in_ok-keep_if-in-Ok-clause-ended : goal.returns-in_ok-keep_if-in-Ok-clause-ended
+returns-in_ok-keep_if-in-Ok-clause-ended g c =
+    kept_at_end c.in_ok-went-in-Ok.went c.is_kept_after-is_kept.result c.take_read.new.keeper.waiting c.keep_if.new.self.waiting c.is_kept_after-is_kept.ensures.ended c.in_ok-keep_if-in-Ok.ensures.kept (λ e. ap (λ k. k.waiting) (c.keep_if.ensures.same e))

@@ -3,6 +3,7 @@ use Rattle.pb_keep.specs.Words.{Request, asked_by}
 use Rattle.pb_keep.specs.Causes.{WhyNotKept}
 use Rattle.pb_keep.specs.Conversations.{keeper_view}
 use Rattle.pb_keep.specs.Taken.{IsLineReady}
+use Rattle.pb_keep.proofs.Causing.{not_answered}
 use Rattle.pb_keep.proofs.Holding.{ready_now}
 use Rattle.pb_keep.proofs.Mapping.{passed_on}
 use Rattle.pb_keep.proofs.Reading.{is_read, read_as}
@@ -20,6 +21,9 @@ returns-in_err-keep_if-clause-cause g c = λ b lines s.
     let failed = g.S.Sink.failed c.keep_if.new.out in
     passed_on c.from_residual.result c.from_residual.ensures.1
     (λ e is. subst (λ f. WhyNotKept old (g.D.Disk.faults new.log.disk) failed now f) (sym is) (c.in_err-keep_if.ensures.cause b lines s))
+
+pub hold-requires-clause-read : goal.hold-requires-clause-read
+hold-requires-clause-read g c = is_read c.parse_request-read.result (asked_by c.args.line.now) c.parse_request-read.ensures
 
 pub hold-requires-clause-ready : goal.hold-requires-clause-ready
 hold-requires-clause-ready g c =
@@ -90,3 +94,12 @@ returns-in_ok-answer-in-Some-clause-serves g c = λ b lines s.
 
 pub returns-in_ok-answer-in-Some-clause-crash : goal.returns-in_ok-answer-in-Some-clause-crash
 returns-in_ok-answer-in-Some-clause-crash g c = λ b lines s file m. leaves_served (returns-in_ok-answer-in-Some-clause-serves g c b lines s) file m
+
+pub returns-in_err-answer-in-Some-clause-cause : goal.returns-in_err-answer-in-Some-clause-cause
+returns-in_err-answer-in-Some-clause-cause g c = λ b lines s.
+    let old = g.D.Disk.faults c.args.self.now.log.disk in
+    let new = c.keep_if.new.self in
+    let now = keeper_view g.D.Disk.seen g.D.Disk.may_leave new (g.S.Sink.taken c.answer.new.out) in
+    let failed = g.S.Sink.failed c.answer.new.out in
+    passed_on c.from_residual-in_err-answer-in-Some.result c.from_residual-in_err-answer-in-Some.ensures.1
+    (λ e is. subst (λ f. WhyNotKept old (g.D.Disk.faults new.log.disk) failed now f) (sym is) (not_answered old (g.D.Disk.faults new.log.disk) failed now c.in_err-answer-in-Some.field-0.0 c.in_err-answer-in-Some.ensures.why))
