@@ -21,27 +21,35 @@ number_then n more lt f = ap (λ (o : Option (ℕ × List ℕ)). o >>= f) (numbe
 pub small_then : {B : Type 0} (limit n : ℕ) (more : List ℕ) → n < limit → (f : ℕ × List ℕ → Option B) → (small_at limit (n ∷ more) >>= f) ≡ f (n, more)
 small_then limit n more lt f = ap (λ (o : Option (ℕ × List ℕ)). o >>= f) (small_again limit n more lt)
 
+-- a number stands at the front, and the rest is read after it
+number_step : {A R : Type 0} (bytes : List ℕ) (f : ℕ × List ℕ → Option A) (x : A) → IsBytes bytes → (u64_at bytes >>= f) ≡ Some x → ((n : ℕ × List ℕ) → Takes bytes (number_bytes n.0) n.1 → n.0 < 2 ^ 64 → f n ≡ Some x → R) → R
+number_step bytes f x fits e on =
+    let n = bind_some (u64_at bytes) f x e in
+    let t = number_takes bytes n.0.0 n.0.1 fits n.1 in
+    on n.0 t.0 t.1 n.2
+
+small_step : {A R : Type 0} (limit : ℕ) (bytes : List ℕ) (f : ℕ × List ℕ → Option A) (x : A) → IsBytes bytes → (small_at limit bytes >>= f) ≡ Some x → ((n : ℕ × List ℕ) → Takes bytes (n.0 ∷ []) n.1 → n.0 < limit → f n ≡ Some x → R) → R
+small_step limit bytes f x fits e on =
+    let n = bind_some (small_at limit bytes) f x e in
+    let t = small_takes limit bytes n.0.0 n.0.1 fits n.1 in
+    on n.0 t.0 t.1 n.2
+
 -- ---- the numbers of an observer
 
 pub stats_takes : (bytes : List ℕ) (x : ObserverStats × List ℕ) → IsBytes bytes → stats_at bytes ≡ Some x → Takes bytes (stats_bytes x.0) x.1 × FitsStats x.0
 unfolding stats_at
 stats_takes bytes x fits e =
-    let a = bind_some (u64_at bytes) (λ runs. u64_at runs.1 >>= λ nonzero. u64_at nonzero.1 >>= λ conflicts. u64_at conflicts.1 >>= λ asks. u64_at asks.1 >>= λ instructions. Some (record { runs = runs.0; nonzero = nonzero.0; conflicts = conflicts.0; asks = asks.0; instructions = instructions.0 }, instructions.1)) x e in
-    let b = bind_some (u64_at a.0.1) (λ nonzero. u64_at nonzero.1 >>= λ conflicts. u64_at conflicts.1 >>= λ asks. u64_at asks.1 >>= λ instructions. Some (record { runs = a.0.0; nonzero = nonzero.0; conflicts = conflicts.0; asks = asks.0; instructions = instructions.0 }, instructions.1)) x a.2 in
-    let c = bind_some (u64_at b.0.1) (λ conflicts. u64_at conflicts.1 >>= λ asks. u64_at asks.1 >>= λ instructions. Some (record { runs = a.0.0; nonzero = b.0.0; conflicts = conflicts.0; asks = asks.0; instructions = instructions.0 }, instructions.1)) x b.2 in
-    let d = bind_some (u64_at c.0.1) (λ asks. u64_at asks.1 >>= λ instructions. Some (record { runs = a.0.0; nonzero = b.0.0; conflicts = c.0.0; asks = asks.0; instructions = instructions.0 }, instructions.1)) x c.2 in
-    let i = bind_some (u64_at d.0.1) (λ instructions. Some (record { runs = a.0.0; nonzero = b.0.0; conflicts = c.0.0; asks = d.0.0; instructions = instructions.0 }, instructions.1)) x d.2 in
-    let ta = number_takes bytes a.0.0 a.0.1 fits a.1 in
-    let tb = number_takes a.0.1 b.0.0 b.0.1 ta.0.rest_fits b.1 in
-    let tc = number_takes b.0.1 c.0.0 c.0.1 tb.0.rest_fits c.1 in
-    let td = number_takes c.0.1 d.0.0 d.0.1 tc.0.rest_fits d.1 in
-    let ti = number_takes d.0.1 i.0.0 i.0.1 td.0.rest_fits i.1 in
-    let made : ObserverStats × List ℕ = (record { runs = a.0.0; nonzero = b.0.0; conflicts = c.0.0; asks = d.0.0; instructions = i.0.0 }, i.0.1) in
-    let all = takes_then bytes (number_bytes a.0.0) a.0.1 (number_bytes b.0.0 ++ (number_bytes c.0.0 ++ (number_bytes d.0.0 ++ number_bytes i.0.0))) i.0.1 ta.0
-    (takes_then a.0.1 (number_bytes b.0.0) b.0.1 (number_bytes c.0.0 ++ (number_bytes d.0.0 ++ number_bytes i.0.0)) i.0.1 tb.0
-    (takes_then b.0.1 (number_bytes c.0.0) c.0.1 (number_bytes d.0.0 ++ number_bytes i.0.0) i.0.1 tc.0
-    (takes_then c.0.1 (number_bytes d.0.0) d.0.1 (number_bytes i.0.0) i.0.1 td.0 ti.0))) in
-    subst (λ (y : ObserverStats × List ℕ). Takes bytes (stats_bytes y.0) y.1 × FitsStats y.0) (some_is made x i.2) (all, record { runs = ta.1; nonzero = tb.1; conflicts = tc.1; asks = td.1; instructions = ti.1 })
+    number_step bytes _ x fits e (λ a ta fa ea.
+    number_step a.1 _ x ta.rest_fits ea (λ b tb fb eb.
+    number_step b.1 _ x tb.rest_fits eb (λ c tc fc ec.
+    number_step c.1 _ x tc.rest_fits ec (λ d td fd ed.
+    number_step d.1 _ x td.rest_fits ed (λ i ti fi ei.
+    let made : ObserverStats × List ℕ = (record { runs = a.0; nonzero = b.0; conflicts = c.0; asks = d.0; instructions = i.0 }, i.1) in
+    let all = takes_then bytes (number_bytes a.0) a.1 (number_bytes b.0 ++ (number_bytes c.0 ++ (number_bytes d.0 ++ number_bytes i.0))) i.1 ta
+    (takes_then a.1 (number_bytes b.0) b.1 (number_bytes c.0 ++ (number_bytes d.0 ++ number_bytes i.0)) i.1 tb
+    (takes_then b.1 (number_bytes c.0) c.1 (number_bytes d.0 ++ number_bytes i.0) i.1 tc
+    (takes_then c.1 (number_bytes d.0) d.1 (number_bytes i.0) i.1 td ti))) in
+    subst (λ (y : ObserverStats × List ℕ). Takes bytes (stats_bytes y.0) y.1 × FitsStats y.0) (some_is made x ei) (all, record { runs = fa; nonzero = fb; conflicts = fc; asks = fd; instructions = fi }))))))
 
 pub stats_again : (s : ObserverStats) (rest : List ℕ) → FitsStats s → stats_at (stats_bytes s ++ rest) ≡ Some (s, rest)
 unfolding stats_at
@@ -97,31 +105,24 @@ joined bytes b1 b2 b3 b4 b5 rest kind row column start commit x k tk tr tc ts tm
 pub version_takes : (bytes : List ℕ) (x : (Cell × Revision) × List ℕ) → IsBytes bytes → version_at bytes ≡ Some x → Takes bytes (version_bytes x.0) x.1 × FitsVersion x.0
 unfolding version_at
 version_takes bytes x fits e =
-    let made = λ (h : (Cell × Content) × List ℕ) (start commit : ℕ). found {A = (Cell × Revision) × List ℕ} ((h.0.0, record { start = record { 0 = start }; commit = record { 0 = commit }; content = h.0.1 }), h.1) in
-    let k = bind_some (small_at 3 bytes) (λ kind. u64_at kind.1 >>= λ row. small_at COLUMNS row.1 >>= λ column. u64_at column.1 >>= λ start. u64_at start.1 >>= λ commit. held_at kind.0 row.0 column.0 start.0 commit.1 >>= λ held. made held start.0 commit.0) x e in
-    let r = bind_some (u64_at k.0.1) (λ row. small_at COLUMNS row.1 >>= λ column. u64_at column.1 >>= λ start. u64_at start.1 >>= λ commit. held_at k.0.0 row.0 column.0 start.0 commit.1 >>= λ held. made held start.0 commit.0) x k.2 in
-    let c = bind_some (small_at COLUMNS r.0.1) (λ column. u64_at column.1 >>= λ start. u64_at start.1 >>= λ commit. held_at k.0.0 r.0.0 column.0 start.0 commit.1 >>= λ held. made held start.0 commit.0) x r.2 in
-    let s = bind_some (u64_at c.0.1) (λ start. u64_at start.1 >>= λ commit. held_at k.0.0 r.0.0 c.0.0 start.0 commit.1 >>= λ held. made held start.0 commit.0) x c.2 in
-    let m = bind_some (u64_at s.0.1) (λ commit. held_at k.0.0 r.0.0 c.0.0 s.0.0 commit.1 >>= λ held. made held s.0.0 commit.0) x s.2 in
-    let h = bind_some (held_at k.0.0 r.0.0 c.0.0 s.0.0 m.0.1) (λ held. made held s.0.0 m.0.0) x m.2 in
-    let tk = small_takes 3 bytes k.0.0 k.0.1 fits k.1 in
-    let tr = number_takes k.0.1 r.0.0 r.0.1 tk.0.rest_fits r.1 in
-    let tc = small_takes COLUMNS r.0.1 c.0.0 c.0.1 tr.0.rest_fits c.1 in
-    let ts = number_takes c.0.1 s.0.0 s.0.1 tc.0.rest_fits s.1 in
-    let tm = number_takes s.0.1 m.0.0 m.0.1 ts.0.rest_fits m.1 in
-    let th = held_takes k.0.0 r.0.0 c.0.0 s.0.0 m.0.1 h.0 tm.0.rest_fits tk.1 tc.1 tr.1 h.1 m.0.0 in
-    let cell = h.0.0.0 in let content = h.0.0.1 in let rest = h.0.1 in
-    let version : Cell × Revision = (cell, record { start = record { 0 = s.0.0 }; commit = record { 0 = m.0.0 }; content = content }) in
-    let whole : Takes bytes (version_bytes version) rest = joined bytes k.0.1 r.0.1 c.0.1 s.0.1 m.0.1 rest k.0.0 r.0.0 c.0.0 s.0.0 m.0.0 cell content tk.0 tr.0 tc.0 ts.0 tm.0 th.0 th.1 th.2 th.3 in
+    small_step 3 bytes _ x fits e (λ k tk fk ek.
+    number_step k.1 _ x tk.rest_fits ek (λ r tr fr er.
+    small_step COLUMNS r.1 _ x tr.rest_fits er (λ c tc fc ec.
+    number_step c.1 _ x tc.rest_fits ec (λ s ts fs es.
+    number_step s.1 _ x ts.rest_fits es (λ m tm fm em.
+    let h = bind_some (held_at k.0 r.0 c.0 s.0 m.1) _ x em in
+    let th = held_takes k.0 r.0 c.0 s.0 m.1 h.0 tm.rest_fits fk fc fr h.1 m.0 in
+    let version : Cell × Revision = (h.0.0.0, record { start = record { 0 = s.0 }; commit = record { 0 = m.0 }; content = h.0.0.1 }) in
+    let whole : Takes bytes (version_bytes version) h.0.1 = joined bytes k.1 r.1 c.1 s.1 m.1 h.0.1 k.0 r.0 c.0 s.0 m.0 h.0.0.0 h.0.0.1 tk tr tc ts tm th.0 th.1 th.2 th.3 in
     let bounds : FitsVersion version = record {
-      row = subst (λ (n : Row). n.0 < 2 ^ 64) (sym th.2) tr.1;
-      column = subst (λ (n : ℕ). n < COLUMNS) (sym th.3) tc.1;
-      start = ts.1;
-      commit = tm.1;
+      row = subst (λ (n : Row). n.0 < 2 ^ 64) (sym th.2) fr;
+      column = subst (λ (n : ℕ). n < COLUMNS) (sym th.3) fc;
+      start = fs;
+      commit = fm;
       held = th.4;
       own = th.5;
     } in
-    subst (λ (y : (Cell × Revision) × List ℕ). Takes bytes (version_bytes y.0) y.1 × FitsVersion y.0) (some_is (version, rest) x h.2) (whole, bounds)
+    subst (λ (y : (Cell × Revision) × List ℕ). Takes bytes (version_bytes y.0) y.1 × FitsVersion y.0) (some_is (version, h.0.1) x h.2) (whole, bounds))))))
 
 kind_small : (x : Cell) (k : Content) → version_kind x k < 3
 kind_small (Cell.Ack observer row column) k = omega arith
