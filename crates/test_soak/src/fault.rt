@@ -6,7 +6,7 @@ use test_fixtures::Unready;
 use thiserror::Error;
 
 /// What of a run didn't hold, or that memory was refused.
-#[derive(Debug, PartialEq, Eq, Drop, Error)]
+#[derive(Debug, Drop, Error)]
 pub enum Fault {
     #[error("no memory, or the manifest or the script isn't read")]
     Unready(Unready),

@@ -8,34 +8,59 @@ use std::collections::BTreeMap;
 /// The commits of a journal, each with the place at which its transaction is declared.
 pub type Commits = BTreeMap<u64, usize>;
 
+// By their starts, the places at which transactions are declared, and their stamps; and the commits.
+#[derive(Drop)]
+struct Past {
+    declared: BTreeMap<u64, usize>,
+    stamped: BTreeMap<u64, u64>,
+    commits: Commits,
+}
+
+// Adds a commit, whose transaction was declared and stamped, and which no other has.
+fn add_commit(past: &mut Past, start: u64) -> Result<(), Fault> {
+    let Some(at) = past.declared.get(&start) else {
+        return Err(Fault::History);
+    };
+    let Some(commit) = past.stamped.get(&start) else {
+        return Err(Fault::History);
+    };
+    if past.commits.insert(*commit, *at)?.is_some() {
+        return Err(Fault::History);
+    }
+    Ok(())
+}
+
+// Adds the call at this place.
+fn add_call(past: &mut Past, place: usize, step: &Step, answer: Answer) -> Result<(), Fault> {
+    match (step, answer) {
+        (Step::Declare(start, _), Answer::Done) => {
+            past.declared.insert(start.0, place)?;
+        }
+        (Step::Stamp(start), Answer::At(commit)) => {
+            past.stamped.insert(start.0, commit.0)?;
+        }
+        (Step::CommitPrimary(start), Answer::Committed) => add_commit(past, start.0)?,
+        _ => {}
+    }
+    Ok(())
+}
+
 /// The committed transactions: each was declared and stamped before, and no two have one commit.
 pub fn commits_of(alloc: Global, journal: &[KeptEntry]) -> Result<Commits, Fault> {
-    let mut declared: BTreeMap<u64, usize> = BTreeMap::new(alloc);
-    let mut stamped: BTreeMap<u64, u64> = BTreeMap::new(alloc);
-    let mut commits: BTreeMap<u64, usize> = BTreeMap::new(alloc);
+    let mut past = Past {
+        declared: BTreeMap::new(alloc),
+        stamped: BTreeMap::new(alloc),
+        commits: BTreeMap::new(alloc),
+    };
     for place in 0..journal.len() {
         let call = journal[place].call().get()?;
-        match (&call.step, call.answer) {
-            (Step::Declare(start, _), Answer::Done) => {
-                declared.insert(start.0, place)?;
-            }
-            (Step::Stamp(start), Answer::At(commit)) => {
-                stamped.insert(start.0, commit.0)?;
-            }
-            (Step::CommitPrimary(start), Answer::Committed) => {
-                let Some(at) = declared.get(&start.0) else {
-                    return Err(Fault::History);
-                };
-                let Some(commit) = stamped.get(&start.0) else {
-                    return Err(Fault::History);
-                };
-                if commits.insert(*commit, *at)?.is_some() {
-                    return Err(Fault::History);
-                }
-            }
-            _ => {}
-        }
+        add_call(&mut past, place, &call.step, call.answer)?;
     }
+    let Past {
+        commits,
+        declared: _,
+        stamped: _,
+    } = past;
     Ok(commits)
 }
 

@@ -1,5 +1,5 @@
 //! One run of workers, and what has to hold of what they leave.
-use crate::cells::cells_of;
+use crate::cells::{Cells, cells_of};
 use crate::fault::Fault;
 use crate::fed::are_fed;
 use crate::history::{Commits, commits_of, conflicts_in, declared_at, runs_of};
@@ -103,6 +103,58 @@ fn are_named(changes: &BTreeMap<usize, usize>, unfinished: &[usize]) -> bool {
     next == unfinished.len()
 }
 
+// Whether the report is that of these cells and of the committed runs.
+fn is_reported(
+    alloc: Global,
+    shared: &Shared<ListTablet>,
+    cells: &Cells,
+    commits: &Commits,
+) -> Result<bool, Fault> {
+    let mut bytes = Vec::new(alloc);
+    let mut out = Out::new(&mut bytes);
+    report(alloc, &mut out, shared)?;
+    let page = page_of(alloc, cells, shared.observers(), shared.journal(), commits)?;
+    Ok(bytes.as_slice() == page.as_bytes())
+}
+
+// What has to hold of the cells that the committed transactions leave.
+fn judge_cells(alloc: Global, shared: &Shared<ListTablet>, commits: &Commits) -> Result<(), Fault> {
+    let cells = cells_of(alloc, shared.journal(), commits)?;
+    if !is_reported(alloc, shared, &cells, commits)? {
+        return Err(Fault::Report);
+    }
+    if are_fed(&cells, shared.journal(), commits) {
+        Ok(())
+    } else {
+        Err(Fault::Fed)
+    }
+}
+
+// How many changes are committed, where those are named that aren't.
+fn changes_in(
+    alloc: Global,
+    journal: &[KeptEntry],
+    commits: &Commits,
+    batches: &[Batch],
+    unfinished: &[usize],
+) -> Result<usize, Fault> {
+    let changes = changes_of(alloc, journal, commits, batches)?;
+    if are_named(&changes, unfinished) {
+        Ok(changes.len())
+    } else {
+        Err(Fault::Changes)
+    }
+}
+
+// How many runs of all observers are committed.
+fn observed_in(shared: &Shared<ListTablet>, commits: &Commits) -> usize {
+    let mut observed: usize = 0;
+    for number in 0..shared.observers().len() {
+        observed = observed.saturating_add(runs_of(shared.journal(), commits, number));
+    }
+    observed
+}
+
 // What has to hold of a table that `finish` accepted.
 fn judge(
     alloc: Global,
@@ -119,31 +171,14 @@ fn judge(
     }
     let journal = shared.journal();
     let commits = commits_of(alloc, journal)?;
-    let changes = changes_of(alloc, journal, &commits, batches)?;
-    if !are_named(&changes, unfinished) {
-        return Err(Fault::Changes);
-    }
-    let cells = cells_of(alloc, journal, &commits)?;
-    let page = page_of(alloc, &cells, shared.observers(), journal, &commits)?;
-    let mut bytes = Vec::new(alloc);
-    let mut out = Out::new(&mut bytes);
-    report(alloc, &mut out, shared)?;
-    if bytes.as_slice() != page.as_bytes() {
-        return Err(Fault::Report);
-    }
-    if !are_fed(&cells, journal, &commits) {
-        return Err(Fault::Fed);
-    }
-    let mut observed: usize = 0;
-    for number in 0..shared.observers().len() {
-        observed = observed.saturating_add(runs_of(journal, &commits, number));
-    }
+    let committed = changes_in(alloc, journal, &commits, batches, unfinished)?;
+    judge_cells(alloc, shared, &commits)?;
     Ok(Met {
         runs: 1,
-        committed: changes.len(),
+        committed,
         unfinished: unfinished.len(),
         conflicts: conflicts_in(journal),
-        observed,
+        observed: observed_in(shared, &commits),
     })
 }
 

@@ -17,22 +17,15 @@ fn told_bytes(value: &Value) -> usize {
     count
 }
 
-fn add_cell(
-    alloc: Global,
-    text: &mut String,
-    cell: &Cell,
-    version: &Version,
-) -> Result<(), AllocError> {
+fn add_cell(text: &mut String, cell: &Cell, version: &Version) -> Result<(), AllocError> {
     let (row, column, commit) = (cell.row().0, cell.column().number(), version.commit);
-    let line = format!(in alloc; "cell {row} {column} commit {commit} ")?;
-    text.push_str(line.as_str())?;
+    write!(text, "cell {row} {column} commit {commit} ")?;
     let Content::Value(value) = &version.content else {
         return text.push_str("deleted\n");
     };
     text.push_str("value ")?;
     for byte in value.iter().take(told_bytes(value)) {
-        let digits = format!(in alloc; "{byte:02x}")?;
-        text.push_str(digits.as_str())?;
+        write!(text, "{byte:02x}")?;
     }
     text.push_str("\n")
 }
@@ -47,14 +40,13 @@ pub fn page_of(
 ) -> Result<String, AllocError> {
     let mut text = String::new(alloc);
     for (cell, version) in cells {
-        add_cell(alloc, &mut text, cell, version)?;
+        add_cell(&mut text, cell, version)?;
     }
     for number in 0..observers.len() {
         let observer = &observers[number];
         let name = observer.name.as_str();
         let count = runs_of(journal, commits, number);
-        let line = format!(in alloc; "runs {name} {count}\n")?;
-        text.push_str(line.as_str())?;
+        writeln!(text, "runs {name} {count}")?;
     }
     text.push_str("quiet\n")?;
     Ok(text)

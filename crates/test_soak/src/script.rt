@@ -21,18 +21,15 @@ fn next_number(x: u64) -> u64 {
 }
 
 // Adds the line of a change: it writes its number to one row, and each of every fourth deletes three cells more.
-fn add_line(alloc: Global, text: &mut String, number: usize, row: u64) -> Result<(), AllocError> {
-    let line = format!(in alloc; "put {row} 0 {number:04x}")?;
-    text.push_str(line.as_str())?;
+fn add_line(text: &mut String, number: usize, row: u64) -> Result<(), AllocError> {
+    write!(text, "put {row} 0 {number:04x}")?;
     if number % 4 == 3 {
         for place in [1, 3, 6] {
             let other = (row % ROWS + place) % ROWS;
-            let more = format!(in alloc; "; del {other} 0")?;
-            text.push_str(more.as_str())?;
+            write!(text, "; del {other} 0")?;
         }
     }
-    text.push_str("\n")?;
-    Ok(())
+    text.push_str("\n")
 }
 
 /// The changes, each of a row at random. Every fourth has four cells, and these are all of one worker, so that the others come
@@ -42,7 +39,7 @@ pub fn script(alloc: Global) -> Result<String, AllocError> {
     let mut x = 20_100_101;
     for number in 0..CHANGES {
         x = next_number(x);
-        add_line(alloc, &mut text, number, x % ROWS)?;
+        add_line(&mut text, number, x % ROWS)?;
     }
     Ok(text)
 }
