@@ -10,7 +10,7 @@ ghost use Rattle.std.specs.Prelude.{◌≡◌};
 ghost use Rattle.pb_base.specs.Cell.{row_of};
 
 use pb_base::{Cell, Column, Content, NoMemory, Row, Ts};
-use pb_memtablet::{ListTablet, SlabTablet};
+use pb_memtablet::{EitherTablet, ListTablet, SlabTablet};
 use pb_store::{Edit, Item, Slot, Sort, Table, Tablet};
 use std::alloc::Global;
 
@@ -166,23 +166,11 @@ fn swap_all<T: Tablet>(table: &mut Table<T>, spares: Vec<T>) -> usize {
     taken
 }
 
-fn end_all<T: Tablet>(mut parts: Vec<(Row, T)>) {
-    while let Some((_, mut tablet)) = parts.pop() {
-        tablet.clear();
-        tablet.end();
-    }
-    parts.destroy_empty();
-}
-
-fn end_spares<T: Tablet>(mut spares: Vec<T>) {
-    while let Some(mut tablet) = spares.pop() {
-        tablet.clear();
-        tablet.end();
-    }
-    spares.destroy_empty();
-}
-
-fn fill_and_swap<T: Tablet>(parts: Vec<(Row, T)>, spares: Vec<T>, count: u32) -> Option<usize> {
+fn fill_and_swap(
+    parts: Vec<(Row, EitherTablet)>,
+    spares: Vec<EitherTablet>,
+    count: u32,
+) -> Option<usize> {
     match Table::new(parts) {
         Ok(mut table) => {
             let done = fill(&mut table, count).is_ok();
@@ -190,46 +178,36 @@ fn fill_and_swap<T: Tablet>(parts: Vec<(Row, T)>, spares: Vec<T>, count: u32) ->
             table.close();
             if done { Some(taken) } else { None }
         }
-        Err((parts, _)) => {
-            end_all(parts);
-            end_spares(spares);
-            None
-        }
+        Err(_) => None,
     }
 }
 
-fn copy(alloc: Global, is_list: bool, count: u32, times: u32) -> Result<Option<usize>, NoMemory> {
+fn copy(alloc: Global, is_list: bool, count: u32, times: u32) -> Option<usize> {
     let mut parts = Vec::new(alloc);
-    if is_list {
-        let low: Box<dyn Tablet + Send + Drop> = Box::new(alloc, ListTablet::new(alloc))?;
-        parts.push((Row(0), low))?;
-    } else {
-        let low: Box<dyn Tablet + Send + Drop> = Box::new(alloc, SlabTablet::new(alloc))?;
-        parts.push((Row(0), low))?;
-    }
+    parts
+        .push((Row(0), EitherTablet::new(alloc, !is_list)))
+        .ok()?;
     let mut spares = Vec::new(alloc);
     for n in 0..times {
-        if (n % 2 == 0) != is_list {
-            let spare: Box<dyn Tablet + Send + Drop> = Box::new(alloc, ListTablet::new(alloc))?;
-            spares.push(spare)?;
-        } else {
-            let spare: Box<dyn Tablet + Send + Drop> = Box::new(alloc, SlabTablet::new(alloc))?;
-            spares.push(spare)?;
-        }
+        spares
+            .push(EitherTablet::new(alloc, (n % 2 == 0) == is_list))
+            .ok()?;
     }
-    Ok(fill_and_swap(parts, spares, count))
+    fill_and_swap(parts, spares, count)
+}
+
+fn number_in(words: &[String], place: usize) -> Option<u32> {
+    words.get(place)?.as_str().parse::<u32>().ok()
 }
 
 // How many entries, met entries or taken spares there are, once what these words ask for is done.
 fn count_by(alloc: Global, words: &[String]) -> Option<usize> {
     let is_list = words.get(1)?.as_str() == "list";
     let word = words.get(2)?.as_str();
-    let count = words.get(3)?.parse::<u32>().ok()?;
+    let count = number_in(words, 3)?;
     if word == "copy" {
-        let times = words.get(4)?.parse::<u32>().ok()?;
-        return copy(alloc, is_list, count, times).ok()?;
-    }
-    if is_list {
+        copy(alloc, is_list, count, number_in(words, 4)?)
+    } else if is_list {
         time_tablet(ListTablet::new(alloc), word, count)
     } else {
         time_tablet(SlabTablet::new(alloc), word, count)
