@@ -77,26 +77,60 @@ fn version_in(word: &str) -> Option<Revision> {
     })
 }
 
-// What the words ask for.
-fn told_by(alloc: Global, words: &[String]) -> Option<String> {
-    let profile = profile_in(words.get(1)?.as_str())?;
-    let program = accepted_in(alloc, profile, words.get(2)?.as_str())?;
-    let column = Column::new(words.get(3)?.as_str().parse::<u8>().ok()?)?;
-    let version = version_in(words.get(4)?.as_str())?;
-    let moves = words.get(5..)?;
-    let cell = Cell::Data(Row(7), column);
-    let record = Record::of_version(program.version(), cell, &version, Ts(5), None);
-    let mut vm = Vm::start(alloc, &program, record, Ts(3)).ok()?;
-    let mut text = String::new(alloc);
+fn cell_in(word: &str) -> Option<Cell> {
+    Some(Cell::Data(Row(7), Column::new(word.parse::<u8>().ok()?)?))
+}
+
+// The machine of a program, on the change of a cell.
+fn machine_of(
+    alloc: Global,
+    program: &Arc<Accepted>,
+    cell: Cell,
+    version: &Revision,
+) -> Option<Vm> {
+    let record = Record::of_version(program.version(), cell, version, Ts(5), None);
+    Vm::start(alloc, program, record, Ts(3)).ok()
+}
+
+fn machine_in(alloc: Global, words: &[String]) -> Option<Vm> {
+    let [_, profile, digits, column, content, ..] = words else {
+        return None;
+    };
+    let cell = cell_in(column.as_str())?;
+    let version = version_in(content.as_str())?;
+    let program = accepted_in(alloc, profile_in(profile.as_str())?, digits.as_str())?;
+    machine_of(alloc, &program, cell, &version)
+}
+
+fn add_moves(text: &mut String, vm: &mut Vm, moves: &[String]) -> Option<()> {
     for word in moves {
-        add_move(&mut text, &mut vm, word.as_str())?;
+        add_move(text, vm, word.as_str())?;
     }
+    Some(())
+}
+
+// Adds what a machine left that has ended, and in which profiles its digits are its program's.
+fn add_end(alloc: Global, text: &mut String, vm: Vm, digits: &str) -> Option<()> {
     if let MachinePhase::Over(_) = vm.phase() {
         let finished = vm.finish();
-        add_left(alloc, &mut text, &finished).ok()?;
-        add_profiles(alloc, &mut text, &finished, words.get(2)?.as_str())?;
+        add_left(alloc, text, &finished).ok()?;
+        add_profiles(alloc, text, &finished, digits)?;
     }
-    Some(text)
+    Some(())
+}
+
+// What the words ask for.
+fn told_by(alloc: Global, words: &[String]) -> Option<String> {
+    let digits = words.get(2)?.as_str();
+    let moves = words.get(5..)?;
+    let mut vm = machine_in(alloc, words)?;
+    let mut text = String::new(alloc);
+    let are_moved = add_moves(&mut text, &mut vm, moves).is_some();
+    if add_end(alloc, &mut text, vm, digits).is_some() && are_moved {
+        Some(text)
+    } else {
+        None
+    }
 }
 
 /// Whether what these words ask for, the crate's own first, was done and printed.

@@ -54,20 +54,25 @@ fn add_phase(text: &mut String, phase: MachinePhase) -> Result<(), AllocError> {
     }
 }
 
-/// Makes a move, and adds its line.
-pub fn add_move(text: &mut String, vm: &mut Vm, word: &str) -> Option<()> {
-    write!(text, "{word} -> ").ok()?;
+// Makes a move, and adds what it did.
+fn add_done(text: &mut String, vm: &mut Vm, word: &str) -> Option<()> {
     match vm.phase() {
-        MachinePhase::Going => add_moved(text, steps(vm, word)?).ok()?,
+        MachinePhase::Going => add_moved(text, steps(vm, word)?).ok(),
         MachinePhase::Asking(_) => {
             vm.reply(match value_in(word)? {
                 Some(value) => Reply::Found(value),
                 None => Reply::Absent,
             });
-            text.push_str("replied").ok()?
+            text.push_str("replied").ok()
         }
-        MachinePhase::Over(_) => return None,
+        MachinePhase::Over(_) => None,
     }
+}
+
+/// Makes a move, and adds its line.
+pub fn add_move(text: &mut String, vm: &mut Vm, word: &str) -> Option<()> {
+    write!(text, "{word} -> ").ok()?;
+    add_done(text, vm, word)?;
     text.push_str(", ").ok()?;
     add_phase(text, vm.phase()).ok()?;
     writeln!(text, ", {} done", vm.taken()).ok()
