@@ -5,10 +5,11 @@
 //! report is written, and no mark and no lock is left.
 #![tactic(auto)]
 
-ghost use Rattle.std.specs.Prelude.{◌≤◌, ◌<◌};
+ghost use Rattle.std.specs.Prelude.{◌≤◌, ◌<◌, IfOk};
+ghost use Rattle.pb_core.specs.Calls.{AreSeats};
 
-use pb_base::{MAX_ENTRIES, NoMemory, Out, Ts};
-use pb_core::Seat;
+use pb_base::{Batch, MAX_ENTRIES, NoMemory, Out, Ts};
+use pb_core::{Seat, Shared};
 use pb_memtablet::EitherTablet;
 use pb_script::report;
 use pb_steps::Answer;
@@ -61,8 +62,7 @@ fn script(alloc: Global, count: u32, is_spread: bool) -> Result<String, NoMemory
         } else {
             0
         };
-        let line = format!(in alloc; "put {row} 0 2a\n")?;
-        text.push_str(&line)?;
+        writeln!(text, "put {row} 0 2a")?;
     }
     Ok(text)
 }
@@ -122,48 +122,70 @@ fn met_by(alloc: Global, worked: Worked<EitherTablet>) -> Option<Met> {
     })
 }
 
-// The workers make the changes.
-fn do_task<R: Threads + Wait + Sync>(
-    rt: &R,
-    alloc: Global,
-    task: &Task,
-) -> Result<Option<Met>, Unready> {
+fn batches_for(alloc: Global, task: &Task) -> Result<Vec<Batch>, Unready> {
     let text = script(alloc, task.count, task.is_spread)?;
+    batches_of(alloc, &text)
+}
+
+// The table and the seats of a task.
+fn open_for(alloc: Global, task: &Task) -> Result<(Shared<EitherTablet>, Vec<Seat>), Unready>
+    ensures { IfOk result (λ s. AreSeats s.0 s.1.items) }
+{
     let manifest = manifest_of(alloc, task.load)?;
     let observers = observers_of(alloc, &manifest)?;
-    let batches = batches_of(alloc, &text)?;
-    let spares = spares_of(alloc, [false, true], task.swaps as usize)?;
     let table = table_of(alloc, &[false, true])?;
-    let (shared, seats) = open_table_over(
+    open_table_over(
         alloc,
         table,
         observers,
         task.workers + 1,
         Ts(0),
         MAX_ENTRIES,
-    )?;
+    )
+}
+
+// The workers make the changes.
+fn do_task<R: Threads + Wait + Sync>(
+    rt: &R,
+    alloc: Global,
+    task: &Task,
+) -> Result<Option<Met>, Unready> {
+    let batches = batches_for(alloc, task)?;
+    let spares = spares_of(alloc, [false, true], task.swaps as usize)?;
+    let (shared, seats) = open_for(alloc, task)?;
     let worked = worked_on(rt, alloc, shared, seats, batches, spares, &Open)?;
     Ok(met_by(alloc, worked))
 }
 
+fn is_spread(word: &str) -> Option<bool> {
+    match word {
+        "spread" => Some(true),
+        "one" => Some(false),
+        _ => None,
+    }
+}
+
+fn load_in(words: &[String]) -> Option<Load> {
+    let Some(word) = words.first() else {
+        return Some(Load::Nothing);
+    };
+    match word.as_str() {
+        "busy" => Some(Load::Copies),
+        "long" => Some(Load::Long),
+        _ => None,
+    }
+}
+
 // What the words after the crate's own ask for.
 fn task_in(words: &[String]) -> Option<Task> {
-    let workers = words.get(1)?.as_str().parse::<u32>().ok()?;
-    let count = words.get(2)?.as_str().parse::<u32>().ok()?;
-    let is_spread = match words.get(3)?.as_str() {
-        "spread" => true,
-        "one" => false,
-        _ => return None,
+    let [_, workers, count, rows, swaps, more @ ..] = words else {
+        return None;
     };
-    let swaps = words.get(4)?.as_str().parse::<u32>().ok()?;
-    let load = match words.get(5) {
-        None => Load::Nothing,
-        Some(word) => match word.as_str() {
-            "busy" => Load::Copies,
-            "long" => Load::Long,
-            _ => return None,
-        },
-    };
+    let workers = workers.as_str().parse::<u32>().ok()?;
+    let count = count.as_str().parse::<u32>().ok()?;
+    let is_spread = is_spread(rows.as_str())?;
+    let swaps = swaps.as_str().parse::<u32>().ok()?;
+    let load = load_in(more)?;
     if workers < 1 || workers > 63 {
         return None;
     }
