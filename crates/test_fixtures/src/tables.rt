@@ -48,9 +48,10 @@ pub fn table_of(alloc: Global, slabs: &[bool]) -> Result<Table<EitherTablet>, Un
 pub fn refusing_table(alloc: Global, refused: usize) -> Result<Table<CountedTablet>, Unready>
     ensures { IfOk result (λ t. t.contents ≡ nothing) }
 {
+    let calls = Arc::new(alloc, AtomicUsize::new(0))?;
     let tablet = CountedTablet {
         inner: EitherTablet::new(alloc, false),
-        calls: Arc::new(alloc, AtomicUsize::new(0))?,
+        calls,
         refused: Some(refused),
         alloc,
         until: None,
