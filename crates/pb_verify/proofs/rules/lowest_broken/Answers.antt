@@ -1,3 +1,5 @@
+use Rattle.pb_helpers.proofs.LowestCode.{lowest_append}
+use Rattle.std.proofs.lemmas.Grind.{common_steps}
 use Rattle.std.proofs.Common.{arith}
 use Rattle.std.proofs.lemmas.Int.{to_z-of_z}
 use Rattle.pb_verify.proofs.LowestCode.{or_two}
@@ -14,3 +16,15 @@ returns-in-Store c = grind (arith, to_z-of_z, or_two, c.in-Store.offset, c.store
 
 pub returns-in-Call : goal.returns-in-Call
 returns-in-Call c = grind (arith, to_z-of_z, or_two, c.in-Call.imm, c.argument_code.ensures, c.in-Call.is, c.args.frame.now, c.args.helpers, c.args.program.now.insns, c.args.slot, c.falls-falls.ensures, c.or-in-Call.ensures)
+
+pub returns-in-LoadImm : goal.returns-in-LoadImm
+returns-in-LoadImm c = grind (arith, common_steps)
+
+pub returns-in-Alu : goal.returns-in-Alu
+returns-in-Alu c = grind (arith, lowest_append)
+
+pub returns-in-MovSx : goal.returns-in-MovSx
+returns-in-MovSx c = grind (arith, lowest_append)
+
+pub returns-in-Neg : goal.returns-in-Neg
+returns-in-Neg c = grind (arith, lowest_append)
