@@ -1,3 +1,4 @@
+use Rattle.std.proofs.lemmas.Grind.{common_steps}
 use Rattle.std.proofs.Common.{◌≡◌, ◌<◌, suc, set, length, arith, sym, ap, ◌∙◌, subst, All, insert, IfSome}
 use Rattle.std.proofs.lemmas.List.{take-append-drop}
 use Rattle.std.proofs.lemmas.List.Elements.{All-pop, All-set}
@@ -34,3 +35,15 @@ returns-clause-each g c =
 
 pub returns-clause-spares : goal.returns-clause-spares
 returns-clause-spares g c = (All-pop IsSpare _ _ c.pop.result c.pop.ensures.items c.requires.spares).0
+
+pub move_half-requires-clause-full : goal.move_half-requires-clause-full
+move_half-requires-clause-full g c = grind arith
+
+pub move_half-requires-clause-empty : goal.move_half-requires-clause-empty
+move_half-requires-clause-empty g c = grind arith
+
+pub returns-clause-before : goal.returns-clause-before
+returns-clause-before g c = grind (arith, common_steps)
+
+pub returns-clause-halves : goal.returns-clause-halves
+returns-clause-halves g c = grind (arith, common_steps)
