@@ -1,5 +1,5 @@
 -- Lines that are read of an input.
-use Rattle.std.proofs.Common.{arith, ◌≡◌, ◌≢◌, ℕ, ◌<◌, ◌≤◌, Bool, true, not, List, [], ◌∷◌, ◌++◌, length, Option, Result, Ok, Err, false, refl, ap, sym, subst, ◌∙◌}
+use Rattle.std.proofs.Common.{arith, ◌≡◌, ◌≢◌, ℕ, ◌<◌, ◌≤◌, Bool, true, List, [], ◌∷◌, ◌++◌, length, Option, Result, Ok, Err, false, refl, ap, sym, subst, ◌∙◌}
 use Rattle.std.specs.Prelude.{IsUtf8}
 use Rattle.pb_reading.specs.Reading.{Gives}
 use Rattle.pb_requests.specs.declared.parse.TheConstants.{MAX_LINE}
@@ -11,7 +11,8 @@ use Rattle.pb_keep.specs.Conversations.{Beginning, KeeperView, LeavesFirst, Serv
 use Rattle.pb_keep.specs.Held.{IsReadAs}
 use Rattle.pb_keep.specs.Waits.{IsNoLine, IsWaiting}
 use Rattle.pb_keep.specs.Input.{none, one_more, AreLinesRead, IsNextLine}
-use Rattle.pb_keep.specs.Served.{IsKeptAtEnd, LeavesRead, ServesAll, ServesNext, ServesRead, ServesToAsked, ServesToLarge}
+use Rattle.pb_keep.specs.Served.{IsKeptAtEnd, IsPauseAfter, LeavesRead, ServesAll, ServesNext, ServesRead, ServesToAsked, ServesToLarge, ServesUntil}
+use Rattle.pb_keep.specs.declared.service.Paused.{Paused}
 use Rattle.std.proofs.lemmas.List.{append_assoc, append-nil}
 
 -- ---- as what lines are read
@@ -75,16 +76,16 @@ module _ {b : Beginning} {lines : List (List ℕ)} {from between : Option (List 
   }
 
   -- or one that asks for a compaction
-  pub serves_to_asked : (to : Option (List ℕ)) (now : KeeperView) → ServesNext b (lines ++ before.more) between to now (Went.Line Took.Asked) → ServesToAsked b lines from to now
+  serves_to_asked : (to : Option (List ℕ)) (now : KeeperView) → ServesNext b (lines ++ before.more) between to now (Went.Line Took.Asked) → ServesToAsked b lines from to now
   serves_to_asked to now t = record { more = before.more; between = between; read = before.read; line = t.0; next = t.1; asked = t.2 }
 
   -- one more, after which the log is large
-  pub serves_to_large : (to : Option (List ℕ)) (now : KeeperView) (limit : ℕ) → IsNoLine now.waiting → limit ≤ now.end → ServesNext b (lines ++ before.more) between to now (Went.Line Took.Served) → ServesToLarge b lines limit from to now
+  serves_to_large : (to : Option (List ℕ)) (now : KeeperView) (limit : ℕ) → IsNoLine now.waiting → limit ≤ now.end → ServesNext b (lines ++ before.more) between to now (Went.Line Took.Served) → ServesToLarge b lines limit from to now
   unfolding serves_on
   serves_to_large to now limit idle large t = record { read = serves_on to now t; some = is_some_line before.more t.0; idle = idle; large = large }
 
   -- or none, and then what waits was kept
-  pub serves_to_the_end : (to : Option (List ℕ)) (now : KeeperView) → ServesNext b (lines ++ before.more) between to now Went.End → IsKeptAtEnd Went.End now.waiting → IsWaiting now.waiting → ServesAll b lines from now
+  serves_to_the_end : (to : Option (List ℕ)) (now : KeeperView) → ServesNext b (lines ++ before.more) between to now Went.End → IsKeptAtEnd Went.End now.waiting → IsWaiting now.waiting → ServesAll b lines from now
   serves_to_the_end to now t kept waits = record {
     to = between;
     read = record { more = before.more; read = before.read; serves = t.1 };
@@ -92,6 +93,14 @@ module _ {b : Beginning} {lines : List (List ℕ)} {from between : Option (List 
     kept = kept;
     open_group = waits.open_group;
   }
+
+  -- the same of whatever pause came
+  pub serves_until : (to : Option (List ℕ)) (now : KeeperView) (limit : ℕ) (turn : Went) (large : Bool) (paused : Paused) → IsPauseAfter turn large paused → (large ≡ true → IsNoLine now.waiting) → (large ≡ true → limit ≤ now.end)
+      → IsKeptAtEnd turn now.waiting → IsWaiting now.waiting → ServesNext b (lines ++ before.more) between to now turn → ServesUntil b lines limit from to now paused
+  serves_until to now limit turn large Paused.Ended is idle end kept waits t =
+      serves_to_the_end to now (subst (λ w. ServesNext b (lines ++ before.more) between to now w) is t) (subst (λ w. IsKeptAtEnd w now.waiting) is kept) waits
+  serves_until to now limit turn large Paused.Asked is idle end kept waits t = serves_to_asked to now (subst (λ w. ServesNext b (lines ++ before.more) between to now w) is t)
+  serves_until to now limit turn large Paused.Large is idle end kept waits t = serves_to_large to now limit (idle is.1) (end is.1) (subst (λ w. ServesNext b (lines ++ before.more) between to now w) is.0 t)
 
 -- ---- a line more
 

@@ -1,5 +1,5 @@
 -- The lines of an input, as they are served.
-use Rattle.std.specs.Prelude.{◌≡◌, ◌≢◌, ◌≤◌, ℕ, false, true, List, [], ◌∷◌, ◌++◌, Option, Ok}
+use Rattle.std.specs.Prelude.{◌≡◌, ◌≢◌, ◌≤◌, ℕ, Bool, false, true, List, [], ◌∷◌, ◌++◌, Option, Ok}
 use Rattle.std.specs.Io.KnownBytes.{IsAtEnd}
 use Rattle.pb_keep.specs.Conversations.{Beginning, KeeperView, LeavesFirst, Serves}
 use Rattle.pb_keep.specs.Words.{Request}
@@ -55,6 +55,12 @@ IsKeptAtEnd (Went.Line took) waiting = Unit {0}
 IsKeptAtEnd Went.End waiting = waiting.is_group ≡ false → IsNoLine waiting
 
 -- ---- where a service pauses
+
+-- why lines are taken no further after a turn, where the log is large or not
+abbrev pub IsPauseAfter : Went → Bool → Paused → Type 0
+IsPauseAfter went large Paused.Ended = went ≡ Went.End
+IsPauseAfter went large Paused.Asked = went ≡ Went.Line Took.Asked
+IsPauseAfter went large Paused.Large = (went ≡ Went.Line Took.Served) × (large ≡ true)
 
 -- some lines of the input are served, and then a line was read that asks for a compaction
 pub record ServesToAsked (b : Beginning) (lines : List (List ℕ)) (from to : Option (List ℕ)) (k : KeeperView) : Type 0 where

@@ -1,13 +1,14 @@
 //! Lines taken as they come, until the input ends or the log is to be compacted.
-ghost use Rattle.std.specs.Prelude.{◌≡◌, ◌≤◌, ◌∷◌, ◌++◌, [], ℕ, List, Option, Err, true, false, IfOk, IfErr, OnOk, IsTrue};
+ghost use Rattle.std.specs.Prelude.{◌≡◌, ◌≤◌, ◌∷◌, ◌++◌, [], ℕ, List, Option, None, Err, true, false, IfOk, IfErr, IfSome, OnOk, IsTrue};
 ghost use Rattle.std.specs.Io.Buffered.{reader_remaining};
 ghost use Rattle.pb_parse.specs.declared.script.code.ScriptCode.TheVariants.{Form};
 ghost use Rattle.pb_steps.specs.State.{StateOf};
 ghost use Rattle.pb_keep.specs.Conversations.{keeper_view, Beginning, LeavesFirst, Serves};
 ghost use Rattle.pb_keep.specs.Input.{IsLineRead};
 ghost use Rattle.pb_keep.specs.Causes.{WhyNotKept, WhyNotServed};
-ghost use Rattle.pb_keep.specs.Served.{IsKeptAtEnd, LeavesRead, ServesLine, ServesNext, ServesUntil};
+ghost use Rattle.pb_keep.specs.Served.{IsKeptAtEnd, IsPauseAfter, LeavesRead, ServesLine, ServesNext, ServesUntil};
 ghost use Rattle.pb_keep.specs.declared.service.Went.TheVariants as turns;
+ghost use Rattle.pb_keep.specs.declared.take.Took.TheVariants.{Served};
 ghost use Rattle.pb_keep.specs.Taken.{WaitsNow};
 ghost use Rattle.pb_keep.specs.Waits.{IsNoLine, IsWaiting};
 
@@ -197,6 +198,19 @@ fn is_large<T: Tablet, D: Disk + Drop>(keeper: &Keeper<T, D>, limit: u64) -> boo
     keeper.waiting.items.is_empty() && keeper.log.end as u64 >= limit
 }
 
+// Why lines are taken no further after a turn, if they aren't.
+fn pause_after(went: Went, is_large: bool) -> Option<Paused>
+    ensures some { IfSome result (IsPauseAfter went is_large) }
+    ensures none { result ≡ None → went ≡ turns.Line Served }
+{
+    match went {
+        Went::Line(Took::Served) if is_large => Some(Paused::Large),
+        Went::Line(Took::Served) => None,
+        Went::Line(Took::Asked) => Some(Paused::Asked),
+        Went::End => Some(Paused::Ended),
+    }
+}
+
 /// Takes lines and answers each, until the input ends, a line asks for a compaction, or the log has `limit` bytes, which is
 /// looked at after each line after which none waits. While a whole line more was read that isn't taken yet, what came
 /// before it waits; so no line waits for one that hasn't come. What waits when the input ends is kept, but for a group
@@ -237,11 +251,8 @@ pub fn serve<R: Wait, I: Read + Drop, T: Tablet, D: Disk + Drop, S: Sink>(
     let mut line = Vec::new(alloc);
     for _turn in rt.forever() {
         let went = turn(rt, alloc, keeper, input, out, &mut line)?;
-        match went {
-            Went::Line(Took::Served) if is_large(keeper, limit) => return Ok(Paused::Large),
-            Went::Line(Took::Served) => {}
-            Went::Line(Took::Asked) => return Ok(Paused::Asked),
-            Went::End => return Ok(Paused::Ended),
+        if let Some(paused) = pause_after(went, is_large(keeper, limit)) {
+            return Ok(paused);
         }
     }
     unreachable!()

@@ -1,4 +1,4 @@
-use Rattle.std.proofs.Common.{◌≡◌, IfSome, arith, subst}
+use Rattle.std.proofs.Common.{◌≡◌, IfSome, subst}
 use Rattle.pb_snapshots.specs.Snapshot.{snapshot_value}
 use Rattle.pb_keep.specs.Words.{FitsSnapshot, snapshot_bytes}
 use Rattle.pb_keep.proofs.compact.record_of.Goals as goal

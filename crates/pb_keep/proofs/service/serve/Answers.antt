@@ -1,13 +1,10 @@
-use Rattle.std.proofs.Common.{◌≡◌, ◌++◌, ◌∙◌, arith, not, refl, ap, subst, sym}
+use Rattle.std.proofs.Common.{◌++◌, ◌∙◌, refl, subst, sym}
 use Rattle.std.specs.Io.Buffered.{reader_remaining}
 use Rattle.pb_keep.specs.Conversations.{keeper_view}
 use Rattle.pb_keep.specs.Causes.{WhyNotServed}
-use Rattle.pb_keep.specs.Served.{IsKeptAtEnd, ServesNext}
-use Rattle.pb_keep.specs.declared.service.Went.{Went}
-use Rattle.pb_keep.specs.declared.take.Took.{Took}
-use Rattle.pb_keep.proofs.Causing.{not_served}
+use Rattle.pb_keep.specs.Served.{ServesNext}
 use Rattle.pb_keep.proofs.Mapping.{passed_on}
-use Rattle.pb_keep.proofs.Reading.{leaves_on, serves_on, serves_read_none, serves_to_asked, serves_to_large, serves_to_the_end, turn_leaves}
+use Rattle.pb_keep.proofs.Reading.{leaves_on, serves_on, serves_read_none, serves_until}
 use Rattle.pb_keep.proofs.service.serve.Goals as goal
 
 pub loop-turn-init : goal.loop-turn-init
@@ -30,8 +27,7 @@ loop-turn-preserved g c = record {
       let from = reader_remaining g.I.Read.remaining c.loop-turn.input in
       let to = reader_remaining g.I.Read.remaining c.turn.new.input in
       let now = keeper_view g.D.Disk.seen g.D.Disk.may_leave c.turn.new.keeper (g.S.Sink.taken c.turn.new.out) in
-      let same : c.in-Line-Served.field-0 ≡ Took.Served = rw c.in-Line-Served.is at c.in-Line-Served.field-0-is in
-      serves_on before to now (subst (λ t. ServesNext b (lines ++ before.more) from to now (Went.Line t)) same (subst (λ w. ServesNext b (lines ++ before.more) from to now w) c.in-Line-Served.is (c.in_ok-went.ensures.serves b (lines ++ before.more) before.serves)));
+      serves_on before to now (subst (λ w. ServesNext b (lines ++ before.more) from to now w) (c.in_default.ensures.none refl) (c.in_ok-went.ensures.serves b (lines ++ before.more) before.serves));
 }
 
 pub returns-in_err-went-clause-crash : goal.returns-in_err-went-clause-crash
@@ -49,48 +45,14 @@ returns-in_err-went-clause-cause g c = λ b lines s.
     (λ e is. subst (λ n. WhyNotServed n faults failed now e) c.loop-turn.invariant.faultless
     (subst (λ f. WhyNotServed (g.D.Disk.faults c.loop-turn.keeper.log.disk) faults failed now f) (sym is) (c.in_err-went.ensures.cause b (lines ++ before.more) before.serves)))
 
-pub returns-in-Line-Served-clause-serves : goal.returns-in-Line-Served-clause-serves
-returns-in-Line-Served-clause-serves g c = λ b lines s.
+pub returns-in-Some-pause_after-clause-serves : goal.returns-in-Some-pause_after-clause-serves
+returns-in-Some-pause_after-clause-serves g c = λ b lines s.
     let before = c.loop-turn.invariant.served b lines s in
-    let from = reader_remaining g.I.Read.remaining c.loop-turn.input in
     let to = reader_remaining g.I.Read.remaining c.turn.new.input in
     let now = keeper_view g.D.Disk.seen g.D.Disk.may_leave c.turn.new.keeper (g.S.Sink.taken c.turn.new.out) in
-    let same : c.in-Line-Served.field-0 ≡ Took.Served = grind (arith, c.in-Line-Served.is, c.in-Line-Served.field-0-is) in
-    serves_to_large before to now c.args.limit (c.is_large.ensures.idle c.if-is_large.true) (c.is_large.ensures.large c.if-is_large.true)
-    (subst (λ t. ServesNext b (lines ++ before.more) from to now (Went.Line t)) same (subst (λ w. ServesNext b (lines ++ before.more) from to now w) c.in-Line-Served.is (c.in_ok-went.ensures.serves b (lines ++ before.more) before.serves)))
+    serves_until before to now c.args.limit c.in_ok-went.went c.is_large.result c.in-Some-pause_after.paused c.in-Some-pause_after.ensures.some c.is_large.ensures.idle c.is_large.ensures.large c.in_ok-went.ensures.ended c.in_ok-went.ensures.waiting (c.in_ok-went.ensures.serves b (lines ++ before.more) before.serves)
 
-pub returns-in-Line-Served-clause-crash : goal.returns-in-Line-Served-clause-crash
-returns-in-Line-Served-clause-crash g c = λ b lines s file m.
-    let before = c.loop-turn.invariant.served b lines s in
-    leaves_on before (g.S.Sink.taken c.turn.new.out) file (c.in_ok-went.ensures.crash b (lines ++ before.more) before.serves file m)
-
-pub returns-in-Line-Asked-clause-serves : goal.returns-in-Line-Asked-clause-serves
-returns-in-Line-Asked-clause-serves g c = λ b lines s.
-    let before = c.loop-turn.invariant.served b lines s in
-    let from = reader_remaining g.I.Read.remaining c.loop-turn.input in
-    let to = reader_remaining g.I.Read.remaining c.turn.new.input in
-    let now = keeper_view g.D.Disk.seen g.D.Disk.may_leave c.turn.new.keeper (g.S.Sink.taken c.turn.new.out) in
-    let same : c.in-Line-Asked.field-0 ≡ Took.Asked = rw c.in-Line-Asked.is at c.in-Line-Asked.field-0-is in
-    serves_to_asked before to now
-    (subst (λ t. ServesNext b (lines ++ before.more) from to now (Went.Line t)) same (subst (λ w. ServesNext b (lines ++ before.more) from to now w) c.in-Line-Asked.is (c.in_ok-went.ensures.serves b (lines ++ before.more) before.serves)))
-
-pub returns-in-Line-Asked-clause-crash : goal.returns-in-Line-Asked-clause-crash
-returns-in-Line-Asked-clause-crash g c = λ b lines s file m.
-    let before = c.loop-turn.invariant.served b lines s in
-    leaves_on before (g.S.Sink.taken c.turn.new.out) file (c.in_ok-went.ensures.crash b (lines ++ before.more) before.serves file m)
-
-pub returns-in-End-clause-serves : goal.returns-in-End-clause-serves
-returns-in-End-clause-serves g c = λ b lines s.
-    let before = c.loop-turn.invariant.served b lines s in
-    let from = reader_remaining g.I.Read.remaining c.loop-turn.input in
-    let to = reader_remaining g.I.Read.remaining c.turn.new.input in
-    let now = keeper_view g.D.Disk.seen g.D.Disk.may_leave c.turn.new.keeper (g.S.Sink.taken c.turn.new.out) in
-    serves_to_the_end before to now
-    (subst (λ w. ServesNext b (lines ++ before.more) from to now w) c.in-End.is (c.in_ok-went.ensures.serves b (lines ++ before.more) before.serves))
-    (subst (λ w. IsKeptAtEnd w now.waiting) c.in-End.is c.in_ok-went.ensures.ended)
-    c.in_ok-went.ensures.waiting
-
-pub returns-in-End-clause-crash : goal.returns-in-End-clause-crash
-returns-in-End-clause-crash g c = λ b lines s file m.
+pub returns-in-Some-pause_after-clause-crash : goal.returns-in-Some-pause_after-clause-crash
+returns-in-Some-pause_after-clause-crash g c = λ b lines s file m.
     let before = c.loop-turn.invariant.served b lines s in
     leaves_on before (g.S.Sink.taken c.turn.new.out) file (c.in_ok-went.ensures.crash b (lines ++ before.more) before.serves file m)

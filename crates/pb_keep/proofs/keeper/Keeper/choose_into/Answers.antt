@@ -1,4 +1,4 @@
-use Rattle.std.proofs.Common.{◌<◌, ap, arith, refl, subst, sym}
+use Rattle.std.proofs.Common.{◌<◌, ap, refl, subst, sym}
 use Rattle.pb_state.specs.CarriedOver.{WhyNotCarried}
 use Rattle.pb_snapshots.specs.Snapshot.{snapshot_value}
 use Rattle.pb_keep.specs.Words.{IsCarriedOver, IsSnapshotTaken, KeptTable, SnapshotOf, kept_table, last_timestamp}

@@ -1,7 +1,7 @@
 use Rattle.std.proofs.Common.{◌∷◌, [], arith, subst, sym, ◌∙◌}
 use Rattle.pb_snapshots.specs.Snapshot.{snapshot_value}
 use Rattle.pb_keep.specs.Words.{IsAtRest, SnapshotOf, header, kept_table}
-use Rattle.pb_keep.specs.Anew.{WhyNotAnew, WhyNotBegun}
+use Rattle.pb_keep.specs.Anew.{WhyNotAnew}
 use Rattle.pb_keep.specs.Kept.{head}
 use Rattle.pb_keep.proofs.Causing.{no_log, no_record, not_taken}
 use Rattle.pb_keep.proofs.Mapping.{passed_on}
