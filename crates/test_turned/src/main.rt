@@ -68,21 +68,32 @@ fn choice_in(seed: &str, tenths: &str) -> Option<Choice> {
     Choice::new(seed.parse::<u64>().ok()?, tenths.parse::<u32>().ok()?)
 }
 
+fn task_of_file(rt: &HostRuntime, path: &str, choice: Choice) -> Option<Task> {
+    Some(Task {
+        code: bytes_in(rt, path)?,
+        choice,
+        is_told: true,
+    })
+}
+
+fn task_of_copy(alloc: Global, choice: Choice) -> Option<Task> {
+    Some(Task {
+        code: bytes_of(alloc, &COPY).ok()?,
+        choice,
+        is_told: false,
+    })
+}
+
 // What these words ask for, the program's own first; none where they ask for nothing that there is.
 fn task_in(rt: &HostRuntime, words: &[String]) -> Option<Task> {
-    let (choice, code) = match words {
-        [_, path, seed, tenths] => (
-            choice_in(seed.as_str(), tenths.as_str())?,
-            bytes_in(rt, path.as_str())?,
-        ),
-        [_] => (Choice::new(0, 10)?, bytes_of(rt.alloc(), &COPY).ok()?),
-        _ => return None,
-    };
-    Some(Task {
-        code,
-        choice,
-        is_told: words.len() > 1,
-    })
+    match words {
+        [_, path, seed, tenths] => {
+            let choice = choice_in(seed.as_str(), tenths.as_str())?;
+            task_of_file(rt, path.as_str(), choice)
+        }
+        [_] => task_of_copy(rt.alloc(), Choice::new(0, 10)?),
+        _ => None,
+    }
 }
 
 fn task_of(rt: &HostRuntime) -> Option<Task> {
