@@ -80,14 +80,13 @@ fn commit(
     job.outcome().context("too many steps")
 }
 
-// Runs an observer on a cell, its machine here and all else by calls of the table.
-fn run(
+// Does what a job needs up to its end, its machine here and all else by calls of the table.
+fn follow(
     alloc: Global,
     shared: &mut Shared<ListTablet>,
     seat: &mut Seat,
-    job: ObserverJob,
+    job: &mut ObserverJob,
 ) -> Result<JobEnd> {
-    let mut job = job;
     for _turn in 0..MOST_TURNS {
         match job.needs() {
             Need::Local => job.follow(alloc)?,
@@ -103,6 +102,17 @@ fn run(
         }
     }
     bail!("too many steps")
+}
+
+// Runs an observer on a cell.
+fn run(
+    alloc: Global,
+    shared: &mut Shared<ListTablet>,
+    seat: &mut Seat,
+    job: ObserverJob,
+) -> Result<JobEnd> {
+    let mut job = job;
+    follow(alloc, shared, seat, &mut job)
 }
 
 // Runs each observer of a marked cell's column on it.
