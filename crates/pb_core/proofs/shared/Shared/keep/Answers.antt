@@ -10,7 +10,7 @@ pub invariant_of-self-2 : goal.invariant_of-self-2
 invariant_of-self-2 g c =
     let s = c.self.inside in
     let seat = c.seat.inside.number in
-    let m : TableStep s.state seat c.args.step.now c.in_ok-answer.answer c.take_admitted.new.self = search rules in
+    let m : TableStep s.state seat c.args.step.now c.in_ok-answer.answer c.take_admitted.new.self = subst (λ step. TableStep s.state seat step c.in_ok-answer.answer c.take_admitted.new.self) c.requires.step c.in_ok-answer.ensures.taken in
     let seated : seat < length s.books.items = subst (λ n. seat < n) c.self.invariant.counted (seat_is_there s.state seat c.args.step.now m.allowed) in
     let room : length s.journal.items < s.limit = search rules in
     let read : c.index_mut-book.result.now ≡ get_or s.books.items seat [] = get_or_read s.books.items seat _ seated c.index_mut-book.ensures.value [] in
@@ -18,6 +18,6 @@ invariant_of-self-2 g c =
 
 pub returns-clause-taken : goal.returns-clause-taken
 returns-clause-taken g c =
-    let m : TableStep c.self.inside.state c.seat.inside.number c.args.step.now c.in_ok-answer.answer c.take_admitted.new.self = search rules in
+    let m : TableStep c.self.inside.state c.seat.inside.number c.args.step.now c.in_ok-answer.answer c.take_admitted.new.self = subst (λ step. TableStep c.self.inside.state c.seat.inside.number step c.in_ok-answer.answer c.take_admitted.new.self) c.requires.step c.in_ok-answer.ensures.taken in
     let kept : KeepsRest c.self.inside.state c.take_admitted.new.self = case_kept c.self.inside.state c.seat.inside.number c.args.step.now c.in_ok-answer.answer c.take_admitted.new.self m.taken in
     grind (arith, m, kept.seats, kept.observers, c.self.inside, c.self.view_is, c.seat.view_is)
