@@ -8,7 +8,7 @@ pub use Rattle.pb_base.specs.declared.refusal.Reason.{Reason}
 pub use Rattle.pb_isa.specs.Machine.{Reply}
 pub use Rattle.pb_isa.specs.Meaning.{Talk}
 pub use Rattle.pb_helpers.specs.OldRecord.{tells_old}
-pub use Rattle.pb_verify.specs.Observers.{ObserverOf, acknowledgment, observed_cell, observed_column}
+pub use Rattle.pb_accepted.specs.Observers.{ObserverOf, acknowledgment, observed_cell, observed_column}
 pub use Rattle.pb_finished.specs.Finished.{Meant}
 pub use Rattle.pb_store.specs.Contents.{Entries}
 pub use Rattle.pb_steps.specs.Declarations.{AreReplies, IsItsRun, IsReadOf, MayDeclare, WasOld, old_at}

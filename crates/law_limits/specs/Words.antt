@@ -5,7 +5,7 @@ pub use Rattle.pb_base.specs.declared.content.Content.{Content}
 pub use Rattle.pb_base.specs.declared.limits.TheConstants.{MAX_CELLS, MAX_CHANGES}
 pub use Rattle.pb_base.specs.declared.names.Ts.{Ts}
 pub use Rattle.pb_finished.specs.Finished.{Meant}
-pub use Rattle.pb_verify.specs.Observers.{ObserverOf}
+pub use Rattle.pb_accepted.specs.Observers.{ObserverOf}
 pub use Rattle.pb_sound.specs.RunWrites.{AreRunWrites}
 pub use Rattle.pb_store.specs.Contents.{Entries, slot_at}
 pub use Rattle.pb_store.specs.Slot.{slot_cmp, slot_cmp_total}

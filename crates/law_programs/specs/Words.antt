@@ -30,10 +30,10 @@ pub use Rattle.pb_helpers.specs.Codes.{CodesRiseWithin, code_number, lowest_code
 pub use Rattle.pb_helpers.specs.OldRecord.{is_value, record_with_old}
 pub use Rattle.pb_helpers.specs.Record.{record_of, value_bytes, word_at, word_bytes}
 pub use Rattle.pb_helpers.specs.declared.code.RuleCode.{RuleCode}
-pub use Rattle.pb_verify.specs.Arriving.{Accepts, Refuses, codes_at, faults, frame_after, has_slot, if_leads}
-unfoldable pub use Rattle.pb_verify.specs.Arriving.{in_at}
-pub use Rattle.pb_verify.specs.Following.{after, after_call, ahead, kind_after, kinds_after_call, leads, move_pointer, with_kind, with_store}
-pub use Rattle.pb_verify.specs.Forward.{LeadsAreLater}
-pub use Rattle.pb_verify.specs.Rules.{CodesRise, alu_rules, at, bytes_of, falls, insn_rules, jump_rules, loads, numeric_rules, on_pointer, reads_operand, sets, stores}
-pub use Rattle.pb_verify.specs.Ways.{Fact, FramesAreMeets, HasKind, IsMeetOfWays, IsWay, Says}
+pub use Rattle.pb_accepted.specs.Arriving.{Accepts, Refuses, codes_at, faults, frame_after, has_slot, if_leads}
+unfoldable pub use Rattle.pb_accepted.specs.Arriving.{in_at}
+pub use Rattle.pb_accepted.specs.Following.{after, after_call, ahead, kind_after, kinds_after_call, leads, move_pointer, with_kind, with_store}
+pub use Rattle.pb_accepted.specs.Forward.{LeadsAreLater}
+pub use Rattle.pb_accepted.specs.Rules.{CodesRise, alu_rules, at, bytes_of, falls, insn_rules, jump_rules, loads, numeric_rules, on_pointer, reads_operand, sets, stores}
+pub use Rattle.pb_accepted.specs.Ways.{Fact, FramesAreMeets, HasKind, IsMeetOfWays, IsWay, Says}
 pub use Rattle.pb_sound.specs.ProfilesAgree.{SameAreAccepted, SameAreRefused, SameIsMeant, program_in}

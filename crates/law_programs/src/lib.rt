@@ -18,7 +18,7 @@ ghost use Rattle.law_programs.specs.Verdicts.{VerdictsAreTold};
 
 mod profiles;
 
-use pb_verify::{codes_rise, frames_are_meets, jumps_lead_on};
+use pb_accepted::{codes_rise, frames_are_meets, jumps_lead_on};
 pub use profiles::{
     bytes_mean_the_same_in_both_profiles, profiles_differ_in_slots_and_signs,
     sign_extensions_have_these_bytes, signs_are_extended,

@@ -4,7 +4,7 @@ pub use Rattle.pb_base.specs.Cell.{row_of}
 pub use Rattle.pb_base.specs.declared.cell.Cell.{Cell}
 pub use Rattle.pb_base.specs.declared.names.Ts.{Ts}
 pub use Rattle.pb_isa.specs.declared.limits.TheConstants.{MAX_RECORD_BYTES}
-pub use Rattle.pb_verify.specs.Observers.{ObserverOf}
+pub use Rattle.pb_accepted.specs.Observers.{ObserverOf}
 pub use Rattle.pb_sound.specs.OneMeaning.{EachHasOneMeaning}
 pub use Rattle.pb_steps.specs.State.{StateOf}
 pub use Rattle.pb_steps.specs.Steps.{TableStep}

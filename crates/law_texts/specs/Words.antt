@@ -9,7 +9,7 @@ pub use Rattle.pb_reading.specs.Reading.{lines_of, next_word, no_word, words_of,
 pub use Rattle.pb_isa.specs.declared.profile.Profile.{Profile}
 pub use Rattle.pb_helpers.specs.Bytes.{size_of}
 pub use Rattle.pb_helpers.specs.declared.change.Version.{Version}
-pub use Rattle.pb_verify.specs.Observers.{ObserverOf}
+pub use Rattle.pb_accepted.specs.Observers.{ObserverOf}
 pub use Rattle.pb_steps.specs.Readings.{lock_count}
 pub use Rattle.pb_history.specs.LastGiven.{IsLastGiven}
 pub use Rattle.pb_history.specs.Laws.{ClockIsLastGiven}

@@ -4,7 +4,7 @@ pub use Rattle.pb_base.specs.declared.cell.Cell.{Cell}
 pub use Rattle.pb_base.specs.declared.content.Content.{Content}
 pub use Rattle.pb_base.specs.declared.names.Ts.{Ts}
 pub use Rattle.pb_base.specs.declared.refusal.NoMemory.{NoMemory}
-pub use Rattle.pb_verify.specs.Observers.{ObserverOf}
+pub use Rattle.pb_accepted.specs.Observers.{ObserverOf}
 pub use Rattle.pb_store.specs.Contents.{Entries, IsNextMark, Marks, entries_after, slot_at}
 pub use Rattle.pb_store.specs.Slot.{slot_cmp, slot_cmp-IsAntisymmetric}
 pub use Rattle.pb_store.specs.declared.slot.Item.{Item}

@@ -3,11 +3,11 @@ ghost use Rattle.std.specs.Prelude.{◌≡◌, ◌++◌, IfOk, OnOk, string_byte
 ghost use Rattle.std.specs.FinMap as map;
 ghost use Rattle.pb_answers.specs.Stats.{stats_line, stats_lines, stats_text};
 
+use pb_accepted::Observer;
 use pb_base::NoMemory;
 use pb_keeper::ObserverStats;
 use pb_state::State;
 use pb_store::{Table, Tablet};
-use pb_verify::Observer;
 use std::alloc::{AllocError, Global};
 
 // Adds the line of an observer of this name.

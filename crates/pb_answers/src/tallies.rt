@@ -4,12 +4,12 @@ ghost use Rattle.std.specs.Prelude.{◌≡◌, IfOk, slice_index_or};
 ghost use Rattle.pb_keeper.specs.Stats.{kept_table, no_runs};
 ghost use Rattle.pb_answers.specs.Lists.{tallies_by, tallies_in};
 
+use pb_accepted::Observer;
 use pb_base::NoMemory;
 use pb_keeper::ObserverStats;
 use pb_script::Tally;
 use pb_state::State;
 use pb_store::Tablet;
-use pb_verify::Observer;
 use std::alloc::{AllocError, Global};
 
 // The committed runs of the observer of this number.

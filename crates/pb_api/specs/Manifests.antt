@@ -1,6 +1,6 @@
 -- The verdict on a manifest that C gets.
 use Rattle.std.specs.Prelude.{◌≡◌, ◌⊎◌, ℕ, ◌-◌, ◌^◌, List, length, option_map, unwrap_or, Ok, Err, IsUtf8}
-use Rattle.pb_verify.specs.Observers.{ObserverOf}
+use Rattle.pb_accepted.specs.Observers.{ObserverOf}
 use Rattle.pb_registry.specs.Codes.{number_of, refusal_of}
 use Rattle.pb_registry.specs.Judging.{ReadsManifest}
 use Rattle.pb_registry.specs.declared.fault.RegistryFault.{RegistryFault}

@@ -12,12 +12,13 @@ ghost use Rattle.pb_api.specs.Runs.{column_numbered, reply_given, content_given,
 
 use crate::kind::AnswerKind;
 use crate::numbers::{helpers_of, profile_of, version_of};
+use pb_accepted::Accepted;
 use pb_base::{COLUMNS, Cell, Column, Content, MAX_CELLS, NoMemory, Revision, Row, Ts, Value};
 use pb_finished::Finished;
 use pb_helpers::{Ask, HelperTable, Record, Reply, Version};
 use pb_isa::Profile;
 use pb_registry::accept_in;
-use pb_verify::{Accepted, VerifyFault};
+use pb_verify::VerifyFault;
 use pb_vm::{MachinePhase, Moved, Vm};
 use std::alloc::Global;
 use std::sync::Arc;

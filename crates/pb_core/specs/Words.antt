@@ -4,7 +4,7 @@ pub use Rattle.pb_base.specs.Reasons.{reason_code}
 pub use Rattle.pb_base.specs.declared.cell.Cell.{Cell}
 pub use Rattle.pb_base.specs.declared.limits.TheConstants.{MAX_ENTRIES}
 pub use Rattle.pb_base.specs.declared.refusal.Reason.{Reason}
-pub use Rattle.pb_verify.specs.Observers.{ObserverOf}
+pub use Rattle.pb_accepted.specs.Observers.{ObserverOf}
 pub use Rattle.pb_store.specs.Contents.{Entries, Marks}
 pub use Rattle.pb_store.specs.Slot.{slot_cmp, slot_cmp_total}
 pub use Rattle.pb_store.specs.declared.slot.Item.{Item}

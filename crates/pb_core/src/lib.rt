@@ -13,6 +13,7 @@ mod seat;
 mod shared;
 
 pub use laws::legal_tables_tell;
+pub use pb_accepted::{Accepted, Observer};
 pub use pb_finished::Finished;
 pub use pb_helpers::Record;
 pub use pb_history::{Entry, KeptCall, KeptEntry, Received};
@@ -20,7 +21,6 @@ pub use pb_steps::{
     Answer, Declaration, Declared, EndedRun, Phase, RecordedRead, Seen, Step, Work,
     acknowledged_in, version_in,
 };
-pub use pb_verify::{Accepted, Observer};
 pub use pb_vm::{Moved, Vm};
 pub use seat::Seat;
 pub use shared::{OpenRefused, Shared};

@@ -4,12 +4,12 @@ ghost use Rattle.pb_core.specs.Calls.{IsFresh, IsBlank};
 
 use crate::laws::legal_tables_tell;
 use crate::seat::{Book, Seat};
+use pb_accepted::Observer;
 use pb_base::{MAX_ENTRIES, MAX_OBSERVERS, MAX_SEATS, NoMemory, Reason, Refusal, Ts};
 use pb_history::{CallRoom, KeptCall, KeptEntry, journals_tell, quiet_is_counted};
 use pb_state::{Admitted, State};
 use pb_steps::{Answer, Phase, Step};
 use pb_store::{Table, Tablet};
-use pb_verify::Observer;
 use std::alloc::Global;
 use std::marker::Model;
 

@@ -6,7 +6,7 @@ pub use Rattle.pb_base.specs.Taking.{Taking, TookNothing, taking}
 pub use Rattle.pb_base.specs.declared.limits.TheConstants.{MAX_ENTRIES, MAX_SEATS}
 pub use Rattle.pb_base.specs.declared.refusal.Refusal.{Refusal}
 pub use Rattle.pb_reading.specs.Faults.{IsFaultOf, code_told, line_and_code, line_told}
-pub use Rattle.pb_verify.specs.Observers.{ObserverOf}
+pub use Rattle.pb_accepted.specs.Observers.{ObserverOf}
 pub use Rattle.pb_store.specs.Contents.{Contents, is_nothing, nothing}
 pub use Rattle.pb_steps.specs.State.{opening}
 pub use Rattle.pb_history.specs.Journals.{IsLegal}

@@ -9,10 +9,10 @@ ghost use Rattle.pb_parse.specs.Schedules.{schedule_of};
 ghost use Rattle.pb_driver.specs.Texts.{IsBadManifest, IsBadScript, IsBadSchedule, IsRunRead, IsRunUnread, IsReplayRead, IsReplayUnread};
 
 use crate::fault::RunFault;
+use pb_accepted::Observer;
 use pb_base::Batch;
 use pb_parse::{Event, ScriptFault, parse_schedule, parse_script};
 use pb_registry::Registry;
-use pb_verify::Observer;
 use std::alloc::Global;
 
 // The manifest's observers.

@@ -6,9 +6,9 @@ ghost use Rattle.pb_sound.specs.RunWrites.{AreRunWrites};
 ghost use Rattle.pb_finished.specs.Finished.{IsMeant, is_plain};
 ghost use Rattle.pb_finished.specs.Talk.{talk_of};
 
+use pb_accepted::Accepted;
 use pb_base::{Cell, Content, Ts, are_same_writes};
 use pb_helpers::{Ask, Record, Reply};
-use pb_verify::Accepted;
 use std::marker::Model;
 use std::sync::Arc;
 

@@ -8,7 +8,7 @@ pub use Rattle.pb_base.specs.declared.names.Row.{Row}
 pub use Rattle.pb_base.specs.declared.names.Ts.{Ts}
 pub use Rattle.pb_base.specs.declared.refusal.Reason.{Reason}
 pub use Rattle.pb_helpers.specs.OldRecord.{record_by, tells_old}
-pub use Rattle.pb_verify.specs.Observers.{ObserverOf, acknowledgment, column_or_zero, observed_cell}
+pub use Rattle.pb_accepted.specs.Observers.{ObserverOf, acknowledgment, column_or_zero, observed_cell}
 pub use Rattle.pb_finished.specs.Finished.{IsMeant, Meant}
 pub use Rattle.pb_store.specs.Contents.{Entries, Marks, slot_at}
 pub use Rattle.pb_store.specs.Slot.{slot_cmp, slot_cmp-IsAntisymmetric, slot_cmp_total}

@@ -12,7 +12,7 @@ pub use Rattle.pb_isa.specs.Machine.{Ask, Reply}
 pub use Rattle.pb_isa.specs.Meaning.{Means, Talk}
 pub use Rattle.pb_isa.specs.Programs.{JudgedOf}
 pub use Rattle.pb_helpers.specs.OldRecord.{record_by, tells_old}
-pub use Rattle.pb_verify.specs.Observers.{ObserverOf, acknowledgment, column_or_zero, observed_cell, observed_column}
+pub use Rattle.pb_accepted.specs.Observers.{ObserverOf, acknowledgment, column_or_zero, observed_cell, observed_column}
 pub use Rattle.pb_sound.specs.RunWrites.{AreRunWrites}
 pub use Rattle.pb_finished.specs.Finished.{IsMeant, Meant}
 pub use Rattle.pb_store.specs.Contents.{ComesAfter, Entries, IsNextMark, IsOfSort, Marks, slot_at}

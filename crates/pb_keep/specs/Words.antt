@@ -5,7 +5,7 @@ pub use Rattle.pb_base.specs.declared.cell.Cell.{Cell}
 pub use Rattle.pb_base.specs.declared.limits.TheConstants.{MAX_CHANGES}
 pub use Rattle.pb_base.specs.declared.names.Ts.{Ts}
 pub use Rattle.pb_store.specs.Contents.{IsNextMark}
-pub use Rattle.pb_verify.specs.Observers.{ObserverOf}
+pub use Rattle.pb_accepted.specs.Observers.{ObserverOf}
 pub use Rattle.pb_state.specs.CarriedOver.{AreInOrder, IsCarriedOver}
 pub use Rattle.pb_state.specs.MarkedBehind.{IsMarkedBehind}
 pub use Rattle.pb_steps.specs.Readings.{last_timestamp, lock_count}

@@ -1,10 +1,10 @@
 //! Which observers of a list stand in another one, and where: those of a table that stay with it.
 ghost use Rattle.std.specs.Prelude.{◌≡◌, ◌+◌, ◌↔◌, None, Ok, Some, length, slice_get, IfNone, IfOk, IfSome, IsTrue};
 ghost use Rattle.pb_generations.specs.Chosen.{AreChosen};
-ghost use Rattle.pb_verify.specs.Observers.{ObserverOf};
+ghost use Rattle.pb_accepted.specs.Observers.{ObserverOf};
 ghost use Rattle.pb_keeper.specs.Choosing.{IsOneOf, IsSplit, WhyNotChosen};
 
-use pb_verify::Observer;
+use pb_accepted::Observer;
 use std::alloc::{AllocError, Global};
 
 // Whether both have the same name, column and program.

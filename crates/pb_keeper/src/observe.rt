@@ -5,7 +5,7 @@ ghost use Rattle.pb_base.specs.declared.limits.TheConstants.{MAX_OBSERVERS};
 ghost use Rattle.pb_state.specs.MoreObservers.{HasMoreObservers};
 ghost use Rattle.pb_steps.specs.Readings.{last_timestamp};
 ghost use Rattle.pb_store.specs.Contents.{IsNextMark};
-ghost use Rattle.pb_verify.specs.Observers.{ObserverOf};
+ghost use Rattle.pb_accepted.specs.Observers.{ObserverOf};
 ghost use Rattle.pb_keeper.specs.Counts.{commit_count};
 ghost use Rattle.pb_keeper.specs.Keeps.{CatchesUp, IsChosenOf, IsFirstTable, KeepsFrom};
 ghost use Rattle.pb_keeper.specs.Made.{catching_up_bound, comes_to_rest};
@@ -15,12 +15,12 @@ ghost use Rattle.pb_keeper.specs.Stops.{IsStop};
 use crate::change::Stopped;
 use crate::passes::{Drained, MAX_RUNS, drain};
 use crate::stats::{ObserverStats, no_stats};
+use pb_accepted::Observer;
 use pb_base::NoMemory;
 use pb_generations::{jobs_keep_tables, snapshots_serve};
 use pb_history::steps_keep_sound;
 use pb_state::State;
 use pb_store::Tablet;
-use pb_verify::Observer;
 use std::alloc::Global;
 
 // Adds observers to a table, with stats of no run. Memory is asked for before the table has them.

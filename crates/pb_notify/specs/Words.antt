@@ -12,7 +12,7 @@ pub use Rattle.pb_isa.specs.Slots.{slots}
 pub use Rattle.pb_helpers.specs.OldRecord.{record_by, tells_old}
 pub use Rattle.pb_helpers.specs.Replies.{ask_of, reply_of}
 pub use Rattle.pb_helpers.specs.declared.ask.Ask.{Ask}
-pub use Rattle.pb_verify.specs.Observers.{ObserverOf, acknowledgment, column_or_zero, observed_cell, observed_column}
+pub use Rattle.pb_accepted.specs.Observers.{ObserverOf, acknowledgment, column_or_zero, observed_cell, observed_column}
 pub use Rattle.pb_finished.specs.Finished.{IsMeant, Meant}
 pub use Rattle.pb_vm.specs.MachineSlot.{IsAtSlot}
 pub use Rattle.pb_vm.specs.Moves.{Advances, AskedFor, AsksAt, EndsAt, Finishes, IsAskOrEnd, IsAtState, Moves, RepliedWith, Went}

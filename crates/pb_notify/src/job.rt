@@ -1,10 +1,10 @@
 //! Jobs of observers: where a run stands, the step that is next, and how many locks its reads have met.
 use crate::need::Need;
 use crate::place::{RunPlace, begin, keep_step, leave_turn, locked_at, take_answer, tells_old};
+use pb_accepted::Accepted;
 use pb_base::{Cell, Column, NoMemory, ObserverNo, Row};
 use pb_conversations::AsksSteps;
 use pb_steps::{Answer, Step, Work};
-use pb_verify::Accepted;
 use pb_vm::Moved;
 use std::alloc::Global;
 use std::marker::Model;

@@ -9,11 +9,11 @@ ghost use Rattle.pb_vm.specs.Position.{Position};
 ghost use Rattle.pb_vm.specs.declared.moved.Moved.TheVariants.{Ended};
 ghost use Rattle.pb_vm.specs.declared.moved.MachinePhase.TheVariants.{Going, Asking};
 
+use pb_accepted::Accepted;
 use pb_base::{NoMemory, ObserverNo, Ts};
 use pb_finished::Finished;
 use pb_helpers::{Ask, Record};
 use pb_steps::{Answer, Declaration, Declared, EndedRun, reply_in};
-use pb_verify::Accepted;
 use pb_vm::{Moved, Vm};
 use std::alloc::Global;
 use std::marker::Model;

@@ -8,4 +8,4 @@ pub use Rattle.pb_base.specs.declared.names.Row.{Row}
 pub use Rattle.pb_reading.specs.Faults.{Ends, in_lines}
 pub use Rattle.pb_reading.specs.Reading.{in_turn, is_numeral, is_skipped, lines_left, lines_of, next_word, no_word, numeral_upto, shown_lines, words_of, ◌>>=◌}
 pub use Rattle.pb_reading.specs.declared.fault.LineFault.{LineFault}
-pub use Rattle.pb_verify.specs.Observers.{ObserverOf, acknowledgment, observed_column}
+pub use Rattle.pb_accepted.specs.Observers.{ObserverOf, acknowledgment, observed_column}

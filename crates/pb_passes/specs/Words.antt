@@ -1,7 +1,7 @@
 -- The words of the crates below, for this crate's definitions and proofs.
 pub use Rattle.pb_base.specs.Cell.{column_of, row_of}
 pub use Rattle.pb_base.specs.declared.cell.Cell.{Cell}
-pub use Rattle.pb_verify.specs.Observers.{ObserverOf}
+pub use Rattle.pb_accepted.specs.Observers.{ObserverOf}
 pub use Rattle.pb_steps.specs.Answers.{CanAnswer}
 pub use Rattle.pb_steps.specs.declared.step.Answer.{Answer}
 pub use Rattle.pb_steps.specs.declared.step.Step.{Step}

@@ -2,9 +2,9 @@
 ghost use Rattle.std.specs.Prelude.{◌≡◌, ◌<◌, true, false, length, IfOk};
 ghost use Rattle.pb_passes.specs.Passes.{HasColumn, IsJobOn, IsOfOther};
 
+use pb_accepted::Observer;
 use pb_base::{Cell, NoMemory, ObserverNo};
 use pb_notify::ObserverJob;
-use pb_verify::Observer;
 use std::sync::Arc;
 
 /// Whether the observer of this number is one of the cell's column.

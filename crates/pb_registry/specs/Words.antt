@@ -13,7 +13,7 @@ pub use Rattle.pb_helpers.specs.Codes.{code_number}
 pub use Rattle.pb_helpers.specs.Table.{with_helper}
 pub use Rattle.pb_helpers.specs.declared.change.Version.{Version}
 pub use Rattle.pb_helpers.specs.declared.code.RuleCode.{RuleCode}
-pub use Rattle.pb_verify.specs.Arriving.{Accepts, Refuses}
-pub use Rattle.pb_verify.specs.Observers.{ObserverOf, observer_code}
-pub use Rattle.pb_verify.specs.Versions.{judged_by}
+pub use Rattle.pb_accepted.specs.Arriving.{Accepts, Refuses}
+pub use Rattle.pb_accepted.specs.Observers.{ObserverOf, observer_code}
+pub use Rattle.pb_accepted.specs.Versions.{judged_by}
 pub use Rattle.pb_verify.specs.declared.verifier.VerifyFault.{VerifyFault}

@@ -5,10 +5,11 @@ ghost use Rattle.pb_isa.specs.declared.profile.Profile.TheVariants as profiles;
 ghost use Rattle.pb_helpers.specs.declared.change.Version.TheVariants as versions;
 ghost use Rattle.pb_registry.specs.Accepting.{IsAcceptedCode, IsAcceptFault};
 
+use pb_accepted::Accepted;
 use pb_decode::{DecodeFault, decode_in};
 use pb_helpers::{HelperTable, Version};
 use pb_isa::Profile;
-use pb_verify::{Accepted, VerifyFault, verify_for};
+use pb_verify::{VerifyFault, verify_for};
 use std::alloc::Global;
 
 /// Reads the bytes of a program of this profile, and accepts it with these helpers, for change

@@ -12,9 +12,9 @@ use crate::fault::{RegistryFault, fault_at};
 use crate::form::text_at;
 use crate::observer::{RegisteredObserver, observer_in};
 use indexmap::IndexMap;
+use pb_accepted::Observer;
 use pb_base::{MAX_OBSERVERS, NoMemory};
 use pb_isa::Profile;
-use pb_verify::Observer;
 use serde_json::Value;
 use std::alloc::Global;
 

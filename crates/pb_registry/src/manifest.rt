@@ -7,8 +7,8 @@ use crate::form::{Manifest, value_of, whole_in};
 use crate::listing::observers_in;
 use crate::observer::RegisteredObserver;
 use indexmap::IndexMap;
+use pb_accepted::Observer;
 use pb_base::{MAX_OBSERVERS, NoMemory};
-use pb_verify::Observer;
 use std::alloc::Global;
 use std::marker::Model;
 
@@ -20,7 +20,7 @@ pub struct Registry {
 
 impl Model for Registry {
     ghost use Rattle.std.specs.Prelude.{List};
-    ghost use Rattle.pb_verify.specs.Observers.{ObserverOf};
+    ghost use Rattle.pb_accepted.specs.Observers.{ObserverOf};
     ghost use Rattle.pb_registry.specs.Observers.{observers_of, observers_code};
 
     ghost Value = { List ObserverOf };

@@ -7,7 +7,7 @@ pub use Rattle.pb_base.specs.declared.content.Content.{Content}
 pub use Rattle.pb_base.specs.declared.names.Row.{Row}
 pub use Rattle.pb_base.specs.declared.names.Ts.{Ts}
 pub use Rattle.pb_base.specs.declared.refusal.NoMemory.{NoMemory}
-pub use Rattle.pb_verify.specs.Observers.{ObserverOf}
+pub use Rattle.pb_accepted.specs.Observers.{ObserverOf}
 pub use Rattle.pb_steps.specs.Readings.{lock_count}
 pub use Rattle.pb_steps.specs.State.{StateOf, TransactionOf, cells_of, phase_in}
 pub use Rattle.pb_steps.specs.declared.phase.Phase.{Phase}

@@ -4,12 +4,12 @@ ghost use Rattle.pb_script.specs.Tallies.{AreTallies, IsTally};
 ghost use Rattle.pb_history.specs.RunCounts.{IsRunCount, begins_committed_run, phase_is_committed};
 
 use crate::reports::Tally;
+use pb_accepted::Observer;
 use pb_base::NoMemory;
 use pb_core::Shared;
 use pb_history::KeptEntry;
 use pb_steps::{Answer, Phase, Work};
 use pb_store::Tablet;
-use pb_verify::Observer;
 use std::alloc::Global;
 
 fn phase_is_committed(phase: Option<Phase>) -> bool

@@ -6,7 +6,7 @@ pub use Rattle.pb_base.specs.declared.content.Content.{Content}
 pub use Rattle.pb_base.specs.declared.content.Revision.{Revision}
 pub use Rattle.pb_base.specs.declared.names.Row.{Row}
 pub use Rattle.pb_base.specs.declared.names.Ts.{Ts}
-pub use Rattle.pb_verify.specs.Observers.{ObserverOf, acknowledgment}
+pub use Rattle.pb_accepted.specs.Observers.{ObserverOf, acknowledgment}
 pub use Rattle.pb_store.specs.Contents.{Entries, entries_after, slot_at}
 pub use Rattle.pb_store.specs.Slot.{slot_cmp}
 pub use Rattle.pb_store.specs.declared.slot.Item.{Item}

@@ -5,7 +5,7 @@ use Rattle.std.specs.Int.{from_le_bytes, to_le_bytes}
 use Rattle.pb_sound.specs.Words.{STACK_BYTES, Insn, Width, Cmp, Size, Extension, Operand, number, holds, word, insn_at, Map, Placement, State, address, width, extended, fetch, entries, with_list, Kind, Frame, kind_of, is_unset, is_pointer, in_stack, in_record, from_low, are_written, set_flags, with_written, when, RuleCode, unset, stack_reads, at, reads, reads_operand, sets, on_pointer, points, loads, bytes_of, falls, jump_rules, after, with_store}
 use Rattle.pb_isa.specs.declared.insn.Reg as registers
 use Rattle.pb_isa.specs.Machine as m
-use Rattle.pb_verify.specs.Rules as rules
+use Rattle.pb_accepted.specs.Rules as rules
 use Rattle.pb_sound.specs.Fits.{Holds}
 use Rattle.pb_sound.proofs.Alike.{Alike, Agree}
 use Rattle.pb_sound.proofs.Lists.{when_not, cond_when, true_at, flag_from, with_list_below, with_list_above, with_list_in}
@@ -16,7 +16,7 @@ use Rattle.pb_sound.proofs.Stores.{Room, spot, store_room, length-bytes}
 use Rattle.pb_sound.proofs.Arithmetic.{operand_is}
 use Rattle.pb_sound.proofs.Jumps.{jump_lands}
 use Rattle.pb_sound.proofs.AgreeingValues.{Setting, run, Two, number_same, operand_same, agree_set, Agrees}
-use Rattle.pb_verify.proofs.JumpsForward.{empty_parts}
+use Rattle.pb_accepted.proofs.JumpsForward.{empty_parts}
 use Rattle.pb_base.proofs.Logic.{true_if_not as not_false}
 
 -- ---- loads

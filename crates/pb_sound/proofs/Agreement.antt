@@ -12,7 +12,7 @@ use Rattle.pb_sound.proofs.Stores.{stack_room}
 use Rattle.pb_sound.proofs.Calls.{called_is, reply_long}
 use Rattle.pb_sound.proofs.AgreeingValues.{Setting, run, Two, Agrees, alu_agrees, mov_sx_agrees, neg_agrees, load_imm_agrees}
 use Rattle.pb_sound.proofs.AgreeingMemory.{stack_same, load_agrees, alike_put, store_imm_agrees, store_agrees, jump_agrees, jump_if_agrees, exit_agrees}
-use Rattle.pb_verify.proofs.JumpsForward.{empty_parts}
+use Rattle.pb_accepted.proofs.JumpsForward.{empty_parts}
 use Rattle.pb_base.proofs.Logic.{true_if_not as not_false, and_true}
 
 -- ---- calls

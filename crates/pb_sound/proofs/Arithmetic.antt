@@ -3,12 +3,12 @@ use Rattle.std.proofs.Common.{arith, ◌≡◌, ℕ, ◌+◌, ℤ, pos, neg_ℤ,
 use Rattle.pb_sound.specs.Words.{Insn, AluOp, Width, Size, Operand, alu, word, Environment, State, does, address, mov_sx, Kind, Frame, is_pointer, when, RuleCode, at, reads, reads_operand, sets, numeric_rules, on_pointer, insn_rules, kind_after, move_pointer}
 use Rattle.pb_isa.specs.declared.insn.Reg as registers
 use Rattle.pb_isa.specs.Machine as m
-use Rattle.pb_verify.specs.Rules as rules
+use Rattle.pb_accepted.specs.Rules as rules
 use Rattle.pb_sound.specs.Fits.{HasValue, Holds, FitsFrame}
 use Rattle.pb_sound.specs.Outcomes.{GoesOn}
 use Rattle.pb_sound.proofs.Offsets.{sub_is}
 use Rattle.pb_sound.proofs.Registers.{read_value, sets_on, IsFollowed}
-use Rattle.pb_verify.proofs.JumpsForward.{empty_parts}
+use Rattle.pb_accepted.proofs.JumpsForward.{empty_parts}
 
 -- the operands have values, and what comes of them is of the kind after
 pub record Operands (e : Environment) (f : Frame) (s : State) (op : AluOp) (w : Width) (d : registers.Reg) (x : Operand) : Type 0 where

@@ -10,7 +10,7 @@ use Rattle.pb_sound.proofs.Registers.{next_is_there, among_one, IsFollowed}
 use Rattle.pb_sound.proofs.Loads.{stretch_is_written}
 use Rattle.pb_sound.proofs.Stores.{spot, stack_room, fits_put}
 use Rattle.pb_base.proofs.Logic.{below_true as below, true_if_not as not_false, and_true}
-use Rattle.pb_verify.proofs.JumpsForward.{empty_parts}
+use Rattle.pb_accepted.proofs.JumpsForward.{empty_parts}
 
 -- ---- after a call
 

@@ -7,7 +7,7 @@ use Rattle.pb_sound.specs.Fits.{FitsFrame}
 use Rattle.pb_sound.specs.Outcomes.{GoesOn}
 use Rattle.pb_sound.proofs.Registers.{read_value, IsFollowed}
 use Rattle.pb_sound.proofs.Arithmetic.{operand_is}
-use Rattle.pb_verify.proofs.JumpsForward.{empty_parts}
+use Rattle.pb_accepted.proofs.JumpsForward.{empty_parts}
 
 -- a jump that is let through leads to the first slot of an instruction
 pub record Lands (p : List Insn) (n : ℕ) (o : ℤ) : Type 0 where

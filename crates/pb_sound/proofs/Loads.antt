@@ -9,7 +9,7 @@ use Rattle.pb_sound.specs.Outcomes.{GoesOn}
 use Rattle.pb_sound.proofs.Lists.{Bytes, when_not, cond_when, entries_are, true_at}
 use Rattle.pb_sound.proofs.Offsets.{moved_word, le_from, stack_at, lies_between}
 use Rattle.pb_sound.proofs.Registers.{read_value, sets_on, IsFollowed}
-use Rattle.pb_verify.proofs.JumpsForward.{empty_parts}
+use Rattle.pb_accepted.proofs.JumpsForward.{empty_parts}
 use Rattle.pb_base.proofs.Logic.{true_if_not as not_false, and_true}
 
 -- n bytes are fetched

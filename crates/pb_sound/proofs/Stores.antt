@@ -10,7 +10,7 @@ use Rattle.pb_sound.proofs.Lists.{when_not, flag_from, with_list_below, with_lis
 use Rattle.pb_sound.proofs.Offsets.{moved_word, le_from, stack_at, lies_between}
 use Rattle.pb_sound.proofs.Registers.{read_value, next_is_there, among_one, IsFollowed}
 use Rattle.pb_sound.proofs.Loads.{some_bytes}
-use Rattle.pb_verify.proofs.JumpsForward.{empty_parts}
+use Rattle.pb_accepted.proofs.JumpsForward.{empty_parts}
 use Rattle.pb_base.proofs.Logic.{true_if_not as not_false, and_true}
 
 -- a byte that is written after n bytes are put from lo on

@@ -33,12 +33,12 @@ pub use Rattle.pb_helpers.specs.Arguments.{call_rules, filled_bytes, is_cell, is
 pub use Rattle.pb_helpers.specs.Bytes.{padded}
 pub use Rattle.pb_helpers.specs.Codes.{lowest_code, when}
 pub use Rattle.pb_helpers.specs.declared.code.RuleCode.{RuleCode}
-pub use Rattle.pb_verify.specs.Accesses.{access_at, access_from, access_of, call_access}
-pub use Rattle.pb_verify.specs.Arriving.{Accepts, Refuses, codes_at, faults, has_slot, if_leads}
-unfoldable pub use Rattle.pb_verify.specs.Arriving.{in_at}
-pub use Rattle.pb_verify.specs.Following.{after, after_call, ahead, clobber, kind_after, leads, move_pointer, with_kind, with_store}
-pub use Rattle.pb_verify.specs.Forward.{IsForward, LeadsAreLater}
-pub use Rattle.pb_verify.specs.Needs.{NeedsFall}
-pub use Rattle.pb_verify.specs.Rules.{at, bytes_of, falls, insn_rules, jump_rules, loads, numeric_rules, on_pointer, points, reads, reads_operand, sets, stores}
-pub use Rattle.pb_verify.specs.Ways.{Fact, HasByte, HasKind, IsMeetOfWays, IsWay, Says, out_at}
-pub use Rattle.pb_verify.specs.declared.accesses.Access.{Access}
+pub use Rattle.pb_accepted.specs.Accesses.{access_at, access_from, access_of, call_access}
+pub use Rattle.pb_accepted.specs.Arriving.{Accepts, Refuses, codes_at, faults, has_slot, if_leads}
+unfoldable pub use Rattle.pb_accepted.specs.Arriving.{in_at}
+pub use Rattle.pb_accepted.specs.Following.{after, after_call, ahead, clobber, kind_after, leads, move_pointer, with_kind, with_store}
+pub use Rattle.pb_accepted.specs.Forward.{IsForward, LeadsAreLater}
+pub use Rattle.pb_accepted.specs.Needs.{NeedsFall}
+pub use Rattle.pb_accepted.specs.Rules.{at, bytes_of, falls, insn_rules, jump_rules, loads, numeric_rules, on_pointer, points, reads, reads_operand, sets, stores}
+pub use Rattle.pb_accepted.specs.Ways.{Fact, HasByte, HasKind, IsMeetOfWays, IsWay, Says, out_at}
+pub use Rattle.pb_accepted.specs.declared.access.Access.{Access}

@@ -13,7 +13,7 @@ pub use Rattle.pb_base.specs.declared.refusal.Reason.{Reason}
 pub use Rattle.pb_isa.specs.Meaning.{Talk}
 pub use Rattle.pb_isa.specs.Programs.{JudgedOf, judged_code}
 pub use Rattle.pb_helpers.specs.OldRecord.{record_by, tells_old}
-pub use Rattle.pb_verify.specs.Observers.{ObserverOf, acknowledgment, acknowledgment_at, observed_cell}
+pub use Rattle.pb_accepted.specs.Observers.{ObserverOf, acknowledgment, acknowledgment_at, observed_cell}
 pub use Rattle.pb_finished.specs.Finished.{Meant}
 pub use Rattle.pb_store.specs.Contents.{ComesAfter, Entries, IsNewest, IsNextMark, IsOfSort, Marks, entries_after, slot_at}
 pub use Rattle.pb_store.specs.Slot.{slot_cmp, slot_cmp-IsAntisymmetric, slot_cmp_total, sort_rank}

@@ -9,9 +9,9 @@ ghost use Rattle.pb_state.specs.MoreObservers.{HasMoreMarks, HasMoreObservers};
 
 use crate::commit::is_observed;
 use crate::parts::Parts;
+use pb_accepted::Observer;
 use pb_base::{Cell, NoMemory};
 use pb_store::{Edit, Item, Slot, Sort, Table, Tablet};
-use pb_verify::Observer;
 
 // Whether an entry is a write record. That a slot has an item of its sort is nothing that callers of a table know.
 pub(crate) fn is_write_record(sort: Sort, item: &Item) -> bool

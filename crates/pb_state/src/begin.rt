@@ -8,10 +8,10 @@ ghost use Rattle.pb_state.specs.Admitted.{TellsAdmission};
 use crate::admitted::Admitted;
 use crate::parts::Parts;
 use crate::transaction::Transaction;
+use pb_accepted::Observer;
 use pb_base::{NoMemory, Reason, Ts};
 use pb_steps::{Answer, Step, Work};
 use pb_store::Tablet;
-use pb_verify::Observer;
 
 // Whether a run is of an observer that there isn't.
 fn is_unknown(observers: &[Observer], work: Work) -> bool

@@ -11,9 +11,9 @@ use crate::carry_fault::CarryFault;
 use crate::parts::Parts;
 use crate::readings::slot_of;
 use crate::transaction::Transaction;
+use pb_accepted::Observer;
 use pb_base::{Cell, Column, Content, NoMemory, ObserverNo, Revision, Ts};
 use pb_store::{Edit, Item, Sort, Table, Tablet};
-use pb_verify::Observer;
 
 // Puts data and write record of a version on a cell. Data first, since they stand first: a tablet then searches once.
 fn version_edits(cell: &Cell, version: &Revision) -> [Edit; 2]

@@ -8,9 +8,9 @@ ghost use Rattle.pb_steps.specs.Commits.{commit_lock};
 ghost use Rattle.pb_steps.specs.Marks.{is_observed, with_mark};
 
 use crate::readings::slot_of;
+use pb_accepted::Observer;
 use pb_base::{Cell, Column, NoMemory, Ts};
 use pb_store::{Edit, Item, Sort, Table, Tablet};
-use pb_verify::Observer;
 
 // Whether the column has an observer.
 fn has_observer(observers: &[Observer], column: Column) -> bool

@@ -40,11 +40,11 @@ mod transactions;
 pub use admitted::{Admitted, TransactionAt};
 pub use carry_fault::CarryFault;
 pub use carry_over::is_content_of;
+pub use pb_accepted::{Accepted, Observer};
 pub use pb_finished::Finished;
 pub use pb_helpers::Record;
 pub use pb_steps::{
     Answer, Declaration, Declared, EndedRun, Phase, RecordedRead, Seen, Step, Work,
     acknowledged_in, version_in,
 };
-pub use pb_verify::{Accepted, Observer};
 pub use state::State;

@@ -9,9 +9,9 @@ ghost use Rattle.pb_state.specs.MarkedBehind.{HasSomeMarked, IsMarkedBehind};
 use crate::add_observers::{is_write_record, mark_edits};
 use crate::parts::Parts;
 use crate::sweep::is_behind;
+use pb_accepted::Observer;
 use pb_base::{Cell, NoMemory};
 use pb_store::{Item, Slot, Table, Tablet};
-use pb_verify::Observer;
 
 // Marks the cell of an entry, if that is a write record and an observer isn't up to date on the cell.
 fn mark_if_behind<T: Tablet>(

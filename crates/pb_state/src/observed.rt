@@ -6,19 +6,19 @@ ghost use Rattle.pb_base.specs.declared.refusal.Reason.TheVariants.{NotItsDeclar
 ghost use Rattle.pb_helpers.specs.Bytes.{is_second};
 ghost use Rattle.pb_helpers.specs.OldRecord as versions;
 ghost use Rattle.pb_helpers.specs.Replies.{ask_of, reply_of};
-ghost use Rattle.pb_verify.specs.Observers.{acknowledgment_at};
+ghost use Rattle.pb_accepted.specs.Observers.{acknowledgment_at};
 ghost use Rattle.pb_finished.specs.Talk.{talk_of};
 ghost use Rattle.pb_steps.specs.Reads.{value_in};
 ghost use Rattle.pb_steps.specs.Declarations.{old_at, is_at, is_read_of, with_old, seen_by, seen_in, asked_in, is_replied, are_replies, is_made_of, is_run_by, is_run_of, is_its};
 ghost use Rattle.pb_state.specs.Cells.{acknowledgment_by};
 
+use pb_accepted::{Accepted, Observer};
 use pb_base::{Cell, ObserverNo, Reason, Revision, Row, Ts};
 use pb_finished::Finished;
 use pb_helpers::{Ask, Record, Reply, Version};
 use pb_steps::{
     Answer, Declared, RecordedRead, Seen, Work, acknowledged_in, old_at, reply_in, version_in,
 };
-use pb_verify::{Accepted, Observer};
 use std::sync::Arc;
 
 // Whether two reads named one timestamp, or none.

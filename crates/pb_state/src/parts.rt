@@ -4,10 +4,10 @@ ghost use Rattle.std.specs.Prelude.{◌≡◌};
 use crate::admitted::{Admitted, TransactionAt};
 use crate::transaction::Transaction;
 use crate::transactions::Transactions;
+use pb_accepted::Observer;
 use pb_base::{NoMemory, Reason, Ts};
 use pb_steps::{Answer, Step};
 use pb_store::{Table, Tablet};
-use pb_verify::Observer;
 use std::alloc::Global;
 use std::marker::Model;
 

@@ -6,10 +6,10 @@ use crate::carry_fault::CarryFault;
 use crate::parts::Parts;
 use crate::readings::{count_locks, count_marks};
 use crate::transactions::Transactions;
+use pb_accepted::Observer;
 use pb_base::{Cell, MAX_OBSERVERS, MAX_SEATS, NoMemory, Reason, Refusal, Revision, Ts};
 use pb_steps::{Answer, Phase, Step};
 use pb_store::{Table, Tablet};
-use pb_verify::Observer;
 use std::alloc::Global;
 use std::marker::Model;
 

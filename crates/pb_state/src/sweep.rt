@@ -10,10 +10,10 @@ ghost use Rattle.pb_state.specs.Behind.{IsNewestStamp, IsLate, IsOnTime, SomeLat
 
 use crate::parts::Parts;
 use crate::readings::{LAST, version_of};
+use pb_accepted::Observer;
 use pb_base::{Cell, Column, NoMemory, ObserverNo, Row, Ts};
 use pb_steps::{Answer, Step, stamp_of};
 use pb_store::{Edit, Table, Tablet};
-use pb_verify::Observer;
 use std::cmp::Ordering;
 
 // A cell of the row before, or none, where a walk begins with the first mark of all.

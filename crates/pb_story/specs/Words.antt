@@ -20,7 +20,7 @@ pub use Rattle.pb_helpers.specs.OldRecord.{record_by}
 pub use Rattle.pb_helpers.specs.Replies.{ask_of, reply_of}
 pub use Rattle.pb_helpers.specs.declared.change.Version.{Version}
 pub use Rattle.pb_verify.specs.Known.{known_at}
-pub use Rattle.pb_verify.specs.Observers.{ObserverOf}
+pub use Rattle.pb_accepted.specs.Observers.{ObserverOf}
 pub use Rattle.pb_sound.specs.Positions.{AreRepliesOf}
 pub use Rattle.pb_vm.specs.Moves.{SameGiven}
 pub use Rattle.pb_vm.specs.Position.{Position}

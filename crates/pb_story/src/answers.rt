@@ -4,9 +4,9 @@ ghost use Rattle.pb_story.specs.Answers.{found_text, answer_text};
 
 use crate::cells::add_content;
 use crate::steps::{add_at_cell, add_of_start, add_on_cell};
+use pb_accepted::Observer;
 use pb_base::{Content, Ts};
 use pb_steps::Answer;
-use pb_verify::Observer;
 use std::alloc::AllocError;
 
 // Adds a version that was found.

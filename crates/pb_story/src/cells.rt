@@ -2,9 +2,9 @@
 ghost use Rattle.std.specs.Prelude.{◌≡◌, ◌++◌, OnOk, string_bytes};
 ghost use Rattle.pb_story.specs.Cells.{observer_name, cell_text, content_text, write_text, writes_text};
 
+use pb_accepted::Observer;
 use pb_base::{Batch, Cell, Content, ObserverNo};
 use pb_script::digits_of;
-use pb_verify::Observer;
 use std::alloc::AllocError;
 
 /// Adds the name of the observer of this number, and nothing where there is none.

@@ -6,10 +6,10 @@ ghost use Rattle.pb_story.specs.Lines.{GrowsBy, seat_of, job_text, IsTurn, IsDee
 use crate::answers::add_answer;
 use crate::cells::add_name;
 use crate::steps::{add_on_cell, add_step};
+use pb_accepted::Observer;
 use pb_parse::{Event, Job};
 use pb_store::Tablet;
 use pb_texts::Excerpt;
-use pb_verify::Observer;
 use pb_world::{ActorJob, Note, World};
 use std::alloc::{AllocError, Global};
 

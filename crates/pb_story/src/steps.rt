@@ -3,9 +3,9 @@ ghost use Rattle.std.specs.Prelude.{◌≡◌, ◌++◌, OnOk, string_bytes};
 ghost use Rattle.pb_story.specs.Steps.{work_text, declared_text, start_text, on_cell_text, at_cell_text, next_mark_text, step_text};
 
 use crate::cells::{add_batch, add_cell, add_name, add_writes};
+use pb_accepted::Observer;
 use pb_base::{Cell, Ts};
 use pb_steps::{Declared, Step, Work};
-use pb_verify::Observer;
 use std::alloc::AllocError;
 
 // Adds what a transaction is for.

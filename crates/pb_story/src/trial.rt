@@ -12,11 +12,11 @@ ghost use Rattle.pb_vm.specs.declared.moved.MachinePhase.TheVariants.{Going};
 ghost use Rattle.pb_story.specs.Trials.{held_by, reply_in, change_start, run_start, acknowledged_before, trial_record, reply_text, ask_line, write_line, end_lines, EndsNow, lines_of_run, IsTrialText};
 
 use crate::cells::{add_cell, add_content};
+use pb_accepted::Accepted;
 use pb_base::{Cell, Content, NoMemory, Revision, Ts};
 use pb_finished::Finished;
 use pb_helpers::{Ask, Record, Reply, Version};
 use pb_texts::{Trial, TrialCell};
-use pb_verify::Accepted;
 use pb_vm::{Moved, Vm};
 use std::alloc::{AllocError, Global};
 use std::sync::Arc;

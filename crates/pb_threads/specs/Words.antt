@@ -6,7 +6,7 @@ pub use Rattle.pb_base.specs.declared.cell.Cell.{Cell}
 pub use Rattle.pb_base.specs.declared.names.Ts.{Ts}
 pub use Rattle.pb_base.specs.declared.refusal.Reason.{Reason}
 pub use Rattle.pb_base.specs.declared.refusal.Refusal.{Refusal}
-pub use Rattle.pb_verify.specs.Observers.{ObserverOf}
+pub use Rattle.pb_accepted.specs.Observers.{ObserverOf}
 pub use Rattle.pb_store.specs.Contents.{Contents}
 pub use Rattle.pb_store.specs.Tiles.{refusal_or_want, swap_reason}
 pub use Rattle.pb_steps.specs.Answers.{CanAnswer}

@@ -1,7 +1,7 @@
 //! Runs of observers, each followed to its end.
 ghost use Rattle.std.specs.Prelude.{◌≡◌, ◌≢◌, ◌<◌, ℕ, length, IfOk, IfErr, OnOk, List};
 ghost use Rattle.pb_base.specs.declared.cell.Cell.{Cell};
-ghost use Rattle.pb_verify.specs.Observers.{ObserverOf};
+ghost use Rattle.pb_accepted.specs.Observers.{ObserverOf};
 ghost use Rattle.pb_core.specs.Calls.{SeatOf};
 ghost use Rattle.pb_notify.specs.Runs.{need_of};
 ghost use Rattle.pb_notify.specs.declared.need.Need.TheVariants.{Local};
@@ -15,11 +15,11 @@ ghost use Rattle.pb_threads.specs.Stops.{Stops};
 use crate::desk::{Callee, Caller};
 use crate::gate::Gate;
 use crate::waits::{turns_after, yield_for};
+use pb_accepted::Observer;
 use pb_base::{Cell, NoMemory, ObserverNo, Refusal};
 use pb_core::Seat;
 use pb_notify::{Need, ObserverJob, jobs_converse};
 use pb_passes::job_on;
-use pb_verify::Observer;
 use std::alloc::Global;
 use std::sync::{Arc, Wait};
 

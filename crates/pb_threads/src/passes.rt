@@ -9,11 +9,11 @@ ghost use Rattle.pb_threads.specs.Stops.{Stops};
 use crate::desk::{Callee, Caller};
 use crate::gate::Gate;
 use crate::job::run_one;
+use pb_accepted::Observer;
 use pb_base::{Cell, ObserverNo, Refusal};
 use pb_core::Seat;
 use pb_passes::{MAX_PASSES, is_observer_of};
 use pb_steps::{Answer, Step};
-use pb_verify::Observer;
 use std::sync::Wait;
 
 // Runs each observer of the cell's column, in file order.

@@ -10,9 +10,9 @@ use crate::desk::{Callee, Caller};
 use crate::gate::Gate;
 use crate::passes::drain;
 use crate::tries::change_all;
+use pb_accepted::Observer;
 use pb_base::{Batch, Refusal};
 use pb_core::Seat;
-use pb_verify::Observer;
 use std::sync::Wait;
 
 /// A worker with its seat: why it stopped, and of each of its changes whether it committed.

@@ -8,7 +8,7 @@ pub use Rattle.pb_base.specs.declared.names.Ts.{Ts}
 pub use Rattle.pb_base.specs.declared.refusal.Reason.{Reason}
 pub use Rattle.pb_helpers.specs.OldRecord.{record_by}
 pub use Rattle.pb_helpers.specs.Record.{recorded_column, recorded_row}
-pub use Rattle.pb_verify.specs.Observers.{ObserverOf, observed_cell, observed_column}
+pub use Rattle.pb_accepted.specs.Observers.{ObserverOf, observed_cell, observed_column}
 pub use Rattle.pb_steps.specs.Answers.{CanAnswer}
 pub use Rattle.pb_steps.specs.CommitSecondary.{secondary_reasons}
 pub use Rattle.pb_steps.specs.Phases.{is_committed, is_declared, is_stamped}

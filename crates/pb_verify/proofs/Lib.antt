@@ -1,12 +1,7 @@
 pub mod LowestCode
-pub mod CodesRise
 pub mod PointersWithin
-pub mod FramesAfter
 pub mod Pairs
 pub mod Pending
 pub mod KnownFrames
 pub mod Resolved
-pub mod CallsCounted
-pub mod FramesAreMeets
 pub mod OneVerdict
-pub mod JumpsForward

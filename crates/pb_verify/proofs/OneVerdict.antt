@@ -2,8 +2,7 @@
 use Rattle.std.proofs.Common.{◌≡◌, ℕ, zero, suc, ◌<◌, ◌≤◌, List, [], ◌∷◌, Some, None, refl, sym, ap, ◌∙◌, arith, below_more, add-one, ◌⊎◌}
 use Rattle.std.proofs.lemmas.Bool.Decides.{leb_tells}
 use mathlib.Core.Logic.{inl, inr}
-use Rattle.pb_verify.specs.Words.{slots, JudgedOf, RuleCode, lowest_code}
-use Rattle.pb_verify.specs.Arriving.{faults, Refuses}
+use Rattle.pb_verify.specs.Words.{slots, JudgedOf, RuleCode, lowest_code, faults, Refuses}
 use Rattle.pb_verify.specs.Verdict.{HasOneVerdict}
 use Rattle.pb_base.proofs.Logic.{same_some}
 

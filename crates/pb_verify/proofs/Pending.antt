@@ -2,9 +2,8 @@
 -- sent so far.
 use Rattle.std.proofs.Common.{◌≡◌, ℕ, suc, ◌+◌, ◌<◌, false, List, [], ◌∷◌, ◌++◌, Option, None, length, refl, arith, nat_eq}
 use Rattle.std.proofs.lemmas.Bool.Decides.{nat_tests}
-use Rattle.pb_verify.specs.Words.{Insn, insn_at, Frame, RuleCode, lowest_code}
-use Rattle.pb_verify.specs.Arriving.{merge, if_leads, gather, frame_before, frame_after, outs, in_at}
-use Rattle.pb_verify.proofs.FramesAfter.{length-outs, outs_more}
+use Rattle.pb_verify.specs.Words.{Insn, insn_at, Frame, RuleCode, lowest_code, merge, if_leads, gather, frame_before, frame_after, outs, in_at}
+use Rattle.pb_accepted.proofs.FramesAfter.{length-outs, outs_more}
 
 -- what is gathered of one frame more is what was gathered before, merged with that frame where it leads there
 gather_more : (p : List Insn) (n m : ℕ) (known : Option Frame) (fs : List (Option Frame)) (f : Option Frame) → gather p n m known (fs ++ f ∷ []) ≡ merge (gather p n m known fs) (if_leads (insn_at p (m + length fs)) (m + length fs) n f)

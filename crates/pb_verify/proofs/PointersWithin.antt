@@ -1,9 +1,7 @@
 -- Pointers stay near: each instruction moves one by at most 2 ^ 31, and a join moves none. So no sum of the verifier
 -- leaves its 64 bits, also of a program that is refused.
 use Rattle.std.proofs.Common.{◌≡◌, ℕ, zero, suc, ◌+◌, ◌≤◌, Bool, cond, List, [], ◌∷◌, ◌++◌, Option, None, set, get_or, arith, slice_index_or}
-use Rattle.pb_verify.specs.Words.{Insn, Reg, number, insn_at, Kind, Frame, pointwise, meet, same_kind, join, entry_frame}
-use Rattle.pb_verify.specs.Following.{with_kind}
-use Rattle.pb_verify.specs.Arriving.{merge, if_leads, gather, frame_before}
+use Rattle.pb_verify.specs.Words.{Insn, Reg, number, insn_at, Kind, Frame, pointwise, meet, same_kind, join, entry_frame, with_kind, merge, if_leads, gather, frame_before}
 use Rattle.pb_verify.specs.Within.{IsNear, IsWithin, IsWithinIf}
 
 -- no pointer is further than so far in any of the frames

@@ -1,8 +1,7 @@
 -- What is known before each slot of a program, accepted or not: the contract of `frames` cites it. It is what the
 -- verifier knows, so that `percobpf_story frames` and `explain` can show why a program is refused.
 use Rattle.std.specs.Prelude.{ℕ, List, Option, Some, None}
-use Rattle.pb_verify.specs.Words.{Insn, insn_at, Frame}
-use Rattle.pb_verify.specs.Arriving.{in_at}
+use Rattle.pb_verify.specs.Words.{Insn, insn_at, Frame, in_at}
 
 -- before an instruction; a second slot has none
 abbrev pub known_by : Option Insn → Option Frame → Option Frame

@@ -1,14 +1,4 @@
 pub mod Words
-pub mod Rules
-pub mod Following
-pub mod Arriving
 pub mod Verdict
 pub mod Within
-pub mod Ways
-pub mod Forward
-pub mod Accesses
-pub mod Effects
-pub mod Versions
-pub mod Needs
 pub mod Known
-pub mod Observers

@@ -1,10 +1,8 @@
 -- What the verifier answers: the contracts of `verify` and `verify_for`, and the law that each program is accepted or
 -- refused, and not both, and refused at one slot with one code.
 use Rattle.std.specs.Prelude.{◌≡◌, ◌⊎◌, ℕ}
-use Rattle.pb_verify.specs.Words.{ProgramOf, JudgedOf, HelperSet, RuleCode, code_number, Version}
+use Rattle.pb_verify.specs.Words.{ProgramOf, JudgedOf, HelperSet, RuleCode, code_number, Version, judged_by, Accepts, Refuses}
 use Rattle.pb_verify.specs.declared.verifier.VerifyFault.{VerifyFault}
-use Rattle.pb_verify.specs.Versions.{judged_by}
-use Rattle.pb_verify.specs.Arriving.{Accepts, Refuses}
 
 -- the program judged with its table for change records of a version, which the rules accept
 pub record IsAccepted (v : Version) (p : ProgramOf) (h : HelperSet) (a : JudgedOf) : Type 0 where

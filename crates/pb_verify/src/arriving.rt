@@ -2,10 +2,8 @@
 ghost use Rattle.std.specs.Prelude.{◌≡◌, ◌<◌, ◌≤◌, ◌+◌, ℕ, Some, None, [], ◌∷◌, if◌then◌else◌, nat_eq, length, slice_index_or, option_map, IfOk, OnOk};
 ghost use Rattle.std.specs.Box.{box_value};
 ghost use Rattle.pb_isa.specs.Slots.{places_of};
-ghost use Rattle.pb_verify.specs.Following.{ahead};
-ghost use Rattle.pb_verify.specs.Arriving.{has_slot, if_leads, merge};
-ghost use Rattle.pb_verify.specs.Forward.{LeadsAreLater, AcceptedJumpsGoForward};
-ghost use Rattle.pb_verify.specs.Ways.{FramesAreMeets};
+ghost use Rattle.pb_accepted.specs.Following.{ahead};
+ghost use Rattle.pb_accepted.specs.Arriving.{has_slot, if_leads, merge};
 
 use pb_base::NoMemory;
 use pb_isa::{Insn, MAX_SLOTS};
@@ -134,15 +132,3 @@ pub fn no_jumps(alloc: Global, slots: usize) -> Result<Vec<Option<Box<Frame>>>, 
     }
     Ok(jumps)
 }
-
-/// The frame before a slot says exactly what is known on every way to it: a kind is known, and a byte is written, where it
-/// is so after each earlier instruction that leads there. To the first slot entry alone leads.
-pub fn frames_are_meets()
-    ensures { FramesAreMeets }
-{}
-
-/// An instruction leads to later slots alone, and the jumps of an accepted program go forward.
-pub fn jumps_lead_on()
-    ensures later { LeadsAreLater }
-    ensures forward { AcceptedJumpsGoForward }
-{}

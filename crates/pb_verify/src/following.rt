@@ -1,6 +1,6 @@
 //! What is known after an instruction: the one frame of a pass is changed in place, from instruction to instruction.
 ghost use Rattle.std.specs.Prelude.{◌≡◌, ◌≤◌, ◌<◌, ◌+◌, ◌^◌, ℕ, nat_abs};
-ghost use Rattle.pb_verify.specs.Following.{with_kind, move_pointer, kind_after, with_store, clobber, after_call, after};
+ghost use Rattle.pb_accepted.specs.Following.{with_kind, move_pointer, kind_after, with_store, clobber, after_call, after};
 ghost use Rattle.pb_isa.specs.Helpers.{helper_of};
 ghost use Rattle.pb_verify.specs.Within.{IsNear, IsWithin};
 

@@ -2,8 +2,8 @@
 //!
 //! RFC 9669 leaves verification to the platform: the rules are the project's own profile. They are
 //! there so that no run of an accepted program is ever stuck, which `pb_sound` proves of them,
-//! apart from here, so that a verdict needs no word of the machine. An accepted program comes with
-//! its instructions resolved, which `pb_vm` runs without a test. `pb_registry` calls `verify_for`,
+//! apart from here, so that a verdict needs no word of the machine. They stand in `pb_accepted`, with the
+//! type of an accepted program: it comes with its instructions resolved, which `pb_vm` runs without a test. `pb_registry` calls `verify_for`,
 //! and `pb_story` shows by `frames` what is known before a slot.
 //!
 //! A program is accepted exactly where the rules hold at every slot, else refused at the first at fault; each has one
@@ -11,24 +11,14 @@
 //! set register 0.
 #![tactic(auto)]
 
-mod accepted;
 mod accesses;
 mod arriving;
 mod following;
 mod known;
-mod needs;
-mod observer;
-mod op;
 mod resolving;
 mod rules;
 mod verifier;
 
-pub use accepted::Accepted;
-pub use accesses::Access;
-pub use arriving::{frames_are_meets, jumps_lead_on};
 pub use known::frames;
-pub use needs::needs_fall;
-pub use observer::Observer;
-pub use op::Op;
-pub use rules::codes_rise;
+pub use pb_accepted::{Accepted, Access, Observer, Op};
 pub use verifier::{VerifyFault, either_accepted_or_refused, verify, verify_for};

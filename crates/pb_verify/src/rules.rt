@@ -5,14 +5,13 @@ ghost use Rattle.std.specs.Prelude.{◌≡◌, ◌<◌, ◌+◌, ◌^◌, ◌≤
 ghost use Rattle.pb_isa.specs.Slots.{slots};
 ghost use Rattle.pb_kinds.specs.Ranges as ranges;
 ghost use Rattle.pb_helpers.specs.Bytes.{size_of};
-ghost use Rattle.pb_verify.specs.Versions.{judged_by};
+ghost use Rattle.pb_accepted.specs.Versions.{judged_by};
 ghost use Rattle.pb_helpers.specs.Codes.{lowest_code};
-ghost use Rattle.pb_verify.specs.Rules.{at, reads, sets, reads_operand, points, on_pointer, bytes_of, falls, numeric_rules, part_mov_rules, mov_rules, add_rules, alu_rules, loads, stores, load_rules, store_imm_rules, store_rules, jump_rules, jump_if_rules, exit_rules, insn_rules, CodesRise};
+ghost use Rattle.pb_accepted.specs.Rules.{at, reads, sets, reads_operand, points, on_pointer, bytes_of, falls, numeric_rules, part_mov_rules, mov_rules, add_rules, alu_rules, loads, stores, load_rules, store_imm_rules, store_rules, jump_rules, jump_if_rules, exit_rules, insn_rules};
 ghost use Rattle.pb_verify.specs.Within.{IsNear, IsWithin};
 
 use pb_helpers::{
-    HelperTable, RuleCode, Version, argument_code, argument_codes_rise, stack_read_code,
-    stack_write_code, unset_code,
+    HelperTable, RuleCode, Version, argument_code, stack_read_code, stack_write_code, unset_code,
 };
 use pb_isa::{AluOp, Insn, MAX_RECORD_BYTES, Operand, Program, RECORD_BYTES, Reg, Size, Width};
 use pb_kinds::{Frame, Kind};
@@ -339,11 +338,4 @@ pub fn lowest_broken(
         Insn::Call { imm } => argument_code(helpers, imm, frame).or(falls),
         Insn::Exit => exit(frame),
     }
-}
-
-/// The codes of the rules that an instruction breaks are listed lowest first, all from 21 to 38.
-pub fn codes_rise()
-    ensures { CodesRise }
-{
-    argument_codes_rise();
 }

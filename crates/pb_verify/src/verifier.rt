@@ -22,20 +22,19 @@ ghost use Rattle.std.specs.Prelude.{◌≡◌, ◌<◌, ◌^◌, Some, None, tru
 ghost use Rattle.pb_isa.specs.Slots.{slots};
 ghost use Rattle.pb_base.specs.Growths.{refused_growth};
 ghost use Rattle.pb_helpers.specs.declared.change.Version.TheVariants as Version;
-ghost use Rattle.pb_verify.specs.Versions.{judged_by};
+ghost use Rattle.pb_accepted.specs.Versions.{judged_by};
 ghost use Rattle.pb_helpers.specs.Codes.{lowest_code};
-ghost use Rattle.pb_verify.specs.Arriving.{codes_at};
+ghost use Rattle.pb_accepted.specs.Arriving.{codes_at};
 ghost use Rattle.pb_verify.specs.Verdict.{IsAccepted, IsVerifyFault, EachHasOneVerdict};
 ghost use Rattle.pb_verify.specs.Within.{IsWithinIf};
 ghost use Rattle.pb_verify.specs.declared.verifier.VerifyFault.TheVariants.{NoMemory};
 
-use crate::accepted::Accepted;
 use crate::accesses::access_of;
 use crate::arriving::{arrive, no_jumps, spread};
 use crate::following::step;
-use crate::op::Op;
 use crate::resolving::{resolve, resolve_next};
 use crate::rules::lowest_broken;
+use pb_accepted::{Accepted, Op};
 use pb_base::{NoMemory, Refused};
 use pb_decode::PackedProgram;
 use pb_helpers::{HelperTable, RuleCode, Version};

@@ -20,13 +20,13 @@ pub use Rattle.pb_isa.specs.declared.limits.TheConstants.{MAX_RECORD_BYTES, MAX_
 pub use Rattle.pb_isa.specs.declared.profile.Profile.{Profile}
 pub use Rattle.pb_helpers.specs.Bytes.{padded}
 pub use Rattle.pb_helpers.specs.Replies.{ask_of, reply_of}
-pub use Rattle.pb_verify.specs.Accesses.{access_at}
-pub use Rattle.pb_verify.specs.Arriving.{Accepts}
-pub use Rattle.pb_verify.specs.Effects.{AreResolved, Deletes, Effect, JumpTo, Reads, Tells, call_effect, effect_at, effect_by, extension_of, move_effect}
-pub use Rattle.pb_verify.specs.Forward.{IsForward}
-pub use Rattle.pb_verify.specs.Needs.{called_by, reads_by, reads_from, writes_by, writes_from}
-pub use Rattle.pb_verify.specs.declared.accesses.Access.{Access}
-pub use Rattle.pb_verify.specs.declared.op.Op.{Op}
+pub use Rattle.pb_accepted.specs.Accesses.{access_at}
+pub use Rattle.pb_accepted.specs.Arriving.{Accepts}
+pub use Rattle.pb_accepted.specs.Effects.{AreResolved, Deletes, Effect, JumpTo, Reads, Tells, call_effect, effect_at, effect_by, extension_of, move_effect}
+pub use Rattle.pb_accepted.specs.Forward.{IsForward}
+pub use Rattle.pb_accepted.specs.Needs.{called_by, reads_by, reads_from, writes_by, writes_from}
+pub use Rattle.pb_accepted.specs.declared.access.Access.{Access}
+pub use Rattle.pb_accepted.specs.declared.op.Op.{Op}
 pub use Rattle.pb_sound.specs.Accesses.{IsAccess, IsCallAccess, IsInStack}
 pub use Rattle.pb_sound.specs.Cells.{Cells, CellsAsk, CellsEnd, CellsGo, CellsOutcome, argument, cells_act, cells_after_call, cells_after_read, cells_call, cells_write}
 pub use Rattle.pb_sound.specs.Mirrors.{IsHere, record_first}

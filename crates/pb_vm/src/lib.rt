@@ -17,7 +17,7 @@ mod vm;
 mod writes;
 
 pub use moved::{MachinePhase, Moved};
+pub use pb_accepted::Accepted;
 pub use pb_finished::Finished;
 pub use pb_helpers::{Ask, Record, Reply};
-pub use pb_verify::Accepted;
 pub use vm::Vm;

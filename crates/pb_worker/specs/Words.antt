@@ -8,7 +8,7 @@ pub use Rattle.pb_base.specs.declared.names.Ts.{Ts}
 pub use Rattle.pb_base.specs.declared.refusal.Reason.{Reason}
 pub use Rattle.pb_base.specs.declared.refusal.Refusal.{Refusal}
 pub use Rattle.pb_isa.specs.Meaning.{Talk}
-pub use Rattle.pb_verify.specs.Observers.{ObserverOf}
+pub use Rattle.pb_accepted.specs.Observers.{ObserverOf}
 pub use Rattle.pb_finished.specs.Finished.{Meant}
 pub use Rattle.pb_steps.specs.Answers.{CanAnswer}
 pub use Rattle.pb_steps.specs.Read.{read_step}

@@ -12,8 +12,8 @@ unfoldable pub use Rattle.pb_isa.specs.Machine.{act}
 pub use Rattle.pb_isa.specs.Programs.{IsProgram, JudgedOf}
 pub use Rattle.pb_isa.specs.Slots.{slots}
 pub use Rattle.pb_isa.specs.declared.limits.TheConstants.{MAX_RECORD_BYTES}
-pub use Rattle.pb_verify.specs.Arriving.{Accepts}
-pub use Rattle.pb_verify.specs.Observers.{ObserverOf}
+pub use Rattle.pb_accepted.specs.Arriving.{Accepts}
+pub use Rattle.pb_accepted.specs.Observers.{ObserverOf}
 pub use Rattle.pb_sound.specs.NeverStuck.{AcceptedAreNeverStuck}
 pub use Rattle.pb_vm.specs.Moves.{IsAtState, environment_at}
 pub use Rattle.pb_vm.specs.Position.{Position}

@@ -10,6 +10,7 @@ ghost use Rattle.pb_registry.specs.Judging.{ReadsManifest};
 ghost use Rattle.sqlite_disk.specs.Disk.{Only};
 
 use anyhow::{Result, bail};
+use pb_accepted::Observer;
 use pb_base::{MAX_OBSERVERS, Row, Ts};
 use pb_keep::Keeper;
 use pb_keeper::no_stats;
@@ -18,7 +19,6 @@ use pb_memtablet::ListTablet;
 use pb_registry::Registry;
 use pb_state::State;
 use pb_store::Table;
-use pb_verify::Observer;
 use sqlite_disk::{Disk, Unknown};
 use sqlite_std_file::FileFrom;
 use std::alloc::Global;

@@ -6,13 +6,14 @@ ghost use Rattle.pb_files.specs.declared.answer.Verdict.TheVariants as verdicts;
 ghost use Rattle.pb_story.specs.Trials.{IsTrialText};
 ghost use Rattle.percobpf_story.specs.Trials.{Tries};
 
+use pb_accepted::Accepted;
 use pb_base::{NoMemory, Sink};
 use pb_files::{FileFault, Paths, Verdict, VerdictText, bytes_at, refusal_of, write_answer};
 use pb_helpers::HelperTable;
 use pb_registry::accept_in;
 use pb_story::trial_text;
 use pb_texts::Trial;
-use pb_verify::{Accepted, VerifyFault};
+use pb_verify::VerifyFault;
 use std::alloc::Global;
 use std::sync::Arc;
 

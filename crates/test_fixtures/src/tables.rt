@@ -6,11 +6,11 @@ ghost use Rattle.pb_store.specs.Contents.{nothing};
 
 use crate::counted::CountedTablet;
 use crate::unready::Unready;
+use pb_accepted::Observer;
 use pb_base::{NoMemory, Row, Ts};
 use pb_core::{OpenRefused, Seat, Shared};
 use pb_memtablet::{EitherTablet, ListTablet};
 use pb_store::{Table, Tablet};
-use pb_verify::Observer;
 use std::alloc::Global;
 use std::sync::Arc;
 use std::sync::atomic::AtomicUsize;

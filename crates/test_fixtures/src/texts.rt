@@ -3,10 +3,10 @@ ghost use Rattle.std.specs.Prelude.{◌≤◌, length, IfOk};
 ghost use Rattle.pb_base.specs.declared.limits.TheConstants.{MAX_OBSERVERS};
 
 use crate::unready::Unready;
+use pb_accepted::Observer;
 use pb_base::Batch;
 use pb_parse::parse_script;
 use pb_registry::Registry;
-use pb_verify::Observer;
 use std::alloc::Global;
 
 /// An observer of column 0 that does nothing.

@@ -1,10 +1,10 @@
 //! Machines, also of the program in a file.
 use crate::refusals::Refusals;
+use pb_accepted::Accepted;
 use pb_base::{Cell, Column, Content, Revision, Row, Ts};
 use pb_finished::Finished;
 use pb_helpers::{HelperTable, Record, Reply};
 use pb_registry::accept;
-use pb_verify::Accepted;
 use pb_vm::{MachinePhase, Vm};
 use std::alloc::Global;
 use std::fs;

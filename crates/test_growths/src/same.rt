@@ -1,10 +1,10 @@
 //! Whether two tables are the same, entry by entry. No memory is needed for it.
+use pb_accepted::Observer;
 use pb_base::{Batch, Ts};
 use pb_core::{Seat, Shared};
 use pb_history::{KeptCall, KeptEntry};
 use pb_state::State;
 use pb_store::{Table, Tablet};
-use pb_verify::Observer;
 
 /// What two values can be compared by.
 pub trait Alike {

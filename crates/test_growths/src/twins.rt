@@ -5,12 +5,12 @@ ghost use Rattle.pb_store.specs.Contents.{nothing};
 
 use crate::refusals::Refusals;
 use crate::same::{Alike, are_shared_same};
+use pb_accepted::Observer;
 use pb_base::Ts;
 use pb_core::{Seat, Shared};
 use pb_memtablet::EitherTablet;
 use pb_steps::{Answer, Step};
 use pb_store::Table;
-use pb_verify::Observer;
 use std::alloc::Global;
 use test_fixtures::{Unready, open_table_over, table_of};
 

@@ -1,6 +1,7 @@
 //! Jobs: changes and runs.
 ghost use Rattle.std.specs.Prelude.{◌≤◌, length, IfOk};
 
+use pb_accepted::{Accepted, Observer};
 use pb_base::{Batch, Column, Content, NoMemory, ObserverNo, Row};
 use pb_core::{Seat, Shared};
 use pb_helpers::{HelperTable, Version};
@@ -9,7 +10,6 @@ use pb_notify::ObserverJob;
 use pb_registry::accept_in;
 use pb_store::Tablet;
 use pb_txn::ChangeJob;
-use pb_verify::{Accepted, Observer};
 use std::alloc::Global;
 use std::sync::Arc;
 

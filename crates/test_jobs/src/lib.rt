@@ -16,12 +16,12 @@ mod jobs;
 mod turns;
 
 use jobs::{Job, jobs_of, observer_of, observers_of};
+use pb_accepted::Observer;
 use pb_base::{NoMemory, Ts};
 use pb_core::Shared;
 use pb_steps::{Answer, Step};
 use pb_store::Tablet;
 use pb_story::{add_answer, add_step};
-use pb_verify::Observer;
 use std::alloc::{AllocError, Global};
 use test_fixtures::open_table;
 use turns::stopped_at;

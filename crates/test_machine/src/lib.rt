@@ -15,12 +15,12 @@ mod moves;
 
 use left::add_left;
 use moves::add_move;
+use pb_accepted::Accepted;
 use pb_base::{Cell, Column, Content, Revision, Row, Ts, Value};
 use pb_finished::Finished;
 use pb_helpers::{HelperTable, Record, Version};
 use pb_isa::Profile;
 use pb_registry::accept_in;
-use pb_verify::Accepted;
 use pb_vm::{MachinePhase, Vm};
 use std::alloc::Global;
 use std::sync::Arc;

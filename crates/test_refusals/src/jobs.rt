@@ -3,6 +3,7 @@ ghost use Rattle.std.specs.Prelude.{◌≡◌};
 ghost use Rattle.pb_notify.specs.declared.need.Need.TheVariants.{Local};
 ghost use Rattle.pb_notify.specs.Runs.{need_of};
 
+use pb_accepted::Accepted;
 use pb_base::{Batch, Cell, ObserverNo, Row, Ts};
 use pb_helpers::HelperTable;
 use pb_history::KeptEntry;
@@ -10,7 +11,6 @@ use pb_notify::{JobEnd, Need, ObserverJob};
 use pb_registry::accept;
 use pb_steps::{Step, Work};
 use pb_txn::{ChangeJob, Outcome};
-use pb_verify::Accepted;
 use std::alloc::Global;
 use std::sync::Arc;
 use test_fixtures::Unready;

@@ -1,11 +1,11 @@
 //! Scripts, and tables that are opened.
 ghost use Rattle.std.specs.Prelude.{◌≤◌, length};
 
+use pb_accepted::Observer;
 use pb_base::{Batch, Cell, Content, Row, Ts};
 use pb_core::{OpenRefused, Seat, Shared};
 use pb_memtablet::EitherTablet;
 use pb_parse::parse_script;
-use pb_verify::Observer;
 use std::alloc::Global;
 use test_fixtures::{Unready, table_of};
 use test_growths::observers::watchers;

@@ -1,9 +1,9 @@
 //! The report of a plain map of cells.
 use crate::cells::{Cells, Version};
 use crate::history::{Commits, runs_of};
+use pb_accepted::Observer;
 use pb_base::{Cell, Content, Value};
 use pb_history::KeptEntry;
-use pb_verify::Observer;
 use std::alloc::{AllocError, Global};
 
 // How many bytes of a value are printed: those up to the last that isn't zero, and one at least.

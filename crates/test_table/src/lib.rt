@@ -23,13 +23,13 @@ ghost use Rattle.std.specs.Prelude.{◌≡◌, ◌≤◌, length};
 ghost use Rattle.pb_base.specs.declared.limits.TheConstants.{MAX_ENTRIES, MAX_OBSERVERS};
 ghost use Rattle.pb_store.specs.Contents.{nothing};
 
+use pb_accepted::Observer;
 use pb_base::{MAX_ENTRIES, Ts};
 use pb_core::{Seat, Shared};
 use pb_memtablet::EitherTablet;
 use pb_steps::Step;
 use pb_store::{Table, Tablet};
 use pb_story::{add_answer, add_step};
-use pb_verify::Observer;
 use std::alloc::{AllocError, Global};
 use step::step_of;
 use tablets::{add_entries, add_refused, add_swap, parts_in};

@@ -4,11 +4,11 @@ ghost use Rattle.std.specs.Option.{IfSome};
 ghost use Rattle.pb_helpers.specs.Bytes.{size_of};
 
 use crate::words::Words;
+use pb_accepted::Observer;
 use pb_base::{Content, Revision, Value};
 use pb_finished::Finished;
 use pb_helpers::{Record, Reply, Version};
 use pb_steps::EndedRun;
-use pb_verify::Observer;
 use pb_vm::{MachinePhase, Vm};
 use std::alloc::Global;
 

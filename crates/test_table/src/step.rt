@@ -1,9 +1,9 @@
 //! Steps by their words.
 use crate::run::run_in;
 use crate::words::Words;
+use pb_accepted::Observer;
 use pb_base::{Batch, MAX_CELLS, Ts};
 use pb_steps::{Declaration, Declared, Step, Work};
-use pb_verify::Observer;
 use std::alloc::Global;
 
 fn work_in(observers: &[Observer], words: &mut Words) -> Option<Work> {

@@ -1,6 +1,6 @@
 //! The words of a step, from left to right.
+use pb_accepted::Observer;
 use pb_base::{Cell, Column, Content, ObserverNo, Row, Ts};
-use pb_verify::Observer;
 
 /// What is left of a step.
 #[derive(Drop)]

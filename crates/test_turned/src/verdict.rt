@@ -1,9 +1,10 @@
 //! One program: it is refused at one of its slots, or accepted and run to its end.
+use pb_accepted::Accepted;
 use pb_base::{Cell, Column, Content, NoMemory, Refused, Revision, Row, Ts, Value};
 use pb_helpers::{HelperTable, Record, Reply, Version};
 use pb_isa::Profile;
 use pb_registry::accept_in;
-use pb_verify::{Accepted, VerifyFault};
+use pb_verify::VerifyFault;
 use pb_vm::{MachinePhase, Vm};
 use std::alloc::{AllocError, AllocFailed, Global};
 use std::sync::Arc;

@@ -16,13 +16,13 @@ ghost use Rattle.pb_core.specs.Calls.{AreSeats};
 mod events;
 
 use events::events_in;
+use pb_accepted::Observer;
 use pb_base::{Batch, MAX_ENTRIES, MAX_SEATS, Out, Ts};
 use pb_core::{Seat, Shared};
 use pb_memtablet::ListTablet;
 use pb_parse::Event;
 use pb_script::report;
 use pb_story::add_answer;
-use pb_verify::Observer;
 use pb_world::{Note, World};
 use std::alloc::{AllocError, Global};
 use test_fixtures::{batches_of, observers_of, open_table};

@@ -1,9 +1,10 @@
 //! Runs the program of a file many times.
+use pb_accepted::Accepted;
 use pb_base::{Cell, Column, Content, NoMemory, Refused, Revision, Row, Ts};
 use pb_finished::Finished;
 use pb_helpers::{HelperTable, Record, Reply};
 use pb_registry::accept;
-use pb_verify::{Accepted, VerifyFault};
+use pb_verify::VerifyFault;
 use pb_vm::{MachinePhase, Vm};
 use std::alloc::Global;
 use std::fs;

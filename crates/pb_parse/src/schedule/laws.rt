@@ -5,7 +5,7 @@ ghost use Rattle.std.specs.Prelude.{◌≡◌, ◌⊎◌, ◌↔◌, ℕ, List, 
 ghost use Rattle.pb_reading.specs.Reading.{words_of};
 ghost use Rattle.pb_reading.specs.Faults.{StopsAt};
 ghost use Rattle.pb_parse.specs.ScheduleCodes.{schedule_code};
-ghost use Rattle.pb_verify.specs.Observers.{ObserverOf};
+ghost use Rattle.pb_accepted.specs.Observers.{ObserverOf};
 ghost use Rattle.pb_parse.specs.declared.event.Event.{Event};
 ghost use Rattle.pb_parse.specs.declared.schedule.words.Order.{Order};
 ghost use Rattle.pb_parse.specs.declared.schedule.code.ScheduleCode.{ScheduleCode};

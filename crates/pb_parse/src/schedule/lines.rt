@@ -7,9 +7,9 @@ ghost use Rattle.pb_parse.specs.Schedules.{with_order, with_event_line, schedule
 use crate::event::Event;
 use crate::schedule::code::ScheduleCode;
 use crate::schedule::words::{Order, order_of};
+use pb_accepted::Observer;
 use pb_base::{MAX_EVENTS, MAX_OBSERVERS};
 use pb_reading::{LineFault, TextFault as ScriptFault, first_line, is_skipped};
-use pb_verify::Observer;
 use std::alloc::Global;
 
 // Adds what an order asks for, by one growth however often it asks.

@@ -3,17 +3,17 @@
 ghost use Rattle.std.specs.Prelude.{◌≡◌, ◌≤◌, ◌-◌, ◌^◌, IfOk, MatchOption, length, false, Ok, Err};
 ghost use Rattle.pb_base.specs.declared.limits.TheConstants.{MAX_OBSERVERS};
 ghost use Rattle.pb_reading.specs.Reading.{Gives, words_left};
-ghost use Rattle.pb_verify.specs.Observers.{observed_column};
+ghost use Rattle.pb_accepted.specs.Observers.{observed_column};
 ghost use Rattle.pb_parse.specs.declared.schedule.code.ScheduleCode.TheVariants as code;
 ghost use Rattle.pb_parse.specs.ScheduleWords.{number_between, next_number, next_actor, next_row, observer_named, next_observer, next_change, next_run, next_job, once, launch_of, times_of, step_of, crash_of, next_data_cell, next_acknowledgment, next_cell, once_on, order_of_words, order_of};
 
 use crate::event::{Event, Job};
 use crate::schedule::code::ScheduleCode;
+use pb_accepted::Observer;
 use pb_base::{
     COLUMNS, Cell, Column, MAX_CHANGES, MAX_EVENTS, MAX_OBSERVERS, MAX_SEATS, ObserverNo, Row,
 };
 use pb_reading::{LineWords, first_word, numeral_upto};
-use pb_verify::Observer;
 
 /// What a line asks for: an event, so many times.
 #[derive(Clone, Copy)]

@@ -1,10 +1,9 @@
 use Rattle.std.proofs.Common.{◌≡◌, ℕ, ◌<◌, ◌≤◌, ◌+◌, ◌*◌, ◌++◌, take, drop, [], ◌∷◌, Some, None, refl, length, sym, ap, ◌∙◌, arith, rules, add-one, slice_index_or, option_map, if◌then◌else◌, box_value}
 use Rattle.std.proofs.lemmas.List.{take_at}
-use Rattle.pb_verify.specs.Words.{slots, insn_at}
-use Rattle.pb_verify.specs.Arriving.{outs, in_at, frame_before, frame_after}
+use Rattle.pb_verify.specs.Words.{slots, insn_at, outs, in_at, frame_before, frame_after}
 use Rattle.pb_verify.specs.Within.{IsWithinIf}
 use Rattle.pb_verify.proofs.PointersWithin.{within_arriving, within_if_more, within_push, none_within}
-use Rattle.pb_verify.proofs.FramesAfter.{outs_more, in_is, outs_none}
+use Rattle.pb_accepted.proofs.FramesAfter.{outs_more, in_is, outs_none}
 use Rattle.pb_verify.proofs.Pairs.{behind_pair}
 use Rattle.pb_verify.proofs.Pending.{before_next, before_past, before_unreached, merge_none, not_here}
 use Rattle.pb_verify.proofs.KnownFrames.{none_known, known_more}

@@ -1,6 +1,5 @@
 use Rattle.std.proofs.Common.{◌≡◌, ℕ, ◌<◌, ◌≤◌, ◌+◌, ◌*◌, Some, None, length, vec_len, vec_capacity, slice_index_or, option_map, if◌then◌else◌, nat_eq, box_value}
-use Rattle.pb_verify.specs.Words.{slots, insn_at}
-use Rattle.pb_verify.specs.Arriving.{merge, outs, frame_before}
+use Rattle.pb_verify.specs.Words.{slots, insn_at, merge, outs, frame_before}
 use Rattle.pb_verify.proofs.PointersWithin.{AllWithin}
 use Rattle.pb_verify.proofs.KnownFrames.{AreKnownTo}
 use Rattle.pb_verify.proofs.known.frames.Given as goal

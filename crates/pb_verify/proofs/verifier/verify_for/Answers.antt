@@ -1,13 +1,9 @@
 use Rattle.std.proofs.Common.{◌≡◌, ℕ, subst, ◌<◌, ◌≤◌, ◌+◌, ◌*◌, ◌++◌, take, drop, [], ◌∷◌, Some, None, refl, length, sym, ap, ◌∙◌, arith, rules, below_more, add-one, slice_index_or, option_map, if◌then◌else◌, box_value}
 use Rattle.std.proofs.lemmas.List.{take_at}
-use Rattle.pb_verify.specs.Versions.{judged_by}
-use Rattle.pb_verify.specs.Words.{slots, insn_at}
-use Rattle.pb_verify.specs.Arriving.{merge, if_leads, outs, in_at, frame_before, frame_after, faults}
+use Rattle.pb_verify.specs.Words.{slots, insn_at, judged_by, merge, if_leads, outs, in_at, frame_before, frame_after, faults, access_at, effect_of, effect_at, next_imm, IsNextImm, with_next}
 use Rattle.pb_verify.specs.Within.{IsWithinIf}
 use Rattle.pb_verify.proofs.PointersWithin.{within_arriving, within_if_more, within_push, none_within}
-use Rattle.pb_verify.proofs.FramesAfter.{outs_more, in_is, outs_none}
-use Rattle.pb_verify.specs.Accesses.{access_at}
-use Rattle.pb_verify.specs.Effects.{effect_of, effect_at, next_imm, IsNextImm, with_next}
+use Rattle.pb_accepted.proofs.FramesAfter.{outs_more, in_is, outs_none}
 use Rattle.pb_verify.proofs.Pairs.{behind_pair}
 use Rattle.pb_verify.proofs.Resolved.{none_resolved, resolved_more, no_pair_before, all_resolved}
 use Rattle.pb_verify.proofs.Pending.{before_next, before_past, merge_none, not_here, none_broken}

@@ -1,7 +1,5 @@
 use Rattle.std.proofs.Common.{◌≡◌, ℕ, ◌<◌, ◌≤◌, ◌+◌, ◌*◌, [], Some, None, length, vec_len, vec_capacity, slice_index_or, option_map, if◌then◌else◌, nat_eq, box_value}
-use Rattle.pb_verify.specs.Words.{slots, insn_at}
-use Rattle.pb_verify.specs.Versions.{judged_by}
-use Rattle.pb_verify.specs.Arriving.{merge, outs, frame_before, faults}
+use Rattle.pb_verify.specs.Words.{slots, insn_at, judged_by, merge, outs, frame_before, faults}
 use Rattle.pb_verify.proofs.PointersWithin.{AllWithin}
 use Rattle.pb_verify.proofs.Resolved.{AreResolvedTo}
 use Rattle.pb_verify.proofs.verifier.verify_for.Given as goal

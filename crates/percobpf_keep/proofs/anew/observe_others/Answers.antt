@@ -1,5 +1,5 @@
 use Rattle.std.proofs.Common.{List, subst, sym}
-use Rattle.pb_verify.specs.Observers.{ObserverOf}
+use Rattle.pb_accepted.specs.Observers.{ObserverOf}
 use Rattle.pb_keeper.specs.Choosing.{IsOneOf}
 use Rattle.percobpf_keep.proofs.anew.observe_others.Goals as goal
 

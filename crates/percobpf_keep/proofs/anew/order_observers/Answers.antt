@@ -3,7 +3,7 @@ use Rattle.std.proofs.lemmas.Option.{slice_get-get_or, slice_get_within}
 use Rattle.pb_base.proofs.Logic.{same_some}
 use Rattle.pb_generations.specs.Chosen.{AreChosen}
 use Rattle.pb_registry.specs.Judging.{ReadsManifest}
-use Rattle.pb_verify.specs.Observers.{ObserverOf}
+use Rattle.pb_accepted.specs.Observers.{ObserverOf}
 use Rattle.percobpf_keep.proofs.anew.order_observers.Goals as goal
 
 -- as long as the other, which has each of its elements at the same place

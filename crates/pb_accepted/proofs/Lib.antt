@@ -1,0 +1,5 @@
+pub mod CodesRise
+pub mod FramesAfter
+pub mod CallsCounted
+pub mod FramesAreMeets
+pub mod JumpsForward

@@ -1,0 +1,11 @@
+pub mod Words
+pub mod Rules
+pub mod Following
+pub mod Arriving
+pub mod Ways
+pub mod Forward
+pub mod Accesses
+pub mod Effects
+pub mod Versions
+pub mod Needs
+pub mod Observers

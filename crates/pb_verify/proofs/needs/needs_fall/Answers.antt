@@ -1,5 +1,0 @@
-use Rattle.pb_verify.proofs.CallsCounted.{needs_fall}
-use Rattle.pb_verify.proofs.needs.needs_fall.Goals as goal
-
-pub returns : goal.returns
-returns c = needs_fall
