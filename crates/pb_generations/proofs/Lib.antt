@@ -36,3 +36,4 @@ pub mod KnownJobs
 pub mod KeptJobs
 pub mod ChosenNumbers
 pub mod ChosenSnapshots
+pub mod StandingTables
