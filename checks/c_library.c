@@ -137,6 +137,14 @@ static const struct judged JUDGED[] = {
     {DELETES EXIT, 1, 1, 11, {1, 2, 30}},
     {START EXIT, 1, 1, 8, {0, 2, 0}},
     {START EXIT, 1, 1, 7, {1, 0, 30}},
+    /* the same by the names that the header has for these numbers */
+    {READS EXIT, 1, 1, PERCOBPF_READS, {0, 6, 0}},
+    {WRITES EXIT, 1, 1, PERCOBPF_WRITES, {1, 4, 26}},
+    {DELETES EXIT, 1, 1, PERCOBPF_DELETES, {0, 4, 0}},
+    {START EXIT, 1, 1, PERCOBPF_STARTS, {0, 2, 0}},
+    {DELETES EXIT, 1, 1, PERCOBPF_ALL_HELPERS - PERCOBPF_DELETES, {1, 2, 30}},
+    {START EXIT, 1, 1, PERCOBPF_ALL_HELPERS - PERCOBPF_STARTS, {1, 0, 30}},
+    {MOV EXIT, 1, 1, PERCOBPF_ALL_HELPERS + 1, {3, 0, 0}},
     /* an instruction of profile 2, and a byte of the record of version 2 */
     {MOVSX EXIT, 2, 1, 0, {0, 3, 0}},
     {MOVSX EXIT, 1, 1, 0, {1, 1, 14}},

@@ -168,6 +168,13 @@ def try_rights(program, folder):
             there = os.lstat(relay.socket)
             expect(f"a socket: {name}", stat.S_ISSOCK(there.st_mode), True)
             expect(f"mode and group of a socket: {name}", (oct(stat.S_IMODE(there.st_mode)), there.st_gid), (oct(mode), its))
+    for umask, mode in ((0o022, 0o644), (0o077, 0o600)):
+        before = os.umask(umask)
+        try:
+            with Relay(program, folder, f"umask-{umask:o}") as relay:
+                expect(f"the mode of a log under the umask {umask:o}", oct(stat.S_IMODE(os.lstat(relay.log).st_mode)), oct(mode))
+        finally:
+            os.umask(before)
     for options in (["--mode", "0999"], ["--mode", "-1"], ["--group", "there-is-no-such-group"]):
         relay = Relay(program, folder, "rights-bad", options=options).start()
         expect(f"the status for {options}", relay.running.wait(SECONDS), 2)

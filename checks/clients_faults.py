@@ -49,42 +49,60 @@ CALLS = {
     "compact": (lambda table: table.compact(), (b"made 2 runs 1\n", b"quiet\n", b"absent\n")),
 }
 
-# Answers to the client in C, with the kind, the commit, the runs, the code and the first byte of its result.
+MOST = TOO_HIGH - 1
+# The longest answers that there are.
+LONGEST_CELL = f"cell {MOST} 15 commit {MOST} value {'f0' * 32}"
+LONGEST_STATS = f"stats {'a' * 32} runs {MOST} nonzero {MOST} conflicts {MOST} asks {MOST} instructions {MOST}"
+DISTINCT = bytes(range(1, 33)).hex()
+
+# Answers to the client in C, with the kind, the commit, the runs and the code of its result, and the digits of its value.
 KNOWN = (
-    (b"made 2 runs 1", "0 2 1 0 00"), (b"made 18446744073709551615 unquiet", "1 18446744073709551615 0 0 00"),
-    (b"unmade commit 0", "2 0 0 0 00"),
-    (b"refused 70", "3 0 0 70 00"), (b"refused 77 8", "3 8 0 77 00"), (b"value 2a commit 4", "4 4 0 0 2a"),
-    (b"value " + b"f0" * 32 + b" commit 4", "4 4 0 0 f0"), (b"deleted commit 6", "5 6 0 0 00"), (b"absent", "6 0 0 0 00"),
-    (b"compacted 5", "7 0 0 0 00"), (b"marks 1 locks 0", "7 0 0 0 00"), (b"cell 7 0 commit 2 value 2a", "7 0 0 0 00"),
-    (b"stats co-py1 runs 1 nonzero 0 conflicts 0 asks 0 instructions 16080", "7 0 0 0 00"), (b"end", "7 0 0 0 00"),
+    (b"made 2 runs 1", "0 2 1 0", ""), (b"made 18446744073709551615 unquiet", "1 18446744073709551615 0 0", ""),
+    (b"unmade commit 0", "2 0 0 0", ""),
+    (b"refused 70", "3 0 0 70", ""), (b"refused 77 8", "3 8 0 77", ""), (b"value 2a commit 4", "4 4 0 0", "2a"),
+    (b"value " + b"f0" * 32 + b" commit 4", "4 4 0 0", "f0" * 32), (f"value {DISTINCT} commit {MOST}".encode(), f"4 {MOST} 0 0", DISTINCT),
+    (b"deleted commit 6", "5 6 0 0", ""), (b"absent", "6 0 0 0", ""),
+    (b"compacted 5", "7 0 0 0", ""), (b"marks 1 locks 0", "7 0 0 0", ""), (b"cell 7 0 commit 2 value 2a", "7 0 0 0", ""),
+    (b"stats co-py1 runs 1 nonzero 0 conflicts 0 asks 0 instructions 16080", "7 0 0 0", ""), (b"end", "7 0 0 0", ""),
+    (LONGEST_CELL.encode(), "7 0 0 0", ""), (LONGEST_STATS.encode(), "7 0 0 0", ""),
 )  # fmt: skip
-GONE, UNSENT = "8 0 0 0 00", "9 0 0 0 00"
+
+
+def shown(head, value=""):
+    """What checks/clients_faults.c prints of a result, whose value has zeros after these digits."""
+    return f"{head} {value.ljust(64, '0')}"
+
+
+GONE, UNSENT = shown("8 0 0 0"), shown("9 0 0 0")
 
 
 class Server:
-    """Listens at a socket, and sends each client that comes the next of these texts, after its first line; then ends the connection."""
+    """Listens at a socket, and sends each client that comes the next of these texts, after what it sent at once; then ends the connection.
+    Where nothing more was sent, the client meets an end after the text, and no fault of the connection."""
 
     def __init__(self, path, texts):
         self.texts, self.server = texts, socket.socket(socket.AF_UNIX, socket.SOCK_STREAM)
         self.server.bind(os.fspath(path))
         self.server.listen()
         self.server.settimeout(SECONDS)
-        self.thread = threading.Thread(target=self.serve)
+        self.thread = threading.Thread(target=self.serve, daemon=True)
 
     def serve(self):
         for text in self.texts:
             end, _ = self.server.accept()
             with end:
                 end.settimeout(SECONDS)
-                end.recv(1)
+                end.recv(1 << 16)
                 end.sendall(text)
 
     def __enter__(self):
         self.thread.start()
         return self
 
-    def __exit__(self, *_ended):
-        self.thread.join()
+    def __exit__(self, kind, *_ended):
+        # where the check has failed, nobody comes any more
+        if kind is None:
+            self.thread.join()
         self.server.close()
 
 
@@ -127,9 +145,9 @@ def try_c_answers(folder, made):
         for text in NONE:
             ended = run_c(made, "asked", folder / "c-answers", "get 7 0", "get 7 0")
             expect(f"what is answered {text[:60]!r} in C", ended, [GONE, GONE])
-    for number, (text, result) in enumerate(KNOWN):
+    for number, (text, head, value) in enumerate(KNOWN):
         with Server(folder / f"c-known-{number}", [text + b"\n"]):
-            expect(f"what is answered {text!r} in C", run_c(made, "asked", folder / f"c-known-{number}", "get 7 0"), [result])
+            expect(f"what is answered {text!r} in C", run_c(made, "asked", folder / f"c-known-{number}", "get 7 0"), [shown(head, value)])
 
 
 # Lines
@@ -160,18 +178,17 @@ def try_lines(program, folder):
 
 
 def run_c(made, *words):
-    """What checks/clients_faults.c prints, without the bytes of a value but its first."""
+    """The lines that checks/clients_faults.c prints."""
     ended = subprocess.run([made, *map(os.fspath, words)], stdout=subprocess.PIPE, timeout=SECONDS, text=True)
     expect(f"the status of {words[0]}", ended.returncode, 0)
-    lines = ended.stdout.splitlines()
-    return [line[: line.rindex(" ") + 3] if line[0].isdigit() else line for line in lines]
+    return ended.stdout.splitlines()
 
 
 def try_c_callers(program, folder, made):
     logs = [folder / f"c-faults-{number}.log" for number in range(8)]
-    change = "0 2 1 0 00"
+    change = shown("0 2 1 0")
     expect("two tables", run_c(made, "two", program, COPY, *logs[:2]), [change, "first 0", change, "second 0"])
-    expect("a table of forked processes", run_c(made, "forked", program, COPY, logs[2]), [change, "0 6 1 0 00", "closed 0"])
+    expect("a table of forked processes", run_c(made, "forked", program, COPY, logs[2]), [change, shown("0 6 1 0"), "closed 0"])
     for number, digits in enumerate(("0", "1", "2", "01", "012"), 3):
         expect(f"closed streams {digits}", run_c(made, "closed", program, COPY, logs[number], digits), [change, "closed 0"])
     with Table.start(COPY, logs[0], program) as table:
@@ -214,10 +231,16 @@ def try_callers(program, folder):
         expect(f"the status of a caller in Python without the streams {digits}", ended.returncode, 7)
 
 
-def try_faults(program, folder):
+def compiled(folder):
+    """The callers in C that have little left."""
     made = folder / "faults"
     words = ["cc", "-std=c11", "-D_DEFAULT_SOURCE", "-Wall", "-Wextra", "-pedantic", "-Werror", "-O2", "-o", made]
     subprocess.run([*words, TOP / "checks/clients_faults.c", TOP / "clients/percobpf.c"], check=True)
+    return made
+
+
+def try_faults(program, folder):
+    made = compiled(folder)
     try_answers(folder)
     try_c_answers(folder, made)
     try_lines(program, folder)

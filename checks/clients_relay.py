@@ -18,7 +18,7 @@ from collections import Counter
 from concurrent.futures import ThreadPoolExecutor
 from contextlib import suppress
 
-from clients_room import ATTACK, NO_OBSERVERS, PROGRAM, Client, Relay, at_least, dropped, expect, undisturbed
+from clients_room import ATTACK, NO_OBSERVERS, PROGRAM, SECONDS, Client, Relay, at_least, dropped, expect, undisturbed
 
 # How often a client is killed within a line.
 KILLS = 8
@@ -93,8 +93,10 @@ def try_limits(program, folder):
     made.chmod(0o755)
     with Relay(made, folder, "unread", 0) as relay, Client(relay) as other, Client(relay) as deaf:
         deaf.send(b"list 900000\n")
+        deadline = time.monotonic() + SECONDS
         while not (count := dropped(relay, "dropped: more than 67108864 bytes of answers that it doesn't read")):
             expect("another one", other.ask("put 7 0 2a"), "made 2 runs 0")
+            expect("whether one that doesn't read its answers is dropped in time", time.monotonic() < deadline, True)
             time.sleep(0.01)
         expect("who is dropped", count, 1)
     few = ("MOST_OF_ALL=3000000", "MOST_CLIENTS=5")

@@ -13,12 +13,16 @@ import time
 from contextlib import contextmanager
 from pathlib import Path
 
+from ending import end_all_below
+
 TOP = Path(__file__).resolve().parent.parent
-COPY, NO_OBSERVERS = (TOP / f"examples/{name}.json" for name in ("copy", "no-observers"))
+COPY, NO_OBSERVERS, ENDLESS = (TOP / f"examples/{name}.json" for name in ("copy", "no-observers", "endless"))
 
 # How long a relay, or an answer of it, is waited for, how long it has for its end, and how much longer another client waits at most
 # than one of a relay that nobody attacks.
 SECONDS, END, DELAY = 60, 20, 1.0
+# How long nothing that is expected may come. It is more than SECONDS, since what is waited for by a name of its own has that long.
+SILENCE = 75
 # How long each attack goes on, how often the others have to be answered meanwhile, and how much memory the relay takes for it, in MiB.
 ATTACK, LEAST_ANSWERED, MOST_MEMORY = 1.2, 2, 64
 
@@ -57,14 +61,41 @@ open(sys.argv[2] + ".end", "wb").close()
 """
 
 
+class Watch:
+    """The part of the check that is under way, what was met there last, and how many seconds later something more has to be met."""
+
+    part, last, seconds = "", "", SILENCE
+
+
+def begin(part):
+    """Begins a part. From here on a call that waits for an answer that doesn't come ends the check by name."""
+    Watch.part = part
+    signal.signal(signal.SIGALRM, lambda *_: end_for(f"nothing came for {Watch.seconds} s"))
+    meet("its beginning")
+
+
+def meet(name):
+    Watch.last = name
+    signal.alarm(Watch.seconds)
+
+
+def end_for(why):
+    """Ends the check, and all that it started, from any thread: nothing of it may wait any longer."""
+    print(f"clients: {Watch.part}: {why} after '{Watch.last}'", file=sys.stderr, flush=True)
+    end_all_below(os.getpid())
+    os._exit(1)
+
+
 def expect(name, got, wanted):
     if got != wanted:
         sys.exit(f"clients: {name}: {got!r}, wanted {wanted!r}")
+    meet(name)
 
 
 def at_least(name, got, least):
     if got < least:
         sys.exit(f"clients: {name}: {got}, and {least} at least are wanted")
+    meet(name)
 
 
 class Relay:
@@ -147,6 +178,10 @@ class Client:
             line = self.answers.readline()
         except ConnectionError:
             return None
+        except TimeoutError:
+            if self.end.gettimeout() != SECONDS:
+                raise
+            end_for(f"no answer came for {SECONDS} s")
         return line[:-1].decode() if line.endswith(b"\n") else None
 
     def ask(self, line):
