@@ -118,7 +118,8 @@ def owners_of(text):
     owners = []
     for line in text.split("\n"):
         begun = ANSWER.match(line)
-        is_head = line and not line[0].isspace()
+        # what closes an answer stands at the beginning of a line, and belongs to it
+        is_head = line and not line[0].isspace() and line[0] not in ")}]"
         before = owners[-1] if owners else None
         owners.append(begun[1] if begun else before if not is_head or line.split()[0] == before else None)
     return owners
