@@ -94,8 +94,11 @@ def make_others(room, its):
         (path / "inner").write_bytes(b"of another")
 
     def a_socket(path):
+        # by a short name, since that of a socket has 107 bytes at most
+        parent = os.open(path.parent, os.O_RDONLY)
         with socket.socket(socket.AF_UNIX) as its_own:
-            its_own.bind(str(path))
+            its_own.bind(f"/proc/self/fd/{parent}/{path.name}")
+        os.close(parent)
 
     return {
         "a folder": lambda path: path.mkdir(),

@@ -50,7 +50,10 @@ class Room:
 
     def run(self, log, lines, manifest=None, options=(), **more):
         """The status, the lines of output, and the text of errors."""
-        text = "".join(f"{line}\n" for line in lines).encode()
+        return self.send(log, "".join(f"{line}\n" for line in lines).encode(), manifest, options, **more)
+
+    def send(self, log, text, manifest=None, options=(), **more):
+        """The same of an input of this text."""
         words = [*self.before, self.program, *options, manifest or self.manifest, log]
         ended = subprocess.run(words, input=text, capture_output=True, env={**os.environ, **more}, timeout=120)
         return ended.returncode, ended.stdout.decode().split("\n")[:-1], ended.stderr.decode()

@@ -12,7 +12,8 @@ and what else leads to one. So, in the code of every crate:
 - `no memory` stands as a text where TEXTS has it, in functions that are given a receipt, or in the arm of a variant that holds
   one;
 - what C gets as a kind is the number of an `AnswerKind`, whose case of want of memory holds a receipt, or of an ask, and nothing is
-  written into one that is there. `percobpf_c`, which exports calls, makes none.
+  written into one that is there: `KindNumber` has a private field, and so many numbers stand where it is declared. `percobpf_c`,
+  which exports calls, makes none.
 Tests are held to all of it but the last two; they take theirs from the one growth of `refused` in `test_fixtures`.
 """
 from __future__ import annotations
@@ -26,7 +27,7 @@ MAKER = "pb_base/src/refusal.rt"
 MADE = {"NoMemory { refused: () }": 4, "Refusal(1)": 1, "Refusal(": 3}
 
 # How many lines of a crate turn a library's want of memory into a receipt.
-DOORS = {"pb_command": 2, "pb_files": 1, "pb_registry": 2}
+DOORS = {"pb_command": 2, "pb_files": 1, "pb_registry": 2, "percobpf_keep": 3}
 
 # Where the text stands, but for clauses, and how often: in the first as what `NoMemory` displays, and in the others in a function
 # that is given a receipt, or in the arm of a variant that holds one.
@@ -36,6 +37,7 @@ TEXTS = {
     "pb_files/src/fault.rt": 1,
     "pb_command/src/fault.rt": 1,
     "pb_command/src/words.rt": 1,
+    "percobpf_keep/src/failure.rt": 1,
 }
 OF_RECEIPT = re.compile(r":\s*&?\s*NoMemory\b")
 ARM = re.compile(r"\bNoMemory\(\w+\)\s*=>[^;]*$")
@@ -47,7 +49,7 @@ ASKS_FOR_ALL = "test_fixtures", "refused"
 HOLDERS = {
     "pb_log": {"LogFault"},
     "pb_keeper": {"Stopped"},
-    "pb_keep": {"KeepFault", "Opened", "SnapshotFault"},
+    "pb_keep": {"InputFault", "KeepFault", "Opened", "ReplaceFault", "SnapshotFault"},
     "pb_state": {"CarryFault"},
     "pb_reading": {"LineFault", "TextFault"},
     "pb_isa": {"NoProgram"},
@@ -64,6 +66,7 @@ HOLDERS = {
     "pb_command": {"Fault"},
     "pb_story": {"StoryFault"},
     "pb_api": {"AnswerKind", "Page"},
+    "percobpf_keep": {"Failure", "WatchedOut"},
 }
 RECEIPTS = {"NoMemory", "Refusal"}
 
@@ -78,12 +81,14 @@ TYPES = re.compile(
 )
 # The crate whose calls C gets, that which exports them, and how the kind of an answer is made.
 OF_KINDS, EXPORTS = "pb_api", "percobpf_c"
-DECLARED_KIND = re.compile(r"\bpub kind: u32,|\bkind: AnswerKind(?=[,)])")
-MADE_KIND = re.compile(r"\bkind: (?:(?:kind|AnswerKind::(?:Done|Refused|BadArgument|NotText|NoMemory\(refused\)))\.number\(\)|ASKS),\n")
+DECLARED_KIND = re.compile(r"\bpub kind: KindNumber,|\bkind: AnswerKind(?=[,)])")
+MADE_KIND = re.compile(r"\bkind: (?:(?:kind|AnswerKind::(?:Done|Refused|BadArgument|NotText|NoMemory\(refused\)))\.number\(\)|KindNumber::asks\(\)),\n")
+# Where its numbers stand, and how many they are.
+NUMBERS, NUMBER_COUNT = "pb_api/src/kind.rt", 6
 # Any other way: a member of another value, or by a shorter form, or what is written into one.
 OTHER_KIND = re.compile(r"\bkind\s*:(?!:)|[{,]\s*kind\s*[,}]|\.kind\b")
 # A library's own case, and after it the receipt.
-CASE = r"(?:\bCategory::Memory|\bFromHexError::OutOfMemory\)?|\bErrorKind::OutOfMemory)"
+CASE = r"(?:\bCategory::Memory|\bFromHexError::OutOfMemory\)?|\b(?:ErrorKind|OpenError)::OutOfMemory)"
 DOOR = re.compile(rf"{CASE}\s*=>\s*\{{?\s*(?:return\s+)?[\w:(]*NoMemory::from\(AllocError\)\)*(?=[,;\s}}])")
 WORDS = {
     "a refused growth is made up": re.compile(r"\bAlloc(?:Error|Failed)\b"),
@@ -96,8 +101,8 @@ WORDS = {
 # Another name for one of the words: by `as`, by a glob, by a part of a path that no longer shows what it is, or by a macro.
 USE = re.compile(r"^[ \t]*(?:pub(?:\(\w+\))? )?use [^;]*;", re.M)
 OTHER_NAME = re.compile(
-    r"\b(?:Alloc(?:Error|Failed)|NoMemory|Refusal) as\b|\bOutOfMemory\b|\b(?:alloc|fmt|ErrorKind|Category|FromHexError)::\*"
-    r"|\bfmt::(?:\{[^}]*\b)?Error\b|\b(?:alloc|fmt|Category|ErrorKind|FromHexError) as\b"
+    r"\b(?:Alloc(?:Error|Failed)|NoMemory|Refusal) as\b|\bOutOfMemory\b|\b(?:alloc|fmt|ErrorKind|OpenError|Category|FromHexError)::\*"
+    r"|\bfmt::(?:\{[^}]*\b)?Error\b|\b(?:alloc|fmt|Category|ErrorKind|OpenError|FromHexError) as\b"
 )
 GROWTH = re.compile(r"\b(?:(?:try_)?reserve(?:_exact)?|with_capacity|from_elem|resize|repeat)\s*(?:::<[^>]*>)?(?=\()|\bvec!\s*(?=[(\[])")
 # What none can meet: the greatest number, one shifted far, or one of ten digits or more.
@@ -274,6 +279,9 @@ def read(texts, tell):
     met = tell_of_words(texts, tell) + tell_of_holders(texts, tell)
     if not tell_of_kinds(texts, tell):
         tell(f"crates/{OF_KINDS}: no kind of an answer is made")
+    numbers = texts.get((OF_KINDS, NUMBERS), "").count("KindNumber { number")
+    if numbers != NUMBER_COUNT:
+        tell(f"crates/{NUMBERS}: {numbers} kinds of an answer have a number, and not {NUMBER_COUNT}")
     tell_of_texts(texts, tell)
     return met
 
@@ -324,6 +332,7 @@ fn added<'a>(one: Result<A<'a>, AllocError>, other: Result<A<'a>, AllocError>) {
 let words: Result<Vec<String>, AllocError> = args.collect(rt.alloc());
 Category::Memory => Err(ManifestCode::Memory(NoMemory::from(AllocError))),
 Err(error) if error.kind() == io::ErrorKind::OutOfMemory => { return Err(NoMemory::from(AllocError)) }
+OpenError::OutOfMemory => Failure::NoMemory(NoMemory::from(AllocError)),
 if error.kind() == ErrorKind::OutOfMemory {
 let all = Vec::with_capacity(alloc, words.len())?;
 if fault.code == 1 {
@@ -334,14 +343,15 @@ let name: &'static str = fault.name();
 KINDS_MADE_UP = """
         kind: 2,
         kind: AnswerKind::Refused.number() + 1,
+        kind: KindNumber { number: 2 },
 Reached { slot, kind, code }
 verdict.kind = 2;
 replace(&mut verdict.kind, 2);
 """
 KINDS_RIGHT = """
         kind: AnswerKind::NoMemory(refused).number(),
-        kind: ASKS,
-    pub kind: u32,
+        kind: KindNumber::asks(),
+    pub kind: KindNumber,
 fn plain_verdict(kind: AnswerKind, observers: u32, code: u32) -> ManifestVerdict
 """
 

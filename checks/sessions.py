@@ -1,7 +1,7 @@
 """Random sessions with `percobpf_keep`: each answer has to be that of kept_tables.py, and the log has to have the lines of the changes.
 
 A session has a manifest, and a log that is opened several times. Its lines come one by one or many at once, and parted anywhere. The
-input ends after a line, within a group, or within a last line; or the program is killed once all is answered. Lines ask for compactions.
+input ends after a line, within a group, or within a line, of which nothing is made; or the program is killed once all is answered. Lines ask for compactions.
 Some programs are started to compact logs of so many bytes: these get a line once the one before it is answered, so that the model knows
 when that is. Between two starts the log may be compacted, for some with other observers, and then it has to have the versions of the
 model. Some tables are left with something to do, and are compacted so.
@@ -308,17 +308,17 @@ class Session:
             self.end(-9)
         else:
             if pick.random() < 0.4:
-                self.last_line(pick, field)
+                self.part_of_a_line(pick, field)
             self.end(0)
 
-    def last_line(self, pick, field):
-        """A last line, without its newline."""
-        kind, line = line_from(pick, field, self.kept)
-        if line and kind not in ("begin", "turned"):
-            self.met["last line"] += 1
-            self.send([line])
-            self.running.stdin.close()
-            self.exchange([], self.take(line))
+    def part_of_a_line(self, pick, field):
+        """The front of a line, or all of it without its newline: that is no line, and has no answer."""
+        _, line = line_from(pick, field, self.kept)
+        if line:
+            part = line[: pick.choice((len(line), pick.randrange(1, len(line) + 1)))]
+            self.met["parts of a line"] += 1
+            self.sent += part
+            self.send([part])
 
     def compact_unquiet(self, pick):
         """A line that compacts a table where something is left to do, for some; what is left stays so."""

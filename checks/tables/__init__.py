@@ -1,7 +1,7 @@
 """The tables that checks/rows runs, each a list of rows under its name in `TABLES` of a module here; and what rows are made of.
 
 A row states what a program is run on, and how that ends. The files of a row have short names: m is a manifest, s a script,
-e a schedule, i what `asm`, `dis` and `check` read, and o what `asm` writes.
+e a schedule, i what `asm`, `dis` and `check` read, o what `asm` writes, and l the log of a table.
 """
 from __future__ import annotations
 
@@ -12,8 +12,8 @@ from dataclasses import dataclass, field, replace
 from functools import cache
 
 # how many tables there are, and how many rows in all, so that a lost one is noticed
-TABLE_COUNT = 295
-ROW_COUNT = 9952
+TABLE_COUNT = 316
+ROW_COUNT = 10250
 
 TOO_LARGE = bytes(16_777_217)
 
@@ -31,6 +31,13 @@ COPY = (
 )
 
 
+# What stands in the errors of a row for the path of the folder that the program is started in.
+FOLDER = b"(folder)"
+
+# The program that keeps a table, and what stands beside a log that was opened: a file that is locked for a moment, and stays empty.
+KEEP_PROGRAM = "percobpf_keep"
+BESIDE = {"l-wal": b""}
+
 # The program of rows that no program of the product has words for.
 ROWS = "test_rows"
 
@@ -43,12 +50,13 @@ TRIED_BY = {ROWS: ["machine", "--help"], TIMED: ["tablets", "list", "build", "1"
 
 @dataclass(frozen=True)
 class Row:
-    """The words after a program's name, the files of the folder that it is started in, and how that ends.
+    """The words after a program's name, the files of the folder that it is started in, its standard input, and how that ends.
 
     An output of None is any but the empty one. In the end the folder holds the files and what is `written`, and nothing
-    else. Where a `memory` is named, the program has so many bytes of addresses, and where `seconds` are, so many of a processor,
-    however busy the machine is. An output that differs from time to time has a
-    `judge`, which returns what of it isn't as it has to be.
+    else. What standard error has of the folder's path stands there as `FOLDER`. Where a `memory` is named, the program has so many
+    bytes of addresses, where `seconds` are, so many of a processor, however busy the machine is, and where a `room` is, so many
+    bytes for each file that it writes to. The output goes to the file that is named by `to`, if one is. An input of None can't be
+    read. An output that differs from time to time has a `judge`, which returns what of it isn't as it has to be.
     """
 
     words: list[str]
@@ -61,11 +69,14 @@ class Row:
     program: str = "percobpf"
     judge: Callable[[bytes], list[str]] | None = None
     seconds: int | None = None
+    input: bytes | None = b""
+    room: int | None = None
+    to: str | None = None
 
     def key(self) -> tuple:
         """The same for the same rows alone."""
         files, written = frozenset(self.files.items()), frozenset(self.written.items())
-        limits = (self.memory, self.seconds)
+        limits = (self.memory, self.seconds, self.input, self.room, self.to)
         return (self.program, tuple(self.words), files, self.status, self.out, self.err, written, *limits)
 
 

@@ -1,7 +1,7 @@
 -- Where the calls of a machine lead that is given replies.
 use Rattle.std.proofs.Common.{◌≡◌, ◌∙◌, ℕ, zero, suc, ◌+◌, List, [], ◌∷◌, ◌++◌, length, map, drop, get_or, ◌<◌, ◌≤◌, refl, sym, ap, subst, arith, inl, inr}
 use Rattle.std.proofs.Math.Seq.{drop-cons}
-use Rattle.std.proofs.lemmas.List.{drop_all}
+use Rattle.std.proofs.lemmas.List.{drop_all, length-append, length-map}
 use Rattle.pb_base.specs.Batch.{Writes}
 use Rattle.pb_finished.specs.Finished.{Meant}
 use Rattle.pb_isa.specs.Machine.{Reply}
@@ -12,11 +12,12 @@ use Rattle.pb_helpers.specs.declared.ask.Reply as replies
 use Rattle.pb_helpers.specs.Replies.{ask_of, reply_of}
 use Rattle.pb_vm.specs.declared.moved.MachinePhase.{MachinePhase}
 use Rattle.pb_vm.specs.declared.moved.Moved.{Moved}
+use Rattle.pb_vm.specs.Keeping.{IsRunnable}
 use Rattle.pb_vm.specs.Moves.{SameGiven, Advances, Follows, AskedFor, EndedWith, IsAsking, RepliedWith, TakesReply, Finishes}
 use Rattle.pb_vm.specs.Position.{Position}
 use Rattle.pb_api.specs.declared.running.Reached.{Reached}
 use Rattle.pb_api.specs.declared.running.ReplyGiven.{ReplyGiven}
-use Rattle.pb_api.specs.Runs.{reply_given, replies_in, HadReplies, AsksNext, EndsNext, StopsWithReplies, reached_end, RunReaches}
+use Rattle.pb_api.specs.Runs.{reply_given, replies_in, HadReplies, AsksNext, EndsNext, StopsWithReplies, reached_ask, reached_end, RunReaches}
 
 -- the same program, record and start, with the same asks and replies
 pub record IsLed (old new : Position) : Type 0 where
@@ -136,6 +137,28 @@ goes_on_with first old mid new q r rest all on h took =
 
 ended_alike : (replied replied' taken taken' result : ℕ) (ws : Writes) → replied ≡ replied' → taken ≡ taken' → reached_end replied taken result ws ≡ reached_end replied' taken' result ws
 ended_alike replied replied' taken taken' result ws e f = λ i. reached_end (e i) (f i) result ws
+
+asked_alike : (replied replied' taken taken' : ℕ) (q : Ask) → replied ≡ replied' → taken ≡ taken' → reached_ask replied taken q ≡ reached_ask replied' taken' q
+asked_alike replied replied' taken taken' q e f = λ i. reached_ask (e i) (f i) q
+
+-- as many replies as were given stand in a talk to which none is left to be given
+as_many : (talk : Talk) (rs : List ReplyGiven) → HadReplies talk [] (map reply_given rs) → length rs ≡ length talk
+as_many talk rs had = omega (arith, ap length had, length-append (replies_in talk) [], length-map talk (λ x. x.1), length-map rs reply_given)
+
+-- that it asks
+pub reached_at_ask : (first last : Position) (rs : List ReplyGiven) (x : Reached) (given : SameGiven first last) (q : Ask) (taken : ℕ) → last.phase ≡ MachinePhase.Asking q
+    → StopsWithReplies last.phase last (map reply_given rs) → IsRunnable last.judged last.bytes → taken ≡ last.taken → x ≡ reached_ask (length rs) taken q → RunReaches first.judged first.bytes first.start (map reply_given rs) x
+reached_at_ask first last rs x given q taken phase stops runnable done answer =
+    let at = subst (λ p. StopsWithReplies p last (map reply_given rs)) phase stops in
+    rw (sym given.judged, sym given.bytes, sym given.start) (inl (record {
+      runnable = runnable;
+      talk = last.talk;
+      had = at.0;
+      done = last.taken;
+      ask = q;
+      asks = at.1;
+      answer = answer ∙ asked_alike (length rs) (length last.talk) taken last.taken q (as_many last.talk rs at.0) done;
+    }))
 
 module _ (first last : Position) (all : List Reply) (x : Reached) (given : SameGiven first last) where
   -- that it has ended

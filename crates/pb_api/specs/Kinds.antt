@@ -11,6 +11,10 @@ kind_number (AnswerKind.NoMemory refused) = 2
 kind_number AnswerKind.BadArgument = 3
 kind_number AnswerKind.NotText = 4
 
+-- the kind of an answer that the program asks for a cell, after those of `AnswerKind`
+abbrev pub asks_kind : ℕ
+asks_kind = 5
+
 -- a growth was refused
 abbrev pub no_memory : AnswerKind
 no_memory = AnswerKind.NoMemory refused_growth

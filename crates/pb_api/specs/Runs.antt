@@ -23,7 +23,7 @@ use Rattle.pb_vm.specs.Keeping.{IsRunnable}
 use Rattle.pb_vm.specs.Moves.{AsksAt, EndsAt}
 use Rattle.pb_vm.specs.Position.{Position, position_of}
 use Rattle.pb_api.specs.declared.kind.AnswerKind.{AnswerKind}
-use Rattle.pb_api.specs.Kinds.{kind_number, no_memory}
+use Rattle.pb_api.specs.Kinds.{asks_kind, kind_number, no_memory}
 use Rattle.pb_api.specs.declared.running.ChangeGiven.{ChangeGiven}
 use Rattle.pb_api.specs.declared.running.ReplyGiven.{ReplyGiven}
 use Rattle.pb_api.specs.declared.running.WriteMade.{WriteMade}
@@ -100,10 +100,6 @@ writes_made ws = map write_made ws ++ replicate (MAX_CELLS - length ws) no_write
 -- none is run: the answer is of this kind, and names a slot and a code, or none
 abbrev pub reached_nothing : AnswerKind → ℕ → ℕ → Reached
 reached_nothing kind slot code = record { kind = kind_number kind; slot = slot; code = code; instructions = 0; replied = 0; row = 0; column = 0; write_count = 0; result = 0; writes = writes_made [] }
-
--- the kind of an answer that the program asks for a cell, after those of `AnswerKind`
-abbrev pub asks_kind : ℕ
-asks_kind = 5
 
 -- after so many replies, and so many instructions, the program asks for this cell
 abbrev pub reached_ask : ℕ → ℕ → Ask → Reached

@@ -3,14 +3,14 @@ ghost use Rattle.std.specs.Prelude.{◌≡◌};
 ghost use Rattle.pb_api.specs.Answers.{text_answer, buffer_call, GivesText};
 
 use crate::buffer::fill;
-use crate::kind::AnswerKind;
+use crate::kind::{AnswerKind, KindNumber};
 
 /// An answer whose text stands in the caller's buffer, as far as there was room. Where the input is at fault, `place` and
 /// `code` are of the fault.
 #[repr(C)]
 #[derive(Clone, Copy)]
 pub struct TextAnswer {
-    pub kind: u32,
+    pub kind: KindNumber,
     pub code: u32,
     pub place: usize,
     pub needed: usize,

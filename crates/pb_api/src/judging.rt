@@ -4,7 +4,7 @@ ghost use Rattle.pb_registry.specs.Manifests.{profile_of};
 ghost use Rattle.pb_api.specs.Numbers.{version_by, helpers_in_bits};
 ghost use Rattle.pb_api.specs.Verdicts.{IsVerdictOf, IsVerdictBy, no_verdict};
 
-use crate::kind::AnswerKind;
+use crate::kind::{AnswerKind, KindNumber};
 use crate::numbers::{helpers_of, profile_of, version_of};
 use pb_helpers::{HelperTable, Version};
 use pb_isa::Profile;
@@ -17,7 +17,7 @@ use std::alloc::Global;
 #[repr(C)]
 #[derive(Clone, Copy)]
 pub struct ProgramVerdict {
-    pub kind: u32,
+    pub kind: KindNumber,
     pub slot: u32,
     pub code: u32,
 }

@@ -28,7 +28,7 @@ mod versions;
 
 pub use answer::TextAnswer;
 pub use judging::{ProgramVerdict, judge_by_numbers};
-pub use kind::AnswerKind;
+pub use kind::{AnswerKind, KindNumber};
 pub use manifests::{ManifestVerdict, judge_manifest};
 pub use programs::{assemble_numbered, list_numbered};
 pub use replaying::replay;

@@ -3,7 +3,7 @@ ghost use Rattle.std.specs.Prelude.{◌≡◌};
 ghost use Rattle.pb_registry.specs.declared.fault.RegistryFault.{RegistryFault};
 ghost use Rattle.pb_api.specs.Manifests.{IsManifestVerdict, fault_verdict, plain_verdict};
 
-use crate::kind::AnswerKind;
+use crate::kind::{AnswerKind, KindNumber};
 use pb_base::Refused;
 use pb_registry::{Registry, RegistryFault};
 use std::alloc::Global;
@@ -14,7 +14,7 @@ use std::alloc::Global;
 #[repr(C)]
 #[derive(Clone, Copy)]
 pub struct ManifestVerdict {
-    pub kind: u32,
+    pub kind: KindNumber,
     pub observers: u32,
     pub observer: u32,
     pub code: u32,

@@ -10,7 +10,7 @@ ghost use Rattle.pb_vm.specs.declared.moved.MachinePhase.TheVariants.{Going};
 ghost use Rattle.pb_api.specs.Numbers.{version_by, helpers_in_bits};
 ghost use Rattle.pb_api.specs.Runs.{column_numbered, reply_given, content_given, old_given, record_given, StopsWithReplies, write_made, writes_made, reached_ask, reached_end, reached_nothing, RunReaches, RunsProgram, IsRunBy};
 
-use crate::kind::AnswerKind;
+use crate::kind::{AnswerKind, KindNumber};
 use crate::numbers::{helpers_of, profile_of, version_of};
 use pb_accepted::Accepted;
 use pb_base::{COLUMNS, Cell, Column, Content, MAX_CELLS, NoMemory, Revision, Row, Ts, Value};
@@ -65,7 +65,7 @@ pub struct WriteMade {
 #[repr(C)]
 #[derive(Clone, Copy)]
 pub struct Reached {
-    pub kind: u32,
+    pub kind: KindNumber,
     /// The first slot at fault, where the program is refused.
     pub slot: u32,
     /// The lowest code there.
@@ -84,9 +84,6 @@ pub struct Reached {
     /// The writes, in the order of the first write to each cell.
     pub writes: [WriteMade; MAX_CELLS],
 }
-
-// The number of an answer that the program asks for a cell, after those of `AnswerKind`.
-const ASKS: u32 = 5;
 
 // ---- what C gives
 
@@ -227,7 +224,7 @@ fn asking(ask: Ask, replied: usize, instructions: u16) -> Reached
     ensures { result ≡ reached_ask replied instructions ask }
 {
     Reached {
-        kind: ASKS,
+        kind: KindNumber::asks(),
         slot: 0,
         code: 0,
         instructions: u32::from(instructions),

@@ -12,9 +12,12 @@ pub mod Conditions
 pub mod Holding
 pub mod Reading
 pub mod Leaving
+pub mod Surviving
+pub mod GoodLogs
 pub mod Heads
 pub mod Causing
 pub mod Pieces
 pub mod Firsts
 pub mod FirstOpening
 pub mod Asking
+pub mod Replacing

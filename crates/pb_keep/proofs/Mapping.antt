@@ -38,6 +38,10 @@ pub both_errs : {T E : Type 0} {P Q R : E → Type 0} (r : Result T E) → ((e :
 both_errs (Ok x) f p q = tt
 both_errs (Err e) f p q = f e p q
 
+pub both_oks : {T E P : Type 0} {Q R : T → Type 0} (r : Result T E) → ((x : T) → Q x → P → R x) → IfOk r Q → OnOk r P → IfOk r R
+both_oks (Ok x) f q p = f x q p
+both_oks (Err e) f q p = tt
+
 -- what follows of what stands after a call, whether it succeeded or failed
 pub of_both : {T E P Q S : Type 0} (r : Result T E) → OnOk r P → OnErr r Q → (P → S) → (Q → S) → S
 of_both (Ok x) p q f g = f p

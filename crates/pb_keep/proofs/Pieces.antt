@@ -1,5 +1,5 @@
 -- A line of an input, as its pieces come.
-use Rattle.std.proofs.Common.{◌≡◌, ℕ, ◌+◌, ◌<◌, Bool, true, false, not, ltb, cond, eqb-true, one-add, List, [], ◌∷◌, ◌++◌, ◌||◌, length, take, inl, Option, None, Some, refl, ap, ap₂, sym, subst, ◌∙◌, arith, append_assoc}
+use Rattle.std.proofs.Common.{◌≡◌, ℕ, ◌+◌, ◌<◌, Bool, true, false, not, ltb, cond, eqb-true, one-add, List, [], ◌∷◌, ◌++◌, ◌||◌, length, take, Option, None, Some, Result, Ok, refl, ap, ap₂, sym, subst, ◌∙◌, arith, append_assoc}
 use Rattle.std.specs.List.{list_any, position, position_or_len}
 use Rattle.std.specs.Io.KnownBytes.{Consumes}
 use Rattle.std.proofs.lemmas.List.{take_more}
@@ -11,7 +11,8 @@ use Rattle.std.proofs.KnownBytes.{Consumes-trans}
 use Rattle.pb_requests.specs.declared.parse.TheConstants.{MAX_LINE}
 use Rattle.pb_keep.specs.declared.lines.Line.{Line}
 use Rattle.pb_keep.specs.declared.lines.Piece.{Piece}
-use Rattle.pb_keep.specs.Input.{is_newline, HasNoNewline, IsNextLine, IsLineRead, IsReadSoFar, TakesPiece}
+use Rattle.pb_keep.specs.declared.source.InputFault.{InputFault}
+use Rattle.pb_keep.specs.Input.{is_newline, is_of_reader, HasNoNewline, IsNextLine, IsLineRead, IsReadSoFar, TakesPiece}
 
 -- ---- the front of a buffer
 
@@ -73,6 +74,16 @@ module _ (old mid new : Option (List ℕ)) (before after : List ℕ) (was_long i
       let held = took.held so_far.front so_far.held in
       let next : IsNextLine line old new = record {
         whole = of_one_line so_far.front took.bytes so_far.of_line took.of_line;
-        read = inl (subst (Consumes old new) (sym (append_assoc so_far.front took.bytes (10 ∷ []))) (Consumes-trans old mid new so_far.front (took.bytes ++ 10 ∷ []) so_far.read took.taken));
+        read = subst (Consumes old new) (sym (append_assoc so_far.front took.bytes (10 ∷ []))) (Consumes-trans old mid new so_far.front (took.bytes ++ 10 ∷ []) so_far.read took.taken);
       } in
       (held.kept ∙ ap (λ t. cond t [] line) too_long, line, ltb-true MAX_LINE (length line) (sym held.long ∙ too_long), next)
+
+-- ---- whether a read failed
+
+or_false : (b : Bool) → (b || false) ≡ b
+or_false true = refl
+or_false false = refl
+
+-- after a piece that was read no other read has failed than before
+pub read_on : {T : Type 0} (was now : Bool) (result : Result T InputFault) (piece : T) → result ≡ Ok piece → now ≡ (was || is_of_reader result) → now ≡ was
+read_on was now result piece is fails = fails ∙ ap (λ r. was || is_of_reader r) is ∙ or_false was

@@ -1,17 +1,18 @@
 -- What a record more makes.
 use Rattle.std.proofs.Common.{arith, ◌≡◌, inl, inr, ℕ, ◌+◌, true, false, not, ◌==◌, List, [], ◌∷◌, ◌++◌, codes, length, Option, None, Some, Ok, Err, map, refl, sym, ap, subst, ◌∙◌}
 use Rattle.std.specs.List.{flat_map, list_all, AllByRecursion}
+use Rattle.std.specs.Prelude.{IsUtf8}
 use Rattle.pb_log.specs.Laws.{FilesHaveOneReading}
 use Rattle.pb_parse.specs.ScriptLines.{with_line, with_operation}
 use Rattle.pb_parse.specs.ScriptWords.{write_of}
 use Rattle.pb_reading.specs.Reading.{lines_of}
 use Rattle.pb_reading.specs.Faults.{in_lines}
-use Rattle.pb_snapshots.specs.RecordLaws.{RecordsAreOfOneSnapshot}
+use Rattle.pb_snapshots.specs.RecordLaws.{RecordsAreOfOneSnapshot, SnapshotsAreNoTexts}
 use Rattle.pb_snapshots.specs.Snapshot.{number_bytes, snapshot_magic, stats_bytes, version_bytes}
 use Rattle.pb_keep.specs.Words.{HasRecords, ScriptCode, SnapshotOf, Writes, header, script_code, script_of, snapshot_bytes, ◌>>=◌}
 use Rattle.pb_reading.proofs.Parts.{lacks_if}
 use Rattle.pb_reading.proofs.Readings.{ok_is, then_ok}
-use Rattle.pb_keep.specs.Kept.{changes_of, head_of, reported_count, snapshot_records, FitsIfAny}
+use Rattle.pb_keep.specs.Kept.{begins_as_snapshot, changes_of, head, head_of, reported_count, snapshot_records, AreTexts, FitsIfAny, HaveNoScript, HasNoChanges, IsNoScript}
 use Rattle.pb_keep.specs.Laws.{FilesHaveOneList}
 use Rattle.std.proofs.lemmas.List.{append_assoc, append-nil}
 use Rattle.std.proofs.lemmas.List.Elements.{All-from_recursion}
@@ -72,15 +73,38 @@ map_more f (y ∷ ys) x = ap (λ l. f y ∷ l) (map_more f ys x)
 pub reported_on : (n m : ℕ) → reported_count (reported_count n + m) ≡ reported_count (n + m)
 reported_on n m = grind arith
 
+-- ---- records that are texts, and scripts
+
+pub texts_more : (rs : List (List ℕ)) (r : List ℕ) → AreTexts rs → IsUtf8 r → AreTexts (rs ++ r ∷ [])
+texts_more [] r texts text = (text, tt)
+texts_more (x ∷ rs) r texts text = (texts.0, texts_more rs r texts.1 text)
+
+text_among : (rs : List (List ℕ)) (r : List ℕ) (ss : List (List ℕ)) → AreTexts (rs ++ r ∷ ss) → IsUtf8 r
+text_among [] r ss texts = texts.0
+text_among (x ∷ rs) r ss texts = text_among rs r ss texts.1
+
+script_at : (rs : List (List ℕ)) (r : List ℕ) (ss : List (List ℕ)) (changes : List Writes) → changes_of (rs ++ r ∷ ss) ≡ Ok changes → (own : List Writes) × (script_of r ≡ Ok own)
+script_at [] r ss changes h = let p = parts_of r ss changes h in (p.first, p.of_first)
+script_at (x ∷ rs) r ss changes h = let p = parts_of x (rs ++ r ∷ ss) changes h in script_at rs r ss p.others p.of_others
+
+-- a record that is no script, alone and among others
+pub one_no_script : (r : List ℕ) → IsNoScript r → HaveNoScript (r ∷ [])
+one_no_script r lacks changes texts h = let own = script_at [] r [] changes h in lacks own.0 texts.0 own.1
+
+pub no_script_among : (rs : List (List ℕ)) (r : List ℕ) (ss : List (List ℕ)) → HaveNoScript (r ∷ []) → HaveNoScript (rs ++ r ∷ ss)
+no_script_among rs r ss lacks changes texts h =
+    let own = script_at rs r ss changes h in
+    lacks (own.0 ++ []) (text_among rs r ss texts, tt) (together r [] own.0 [] own.1 no_changes)
+
 -- ---- the changes of a file
 
 rest_of : (a b : List ℕ) (rs ss : List (List ℕ)) → a ∷ rs ≡ b ∷ ss → rs ≡ ss
 rest_of a b rs ss e = cc
 
-none_or_some : (a : List ℕ) (rs : List (List ℕ)) → a ∷ rs ≡ [] → ⊥
+pub none_or_some : (a : List ℕ) (rs : List (List ℕ)) → a ∷ rs ≡ [] → ⊥
 none_or_some a rs e = absurd cc
 
-same_records : FilesHaveOneReading → (manifest : List ℕ) (rs ss : List (List ℕ)) (file : List ℕ) → HasRecords manifest rs file → HasRecords manifest ss file → rs ≡ ss
+pub same_records : FilesHaveOneReading → (manifest : List ℕ) (rs ss : List (List ℕ)) (file : List ℕ) → HasRecords manifest rs file → HasRecords manifest ss file → rs ≡ ss
 same_records one manifest rs ss file (inl l) (inl m) = rest_of (header manifest) (header manifest) rs ss (one file (header manifest ∷ rs) (header manifest ∷ ss) l m)
 same_records one manifest rs ss file (inl l) (inr m) = absurd (none_or_some (header manifest) rs (one file (header manifest ∷ rs) [] l m.1))
 same_records one manifest rs ss file (inr l) (inl m) = absurd (none_or_some (header manifest) ss (one file (header manifest ∷ ss) [] m l.1))
@@ -117,7 +141,7 @@ is_no_script s changes e =
     no_script [] line (lines_of rest) ScriptCode.Form changes no_change read
 
 -- the rest of a record of a snapshot, in front of which stands its first byte
-starts_so : (a b : List ℕ) (rs ss : List (List ℕ)) → a ∷ rs ≡ b ∷ ss → a ≡ b
+pub starts_so : (a b : List ℕ) (rs ss : List (List ℕ)) → a ∷ rs ≡ b ∷ ss → a ≡ b
 starts_so a b rs ss e = cc
 
 not_first : (s : SnapshotOf) (scripts others : List (List ℕ)) (changes : List Writes) → changes_of scripts ≡ Ok changes → scripts ≡ snapshot_bytes s ∷ others → ⊥
@@ -139,3 +163,26 @@ one_list one records origin other changes others file same h k =
     let both = same_records one (head_of other) (snapshot_records origin.snapshot ++ h.scripts) (snapshot_records other.snapshot ++ k.scripts) file (subst (λ m. HasRecords m (snapshot_records origin.snapshot ++ h.scripts) file) same h.has) k.has in
     let parts = one_snapshot records origin.snapshot other.snapshot h.scripts k.scripts changes others h.fits k.fits h.make k.make both in
     (parts.0, ok_is changes others (sym h.make ∙ ap changes_of parts.1 ∙ k.make))
+
+-- ---- a file of which a record is no script
+
+true_or_false : true ≡ false → ⊥
+true_or_false e = absurd cc
+
+marked_first : (u : SnapshotOf) (ss : List (List ℕ)) → begins_as_snapshot (snapshot_bytes u ∷ ss) ≡ false → ⊥
+marked_first u ss e = true_or_false e
+
+module _ (reading : FilesHaveOneReading) (no_texts : SnapshotsAreNoTexts) where
+  -- what follows a snapshot, or none where no record begins as one, are the scripts after any other
+  same_scripts : (a b : Option SnapshotOf) (rs ss : List (List ℕ)) → (a ≡ None → begins_as_snapshot rs ≡ false) → AreTexts ss → snapshot_records a ++ rs ≡ snapshot_records b ++ ss → rs ≡ ss
+  same_scripts None None rs ss off texts e = e
+  same_scripts None (Some u) rs ss off texts e = absurd (marked_first u ss (ap begins_as_snapshot (sym e) ∙ off refl))
+  same_scripts (Some s) None rs ss off texts e = let all : IsUtf8 (snapshot_bytes s) × AreTexts rs = subst AreTexts (sym e) texts in absurd (no_texts s all.0)
+  same_scripts (Some s) (Some u) rs ss off texts e = rest_of (snapshot_bytes s) (snapshot_bytes u) rs ss e
+
+  pub has_no_changes : (limit : ℕ) (manifest file : List ℕ) (snapshot : Option SnapshotOf) (scripts : List (List ℕ)) → (snapshot ≡ None → begins_as_snapshot scripts ≡ false)
+      → HasRecords (head limit manifest) (snapshot_records snapshot ++ scripts) file → HaveNoScript scripts → HasNoChanges limit manifest file
+  has_no_changes limit manifest file snapshot scripts off has lacks other changes h =
+      let e = same_records reading (head limit manifest) (snapshot_records snapshot ++ scripts) (snapshot_records other ++ h.scripts) file has h.has in
+      let same : scripts ≡ h.scripts = same_scripts snapshot other scripts h.scripts off h.texts e in
+      lacks changes (subst AreTexts (sym same) h.texts) (ap changes_of same ∙ h.make)

@@ -242,7 +242,7 @@ module _ {b : Beginning} {lines : List (List ℕ)} {k : KeeperView} (s : Serves 
   has_made file m = rest_has_changes b.origin (b.changes ++ s.made) k.seen k.may_leave k.end s.log file m
 
   leaves : (file : List ℕ) (now : Option (List ℕ)) → (HasChanges b.origin (b.changes ++ s.made) file × AppendsPart b.written now s.text)
-      ⊎ (HasChanges b.origin ((b.changes ++ s.made) ++ changes_in k.waiting.items.items) file
+      ⊎ ((group_of k.waiting ≡ Group.alone) × HasChanges b.origin ((b.changes ++ s.made) ++ changes_in k.waiting.items.items) file
       × ((more : List ℕ) × AreSomeAnswers b.origin.limit k.waiting.items.items k.table [] more × AppendsPart b.written now (s.text ++ more))) → LeavesFirst b lines now file
   leaves file now has = record {
     answered = s.answered;
@@ -266,24 +266,28 @@ module _ {b : Beginning} {lines : List (List ℕ)} {k : KeeperView} (s : Serves 
   no_answers : AreSomeAnswers b.origin.limit k.waiting.items.items k.table [] []
   no_answers = record { front = []; rest = k.waiting.items.items; parts = refl; now = k.table; text = []; answers = no_answer k.table; added = refl }
 
-  left_made : (now : Option (List ℕ)) (may_leave : List ℕ → Type 0) → IsLeftMade k.limit b.origin (b.changes ++ s.made) k.waiting.items.items k.table k.written now may_leave
-      → (file : List ℕ) → may_leave file → LeavesFirst b lines now file
-  left_made now may_leave l file m = leaves file now (inr (l.crash file m, (l.text, subst (λ n. AreSomeAnswers n k.waiting.items.items k.table [] l.text) s.limit l.answers, part_appended b.written k.written now s.text l.text s.is_written l.is_written)))
+  -- no group has begun
+  no_group : k.waiting.is_group ≡ false → group_of k.waiting ≡ Group.alone
+  no_group alone = ap (λ g. grouped g k.waiting.changes (length (string_bytes k.waiting.script))) alone
 
-  left_in_log : (new : KeptTable) (now : Option (List ℕ)) (may_leave : List ℕ → Type 0) → IsLeftInLog b.origin (b.changes ++ s.made) k.waiting.items.items k.table new k.written now may_leave
+  left_made : k.waiting.is_group ≡ false → (now : Option (List ℕ)) (may_leave : List ℕ → Type 0) → IsLeftMade k.limit b.origin (b.changes ++ s.made) k.waiting.items.items k.table k.written now may_leave
       → (file : List ℕ) → may_leave file → LeavesFirst b lines now file
-  left_in_log new now may_leave l file m =
+  left_made alone now may_leave l file m = leaves file now (inr (no_group alone, l.crash file m, (l.text, subst (λ n. AreSomeAnswers n k.waiting.items.items k.table [] l.text) s.limit l.answers, part_appended b.written k.written now s.text l.text s.is_written l.is_written)))
+
+  left_in_log : k.waiting.is_group ≡ false → (new : KeptTable) (now : Option (List ℕ)) (may_leave : List ℕ → Type 0) → IsLeftInLog b.origin (b.changes ++ s.made) k.waiting.items.items k.table new k.written now may_leave
+      → (file : List ℕ) → may_leave file → LeavesFirst b lines now file
+  left_in_log alone new now may_leave l file m =
       let same : AppendsPart b.written now s.text = all_appended b.written now s.text (subst (λ w. Appends b.written w s.text) (sym l.unwritten) s.is_written) in
       elim (l.crash file m) as (λ h. LeavesFirst b lines now file) [
         | inl h ↦ leaves file now (inl (h, same))
-        | inr h ↦ leaves file now (inr (h, ([], no_answers, subst (λ t. AppendsPart b.written now t) (sym (append-nil s.text)) same)))
+        | inr h ↦ leaves file now (inr (no_group alone, h, ([], no_answers, subst (λ t. AppendsPart b.written now t) (sym (append-nil s.text)) same)))
       ]
 
   -- where lines could not be kept, these, or with them those of the lines that waited
-  pub leaves_left : (new : KeptTable) (now : Option (List ℕ)) (may_leave : List ℕ → Type 0) (e : KeepFault) → IsLeftBy k.limit b.origin (b.changes ++ s.made) k.waiting.items.items k.table new k.written now may_leave e
+  pub leaves_left : k.waiting.is_group ≡ false → (new : KeptTable) (now : Option (List ℕ)) (may_leave : List ℕ → Type 0) (e : KeepFault) → IsLeftBy k.limit b.origin (b.changes ++ s.made) k.waiting.items.items k.table new k.written now may_leave e
       → (file : List ℕ) → may_leave file → LeavesFirst b lines now file
-  leaves_left new now may_leave (KeepFault.Log e) l file m = left_in_log new now may_leave l file m
-  leaves_left new now may_leave _ l file m = left_made now may_leave l file m
+  leaves_left alone new now may_leave (KeepFault.Log e) l file m = left_in_log alone new now may_leave l file m
+  leaves_left alone new now may_leave _ l file m = left_made alone now may_leave l file m
 
   -- where a question could not be answered, those of the lines before it
   pub leaves_asked : (line : List ℕ) (question : Request) (now : Option (List ℕ)) → IsNoLine k.waiting → IsReadAs line (Ok question) → MayHaveAnswered k.since question k.table k.written now

@@ -2,11 +2,10 @@
 use Rattle.std.specs.Prelude.{◌≡◌, ℕ, ◌+◌, List, ◌++◌, length, Option, Ok}
 use Rattle.pb_keeper.specs.BrokenOff.{IsOfChange}
 use Rattle.pb_keeper.specs.declared.passes.TheConstants.{MAX_RUNS}
-use Rattle.pb_keep.specs.Words.{Keeps, KeptTable, SaidLeads, StateOf, Writes, script_of}
+use Rattle.pb_keep.specs.Words.{Keeps, KeptTable, SaidLeads, StateOf, Writes, last_timestamp, script_of}
 use Rattle.pb_keep.specs.declared.fault.KeepFault.{KeepFault}
-use Rattle.pb_keep.specs.Causes.{IsOfAnew}
 use Rattle.pb_keep.specs.First.{first_changes, room_after}
-use Rattle.pb_keep.specs.Kept.{changes_of, reported_count}
+use Rattle.pb_keep.specs.Kept.{changes_of, reported_count, AreTexts, HaveNoScript}
 
 -- these changes are kept after any that the table keeps, where it has this limit of entries
 abbrev pub KeepsMore : ℕ → KeptTable → List Writes → KeptTable → Type 0
@@ -52,6 +51,7 @@ pub record AreSomeMade (limit : ℕ) (changes : List Writes) (old : KeptTable) (
 pub record IsMadeInPart (limit : ℕ) (records : List (List ℕ)) (old : KeptTable) (new : StateOf) (made all : ℕ) : Type 0 where
   pub changes : List Writes
   pub reads : changes_of records ≡ Ok changes
+  pub texts : AreTexts records
   pub all_is : all ≡ reported_count (length changes)
   pub done : List Writes
   pub rest : List Writes
@@ -66,7 +66,17 @@ abbrev pub in_part : KeepFault → ℕ → ℕ → KeepFault
 in_part (KeepFault.NoMemory refused) made all = KeepFault.MadeInPart refused made all
 in_part e made all = e
 
+-- these records are read as changes, and the last timestamp is given out, if the table keeps changes
+pub record IsOutOfTime (limit : ℕ) (records : List (List ℕ)) (old : KeptTable) (new : StateOf) : Type 0 where
+  pub changes : List Writes
+  pub reads : changes_of records ≡ Ok changes
+  pub texts : AreTexts records
+  pub out : (first : KeptTable) (before : List Writes) → Keeps limit first before old → new.clock ≡ last_timestamp
+
 -- why the changes of records weren't all made
 abbrev pub WhyNotAllMade : ℕ → List (List ℕ) → KeptTable → StateOf → KeepFault → Type 0
+WhyNotAllMade limit records old new (KeepFault.NoMemory e) = Unit {0}
+WhyNotAllMade limit records old new KeepFault.Record = HaveNoScript records
+WhyNotAllMade limit records old new KeepFault.NoTimestamp = IsOutOfTime limit records old new
 WhyNotAllMade limit records old new (KeepFault.MadeInPart refused made all) = IsMadeInPart limit records old new made all
-WhyNotAllMade limit records old new e = IsOfAnew e
+WhyNotAllMade limit records old new _ = ⊥

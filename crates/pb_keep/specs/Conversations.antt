@@ -73,8 +73,8 @@ pub record Serves (b : Beginning) (lines : List (List ℕ)) (k : KeeperView) : T
   pub held : AreHeld b.origin.limit k.table.state pending k.waiting.items.items (group_of k.waiting)
 
 -- A crash leaves the changes of the first of these lines, with all that are answered. Either it leaves those of the lines that were
--- answered, and a beginning of these answers was written; or also those of the lines that waited, and some of their answers may
--- have been written too.
+-- answered, and a beginning of these answers was written; or also those of the lines that waited, which end in no group, and some of their
+-- answers may have been written too. So of a group all changes are left, or none.
 pub record LeavesFirst (b : Beginning) (lines : List (List ℕ)) (written : Option (List ℕ)) (file : List ℕ) : Type 0 where
   pub answered : List (List ℕ)
   pub pending : List (List ℕ)
@@ -88,5 +88,5 @@ pub record LeavesFirst (b : Beginning) (lines : List (List ℕ)) (written : Opti
   pub group : Group
   pub held : AreHeld b.origin.limit table.state pending items group
   pub has : (HasChanges b.origin (b.changes ++ made) file × AppendsPart b.written written text)
-      ⊎ (HasChanges b.origin ((b.changes ++ made) ++ changes_in items) file
+      ⊎ ((group ≡ Group.alone) × HasChanges b.origin ((b.changes ++ made) ++ changes_in items) file
       × ((more : List ℕ) × AreSomeAnswers b.origin.limit items table [] more × AppendsPart b.written written (text ++ more)))

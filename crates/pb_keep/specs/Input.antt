@@ -1,10 +1,11 @@
 -- The lines of an input, and how they are read.
-use Rattle.std.specs.Prelude.{◌≡◌, ◌≢◌, ℕ, ◌<◌, Bool, false, ◌==◌, nat_lt, if◌then◌else◌, List, [], ◌∷◌, ◌++◌, length, ◌⊎◌, Option, OnSome}
+use Rattle.std.specs.Prelude.{◌≡◌, ℕ, ◌<◌, Bool, true, false, ◌==◌, nat_lt, if◌then◌else◌, List, [], ◌∷◌, ◌++◌, length, Option, OnSome, Result, Ok, Err}
 use Rattle.std.specs.List.{list_any}
 use Rattle.std.specs.Io.KnownBytes.{Consumes, IsAtEnd}
 use Rattle.pb_requests.specs.declared.parse.TheConstants.{MAX_LINE}
 use Rattle.pb_keep.specs.declared.lines.Line.{Line}
 use Rattle.pb_keep.specs.declared.lines.Piece.{Piece}
+use Rattle.pb_keep.specs.declared.source.InputFault.{InputFault}
 
 abbrev pub is_newline : ℕ → Bool
 is_newline b = b == 10
@@ -13,16 +14,30 @@ is_newline b = b == 10
 abbrev pub HasNoNewline : List ℕ → Type 0
 HasNoNewline bytes = list_any is_newline bytes ≡ false
 
--- what an input had left began with this line, which was taken: its newline followed it and was taken too, or the input ended with it
+-- what an input had left began with this line and its newline, which were taken
 pub record IsNextLine (line : List ℕ) (old new : Option (List ℕ)) : Type 0 where
   pub whole : HasNoNewline line
-  pub read : Consumes old new (line ++ 10 ∷ []) ⊎ ((line ≢ []) × Consumes old new line × IsAtEnd new)
+  pub read : Consumes old new (line ++ 10 ∷ [])
 
--- what was read: a line, one that is too long and isn't held, or the end
+-- An input has no line left: what it has has no newline, and then it ends. That is no line, since nobody knows how it would have gone on.
+pub record HasNoLine (input : Option (List ℕ)) : Type 0 where
+  pub front : List ℕ
+  pub last : Option (List ℕ)
+  pub of_line : HasNoNewline front
+  pub read : Consumes input last front
+  pub ended : IsAtEnd last
+
+-- what was read: a line, one that is too long and isn't held, or the end, where none is left
 abbrev pub IsLineRead : Line → List ℕ → Option (List ℕ) → Option (List ℕ) → Type 0
 IsLineRead Line.Read line old new = IsNextLine line old new
 IsLineRead Line.TooLong line old new = (line ≡ []) × (long : List ℕ) × (MAX_LINE < length long) × IsNextLine long old new
-IsLineRead Line.End line old new = (line ≡ []) × IsAtEnd old × Consumes old new []
+IsLineRead Line.End line old new = HasNoLine old
+
+-- a line isn't read since a read failed
+abbrev pub is_of_reader : {T : Type 0} → Result T InputFault → Bool
+is_of_reader (Ok x) = false
+is_of_reader (Err (InputFault.NoMemory e)) = false
+is_of_reader (Err InputFault.Reader) = true
 
 -- the front of a line at most was taken, and nothing after it
 abbrev pub TakesPartOfLine : Option (List ℕ) → Option (List ℕ) → Type 0

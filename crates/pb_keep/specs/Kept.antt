@@ -1,5 +1,6 @@
 -- What the records of a log are: a snapshot, if it begins with one, and scripts, whose changes are made.
-use Rattle.std.specs.Prelude.{◌≡◌, ℕ, ◌-◌, ◌^◌, ◌==◌, min, Bool, true, false, if◌then◌else◌, codes, decimal, List, [], ◌∷◌, ◌++◌, length, Option, Some, None, Result, Ok}
+use Rattle.std.specs.Prelude.{◌≡◌, ℕ, ◌-◌, ◌^◌, ◌==◌, min, Bool, true, false, if◌then◌else◌, codes, decimal, List, [], ◌∷◌, ◌++◌, length, Option, Some, None, Result, Ok, IsUtf8}
+use Rattle.pb_log.specs.Records.{IsShut}
 use Rattle.pb_keep.specs.Words.{AreInOrder, FitsSnapshot, IsAtRest, IsCarriedOver, IsMarkedBehind, HasRecords, KeptTable, ObserverOf, StateOf, SnapshotOf, Writes, header, opened_table, script_of, snapshot_bytes, ◌>>=◌}
 
 -- the changes of records, each of them a script, in order; or the fault of the first that is none
@@ -9,6 +10,19 @@ changes_of (script ∷ scripts) = do
   first ← script_of script
   others ← changes_of scripts
   Ok (first ++ others)
+
+-- each record is UTF-8
+abbrev pub AreTexts : List (List ℕ) → Type 0
+AreTexts [] = Unit {0}
+AreTexts (r ∷ rs) = IsUtf8 r × AreTexts rs
+
+-- a record that isn't UTF-8, or that isn't read as a script
+abbrev pub IsNoScript : List ℕ → Type 0
+IsNoScript r = (changes : List Writes) → IsUtf8 r → script_of r ≡ Ok changes → ⊥
+
+-- one of these records at least
+abbrev pub HaveNoScript : List (List ℕ) → Type 0
+HaveNoScript rs = (changes : List Writes) → AreTexts rs → changes_of rs ≡ Ok changes → ⊥
 
 -- how many changes are reported: as many as a `u64` can count
 abbrev pub reported_count : ℕ → ℕ
@@ -85,6 +99,8 @@ pub record IsBegunWith (observers : List ObserverOf) (records scripts : List (Li
   pub records_are : records ≡ snapshot_records snapshot ++ scripts
   pub first_is : IsFirstOf observers snapshot first
   pub since_is : since ≡ since_in snapshot
+  -- it is taken off wherever there is one
+  pub taken_off : snapshot ≡ None → begins_as_snapshot scripts ≡ false
 
 -- ---- what a file has
 
@@ -94,6 +110,7 @@ pub record HasChanges (origin : Origin) (changes : List Writes) (file : List ℕ
   pub scripts : List (List ℕ)
   pub has : HasRecords (head_of origin) (snapshot_records origin.snapshot ++ scripts) file
   pub make : changes_of scripts ≡ Ok changes
+  pub texts : AreTexts scripts
 
 -- The log of this origin is at rest, all of it is on the disk, and its scripts make these changes.
 pub record IsLogOf (origin : Origin) (changes : List Writes) (seen : List ℕ) (may_leave : List ℕ → Type 0) (end : ℕ) : Type 0 where
@@ -101,3 +118,22 @@ pub record IsLogOf (origin : Origin) (changes : List Writes) (seen : List ℕ) (
   pub scripts : List (List ℕ)
   pub at_rest : IsAtRest seen may_leave end (header (head_of origin) ∷ (snapshot_records origin.snapshot ++ scripts))
   pub make : changes_of scripts ≡ Ok changes
+  pub texts : AreTexts scripts
+
+-- the file is a log of this limit of entries and this manifest, with these changes, and this is the table on which the first of them is made
+pub record HasLog (limit : ℕ) (observers : List ObserverOf) (manifest file : List ℕ) : Type 0 where
+  pub origin : Origin
+  pub limit_is : origin.limit ≡ limit
+  pub manifest_is : origin.manifest ≡ manifest
+  pub first : KeptTable
+  pub first_is : IsFirstOf observers origin.snapshot first
+  pub changes : List Writes
+  pub had : HasChanges origin changes file
+
+-- the file has no changes: it is no log of this limit of entries and this manifest whose records are all read as scripts
+abbrev pub HasNoChanges : ℕ → List ℕ → List ℕ → Type 0
+HasNoChanges limit manifest file = (snapshot : Option SnapshotOf) (changes : List Writes) → HasChanges (origin_of limit manifest snapshot) changes file → ⊥
+
+-- the file begins with records and a closed gate, so that it is opened (`shut_logs_open` of `pb_log`)
+abbrev pub IsShutFile : List ℕ → Type 0
+IsShutFile file = (rs : List (List ℕ)) × IsShut file rs

@@ -4,6 +4,7 @@ use Rattle.pb_state.specs.declared.carry_fault.CarryFault.{CarryFault}
 use Rattle.pb_keeper.specs.declared.passes.TheConstants.{MAX_RUNS}
 use Rattle.pb_keep.specs.Words.{AppendsPart, KeptTable, StateOf, Stopped, Writes, last_timestamp}
 use Rattle.pb_keep.specs.declared.fault.KeepFault.{KeepFault}
+use Rattle.pb_keep.specs.declared.source.InputFault.{InputFault}
 use Rattle.pb_keep.specs.declared.waiting.Waits.{Waits}
 use Rattle.pb_keep.specs.Kept.{HasChanges, Origin}
 use Rattle.pb_keep.specs.Waits.{changes_in, AreSomeAnswers}
@@ -24,6 +25,11 @@ abbrev pub fault_of_carried : CarryFault → KeepFault
 fault_of_carried (CarryFault.NoMemory refused) = KeepFault.NoMemory refused
 fault_of_carried _ = KeepFault.Snapshot
 
+-- the fault of a line that isn't read
+abbrev pub fault_of_line : InputFault → KeepFault
+fault_of_line (InputFault.NoMemory refused) = KeepFault.NoMemory refused
+fault_of_line InputFault.Reader = KeepFault.Input
+
 -- memory was refused, and nothing else
 abbrev pub IsRefusedMemory : KeepFault → Type 0
 IsRefusedMemory (KeepFault.NoMemory e) = Unit {0}
@@ -32,6 +38,11 @@ IsRefusedMemory _ = ⊥
 -- so many timestamps a change takes at most, with its runs
 abbrev pub most_timestamps : ℕ
 most_timestamps = 2 + 2 * MAX_RUNS
+
+-- where it names timestamps, the table has given out the last one
+abbrev pub IsRightOf : StateOf → KeepFault → Type 0
+IsRightOf state KeepFault.NoTimestamp = state.clock ≡ last_timestamp
+IsRightOf state _ = Unit {0}
 
 -- there are timestamps for all changes that wait, if there are any
 abbrev pub AreInTime : List Waits → StateOf → Type 0

@@ -14,5 +14,7 @@ pub mod Input
 pub mod Questions
 pub mod Served
 pub mod Anew
+pub mod Replaced
+pub mod Folders
 pub mod Changed
 pub mod Laws

@@ -1,13 +1,13 @@
 -- Questions that are answered alone: nothing is made, and no line waits.
 use Rattle.std.specs.Prelude.{◌≡◌, ◌⊎◌, ℕ, Bool, true, false, List, [], ◌∷◌, ◌++◌, Option, Result, Ok, Err}
-use Rattle.std.specs.Io.KnownBytes.{Appends, IsAtEnd}
+use Rattle.std.specs.Io.KnownBytes.{Appends}
 use Rattle.pb_keep.specs.Words.{AppendsPart, KeptTable, Request, ScriptCode, script_code}
 use Rattle.pb_keep.specs.declared.fault.KeepFault.{KeepFault}
 use Rattle.pb_keep.specs.declared.take.TheConstants.{OUT_OF_PLACE}
 use Rattle.pb_keep.specs.declared.waiting.Waits.{Waits}
 use Rattle.pb_keep.specs.Causes.{IsOfAnswer}
 use Rattle.pb_keep.specs.Held.{IsAnswerTo, IsReadAs}
-use Rattle.pb_keep.specs.Input.{AreLinesRead, IsNextLine}
+use Rattle.pb_keep.specs.Input.{AreLinesRead, HasNoLine, IsNextLine}
 use Rattle.pb_keep.specs.Taken.{is_question, NamesLog}
 use Rattle.pb_keep.specs.Waits.{other_line}
 
@@ -55,7 +55,7 @@ pub record AnswersNext (since : ℕ) (table : KeptTable) (log : ℕ) (from to wa
 -- whether a line was read, and what was done with it: none is left where it wasn't, and nothing is written
 abbrev pub AnswersTurn : ℕ → KeptTable → ℕ → Option (List ℕ) → Option (List ℕ) → Option (List ℕ) → Option (List ℕ) → Bool → Type 0
 AnswersTurn since table log from to was now true = AnswersNext since table log from to was now
-AnswersTurn since table log from to was now false = IsAtEnd from × (now ≡ was)
+AnswersTurn since table log from to was now false = HasNoLine from × (now ≡ was)
 
 -- these lines were read of an input, and this is the text that answers them
 pub record ReadsAndAnswers (since : ℕ) (table : KeptTable) (log : ℕ) (from to : Option (List ℕ)) (text : List ℕ) : Type 0 where
@@ -73,7 +73,7 @@ pub record AnswersRead (since : ℕ) (table : KeptTable) (log : ℕ) (from to wa
 pub record AnswersAll (since : ℕ) (table : KeptTable) (log : ℕ) (from was now : Option (List ℕ)) : Type 0 where
   pub to : Option (List ℕ)
   pub read : AnswersRead since table log from to was now
-  pub ended : IsAtEnd to
+  pub ended : HasNoLine to
 
 -- a beginning of the answers to lines that were read is written, and nothing else
 pub record AnswersBegun (since : ℕ) (table : KeptTable) (log : ℕ) (from was now : Option (List ℕ)) : Type 0 where
@@ -82,7 +82,7 @@ pub record AnswersBegun (since : ℕ) (table : KeptTable) (log : ℕ) (from was 
   pub answered : ReadsAndAnswers since table log from to text
   pub is_written : AppendsPart was now text
 
--- why no more lines are answered: memory was refused for an answer, a write failed, or a read, of which nothing is known
-abbrev pub WhyNotAnswered : Bool → KeepFault → Type 0
-WhyNotAnswered failed KeepFault.Input = Unit {0}
-WhyNotAnswered failed e = IsOfAnswer failed e
+-- why no more lines are answered: memory was refused for a line or its answer, or a read or a write failed
+abbrev pub WhyNotAnswered : Bool → Bool → KeepFault → Type 0
+WhyNotAnswered unread failed KeepFault.Input = unread ≡ true
+WhyNotAnswered unread failed e = IsOfAnswer failed e

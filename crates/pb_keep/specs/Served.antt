@@ -1,6 +1,5 @@
 -- The lines of an input, as they are served.
 use Rattle.std.specs.Prelude.{◌≡◌, ◌≢◌, ◌≤◌, ℕ, Bool, false, true, List, [], ◌∷◌, ◌++◌, Option, Ok}
-use Rattle.std.specs.Io.KnownBytes.{IsAtEnd}
 use Rattle.pb_keep.specs.Conversations.{Beginning, KeeperView, LeavesFirst, Serves}
 use Rattle.pb_keep.specs.Words.{Request}
 use Rattle.pb_keep.specs.declared.service.Paused.{Paused}
@@ -9,7 +8,7 @@ use Rattle.pb_keep.specs.declared.take.Took.{Took}
 use Rattle.pb_keep.specs.declared.waiting.Waiting.{Waiting}
 use Rattle.pb_keep.specs.Waits.{IsNoLine, IsOpenGroup}
 use Rattle.pb_keep.specs.Held.{IsReadAs}
-use Rattle.pb_keep.specs.Input.{AreLinesRead, IsNextLine}
+use Rattle.pb_keep.specs.Input.{AreLinesRead, HasNoLine, IsNextLine}
 
 -- these lines and those that were read of the input are served
 pub record ServesRead (b : Beginning) (lines : List (List ℕ)) (from to : Option (List ℕ)) (k : KeeperView) : Type 0 where
@@ -22,7 +21,7 @@ pub record ServesRead (b : Beginning) (lines : List (List ℕ)) (from to : Optio
 pub record ServesAll (b : Beginning) (lines : List (List ℕ)) (from : Option (List ℕ)) (k : KeeperView) : Type 0 where
   pub to : Option (List ℕ)
   pub read : ServesRead b lines from to k
-  pub ended : IsAtEnd to
+  pub ended : HasNoLine to
   pub kept : k.waiting.is_group ≡ false → IsNoLine k.waiting
   pub open_group : k.waiting.is_group ≡ true → IsOpenGroup k.waiting.items.items
 
@@ -44,10 +43,10 @@ abbrev pub ServesLine : Beginning → List (List ℕ) → List ℕ → KeeperVie
 ServesLine b lines line k Took.Served = Serves b (lines ++ line ∷ []) k
 ServesLine b lines line k Took.Asked = IsCompactionAsked b lines line k
 
--- a line was read, and is served or asks for a compaction; or the input has ended
+-- a line was read, and is served or asks for a compaction; or the input has no line left
 abbrev pub ServesNext : Beginning → List (List ℕ) → Option (List ℕ) → Option (List ℕ) → KeeperView → Went → Type 0
 ServesNext b lines from to k (Went.Line took) = (line : List ℕ) × IsNextLine line from to × ServesLine b lines line k took
-ServesNext b lines from to k Went.End = IsAtEnd from × Serves b lines k
+ServesNext b lines from to k Went.End = HasNoLine from × Serves b lines k
 
 -- where the input has ended, no line waits but those of a group without its end
 abbrev pub IsKeptAtEnd : Went → Waiting → Type 0

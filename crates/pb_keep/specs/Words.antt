@@ -32,7 +32,7 @@ pub use Rattle.pb_keeper.specs.Room.{has_room}
 pub use Rattle.pb_keeper.specs.Stats.{Counted, KeptTable, kept_table}
 pub use Rattle.pb_keeper.specs.declared.change.Stopped.{Stopped}
 pub use Rattle.pb_keeper.specs.declared.passes.Made.{Made}
-pub use Rattle.pb_log.specs.Causes.{WhyNotOpened, WhyNotPut}
+pub use Rattle.pb_log.specs.Causes.{IsOfTheFile, WhyNotOpened, WhyNotPut}
 pub use Rattle.pb_log.specs.Records.{IsAtRest}
 pub use Rattle.pb_log.specs.Header.{HasRecords, header}
 pub use Rattle.pb_snapshots.specs.Snapshot.{FitsSnapshot, SnapshotOf, are_of_their_cells, snapshot_bytes}

@@ -1,13 +1,14 @@
 //! The changes of a log, made again when it is opened.
-ghost use Rattle.std.specs.Prelude.{◌≡◌, ◌<◌, ◌^◌, ◌∷◌, ◌++◌, [], List, false, length, map, IfOk, IfErr, IfSome, OnOk, OnErr, Ok};
+ghost use Rattle.std.specs.Prelude.{◌≡◌, ◌<◌, ◌^◌, ◌∷◌, ◌++◌, [], List, false, length, map, IfOk, IfErr, IfSome, OnOk, OnErr, Ok, IsUtf8};
 ghost use Rattle.pb_base.specs.Batch.{Writes};
 ghost use Rattle.pb_parse.specs.ScriptLines.{script_of};
 ghost use Rattle.pb_keeper.specs.Keeps.{Keeps};
 ghost use Rattle.pb_keeper.specs.Stats.{kept_table, KeptTable};
 ghost use Rattle.pb_keep.specs.Again.{in_part, AreFirstMade, AreSomeMade, IsRecordLeft, IsRecordMade, WhyNotAllMade};
-ghost use Rattle.pb_keep.specs.Causes.{IsOfAnew};
+ghost use Rattle.pb_keep.specs.Causes.{IsOfAnew, IsOfReading, IsOfScript};
 ghost use Rattle.pb_keep.specs.First.{is_full};
-ghost use Rattle.pb_keep.specs.Kept.{changes_of, reported_count};
+ghost use Rattle.pb_keep.specs.Kept.{changes_of, reported_count, AreTexts};
+ghost use Rattle.pb_keep.specs.Left.{IsRightOf};
 
 use crate::fault::KeepFault;
 use crate::made::make_counted;
@@ -22,7 +23,8 @@ use std::alloc::Global;
 // The changes of a record.
 fn batches_of(alloc: Global, record: &[u8]) -> Result<Vec<Batch>, KeepFault>
     ensures ok { IfOk result (λ v. script_of «record».now ≡ Ok v.items) }
-    ensures why { IfErr result IsOfAnew }
+    ensures text { OnOk result (IsUtf8 «record».now) }
+    ensures why { IfErr result (IsOfScript «record».now) }
 {
     let Ok(text) = std::str::from_utf8(record) else {
         return Err(KeepFault::Record);
@@ -39,7 +41,8 @@ pub(crate) fn count_changes(alloc: Global, records: &[Vec<u8>]) -> Result<u64, K
     ensures counted { IfOk result (λ n. (all : List Writes)
         × (changes_of (map (λ v. v.items) records.now) ≡ Ok all)
         × (n ≡ reported_count (length all))) }
-    ensures why { IfErr result IsOfAnew }
+    ensures texts { OnOk result (AreTexts (map (λ v. v.items) records.now)) }
+    ensures why { IfErr result (IsOfReading (map (λ v. v.items) records.now)) }
 {
     let mut count = 0u64;
     for record in records {
@@ -75,7 +78,10 @@ fn make_anew<T: Tablet>(
         (kept_table state.old stats.old.items) (kept_table state.new stats.new.items)
         made.old made.new) }
     ensures observers { OnOk result (state.new.observers ≡ state.old.observers) }
-    ensures why { IfErr result IsOfAnew }
+    ensures why { IfErr result (IsOfAnew («record».now ∷ [])) }
+    ensures right { (first : KeptTable) (changes : List Writes)
+        → Keeps limit first changes (kept_table state.old stats.old.items)
+        → IfErr result (IsRightOf state.new) }
     ensures left { OnErr result (IsRecordLeft limit «record».now
         (kept_table state.old stats.old.items) state.new made.old made.new) }
     ensures fewer { OnErr result (is_full most made.new ≡ false) }
@@ -110,7 +116,10 @@ pub(crate) fn make_first<T: Tablet>(
         → OnOk result (AreFirstMade limit most changes (kept_table state.old stats.old.items)
         (kept_table state.new stats.new.items) made.new) }
     ensures observers { OnOk result (state.new.observers ≡ state.old.observers) }
-    ensures why { IfErr result IsOfAnew }
+    ensures why { IfErr result (IsOfAnew (map (λ v. v.items) records.items)) }
+    ensures right { (first : KeptTable) (changes : List Writes)
+        → Keeps limit first changes (kept_table state.old stats.old.items)
+        → IfErr result (IsRightOf state.new) }
     ensures some { (changes : List Writes)
         → changes_of (map (λ v. v.items) records.items) ≡ Ok changes
         → OnErr result (AreSomeMade limit changes (kept_table state.old stats.old.items)
@@ -153,7 +162,9 @@ pub fn make_records_anew<T: Tablet>(
         → Keeps limit first changes (kept_table state.old stats.old.items)
         → Keeps limit first (changes ++ more) (kept_table state.new stats.new.items))
         × (n ≡ reported_count (length more))) }
+    ensures texts { OnOk result (AreTexts (map (λ v. v.items) records.items)) }
     ensures observers { OnOk result (state.new.observers ≡ state.old.observers) }
+    // A fault has its cause: a record that is no script, or a clock at its end.
     ensures why { IfErr result (WhyNotAllMade limit (map (λ v. v.items) records.items)
         (kept_table state.old stats.old.items) state.new) }
 {

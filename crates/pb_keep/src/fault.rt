@@ -1,9 +1,10 @@
 //! Why a table is kept no longer.
 ghost use Rattle.std.specs.Prelude.{◌≡◌};
 ghost use Rattle.pb_base.specs.Growths.{refused_growth};
-ghost use Rattle.pb_keep.specs.Left.{fault_by, fault_of_carried};
+ghost use Rattle.pb_keep.specs.Left.{fault_by, fault_of_carried, fault_of_line};
 ghost use Rattle.pb_keep.specs.declared.fault.KeepFault.TheVariants as ends;
 
+use crate::source::InputFault;
 use pb_base::NoMemory;
 use pb_keeper::Stopped;
 use pb_log::LogFault;
@@ -34,6 +35,7 @@ pub enum KeepFault {
     NoTimestamp,
     #[error("cannot write the output")]
     Output,
+    /// A read of the input failed.
     #[error("cannot read the input")]
     Input,
 }
@@ -89,6 +91,17 @@ impl From<Stopped> for KeepFault {
             Stopped::NoMemory(refused) => KeepFault::NoMemory(refused),
             // On a table that keeps changes nothing else stops one.
             Stopped::Refused(_) | Stopped::Conflict => KeepFault::NoTimestamp,
+        }
+    }
+}
+
+impl From<InputFault> for KeepFault {
+    ghost from_gives = { λ e f. f ≡ fault_of_line e };
+
+    fn from(e: InputFault) -> KeepFault {
+        match e {
+            InputFault::NoMemory(refused) => KeepFault::NoMemory(refused),
+            InputFault::Reader => KeepFault::Input,
         }
     }
 }

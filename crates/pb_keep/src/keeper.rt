@@ -1,15 +1,18 @@
 //! A table, its log, and the lines that wait.
-ghost use Rattle.std.specs.Prelude.{◌≡◌, ◌⊎◌, ◌++◌, ◌<◌, ◌^◌, ℕ, List, Option, [], false, length, OnOk, IfOk, IfErr, IsTrue};
+ghost use Rattle.std.specs.Prelude.{◌≡◌, ◌⊎◌, ◌∷◌, ◌++◌, ◌<◌, ◌^◌, ℕ, List, Option, [], false, length, OnOk, IfOk, IfErr, IsTrue};
 ghost use Rattle.sqlite_disk.specs.Disk.{Only};
 ghost use Rattle.pb_base.specs.Batch.{Writes};
 ghost use Rattle.std.specs.Io.KnownBytes.{Appends};
 ghost use Rattle.pb_keeper.specs.Keeps.{opened_table, IsFirstTable, Keeps};
 ghost use Rattle.pb_keeper.specs.Stats.{kept_table, KeptTable};
-ghost use Rattle.pb_keep.specs.Kept.{HasChanges, IsLogOf, Origin};
+ghost use Rattle.pb_log.specs.Header.{header};
+ghost use Rattle.pb_log.specs.Records.{IsLog, IsReadable, IsShutOrNew};
+ghost use Rattle.pb_snapshots.specs.Snapshot.{SnapshotOf};
+ghost use Rattle.pb_keep.specs.Kept.{head, origin_of, HasChanges, IsLogOf, IsShutFile, Origin};
 ghost use Rattle.pb_keep.specs.Waits.{changes_in, AreAnswers, IsNoLine, IsWaiting};
 ghost use Rattle.pb_keep.specs.Conversations.{beginning, keeper_view, Beginning, LeavesFirst, Serves};
 ghost use Rattle.pb_keep.specs.Opened.{IsOpenedLog};
-ghost use Rattle.pb_keep.specs.Causes.{IsOfPut, WhyNotKept, WhyNotMadeAgain};
+ghost use Rattle.pb_keep.specs.Causes.{IsOfLogFile, IsOfPut, WhyNotKept, WhyNotMadeAgain};
 ghost use Rattle.pb_keep.specs.Left.{AreInTime, IsLeftBy, IsOfLog};
 
 use crate::anew::make_records_anew;
@@ -21,7 +24,8 @@ use crate::take::write;
 use crate::waiting::Waiting;
 use pb_base::{Sink, Ts};
 use pb_keeper::{ObserverStats, tables_keep_their_changes};
-use pb_log::Log;
+use pb_log::{Log, files_have_one_reading};
+use pb_snapshots::snapshots_are_no_texts;
 use pb_state::State;
 use pb_store::Tablet;
 use sqlite_disk::Disk;
@@ -60,6 +64,9 @@ fn put_script<D: Disk + Drop>(
         → (c : List ℕ) → D.may_leave log.new.disk c
         → HasChanges origin changes c
         ⊎ HasChanges origin (changes ++ changes_in waiting.now.items.items) c }
+    ensures shut { ((d : _) → IsTrue (D.is_mixing d)) → (origin : Origin) (changes : List Writes)
+        → IsLogOf origin changes (D.seen log.old.disk) (D.may_leave log.old.disk) log.old.end
+        → (c : List ℕ) → D.may_leave log.new.disk c → IsShutFile c }
     ensures cause { IfErr result
         (IsOfPut (D.faults log.old.disk) (D.faults log.new.disk) log.new.end) }
     ensures faultless { OnOk result (D.faults log.new.disk ≡ D.faults log.old.disk) }
@@ -126,14 +133,37 @@ impl<T: Tablet, D: Disk + Drop> Keeper<T, D> {
             → Serves (beginning o.origin o.first o.changes
             (kept_table self.new.state self.new.stats.items) written) []
             (keeper_view D.seen D.may_leave self.new written))) }
-        // A fault of the log has its cause in the file or the disk.
+        // A fault has its cause in the file or the disk, or at the end of the clock.
         ensures cause { IfErr result (λ e. IsTrue (D.is_clean self.new.log.disk)
             → WhyNotMadeAgain self.old.limit self.old.state.observers manifest.now
             (D.faults self.old.log.disk) (D.faults self.new.log.disk)
             (D.seen self.old.log.disk) self.new.state e) }
+        // Where the log can't be opened for what it has, it is as it was.
+        ensures same { IfErr result (λ e. IsOfLogFile e
+            → D.seen self.new.log.disk ≡ D.seen self.old.log.disk) }
+        // On every path a crash leaves the records that the log has, or the first if it had none.
+        ensures records { IsTrue (D.is_clean self.new.log.disk)
+            → (rs : List (List ℕ)) → IsLog (D.seen self.old.log.disk) rs
+            → (c : List ℕ) → D.may_leave self.new.log.disk c
+            → IsLog c rs
+            ⊎ ((rs ≡ []) × IsLog c (header (head self.old.limit manifest.now) ∷ [])) }
+        // So it leaves the changes that the log has.
+        ensures crash { IsTrue (D.is_clean self.new.log.disk)
+            → (snapshot : Option SnapshotOf) (changes : List Writes)
+            → HasChanges (origin_of self.old.limit manifest.now snapshot) changes
+            (D.seen self.old.log.disk)
+            → (c : List ℕ) → D.may_leave self.new.log.disk c
+            → HasChanges (origin_of self.old.limit manifest.now snapshot) changes c }
+        // Where each byte of a torn write is old or new, what may be opened may be opened then.
+        ensures shut { ((d : _) → IsTrue (D.is_mixing d)) → IsTrue (D.is_clean self.new.log.disk)
+            → (rs : List (List ℕ)) → IsReadable (D.seen self.old.log.disk) rs
+            → (c : List ℕ) → D.may_leave self.new.log.disk c → IsShutOrNew c }
     {
-        // For the proof: as it begins, a table keeps no change of its own.
+        // For the proof: as it begins, a table keeps no change of its own; and a file has one list of records, of which that of a
+        // snapshot is no text.
         tables_keep_their_changes();
+        files_have_one_reading();
+        snapshots_are_no_texts();
         let head = head_of(alloc, self.limit, manifest)?;
         let mut records = self.log.open(alloc, &head)?;
         self.since = begin(alloc, &mut self.state, &mut self.stats, &mut records)?;
@@ -173,6 +203,11 @@ impl<T: Tablet, D: Disk + Drop> Keeper<T, D> {
         ensures unmade { IfErr result (λ e. IsOfLog e → (self.new.state ≡ self.old.state)
             × (self.new.stats.items ≡ self.old.stats.items)
             × (S.taken out.new ≡ S.taken out.old)) }
+        ensures shut { ((d : _) → IsTrue (D.is_mixing d))
+            → (origin : Origin) (changes : List Writes)
+            → IsLogOf origin changes (D.seen self.old.log.disk)
+            (D.may_leave self.old.log.disk) self.old.log.end
+            → (c : List ℕ) → D.may_leave self.new.log.disk c → IsShutFile c }
         ensures cause { (first : KeptTable) (changes : List Writes)
             → Keeps self.old.limit first changes (kept_table self.old.state self.old.stats.items)
             → AreInTime self.old.waiting.items.items self.old.state
@@ -219,6 +254,10 @@ impl<T: Tablet, D: Disk + Drop> Keeper<T, D> {
             → Serves b lines (keeper_view D.seen D.may_leave self.old (S.taken out.old))
             → (c : List ℕ) → D.may_leave self.new.log.disk c
             → LeavesFirst b lines (S.taken out.new) c }
+        // Where each byte of a torn write is old or new, a closed gate stands after the records.
+        ensures shut { ((d : _) → IsTrue (D.is_mixing d)) → (b : Beginning) (lines : List (List ℕ))
+            → Serves b lines (keeper_view D.seen D.may_leave self.old (S.taken out.old))
+            → (c : List ℕ) → D.may_leave self.new.log.disk c → IsShutFile c }
         // Where the log failed, nothing is made, and nothing is written.
         ensures unmade { IfErr result (λ e. IsOfLog e → (self.new.state ≡ self.old.state)
             × (self.new.stats.items ≡ self.old.stats.items)
@@ -235,10 +274,12 @@ impl<T: Tablet, D: Disk + Drop> Keeper<T, D> {
         self.put_and_make(alloc, out)
     }
 
-    /// Ends it, with its table.
-    pub fn close(self) {
+    /// Ends it, with its table, and returns its log as it is.
+    pub fn close(self) -> Log<D>
+        ensures { result ≡ self.log }
+    {
         let Keeper {
-            log: _,
+            log,
             state,
             stats: _,
             waiting: _,
@@ -246,5 +287,6 @@ impl<T: Tablet, D: Disk + Drop> Keeper<T, D> {
             since: _,
         } = self;
         state.close();
+        log
     }
 }

@@ -8,7 +8,7 @@ ghost use Rattle.pb_keeper.specs.Keeps.{Keeps};
 ghost use Rattle.pb_keeper.specs.Leads.{SaidLeads};
 ghost use Rattle.pb_keeper.specs.Made.{IsMade, comes_to_rest, runs_within};
 ghost use Rattle.pb_keeper.specs.Stats.{kept_table, Counted, KeptTable};
-ghost use Rattle.pb_keeper.specs.Stops.{WantsMemory};
+ghost use Rattle.pb_keeper.specs.Stops.{IsStop, WantsMemory};
 ghost use Rattle.pb_steps.specs.Readings.{last_timestamp};
 ghost use Rattle.pb_keep.specs.Again.{IsBrokenOff};
 ghost use Rattle.pb_keep.specs.Left.{most_timestamps, AreInTime, IsOfMaking, IsRefusedMemory};
@@ -97,6 +97,9 @@ pub(crate) fn make_counted<T: Tablet>(
     ensures in_time { (first : KeptTable) (changes : List Writes)
         → Keeps limit first changes (kept_table state.old stats.old.items)
         → state.old.clock + most_timestamps < last_timestamp → IfErr result WantsMemory }
+    ensures stops { (first : KeptTable) (changes : List Writes)
+        → Keeps limit first changes (kept_table state.old stats.old.items)
+        → IfErr result (λ e. IsStop e state.new) }
     ensures left { OnErr result (IsBrokenOff state.old state.new) }
 {
     make(alloc, state, stats, batch, limit)

@@ -1,11 +1,16 @@
 //! A log of which the first changes are made again: as many as may be, or as can be made.
-ghost use Rattle.std.specs.Prelude.{◌≡◌, ◌<◌, ◌^◌, ℕ, List, Option, length, IfErr, IfOk, OnOk, IsTrue};
+ghost use Rattle.std.specs.Prelude.{◌≡◌, ◌⊎◌, ◌∷◌, ◌<◌, ◌^◌, ℕ, List, Option, [], length, IfErr, IfOk, OnOk, IsTrue};
 ghost use Rattle.sqlite_disk.specs.Disk.{Only};
+ghost use Rattle.pb_base.specs.Batch.{Writes};
 ghost use Rattle.pb_keeper.specs.Keeps.{opened_table};
 ghost use Rattle.pb_keeper.specs.Stats.{kept_table};
-ghost use Rattle.pb_keep.specs.Causes.{WhyNotMadeAgain};
+ghost use Rattle.pb_log.specs.Header.{header};
+ghost use Rattle.pb_log.specs.Records.{IsLog, IsReadable, IsShutOrNew};
+ghost use Rattle.pb_snapshots.specs.Snapshot.{SnapshotOf};
+ghost use Rattle.pb_keep.specs.Causes.{IsOfLogFile, WhyNotMadeAgain};
 ghost use Rattle.pb_keep.specs.Conversations.{keeper_view};
 ghost use Rattle.pb_keep.specs.FirstOpened.{IsNotStopped, IsOpenedTo, MakesFewer};
+ghost use Rattle.pb_keep.specs.Kept.{head, origin_of, HasChanges};
 
 use crate::anew::{count_changes, make_first};
 use crate::fault::KeepFault;
@@ -13,6 +18,8 @@ use crate::first::begin;
 use crate::head::head_of;
 use crate::keeper::Keeper;
 use pb_keeper::tables_keep_their_changes;
+use pb_log::files_have_one_reading;
+use pb_snapshots::snapshots_are_no_texts;
 use pb_store::Tablet;
 use sqlite_disk::Disk;
 use std::alloc::Global;
@@ -55,14 +62,37 @@ impl<T: Tablet, D: Disk + Drop> Keeper<T, D> {
             → IsOpenedTo self.old.state.observers manifest.now (D.seen self.old.log.disk) most
             (keeper_view D.seen D.may_leave self.new written) opened) }
         ensures fewer { IfOk result (MakesFewer most) }
-        // A fault of the log has its cause in the file or the disk.
+        // A fault has its cause in the file or the disk.
         ensures cause { IfErr result (λ e. IsTrue (D.is_clean self.new.log.disk)
             → WhyNotMadeAgain self.old.limit self.old.state.observers manifest.now
             (D.faults self.old.log.disk) (D.faults self.new.log.disk)
             (D.seen self.old.log.disk) self.new.state e) }
+        // Where the log can't be opened for what it has, it is as it was.
+        ensures same { IfErr result (λ e. IsOfLogFile e
+            → D.seen self.new.log.disk ≡ D.seen self.old.log.disk) }
+        // On every path a crash leaves the records that the log has, or the first if it had none.
+        ensures records { IsTrue (D.is_clean self.new.log.disk)
+            → (rs : List (List ℕ)) → IsLog (D.seen self.old.log.disk) rs
+            → (c : List ℕ) → D.may_leave self.new.log.disk c
+            → IsLog c rs
+            ⊎ ((rs ≡ []) × IsLog c (header (head self.old.limit manifest.now) ∷ [])) }
+        // So it leaves the changes that the log has.
+        ensures crash { IsTrue (D.is_clean self.new.log.disk)
+            → (snapshot : Option SnapshotOf) (changes : List Writes)
+            → HasChanges (origin_of self.old.limit manifest.now snapshot) changes
+            (D.seen self.old.log.disk)
+            → (c : List ℕ) → D.may_leave self.new.log.disk c
+            → HasChanges (origin_of self.old.limit manifest.now snapshot) changes c }
+        // Where each byte of a torn write is old or new, what may be opened may be opened then.
+        ensures shut { ((d : _) → IsTrue (D.is_mixing d)) → IsTrue (D.is_clean self.new.log.disk)
+            → (rs : List (List ℕ)) → IsReadable (D.seen self.old.log.disk) rs
+            → (c : List ℕ) → D.may_leave self.new.log.disk c → IsShutOrNew c }
     {
-        // For the proof: as it begins, a table keeps no change of its own.
+        // For the proof: as it begins, a table keeps no change of its own; and a file has one list of records, of which that of a
+        // snapshot is no text.
         tables_keep_their_changes();
+        files_have_one_reading();
+        snapshots_are_no_texts();
         let head = head_of(alloc, self.limit, manifest)?;
         let mut records = self.log.open(alloc, &head)?;
         self.since = begin(alloc, &mut self.state, &mut self.stats, &mut records)?;

@@ -1,15 +1,16 @@
 //! Questions that are answered alone: no change is made, no line waits, and nothing is put into the log.
 ghost use Rattle.std.specs.Prelude.{◌≡◌, ◌⊎◌, ℕ, List, Option, None, string_bytes, IfErr, IfOk, IfSome, OnErr, OnOk};
-ghost use Rattle.std.specs.Io.KnownBytes.{Appends, IsAtEnd};
+ghost use Rattle.std.specs.Io.KnownBytes.{Appends};
 ghost use Rattle.pb_keeper.specs.Stats.{kept_table};
 ghost use Rattle.pb_keep.specs.Causes.{IsOfAnswer};
 ghost use Rattle.pb_keep.specs.Held.{IsReadAs};
-ghost use Rattle.pb_keep.specs.Input.{IsLineRead, IsNextLine};
+ghost use Rattle.pb_keep.specs.Input.{HasNoLine, IsLineRead, IsNextLine};
 ghost use Rattle.pb_keep.specs.Questions.{refused_line, AnswersAll, AnswersBegun, AnswersTurn, IsAnswerAlone, MayHaveBegun, WhyNotAnswered};
 
 use crate::fault::KeepFault;
 use crate::keeper::Keeper;
 use crate::lines::{Line, read_line};
+use crate::source::LineSource;
 use crate::take::{OUT_OF_PLACE, is_question, write};
 use pb_base::{NoMemory, Sink};
 use pb_parse::ScriptCode;
@@ -17,7 +18,6 @@ use pb_requests::{Request, parse_request};
 use pb_store::Tablet;
 use sqlite_disk::Disk;
 use std::alloc::Global;
-use std::io::BufRead;
 use std::sync::Wait;
 
 // What these bytes of a line ask for.
@@ -36,7 +36,7 @@ fn request_in(read: Line, line: &[u8]) -> Option<Result<Request, ScriptCode>>
         → IfSome result (λ asked. (whole : List ℕ) × IsNextLine whole from to
         × IsReadAs whole asked) }
     ensures ended { (from to : Option (List ℕ)) → IsLineRead read line.now from to
-        → result ≡ None → IsAtEnd from }
+        → result ≡ None → HasNoLine from }
 {
     match read {
         Line::Read => Some(request_of(line)),
@@ -93,7 +93,7 @@ impl<T: Tablet, D: Disk + Drop> Keeper<T, D> {
 }
 
 // Reads a line and answers it. Returns whether there was one.
-fn answer_next<R: Wait, I: BufRead, T: Tablet, D: Disk + Drop, S: Sink>(
+fn answer_next<R: Wait, I: LineSource, T: Tablet, D: Disk + Drop, S: Sink>(
     rt: &R,
     alloc: Global,
     keeper: &Keeper<T, D>,
@@ -107,10 +107,11 @@ fn answer_next<R: Wait, I: BufRead, T: Tablet, D: Disk + Drop, S: Sink>(
     ensures begun { OnErr result (AnswersBegun keeper.now.since.0
         (kept_table keeper.now.state keeper.now.stats.items) keeper.now.log.end
         (I.remaining input.old) (S.taken out.old) (S.taken out.new)) }
-    ensures why { IfErr result (WhyNotAnswered (S.failed out.new)) }
+    ensures why { IfErr result (WhyNotAnswered (I.failed input.new) (S.failed out.new)) }
 {
-    let Ok(read) = read_line(rt, input, line) else {
-        return Err(KeepFault::Input);
+    let read = match read_line(rt, input, line) {
+        Ok(read) => read,
+        Err(fault) => return Err(fault.into()),
     };
     match request_in(read, line.as_slice()) {
         Some(asked) => {
@@ -122,7 +123,7 @@ fn answer_next<R: Wait, I: BufRead, T: Tablet, D: Disk + Drop, S: Sink>(
 }
 
 /// Reads lines and answers each as it comes, until the input ends, where questions alone are answered. The keeper is left as it is.
-pub fn answer_questions<R: Wait, I: BufRead, T: Tablet, D: Disk + Drop, S: Sink>(
+pub fn answer_questions<R: Wait, I: LineSource, T: Tablet, D: Disk + Drop, S: Sink>(
     rt: &R,
     alloc: Global,
     keeper: &Keeper<T, D>,
@@ -137,8 +138,8 @@ pub fn answer_questions<R: Wait, I: BufRead, T: Tablet, D: Disk + Drop, S: Sink>
     ensures begun { OnErr result (AnswersBegun keeper.now.since.0
         (kept_table keeper.now.state keeper.now.stats.items) keeper.now.log.end
         (I.remaining input.old) (S.taken out.old) (S.taken out.new)) }
-    // A fault has its cause, but for one of the input.
-    ensures why { IfErr result (WhyNotAnswered (S.failed out.new)) }
+    // A fault has its cause.
+    ensures why { IfErr result (WhyNotAnswered (I.failed input.new) (S.failed out.new)) }
 {
     let mut line = Vec::new(alloc);
     for _turn in rt.forever() {

@@ -1,11 +1,11 @@
 //! Lines taken as they come, until the input ends or the log is to be compacted.
 ghost use Rattle.std.specs.Prelude.{◌≡◌, ◌≤◌, ◌∷◌, ◌++◌, [], ℕ, List, Option, None, Err, true, false, IfOk, IfErr, IfSome, OnOk, IsTrue};
-ghost use Rattle.std.specs.Io.Buffered.{reader_remaining};
 ghost use Rattle.pb_parse.specs.declared.script.code.ScriptCode.TheVariants.{Form};
 ghost use Rattle.pb_steps.specs.State.{StateOf};
 ghost use Rattle.pb_keep.specs.Conversations.{keeper_view, Beginning, LeavesFirst, Serves};
 ghost use Rattle.pb_keep.specs.Input.{IsLineRead};
 ghost use Rattle.pb_keep.specs.Causes.{WhyNotKept, WhyNotServed};
+ghost use Rattle.pb_keep.specs.Kept.{IsShutFile};
 ghost use Rattle.pb_keep.specs.Served.{IsKeptAtEnd, IsPauseAfter, LeavesRead, ServesLine, ServesNext, ServesUntil};
 ghost use Rattle.pb_keep.specs.declared.service.Went.TheVariants as turns;
 ghost use Rattle.pb_keep.specs.declared.take.Took.TheVariants.{Served};
@@ -15,6 +15,7 @@ ghost use Rattle.pb_keep.specs.Waits.{IsNoLine, IsWaiting};
 use crate::fault::KeepFault;
 use crate::keeper::Keeper;
 use crate::lines::{Line, read_line};
+use crate::source::LineSource;
 use crate::take::Took;
 use crate::waiting::{Waiting, Waits};
 use pb_base::{NoMemory, Sink};
@@ -22,7 +23,6 @@ use pb_parse::ScriptCode;
 use pb_store::Tablet;
 use sqlite_disk::Disk;
 use std::alloc::Global;
-use std::io::{BufReader, Read};
 use std::sync::Wait;
 
 /// Why lines are taken no further.
@@ -76,6 +76,9 @@ fn take_bytes<T: Tablet, D: Disk + Drop, S: Sink>(
         → Serves b lines (keeper_view D.seen D.may_leave keeper.old (S.taken out.old))
         → (c : List ℕ) → D.may_leave keeper.new.log.disk c
         → LeavesFirst b (lines ++ bytes.now ∷ []) (S.taken out.new) c }
+    ensures shut { ((d : _) → IsTrue (D.is_mixing d)) → (b : Beginning) (lines : List (List ℕ))
+        → Serves b lines (keeper_view D.seen D.may_leave keeper.old (S.taken out.old))
+        → (c : List ℕ) → D.may_leave keeper.new.log.disk c → IsShutFile c }
     ensures cause { (b : Beginning) (lines : List (List ℕ))
         → Serves b lines (keeper_view D.seen D.may_leave keeper.old (S.taken out.old))
         → IfErr result (WhyNotKept (D.faults keeper.old.log.disk) (D.faults keeper.new.log.disk)
@@ -116,6 +119,9 @@ fn take_read<T: Tablet, D: Disk + Drop, S: Sink>(
         → Serves b lines (keeper_view D.seen D.may_leave keeper.old (S.taken out.old))
         → (c : List ℕ) → D.may_leave keeper.new.log.disk c
         → LeavesRead b lines from (S.taken out.new) c }
+    ensures shut { ((d : _) → IsTrue (D.is_mixing d)) → (b : Beginning) (lines : List (List ℕ))
+        → Serves b lines (keeper_view D.seen D.may_leave keeper.old (S.taken out.old))
+        → (c : List ℕ) → D.may_leave keeper.new.log.disk c → IsShutFile c }
     ensures cause { (b : Beginning) (lines : List (List ℕ))
         → Serves b lines (keeper_view D.seen D.may_leave keeper.old (S.taken out.old))
         → IfErr result (WhyNotKept (D.faults keeper.old.log.disk) (D.faults keeper.new.log.disk)
@@ -133,11 +139,6 @@ fn take_read<T: Tablet, D: Disk + Drop, S: Sink>(
     }
 }
 
-// Whether a whole line was read that isn't taken yet.
-fn has_line<I: Read + Drop>(input: &BufReader<I>) -> bool {
-    input.buffer().contains(&b'\n')
-}
-
 // Whether what waits is kept after a turn: no line more has come, or the input has ended, and no group is open.
 fn is_kept_after(went: Went, waiting: &Waiting, has_more: bool) -> bool
     ensures alone { result ≡ true → waiting.now.is_group ≡ false }
@@ -147,11 +148,11 @@ fn is_kept_after(went: Went, waiting: &Waiting, has_more: bool) -> bool
 }
 
 // Reads a line, takes it, and keeps what waits unless a line more has come.
-fn turn<R: Wait, I: Read + Drop, T: Tablet, D: Disk + Drop, S: Sink>(
+fn turn<R: Wait, I: LineSource, T: Tablet, D: Disk + Drop, S: Sink>(
     rt: &R,
     alloc: Global,
     keeper: &mut Keeper<T, D>,
-    input: &mut BufReader<I>,
+    input: &mut I,
     out: &mut S,
     line: &mut Vec<u8>,
 ) -> Result<Went, KeepFault>
@@ -163,17 +164,21 @@ fn turn<R: Wait, I: Read + Drop, T: Tablet, D: Disk + Drop, S: Sink>(
         (keeper.new.state.observers ≡ keeper.old.state.observers) }
     ensures serves { (b : Beginning) (lines : List (List ℕ))
         → Serves b lines (keeper_view D.seen D.may_leave keeper.old (S.taken out.old))
-        → IfOk result (ServesNext b lines (reader_remaining I.remaining input.old)
-        (reader_remaining I.remaining input.new)
+        → IfOk result (ServesNext b lines (I.remaining input.old)
+        (I.remaining input.new)
         (keeper_view D.seen D.may_leave keeper.new (S.taken out.new))) }
     ensures crash { (b : Beginning) (lines : List (List ℕ))
         → Serves b lines (keeper_view D.seen D.may_leave keeper.old (S.taken out.old))
         → (c : List ℕ) → D.may_leave keeper.new.log.disk c
-        → LeavesRead b lines (reader_remaining I.remaining input.old) (S.taken out.new) c }
+        → LeavesRead b lines (I.remaining input.old) (S.taken out.new) c }
+    ensures shut { ((d : _) → IsTrue (D.is_mixing d)) → (b : Beginning) (lines : List (List ℕ))
+        → Serves b lines (keeper_view D.seen D.may_leave keeper.old (S.taken out.old))
+        → (c : List ℕ) → D.may_leave keeper.new.log.disk c → IsShutFile c }
     ensures cause { (b : Beginning) (lines : List (List ℕ))
         → Serves b lines (keeper_view D.seen D.may_leave keeper.old (S.taken out.old))
         → IfErr result (WhyNotServed (D.faults keeper.old.log.disk) (D.faults keeper.new.log.disk)
-        (S.failed out.new) (keeper_view D.seen D.may_leave keeper.new (S.taken out.new))) }
+        (I.failed input.new) (S.failed out.new)
+        (keeper_view D.seen D.may_leave keeper.new (S.taken out.new))) }
     ensures faultless { OnOk result
         (D.faults keeper.new.log.disk ≡ D.faults keeper.old.log.disk) }
     ensures ended { IfOk result (λ went. IsKeptAtEnd went keeper.new.waiting) }
@@ -181,11 +186,11 @@ fn turn<R: Wait, I: Read + Drop, T: Tablet, D: Disk + Drop, S: Sink>(
     match read_line(rt, input, line) {
         Ok(read) => {
             let went = take_read(alloc, keeper, out, read, line.as_slice())?;
-            let is_kept = is_kept_after(went, &keeper.waiting, has_line(input));
+            let is_kept = is_kept_after(went, &keeper.waiting, input.has_line());
             keeper.keep_if(alloc, out, is_kept)?;
             Ok(went)
         }
-        Err(_) => Err(KeepFault::Input),
+        Err(fault) => Err(fault.into()),
     }
 }
 
@@ -215,11 +220,11 @@ fn pause_after(went: Went, is_large: bool) -> Option<Paused>
 /// looked at after each line after which none waits. While a whole line more was read that isn't taken yet, what came
 /// before it waits; so no line waits for one that hasn't come. What waits when the input ends is kept, but for a group
 /// without its `end`. After a pause the caller answers, and calls this again for the rest of the input.
-pub fn serve<R: Wait, I: Read + Drop, T: Tablet, D: Disk + Drop, S: Sink>(
+pub fn serve<R: Wait, I: LineSource, T: Tablet, D: Disk + Drop, S: Sink>(
     rt: &R,
     alloc: Global,
     keeper: &mut Keeper<T, D>,
-    input: &mut BufReader<I>,
+    input: &mut I,
     out: &mut S,
     limit: u64,
 ) -> Result<Paused, KeepFault>
@@ -234,19 +239,24 @@ pub fn serve<R: Wait, I: Read + Drop, T: Tablet, D: Disk + Drop, S: Sink>(
     // answered. At any other pause all lines that were taken are answered.
     ensures serves { (b : Beginning) (lines : List (List ℕ))
         → Serves b lines (keeper_view D.seen D.may_leave keeper.old (S.taken out.old))
-        → IfOk result (ServesUntil b lines limit (reader_remaining I.remaining input.old)
-        (reader_remaining I.remaining input.new)
+        → IfOk result (ServesUntil b lines limit (I.remaining input.old)
+        (I.remaining input.new)
         (keeper_view D.seen D.may_leave keeper.new (S.taken out.new))) }
     // Whenever it stops, the log has the changes of the first lines, with all that are answered.
     ensures crash { (b : Beginning) (lines : List (List ℕ))
         → Serves b lines (keeper_view D.seen D.may_leave keeper.old (S.taken out.old))
         → (c : List ℕ) → D.may_leave keeper.new.log.disk c
-        → LeavesRead b lines (reader_remaining I.remaining input.old) (S.taken out.new) c }
-    // A fault has its cause, but for one of the input.
+        → LeavesRead b lines (I.remaining input.old) (S.taken out.new) c }
+    // Where each byte of a torn write is old or new, a closed gate stands after the records.
+    ensures shut { ((d : _) → IsTrue (D.is_mixing d)) → (b : Beginning) (lines : List (List ℕ))
+        → Serves b lines (keeper_view D.seen D.may_leave keeper.old (S.taken out.old))
+        → (c : List ℕ) → D.may_leave keeper.new.log.disk c → IsShutFile c }
+    // A fault has its cause.
     ensures cause { (b : Beginning) (lines : List (List ℕ))
         → Serves b lines (keeper_view D.seen D.may_leave keeper.old (S.taken out.old))
         → IfErr result (WhyNotServed (D.faults keeper.old.log.disk) (D.faults keeper.new.log.disk)
-        (S.failed out.new) (keeper_view D.seen D.may_leave keeper.new (S.taken out.new))) }
+        (I.failed input.new) (S.failed out.new)
+        (keeper_view D.seen D.may_leave keeper.new (S.taken out.new))) }
 {
     let mut line = Vec::new(alloc);
     for _turn in rt.forever() {

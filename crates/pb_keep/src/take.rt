@@ -14,6 +14,7 @@ ghost use Rattle.pb_keep.specs.Conversations.{keeper_view, Beginning, LeavesFirs
 ghost use Rattle.pb_keep.specs.Served.{ServesLine};
 ghost use Rattle.pb_keep.specs.Held.{change_as_line, commit_seen, refuses_changes, unless_full, waits_for, waits_within, IsAnswerTo, IsHeldIf, IsSinceAnswer};
 ghost use Rattle.pb_keep.specs.Causes.{IsOfAnswer, WhyNotKept};
+ghost use Rattle.pb_keep.specs.Kept.{IsShutFile};
 ghost use Rattle.pb_keep.specs.Taken.{is_compaction, is_question, IsLineReady, IsNoCompaction, IsNoQuestion, IsReadyFor, MayHaveAnswered, NamesLog, WaitsNow};
 ghost use Rattle.pb_keep.specs.Waits.{IsNoLine, IsWaiting};
 
@@ -388,6 +389,9 @@ impl<T: Tablet, D: Disk + Drop> Keeper<T, D> {
             → Serves b lines (keeper_view D.seen D.may_leave self.old (S.taken out.old))
             → (c : List ℕ) → D.may_leave self.new.log.disk c
             → LeavesFirst b lines (S.taken out.new) c }
+        ensures shut { ((d : _) → IsTrue (D.is_mixing d)) → (b : Beginning) (lines : List (List ℕ))
+            → Serves b lines (keeper_view D.seen D.may_leave self.old (S.taken out.old))
+            → (c : List ℕ) → D.may_leave self.new.log.disk c → IsShutFile c }
         ensures cause { (b : Beginning) (lines : List (List ℕ))
             → Serves b lines (keeper_view D.seen D.may_leave self.old (S.taken out.old))
             → IfErr result (WhyNotKept (D.faults self.old.log.disk)
@@ -426,6 +430,10 @@ impl<T: Tablet, D: Disk + Drop> Keeper<T, D> {
             → Serves b lines (keeper_view D.seen D.may_leave self.old (S.taken out.old))
             → (c : List ℕ) → D.may_leave self.new.log.disk c
             → LeavesFirst b (lines ++ line.now ∷ []) (S.taken out.new) c }
+        // Where each byte of a torn write is old or new, a closed gate stands after the records.
+        ensures shut { ((d : _) → IsTrue (D.is_mixing d)) → (b : Beginning) (lines : List (List ℕ))
+            → Serves b lines (keeper_view D.seen D.may_leave self.old (S.taken out.old))
+            → (c : List ℕ) → D.may_leave self.new.log.disk c → IsShutFile c }
         // A fault has its cause.
         ensures cause { (b : Beginning) (lines : List (List ℕ))
             → Serves b lines (keeper_view D.seen D.may_leave self.old (S.taken out.old))

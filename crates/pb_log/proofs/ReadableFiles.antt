@@ -2,7 +2,7 @@
 use Rattle.std.proofs.Common.{◌≡◌, ℕ, ◌+◌, ◌<◌, ◌≤◌, ◌-◌, List, [], ◌∷◌, ◌++◌, inl, inr, length, get_or, take, drop, refl, sym, ◌∙◌, ap, subst, arith, length-append, length-drop}
 use Rattle.std.proofs.lemmas.List.{append-nil, take_at, drop_at}
 use Rattle.sqlite_disk.specs.Disk.{Holds, Torn, Follows, Only}
-use Rattle.pb_log.specs.Records.{StandsOpen, EndsShut, IsLog, IsSound, IsReadable, IsAtRest, block, blocks}
+use Rattle.pb_log.specs.Records.{StandsOpen, EndsShut, IsLog, IsShutBeforeOrAfter, IsShutOrNew, IsSound, IsReadable, IsAtRest, block, blocks}
 use Rattle.pb_log.specs.Causes.{IsDamaged}
 use Rattle.pb_log.proofs.Blocks.{nothing_begins, length-block}
 use Rattle.pb_log.proofs.OneReading.{one_reading, same_tail}
@@ -33,11 +33,15 @@ new_is_log f few = record {
 }
 
 -- its first gate is torn into one byte
-pub new_crash : (f : List ℕ) (old new : List ℕ → Type 0) → length f ≤ 1 → Only f old → Follows (Torn 0 1) old new → (rs : List (List ℕ)) → IsLog f rs → (c : List ℕ) → new c → IsLog c rs
-new_crash f old new few only follows rs its c left =
+pub new_short : (f : List ℕ) (old new : List ℕ → Type 0) → length f ≤ 1 → Only f old → Follows (Torn 0 1) old new → (c : List ℕ) → new c → length c ≤ 1
+new_short f old new few only follows c left =
     let from = follows c left in
     let torn : Torn 0 1 f c = subst (λ (x : List ℕ). Torn 0 1 x c) (only from.0 from.1) from.2 in
-    let still : length c ≤ 1 = omega (arith, torn.no_longer, few) in
+    omega (arith, torn.no_longer, few)
+
+pub new_crash : (f : List ℕ) (old new : List ℕ → Type 0) → length f ≤ 1 → Only f old → Follows (Torn 0 1) old new → (rs : List (List ℕ)) → IsLog f rs → (c : List ℕ) → new c → IsLog c rs
+new_crash f old new few only follows rs its c left =
+    let still = new_short f old new few only follows c left in
     subst (λ (l : List (List ℕ)). IsLog c l) (sym (new_has_none f rs few its)) (new_is_log c still)
 
 -- and stands once it is written
@@ -78,6 +82,22 @@ readable_at_rest f rs end may_leave old readable ends_at only = elim readable [
   | inl sound ↦ sound_at_rest f rs end may_leave sound ends_at only
   | inr new ↦ absurd (omega (arith, old, new.0))
 ]
+
+-- ---- what a crash leaves of it
+
+readable_is_shut : (f : List ℕ) (rs : List (List ℕ)) → IsReadable f rs → IsShutOrNew f
+readable_is_shut f rs (inl s) = inl (rs, record { torn = s.shut.torn; is = s.is ∙ ap (λ (x : List ℕ). blocks 0 rs ++ x) s.shut.is; short = s.short })
+readable_is_shut f rs (inr new) = inr new.0
+
+-- nothing was written
+pub unwritten_left : (f : List ℕ) (rs : List (List ℕ)) (may_leave : List ℕ → Type 0) → IsReadable f rs → Only f may_leave → (c : List ℕ) → may_leave c → IsShutOrNew c
+unwritten_left f rs may_leave readable only c left = subst IsShutOrNew (sym (only c left)) (readable_is_shut f rs readable)
+
+pub shut_or_new : (rs : List (List ℕ)) (r file : List ℕ) → IsShutBeforeOrAfter rs r file → IsShutOrNew file
+shut_or_new rs r file (inl s) = inl (rs, s)
+shut_or_new rs r file (inr s) = inl (rs ++ r ∷ [], s)
+
+-- ---- the bytes of one
 
 module _ (f bytes : List ℕ) (own : List (List ℕ)) (end : ℕ) (read : bytes ≡ f) (found : IsLog bytes own) (ends_at : end ≡ length (blocks 0 own)) (rest : List ℕ) (rest_is : rest ≡ drop end bytes) where
   -- what is looked at after the records

@@ -1,9 +1,9 @@
 -- What a crash leaves in each of the two steps of a put.
-use Rattle.std.proofs.Common.{◌≡◌, ◌≢◌, ℕ, ◌+◌, ◌<◌, ◌≤◌, ◌^◌, List, [], ◌∷◌, ◌++◌, inl, inr, length, get_or, set, take, drop, refl, sym, ◌∙◌, ap, subst, arith, append_assoc, length-append, length-drop, take-append-drop}
+use Rattle.std.proofs.Common.{◌≡◌, ◌⊎◌, ◌≢◌, ℕ, ◌+◌, ◌<◌, ◌≤◌, ◌^◌, List, [], ◌∷◌, ◌++◌, inl, inr, length, get_or, set, take, drop, refl, sym, ◌∙◌, ap, subst, arith, append_assoc, length-append, length-drop, take-append-drop}
 use Rattle.std.proofs.lemmas.List.{length-take-le, get_or-take, get_or-drop, drop-drop, ext_get_or, length-set, get_or-set_same, get_or-set_other, set_at, get_or_append_left}
 use Rattle.std.proofs.lemmas.Bool.{cases_lt, cases_eq}
-use Rattle.sqlite_disk.specs.Disk.{Holds, Torn, Follows, Only}
-use Rattle.pb_log.specs.Records.{AreShort, IsLog, IsBeforeOrAfter, IsAtRest, body, blocks}
+use Rattle.sqlite_disk.specs.Disk.{Holds, Torn, Mixed, Follows, Only}
+use Rattle.pb_log.specs.Records.{AreShort, IsLog, IsShut, IsBeforeOrAfter, IsShutBeforeOrAfter, IsAtRest, body, blocks}
 use Rattle.pb_log.proofs.Blocks.{blocks-push, short-push, length-body}
 
 -- ---- lists
@@ -58,14 +58,23 @@ module _ (rs : List (List ℕ)) (shorts : AreShort rs) where
   closed_is_log rest c is = shut_gate 0 rest c (omega arith) is
 
   -- the first write leaves the closed gate
-  torn_after : (n : ℕ) (rest c : List ℕ) → Torn (length (blocks 0 rs) + 1) n (blocks 0 rs ++ 0 ∷ rest) c → IsLog c rs
-  torn_after n rest c torn =
+  torn_shut : (n : ℕ) (rest c : List ℕ) → Torn (length (blocks 0 rs) + 1) n (blocks 0 rs ++ 0 ∷ rest) c → IsShut c rs
+  torn_shut n rest c torn =
       let front = blocks 0 rs ++ 0 ∷ [] in
       let long : length front ≡ length (blocks 0 rs) + 1 = omega (arith, length-append (blocks 0 rs) (0 ∷ [])) in
       let old : blocks 0 rs ++ 0 ∷ rest ≡ front ++ rest = sym (append_assoc (blocks 0 rs) (0 ∷ []) rest) in
       let longer : length (blocks 0 rs ++ 0 ∷ rest) ≡ length front + length rest = ap length old ∙ length-append front rest in
       let kept = front_kept front c (omega (arith, torn.no_shorter, longer)) (λ i l. torn.below i (omega (arith, l, longer)) (omega (arith, l, long)) ∙ ap (λ (x : List ℕ). get_or x i 0) old ∙ get_or_append_left front rest 0 i l) in
-      closed_is_log (drop (length front) c) c (kept ∙ append_assoc (blocks 0 rs) (0 ∷ []) (drop (length front) c))
+      record { torn = drop (length front) c; is = kept ∙ append_assoc (blocks 0 rs) (0 ∷ []) (drop (length front) c); short = shorts }
+
+  torn_after : (n : ℕ) (rest c : List ℕ) → Torn (length (blocks 0 rs) + 1) n (blocks 0 rs ++ 0 ∷ rest) c → IsLog c rs
+  torn_after n rest c torn = let s = torn_shut n rest c torn in closed_is_log s.torn c s.is
+
+  pub first_shut : (n end : ℕ) (seen : List ℕ) (old new : List ℕ → Type 0) → IsAtRest seen old end rs → Follows (Torn (end + 1) n) old new → (c : List ℕ) → new c → IsShut c rs
+  first_shut n end seen old new rest follows c left =
+      let from = follows c left in
+      let was : from.0 ≡ blocks 0 rs ++ 0 ∷ rest.torn = rest.durable from.0 from.1 ∙ rest.is in
+      torn_shut n rest.torn c (subst (λ (f : List ℕ). Torn (length (blocks 0 rs) + 1) n f c) was (subst (λ (e : ℕ). Torn (e + 1) n from.0 c) rest.ends_at from.2))
 
   pub first_crash : (n end : ℕ) (seen : List ℕ) (old new : List ℕ → Type 0) → IsAtRest seen old end rs → Follows (Torn (end + 1) n) old new → (c : List ℕ) → new c → IsLog c rs
   first_crash n end seen old new rest follows c left =
@@ -106,6 +115,33 @@ module _ (rs : List (List ℕ)) (shorts : AreShort rs) where
         let from = follows c left in
         let torn = subst (λ (f : List ℕ). Torn (length (blocks 0 rs)) 1 f c) (only from.0 from.1) (subst (λ (e : ℕ). Torn e 1 from.0 c) ends_at from.2) in
         gate_cases (get_or c (length (blocks 0 rs)) 0) more c (one_byte (blocks 0 rs) (staged_bytes ++ more) c 0 torn)
+
+    -- where a torn write leaves each byte old or new, that gate is closed or open then
+    gate_shut : (gate : ℕ) (more c : List ℕ) → c ≡ blocks 0 rs ++ gate ∷ (staged_bytes ++ more) → (gate ≡ 0) ⊎ (gate ≡ 165) → IsShutBeforeOrAfter rs r c
+    gate_shut gate more c is (inl closed) = inl (record { torn = staged_bytes ++ more; is = is ∙ ap (λ (g : ℕ). blocks 0 rs ++ g ∷ (staged_bytes ++ more)) closed; short = shorts })
+    gate_shut gate more c is (inr open_gate) = inr (record { torn = more; is = is ∙ ap (λ (g : ℕ). blocks 0 rs ++ g ∷ (staged_bytes ++ more)) open_gate ∙ opened_is more; short = short-push rs r shorts small })
+
+    -- the gate of the staged file
+    staged_gate : (more : List ℕ) → get_or (staged_file more) (length (blocks 0 rs)) 0 ≡ 0
+    staged_gate more = get_or_append_at (blocks 0 rs) (0 ∷ (staged_bytes ++ more))
+      where
+        get_or_append_at : (p q : List ℕ) → get_or (p ++ q) (length p) 0 ≡ get_or q 0 0
+        get_or_append_at [] q = refl
+        get_or_append_at (x ∷ p) q = get_or_append_at p q
+
+    pub second_shut : (more : List ℕ) (old new : List ℕ → Type 0) → Only (staged_file more) old → Follows (Mixed end (165 ∷ [])) old new → (c : List ℕ) → new c → IsShutBeforeOrAfter rs r c
+    second_shut more old new only follows c left =
+        let from = follows c left in
+        let p = blocks 0 rs in
+        let mixed : Mixed (length p) (165 ∷ []) (staged_file more) c = subst (λ (f : List ℕ). Mixed (length p) (165 ∷ []) f c) (only from.0 from.1) (subst (λ (e : ℕ). Mixed e (165 ∷ []) from.0 c) ends_at from.2) in
+        let long : length (staged_file more) ≡ length p + (1 + length (staged_bytes ++ more)) = omega (arith, length-append p (0 ∷ (staged_bytes ++ more))) in
+        let here : get_or c (length p) 0 ≡ get_or c (length p + 0) 0 = ap (λ (k : ℕ). get_or c k 0) (omega arith) in
+        let there : get_or (staged_file more) (length p + 0) 0 ≡ get_or (staged_file more) (length p) 0 = ap (λ (k : ℕ). get_or (staged_file more) k 0) (omega arith) in
+        let is = one_byte p (staged_bytes ++ more) c 0 mixed.torn in
+        elim (mixed.each 0 (omega arith) (omega (arith, long))) [
+          | inl was ↦ gate_shut (get_or c (length p) 0) more c is (inl (here ∙ was ∙ there ∙ staged_gate more))
+          | inr now ↦ gate_shut (get_or c (length p) 0) more c is (inr (here ∙ now))
+        ]
 
     -- what stands after it then
     abbrev pub more_of : List ℕ → List ℕ

@@ -1,6 +1,7 @@
 -- What holds of all logs.
 use Rattle.std.specs.Prelude.{◌≡◌, ℕ, ◌+◌, ◌<◌, ◌^◌, List, ◌∷◌, ◌++◌, length}
-use Rattle.pb_log.specs.Records.{AreShort, body, block, blocks, IsLog, IsReadable}
+use Rattle.pb_log.specs.Records.{AreShort, body, block, blocks, Hides, IsLog, IsReadable, IsShut}
+use Rattle.pb_log.specs.Causes.{IsDamaged}
 
 -- a file has one list of records
 abbrev pub FilesHaveOneReading : Type 0
@@ -16,3 +17,10 @@ with_turned_gate rs r s more =
 abbrev pub TurnedGatesShow : Type 0
 TurnedGatesShow = (rs : List (List ℕ)) (r s more : List ℕ) → AreShort rs → length r < 2 ^ 32 → length s < 2 ^ 32
     → (ss : List (List ℕ)) → IsReadable (with_turned_gate rs r s more) ss → ⊥
+
+-- A file that begins with records and a closed gate, as a put leaves it whenever the machine stops, is opened to these records, and never
+-- reported as damaged. There is one exception: what stands after the gate may hide a record. Then it is a whole one of that place, and another
+-- one with an open gate follows, both with their sums.
+abbrev pub ShutLogsOpen : Type 0
+ShutLogsOpen = (file : List ℕ) (rs : List (List ℕ)) (s : IsShut file rs) → (Hides (length (blocks 0 rs)) s.torn → ⊥)
+    → IsReadable file rs × ((at : ℕ) → IsDamaged file at → ⊥)

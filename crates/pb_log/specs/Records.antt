@@ -70,6 +70,20 @@ pub record IsSound (file : List ℕ) (rs : List (List ℕ)) : Type 0 where
 abbrev pub IsReadable : List ℕ → List (List ℕ) → Type 0
 IsReadable file rs = IsSound file rs ⊎ ((length file ≤ 1) × (rs ≡ []))
 
+-- the file begins with the blocks of these records and a closed gate, whatever stands after it
+pub record IsShut (file : List ℕ) (rs : List (List ℕ)) : Type 0 where
+  pub torn : List ℕ
+  pub is : file ≡ blocks 0 rs ++ 0 ∷ torn
+  pub short : AreShort rs
+
+-- so it begins with these records, with one more or without it
+abbrev pub IsShutBeforeOrAfter : List (List ℕ) → List ℕ → List ℕ → Type 0
+IsShutBeforeOrAfter rs r file = IsShut file rs ⊎ IsShut file (rs ++ r ∷ [])
+
+-- it begins so with some records, or is new
+abbrev pub IsShutOrNew : List ℕ → Type 0
+IsShutOrNew file = ((rs : List (List ℕ)) × IsShut file rs) ⊎ (length file ≤ 1)
+
 -- The file begins with the blocks of these records and a closed gate, all of it is on the disk, and the gate's place is known.
 -- What stands after the gate is of no account.
 pub record IsAtRest (seen : List ℕ) (may_leave : List ℕ → Type 0) (end : ℕ) (rs : List (List ℕ)) : Type 0 where

@@ -20,6 +20,6 @@ mod reading;
 mod recovery;
 
 pub use fault::LogFault;
-pub use laws::{files_have_one_reading, turned_gates_show};
+pub use laws::{files_have_one_reading, shut_logs_open, turned_gates_show};
 pub use log::Log;
 pub use reading::read_records;

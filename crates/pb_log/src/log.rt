@@ -1,6 +1,6 @@
 //! A log over a disk, and how a record is put into it.
 ghost use Rattle.std.specs.Prelude.{◌≡◌, ◌++◌, ◌∷◌, [], ◌<◌, ◌^◌, ℕ, List, length, IfOk, OnOk, IfErr, IsTrue};
-ghost use Rattle.pb_log.specs.Records.{body, IsBeforeOrAfter, IsAtRest};
+ghost use Rattle.pb_log.specs.Records.{body, IsBeforeOrAfter, IsShutBeforeOrAfter, IsAtRest};
 ghost use Rattle.pb_log.specs.Causes.{WhyNotPut, IsNotBegun};
 
 use crate::fault::LogFault;
@@ -54,6 +54,10 @@ impl<D: Disk> Log<D> {
         ensures crash { (rs : List (List ℕ))
             → IsAtRest (D.seen self.old.disk) (D.may_leave self.old.disk) self.old.end rs
             → (c : List ℕ) → D.may_leave self.new.disk c → IsBeforeOrAfter rs item.now c }
+        // Where each byte of a torn write is old or new, a closed gate stands after these records.
+        ensures shut { ((d : _) → IsTrue (D.is_mixing d)) → (rs : List (List ℕ))
+            → IsAtRest (D.seen self.old.disk) (D.may_leave self.old.disk) self.old.end rs
+            → (c : List ℕ) → D.may_leave self.new.disk c → IsShutBeforeOrAfter rs item.now c }
         ensures cause { IfErr result
             (WhyNotPut (D.faults self.old.disk) (D.faults self.new.disk) self.old.end) }
         ensures refused { IfErr result (λ e. IsNotBegun e → self.new ≡ self.old) }

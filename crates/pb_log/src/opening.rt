@@ -1,7 +1,7 @@
 //! How a log is opened.
 ghost use Rattle.std.specs.Prelude.{◌≡◌, ◌⊎◌, ◌∷◌, [], ◌<◌, ◌^◌, ℕ, List, length, map, IfOk, OnOk, IfErr, IsTrue};
 ghost use Rattle.sqlite_disk.specs.Disk.{Only};
-ghost use Rattle.pb_log.specs.Records.{IsLog, IsAtRest, IsReadable};
+ghost use Rattle.pb_log.specs.Records.{IsLog, IsAtRest, IsReadable, IsShutOrNew};
 ghost use Rattle.pb_log.specs.Header.{header, HasRecords};
 ghost use Rattle.pb_log.specs.Causes.{IsNoLog, IsOfTheFile, WhyNotOpened};
 
@@ -44,6 +44,10 @@ impl<D: Disk> Log<D> {
             → (rs : List (List ℕ)) → IsLog (D.seen self.old.disk) rs
             → (c : List ℕ) → D.may_leave self.new.disk c
             → IsLog c rs ⊎ ((rs ≡ []) × IsLog c (header manifest.now ∷ [])) }
+        // Where each byte of a torn write is old or new, they end shut, or the file is new.
+        ensures shut { ((d : _) → IsTrue (D.is_mixing d)) → IsTrue (D.is_clean self.new.disk)
+            → (rs : List (List ℕ)) → IsReadable (D.seen self.old.disk) rs
+            → (c : List ℕ) → D.may_leave self.new.disk c → IsShutOrNew c }
         ensures cause { IfErr result (λ e. IsTrue (D.is_clean self.new.disk)
             → WhyNotOpened manifest.now (D.faults self.old.disk) (D.faults self.new.disk)
             (D.seen self.old.disk) e) }

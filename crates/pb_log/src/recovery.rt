@@ -1,7 +1,7 @@
 //! The records of a disk that a crash may have left.
 ghost use Rattle.std.specs.Prelude.{◌≡◌, ◌<◌, ◌≤◌, ℕ, List, [], length, map, vec_len, IfOk, OnOk, IfErr, IsTrue};
 ghost use Rattle.sqlite_disk.specs.Disk.{Only};
-ghost use Rattle.pb_log.specs.Records.{IsLog, IsAtRest, IsReadable, blocks};
+ghost use Rattle.pb_log.specs.Records.{IsLog, IsAtRest, IsReadable, IsShutOrNew, blocks};
 ghost use Rattle.pb_log.specs.Causes.{WhyNotRead, WhyNotRecovered, IsOfTheFile};
 
 use crate::fault::LogFault;
@@ -81,6 +81,10 @@ pub fn recover<D: Disk>(
     ensures crash { IsTrue (D.is_clean disk.new)
         → (rs : List (List ℕ)) → IsLog (D.seen disk.old) rs
         → (c : List ℕ) → D.may_leave disk.new c → IsLog c rs }
+    // So it leaves one that begins with records and a closed gate, or a new one.
+    ensures shut { IsTrue (D.is_clean disk.new)
+        → (rs : List (List ℕ)) → IsReadable (D.seen disk.old) rs
+        → (c : List ℕ) → D.may_leave disk.new c → IsShutOrNew c }
     ensures cause { IfErr result (λ e. IsTrue (D.is_clean disk.new)
         → WhyNotRecovered (D.faults disk.old) (D.faults disk.new) (D.seen disk.old) e) }
     ensures kept { IfErr result (λ e. IsOfTheFile e → D.seen disk.new ≡ D.seen disk.old) }

@@ -11,10 +11,10 @@ ghost use Rattle.pb_keep.specs.Waits.{IsWaiting};
 ghost use Rattle.pb_registry.specs.Judging.{ReadsManifest};
 
 use crate::compact::compact;
+use crate::failure::{Failure, FileState};
 use crate::head::{Head, limit_of, next_limit, read_head};
 use crate::names::{Location, open_at};
 use crate::table::{Kept, close, new_keeper, new_log, new_state, observers_of, open_log};
-use anyhow::{Result, bail};
 use pb_accepted::Observer;
 use pb_keep::Keeper;
 use pb_keeper::{places_of, split_known};
@@ -29,12 +29,12 @@ fn places_in<D: Disk + Drop>(
     keeper: &Keeper<ListTablet, D>,
     observers: &[Observer],
     location: &Location,
-) -> Result<Vec<usize>>
+) -> Result<Vec<usize>, Failure>
     ensures { IfOk result (λ v. AreChosen v.items keeper.now.state.observers observers.now) }
 {
     match places_of(alloc, keeper.state.observers(), observers)? {
         Some(places) => Ok(places),
-        None => bail!("{}: two of its observers are the same", location.log),
+        None => Err(Failure::of_file(alloc, location.log.as_str(), FileState::SameObservers)),
     }
 }
 
@@ -46,7 +46,7 @@ fn change_observers<D: Disk + Drop>(
     staying: Vec<Observer>,
     added: Vec<Observer>,
     location: &Location,
-) -> Result<u64>
+) -> Result<u64, Failure>
     requires few { length staying.items + length added.items ≤ MAX_OBSERVERS }
     requires new { (o : ObserverOf) → IsOneOf added.items o
         → IsOneOf keeper.old.state.observers o → ⊥ }
@@ -67,7 +67,7 @@ fn observe_others<D: Disk + Drop>(
     keeper: &mut Keeper<ListTablet, D>,
     observers: Vec<Observer>,
     location: &Location,
-) -> Result<()>
+) -> Result<(), Failure>
     requires few { length observers.items ≤ MAX_OBSERVERS }
     ensures log { keeper.new.log ≡ keeper.old.log }
     ensures waiting { keeper.new.waiting ≡ keeper.old.waiting }
@@ -106,7 +106,7 @@ fn order_observers<D: Disk + Drop>(
     keeper: &mut Keeper<ListTablet, D>,
     manifest: &str,
     location: &Location,
-) -> Result<()>
+) -> Result<(), Failure>
     ensures log { keeper.new.log ≡ keeper.old.log }
     ensures waiting { keeper.new.waiting ≡ keeper.old.waiting }
     ensures manifest { OnOk result
@@ -128,7 +128,7 @@ fn observe_manifest<D: Disk + Drop>(
     manifest: &str,
     observers: Option<Vec<Observer>>,
     location: &Location,
-) -> Result<()>
+) -> Result<(), Failure>
     requires few { IfSome observers (λ v. length v.items ≤ MAX_OBSERVERS) }
     requires same { IfNone observers
         (ReadsManifest manifest.now (Ok keeper.old.state.observers)) }
@@ -156,7 +156,7 @@ fn open_and_compact(
     manifest: &str,
     observers: Option<Vec<Observer>>,
     location: &mut Location,
-) -> Result<()>
+) -> Result<(), Failure>
     requires own { length own.now < 2 ^ 30 }
     requires short { length manifest.now < 2 ^ 30 }
     requires few { IfSome observers (λ v. length v.items ≤ MAX_OBSERVERS) }
@@ -191,7 +191,7 @@ fn compact_file(
     manifest: &str,
     observers: Option<Vec<Observer>>,
     location: &mut Location,
-) -> Result<()>
+) -> Result<(), Failure>
     requires own { length own.now < 2 ^ 30 }
     requires short { length manifest.now < 2 ^ 30 }
     requires few { IfSome observers (λ v. length v.items ≤ MAX_OBSERVERS) }
@@ -206,22 +206,23 @@ fn compact_file(
     done
 }
 
-// Compacts a log of another manifest, of which this is the head.
+// Compacts a log of another manifest, of which this is the head, for this one with its observers.
 fn compact_other(
     rt: &HostRuntime,
     disk: FileFrom<Unknown>,
     own: &Head,
     manifest: &str,
+    observers: Vec<Observer>,
     wanted: Option<u64>,
     location: &mut Location,
-) -> Result<()>
+) -> Result<(), Failure>
     requires own { length (string_bytes own.now.manifest) < 2 ^ 30 }
     requires short { length manifest.now < 2 ^ 30 }
+    requires few { length observers.items ≤ MAX_OBSERVERS }
     requires usable { IsTrue (⟦<FileFrom<Unknown> as Disk>⟧.is_usable disk) }
     requires restarted { Only (⟦<FileFrom<Unknown> as Disk>⟧.seen disk)
         (⟦<FileFrom<Unknown> as Disk>⟧.may_leave disk) }
 {
-    let observers = observers_of(rt.alloc(), manifest)?;
     compact_file(
         rt,
         disk,
@@ -234,15 +235,17 @@ fn compact_other(
     )
 }
 
-// Compacts the log in this file, of whatever manifest.
+// Compacts the log in this file, of whatever manifest, for this one with its observers.
 fn compact_at(
     rt: &HostRuntime,
     disk: FileFrom<Unknown>,
     manifest: &str,
+    observers: Vec<Observer>,
     wanted: Option<u64>,
     location: &mut Location,
-) -> Result<()>
+) -> Result<(), Failure>
     requires short { length manifest.now < 2 ^ 30 }
+    requires few { length observers.items ≤ MAX_OBSERVERS }
     requires usable { IsTrue (⟦<FileFrom<Unknown> as Disk>⟧.is_usable disk) }
     requires restarted { Only (⟦<FileFrom<Unknown> as Disk>⟧.seen disk)
         (⟦<FileFrom<Unknown> as Disk>⟧.may_leave disk) }
@@ -250,10 +253,10 @@ fn compact_at(
     let mut log = new_log(disk);
     match read_head(rt, &mut log, location)? {
         Some(head) if head.manifest.as_str() != manifest => {
-            compact_other(rt, log.disk, &head, manifest, wanted, location)
+            compact_other(rt, log.disk, &head, manifest, observers, wanted, location)
         }
         own => {
-            let limit = limit_of(&own, None, location)?;
+            let limit = limit_of(rt.alloc(), &own, None, location)?;
             let next = next_limit(limit, wanted);
             compact_file(
                 rt, log.disk, limit, manifest, next, manifest, None, location,
@@ -264,15 +267,16 @@ fn compact_at(
 
 /// Puts a log of this manifest that begins with a snapshot of the table in the place of this one, and prints how many versions it
 /// has. The log's own manifest may have other observers: those of both keep what they have acknowledged. The new log has the
-/// limit of entries that is wanted, if one is, or that of the old one.
+/// limit of entries that is wanted, if one is, or that of the old one. The log isn't opened for a manifest that is refused.
 pub(crate) fn compact_alone(
     rt: &HostRuntime,
     manifest: &str,
     path: &str,
     wanted: Option<u64>,
-) -> Result<()>
+) -> Result<(), Failure>
     requires short { length manifest.now < 2 ^ 30 }
 {
+    let observers = observers_of(rt.alloc(), manifest)?;
     let (mut location, db) = open_at(rt, path)?;
-    compact_at(rt, db, manifest, wanted, &mut location)
+    compact_at(rt, db, manifest, observers, wanted, &mut location)
 }

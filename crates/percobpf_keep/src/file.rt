@@ -2,9 +2,10 @@
 ghost use Rattle.std.specs.Prelude.{◌≡◌, false, IfOk, IsTrue, Ok};
 ghost use Rattle.sqlite_std_file.specs.File.{IsFresh};
 
-use anyhow::{Result, bail};
+use crate::failure::{Failure, FileState};
 use sqlite_disk::{Disk, Files, Unknown};
 use sqlite_std_file::{FileFrom, open};
+use std::alloc::Global;
 use std::fs::{self, File, OpenOptions, TryLockError};
 use std::io;
 use std::os::fd::AsRawFd;
@@ -66,13 +67,13 @@ impl LogFile {
     }
 }
 
-/// What was done with a file, or why it wasn't, after the name of the file.
-pub(crate) fn named<T: Drop>(path: &str, done: io::Result<T>) -> Result<T>
+/// What was done with a file, or why it wasn't, with the name of the file.
+pub(crate) fn named<T: Drop>(alloc: Global, path: &str, done: io::Result<T>) -> Result<T, Failure>
     ensures { IfOk result (λ x. done ≡ Ok x) }
 {
     match done {
         Ok(x) => Ok(x),
-        Err(fault) => bail!("{path}: {fault}"),
+        Err(error) => Err(Failure::of_call(alloc, path, error)),
     }
 }
 
@@ -106,8 +107,8 @@ fn hold(rt: &HostRuntime, path: &str) -> io::Result<File> {
 }
 
 /// Makes the file of a log, where there is none.
-pub(crate) fn make_log(rt: &HostRuntime, path: &str) -> Result<()> {
-    let _file = named(path, hold(rt, path))?;
+pub(crate) fn make_log(rt: &HostRuntime, path: &str) -> Result<(), Failure> {
+    let _file = named(rt.alloc(), path, hold(rt, path))?;
     Ok(())
 }
 
@@ -125,34 +126,38 @@ fn is_own_there(rt: &HostRuntime, log: &LogFile, path: &str) -> io::Result<bool>
 }
 
 // Reports the name of a file whose place another one has taken, by what is so of it.
-fn refuse_other(path: &str, is_same: io::Result<bool>) -> Result<()> {
-    if !named(path, is_same)? {
-        bail!("{path}: another log was put in its place, start again");
+fn refuse_other(alloc: Global, path: &str, is_same: io::Result<bool>) -> Result<(), Failure> {
+    if !named(alloc, path, is_same)? {
+        return Err(Failure::of_file(alloc, path, FileState::OtherLog));
     }
     Ok(())
 }
 
 /// This file once more, with the lock of a log. It has this name.
-pub(crate) fn open_locked(rt: &HostRuntime, log: &LogFile, path: &str) -> Result<FileFrom<Unknown>>
+pub(crate) fn open_locked(
+    rt: &HostRuntime,
+    log: &LogFile,
+    path: &str,
+) -> Result<FileFrom<Unknown>, Failure>
     ensures usable { IfOk result (λ db. IsTrue (⟦<FileFrom<Unknown> as Disk>⟧.is_usable db)) }
     ensures fresh { IfOk result (λ db. IsFresh false db) }
 {
     // So no link is followed that was put there before.
-    refuse_other(path, log.id.has_name(rt, path))?;
+    refuse_other(rt.alloc(), path, log.id.has_name(rt, path))?;
     let Files { log: _, db } = match open(rt, path, Unknown) {
         Ok(files) => files,
-        Err(fault) => bail!("{path}: {fault}"),
+        Err(error) => return Err(Failure::of_opening(rt.alloc(), path, error)),
     };
     // A compaction may have put another file in its place before the lock was there, and none can from then on. By the second
     // lock, which is on this very file, others see that it is in use.
-    refuse_other(path, is_own_there(rt, log, path))?;
+    refuse_other(rt.alloc(), path, is_own_there(rt, log, path))?;
     Ok(db)
 }
 
 /// Reports a file that no longer has this name.
-pub(crate) fn check_name(rt: &HostRuntime, id: FileId, path: &str) -> Result<()> {
-    if !named(path, id.has_name(rt, path))? {
-        bail!("{path}: the log was removed, renamed or replaced");
+pub(crate) fn check_name(rt: &HostRuntime, id: FileId, path: &str) -> Result<(), Failure> {
+    if !named(rt.alloc(), path, id.has_name(rt, path))? {
+        return Err(Failure::of_file(rt.alloc(), path, FileState::Lost));
     }
     Ok(())
 }

@@ -12,6 +12,7 @@ ghost use Rattle.std.specs.Prelude.{◌<◌, ◌^◌, length, string_bytes, IfOk
 
 mod anew;
 mod compact;
+mod failure;
 mod file;
 mod head;
 mod names;
@@ -22,15 +23,14 @@ mod table;
 mod watched;
 
 use anew::compact_alone;
-use anyhow::{Result, bail};
-use file::named;
+use failure::{Failure, Wanted, status_of};
 use pb_reading::numeral_upto;
 use questions::answer_alone;
 use service::keep;
-use std::env::Args;
+use std::env::{self, Args};
+use std::process::ExitCode;
 use std::sync::Wait;
-use std::{env, fs};
-use table::short_text;
+use table::manifest_at;
 
 const USAGE: &str = "\
 Usage: percobpf_keep [--limit ENTRIES] MANIFEST LOG
@@ -55,33 +55,30 @@ before it. The first line is `open N of M`: N of the M changes were made. Then `
 answered, and other lines are refused with 76. LOG has to be there, and nothing is written to it.
 ";
 
-const ABOUT_HELP: &str = "two words are wanted, MANIFEST and LOG: `percobpf_keep --help` has more";
-
-// The number that is wanted after an option, of which this is the name.
-fn number_of(word: Option<String>, name: &str) -> Result<u64> {
+// The number that is wanted after an option.
+fn number_of(word: Option<String>, wanted: Wanted) -> Result<u64, Failure> {
     let Some(word) = word else {
-        bail!("{ABOUT_HELP}");
+        return Err(Failure::Words);
     };
-    match numeral_upto((), (), u64::MAX, word.as_str()) {
-        Ok(bytes) => Ok(bytes),
-        Err(()) => bail!(
-            "{name} is a decimal number below 2^64, and not `{word}`: `percobpf_keep --help` has more"
-        ),
+    let read = numeral_upto((), (), u64::MAX, word.as_str());
+    match read {
+        Ok(number) => Ok(number),
+        Err(()) => Err(Failure::NoNumber(wanted, word)),
     }
 }
 
 // The limit of entries, if one stands first, and the word after it.
-fn first_words(words: &mut Args) -> Result<(Option<u64>, String)> {
+fn first_words(words: &mut Args) -> Result<(Option<u64>, String), Failure> {
     let Some(first) = words.next() else {
-        bail!("{ABOUT_HELP}");
+        return Err(Failure::Words);
     };
     if first.as_str() != "--limit" {
         return Ok((None, first));
     }
-    let limit = number_of(words.next(), "ENTRIES")?;
+    let limit = number_of(words.next(), Wanted::Entries)?;
     match words.next() {
         Some(word) => Ok((Some(limit), word)),
-        None => bail!("{ABOUT_HELP}"),
+        None => Err(Failure::Words),
     }
 }
 
@@ -90,14 +87,13 @@ fn last_words(
     rt: &HostRuntime,
     manifest: Option<String>,
     mut words: Args,
-) -> Result<(String, String)>
+) -> Result<(String, String), Failure>
     ensures short { IfOk result (λ r. length (string_bytes r.0) < 2 ^ 30) }
 {
     let (Some(manifest), Some(path), None) = (manifest, words.next(), words.next()) else {
-        bail!("{ABOUT_HELP}");
+        return Err(Failure::Words);
     };
-    let text = named(manifest.as_str(), fs::read_to_string(rt, manifest.as_str()))?;
-    Ok((short_text(text)?, path))
+    Ok((manifest_at(rt, manifest.as_str())?, path))
 }
 
 // What is done with a log.
@@ -117,7 +113,7 @@ fn do_asked<R: Wait>(
     manifest: Option<String>,
     words: Args,
     limit: Option<u64>,
-) -> Result<()> {
+) -> Result<(), Failure> {
     let (text, path) = last_words(rt, manifest, words)?;
     match asked {
         Asked::Serve(least) => keep(waits, rt, text.as_str(), path.as_str(), least, limit),
@@ -133,7 +129,7 @@ fn do_words<R: Wait>(
     first: String,
     mut words: Args,
     limit: Option<u64>,
-) -> Result<()> {
+) -> Result<(), Failure> {
     match first.as_str() {
         "--help" => {
             print!(rt; "{USAGE}")?;
@@ -141,7 +137,7 @@ fn do_words<R: Wait>(
         }
         "--compact" => do_asked(waits, rt, Asked::Compact, words.next(), words, limit),
         "--compact-at" => {
-            let least = number_of(words.next(), "BYTES")?;
+            let least = number_of(words.next(), Wanted::Bytes)?;
             do_asked(waits, rt, Asked::Serve(least), words.next(), words, limit)
         }
         "--questions" => do_asked(waits, rt, Asked::Questions, words.next(), words, limit),
@@ -149,10 +145,15 @@ fn do_words<R: Wait>(
     }
 }
 
-// The handle goes down twice, as the host and as what may wait, since a `HostRuntime` may wait in `main` alone.
-fn main(rt: HostRuntime) -> Result<()> {
-    let mut words = env::args(&rt)?;
+// Does what all words ask for.
+fn do_all<R: Wait>(waits: &R, rt: &HostRuntime) -> Result<(), Failure> {
+    let mut words = env::args(rt)?;
     let _name = words.next();
     let (limit, first) = first_words(&mut words)?;
-    do_words(&rt, &rt, first, words, limit)
+    do_words(waits, rt, first, words, limit)
+}
+
+// The handle goes down twice, as the host and as what may wait, since a `HostRuntime` may wait in `main` alone.
+fn main(rt: HostRuntime) -> ExitCode {
+    ExitCode::from(status_of(&rt, do_all(&rt, &rt)))
 }

@@ -3,10 +3,11 @@ ghost use Rattle.std.specs.Prelude.{◌↔◌, false, IfOk, IsTrue, OnOk, string
 ghost use Rattle.sqlite_std_file.specs.File.{IsFresh};
 ghost use Rattle.percobpf_keep.specs.Names.{IsReserved};
 
+use crate::failure::{Failure, FileState};
 use crate::file::{LogFile, named, open_locked, open_there};
-use anyhow::{Result, bail};
 use sqlite_disk::{Disk, Unknown};
 use sqlite_std_file::FileFrom;
+use std::alloc::Global;
 use std::fs;
 
 /// Where a log is.
@@ -28,29 +29,32 @@ fn is_reserved(path: &str) -> bool
 }
 
 /// Reports a name that no table has.
-pub(crate) fn refuse_reserved(path: &str) -> Result<()>
+pub(crate) fn refuse_reserved(alloc: Global, path: &str) -> Result<(), Failure>
     ensures { OnOk result (IsReserved path.now → ⊥) }
 {
     if is_reserved(path) {
-        bail!("{path}: names ending in ~new or ~new-wal are reserved");
+        return Err(Failure::of_file(alloc, path, FileState::Reserved));
     }
     Ok(())
 }
 
 /// Where the log of this path is, which is there, and its file, locked.
-pub(crate) fn open_at(rt: &HostRuntime, path: &str) -> Result<(Location, FileFrom<Unknown>)>
+pub(crate) fn open_at(
+    rt: &HostRuntime,
+    path: &str,
+) -> Result<(Location, FileFrom<Unknown>), Failure>
     ensures usable { IfOk result (λ at.
         IsTrue (⟦<FileFrom<Unknown> as Disk>⟧.is_usable at.1)) }
     ensures fresh { IfOk result (λ at. IsFresh false at.1) }
     ensures free { IfOk result (λ at. IsReserved (string_bytes at.0.log) → ⊥) }
 {
-    let mut real = named(path, fs::canonicalize(rt, path))?;
     let alloc = rt.alloc();
+    let mut real = named(alloc, path, fs::canonicalize(rt, path))?;
     let log = String::from_str(alloc, real.as_str())?;
-    refuse_reserved(log.as_str())?;
+    refuse_reserved(alloc, log.as_str())?;
     real.pop();
     let folder = String::from_str(alloc, real.as_str())?;
-    let file = named(log.as_str(), open_there(rt, log.as_str()))?;
+    let file = named(alloc, log.as_str(), open_there(rt, log.as_str()))?;
     let db = open_locked(rt, &file, log.as_str())?;
     Ok((Location { log, folder, file }, db))
 }

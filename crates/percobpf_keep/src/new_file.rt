@@ -1,12 +1,13 @@
 //! The file of a new log, from a name that no table has to the place of the old log.
-ghost use Rattle.std.specs.Prelude.{◌≡◌, ◌↔◌, false, IfOk, IfSome, IsTrue, string_bytes};
-ghost use Rattle.sqlite_std_file.specs.File.{IsFresh};
+ghost use Rattle.std.specs.Prelude.{◌≡◌, ◌↔◌, [], false, IfOk, IfSome, IsTrue, string_bytes};
+ghost use Rattle.pb_keep.specs.declared.folder.NamedLog.TheVariants as files;
 ghost use Rattle.percobpf_keep.specs.Names.{name_beside, new_name, AreNewNames};
 ghost use Rattle.percobpf_keep.specs.Left.{IsBeginning, MayHave};
 
+use crate::failure::{Failure, FileState};
 use crate::file::{LogFile, check_name, make_there, named, open_locked, open_there};
 use crate::names::Location;
-use anyhow::{Result, bail};
+use pb_keep::Folder;
 use sqlite_disk::{Disk, Unknown};
 use sqlite_std_file::FileFrom;
 use std::alloc::{AllocError, Global};
@@ -112,13 +113,13 @@ fn is_free(rt: &HostRuntime, path: &str) -> io::Result<bool> {
 }
 
 // The same, with the name in what is reported.
-fn is_name_free(rt: &HostRuntime, path: &str) -> Result<bool> {
-    named(path, is_free(rt, path))
+fn is_name_free(rt: &HostRuntime, path: &str) -> Result<bool, Failure> {
+    named(rt.alloc(), path, is_free(rt, path))
 }
 
 /// Removes what is left of new logs that aren't in the place of this one. Returns the first names that are free then for a new one,
 /// and for the file beside it.
-pub(crate) fn remove_new(rt: &HostRuntime, log: &str) -> Result<Option<(String, String)>>
+pub(crate) fn remove_new(rt: &HostRuntime, log: &str) -> Result<Option<(String, String)>, Failure>
     ensures { IfOk result (λ free. IfSome free (λ names.
         AreNewNames log.now (string_bytes names.0) (string_bytes names.1))) }
 {
@@ -138,14 +139,14 @@ fn make(rt: &HostRuntime, path: &str) -> io::Result<LogFile> {
 }
 
 /// Makes the file of a new log, which nobody else may open yet.
-pub(crate) fn make_new_file(rt: &HostRuntime, location: &Location) -> Result<NewFile>
+pub(crate) fn make_new_file(rt: &HostRuntime, location: &Location) -> Result<NewFile, Failure>
     ensures { IfOk result (λ new. AreNewNames (string_bytes location.now.log)
         (string_bytes new.path) (string_bytes new.beside)) }
 {
     let Some((path, beside)) = remove_new(rt, location.log.as_str())? else {
-        bail!("{}: all names for a new log are taken", location.log);
+        return Err(Failure::of_file(rt.alloc(), location.log.as_str(), FileState::NamesTaken));
     };
-    let file = named(path.as_str(), make(rt, path.as_str()))?;
+    let file = named(rt.alloc(), path.as_str(), make(rt, path.as_str()))?;
     Ok(NewFile { path, beside, file })
 }
 
@@ -166,34 +167,78 @@ fn give(file: &File, other: &File) -> io::Result<()> {
     file.set_permissions(fs::Permissions::from_mode(found.mode() & 0o777))
 }
 
-fn rename_synced(rt: &HostRuntime, path: &str, location: &Location) -> io::Result<()> {
-    let folder = File::open(rt, location.folder.as_str())?;
-    fs::rename(rt, path, location.log.as_str())?;
-    folder.sync_all()
+/// The folder of a log, in which a new one takes its place. Its contracts know nothing of what its calls do, since no contract of the
+/// standard library states it of the files of a host.
+#[derive(Drop)]
+pub(crate) struct LogFolder<'a> {
+    rt: &'a HostRuntime,
+    location: &'a Location,
+    new: &'a NewFile,
+    // It is open before anything is renamed.
+    folder: File,
 }
 
-impl NewFile {
-    /// Opens it as a log, locked.
-    pub(crate) fn open(&self, rt: &HostRuntime) -> Result<FileFrom<Unknown>>
-        ensures usable { IfOk result (λ db. IsTrue (⟦<FileFrom<Unknown> as Disk>⟧.is_usable db)) }
-        ensures fresh { IfOk result (λ db. IsFresh false db) }
-    {
-        open_locked(rt, &self.file, self.path.as_str())
+impl<'a> LogFolder<'a> {
+    /// The folder of this log, with the file of a new one.
+    pub(crate) fn new(
+        rt: &'a HostRuntime,
+        location: &'a Location,
+        new: &'a NewFile,
+    ) -> Result<LogFolder<'a>, Failure> {
+        let path = location.folder.as_str();
+        let folder = named(rt.alloc(), path, File::open(rt, path))?;
+        Ok(LogFolder {
+            rt,
+            location,
+            new,
+            folder,
+        })
+    }
+}
+
+impl Folder for LogFolder<'_> {
+    type LogDisk = FileFrom<Unknown>;
+
+    type CallFault = Failure;
+
+    ghost is_known = { λ _. false };
+
+    ghost named = { λ _. files.Old };
+
+    ghost seen = { λ _. [] };
+
+    ghost may_leave = { λ _ _. ⊥ };
+
+    // The lock goes with it.
+    fn close_new(&mut self, file: FileFrom<Unknown>) {
+        let _closed = file;
     }
 
-    /// Gives it to those who may read and write the old log.
-    pub(crate) fn give_as(&self, old: &LogFile) -> Result<()> {
-        named(self.path.as_str(), give(&self.file.file, &old.file))
+    // It is locked, and belongs to those who may read and write the old log.
+    fn open_new(&mut self) -> Result<FileFrom<Unknown>, Failure> {
+        let path = self.new.path.as_str();
+        let file = open_locked(self.rt, &self.new.file, path)?;
+        named(
+            self.rt.alloc(),
+            path,
+            give(&self.new.file.file, &self.location.file.file),
+        )?;
+        Ok(file)
     }
 
-    /// Puts it in the place of the old log, waits until that is on the disk, and removes the file beside it.
-    pub(crate) fn put_in_place(&self, rt: &HostRuntime, location: &Location) -> Result<()> {
-        check_name(rt, location.file.id, location.log.as_str())?;
-        check_name(rt, self.file.id, self.path.as_str())?;
-        let renamed = rename_synced(rt, self.path.as_str(), location);
-        named(location.log.as_str(), renamed)?;
-        check_name(rt, self.file.id, location.log.as_str())?;
-        is_name_free(rt, self.beside.as_str())?;
+    fn rename_new(&mut self) -> Result<(), Failure> {
+        let (path, log) = (self.new.path.as_str(), self.location.log.as_str());
+        check_name(self.rt, self.location.file.id, log)?;
+        check_name(self.rt, self.new.file.id, path)?;
+        named(self.rt.alloc(), log, fs::rename(self.rt, path, log))
+    }
+
+    // The file beside the new one is removed too.
+    fn sync(&mut self) -> Result<(), Failure> {
+        let log = self.location.log.as_str();
+        named(self.rt.alloc(), log, self.folder.sync_all())?;
+        check_name(self.rt, self.new.file.id, log)?;
+        is_name_free(self.rt, self.new.beside.as_str())?;
         Ok(())
     }
 }

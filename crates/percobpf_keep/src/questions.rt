@@ -5,18 +5,18 @@ ghost use Rattle.pb_keeper.specs.Keeps.{opened_table};
 ghost use Rattle.pb_keeper.specs.Stats.{kept_table};
 ghost use Rattle.pb_keep.specs.FirstOpened.{MakesFewer};
 
+use crate::failure::{Failure, FileState};
 use crate::file::open_locked;
 use crate::head::{limit_of, read_head};
 use crate::names::{Location, open_at};
-use crate::table::{Kept, close, new_keeper, new_log};
-use anyhow::{Result, bail};
+use crate::table::{Kept, close, new_keeper, new_log, observers_of};
 use pb_base::{Out, Sink};
-use pb_keep::{Keeper, Opened, answer_questions};
+use pb_keep::{In, Keeper, LineSource, Opened, answer_questions};
 use pb_memtablet::ListTablet;
 use sqlite_disk::{Disk, Unknown};
 use sqlite_std_file::FileFrom;
 use std::alloc::Global;
-use std::io::{BufRead, BufReader};
+use std::io::BufReader;
 use std::sync::Wait;
 
 // How many bytes are read at once at most.
@@ -28,15 +28,15 @@ fn limit_there(
     disk: FileFrom<Unknown>,
     location: &Location,
     wanted: Option<u64>,
-) -> Result<u64>
+) -> Result<u64, Failure>
     requires usable { IsTrue (⟦<FileFrom<Unknown> as Disk>⟧.is_usable disk) }
 {
     let mut log = new_log(disk);
     let own = read_head(rt, &mut log, location)?;
     if own.is_none() {
-        bail!("{}: no log was begun in it", location.log);
+        return Err(Failure::of_file(rt.alloc(), location.log.as_str(), FileState::NotBegun));
     }
-    limit_of(&own, wanted, location)
+    limit_of(rt.alloc(), &own, wanted, location)
 }
 
 // Opens the log of this manifest, whose observers the table has, and makes its first changes again, as many as may be.
@@ -45,7 +45,7 @@ fn open_first<D: Disk + Drop>(
     keeper: &mut Keeper<ListTablet, D>,
     manifest: &str,
     most: Option<u64>,
-) -> Result<Opened>
+) -> Result<Opened, Failure>
     requires usable { IsTrue (D.is_usable keeper.old.log.disk) }
     requires restarted { Only (D.seen keeper.old.log.disk) (D.may_leave keeper.old.log.disk) }
     requires short { length manifest.now < 2 ^ 30 }
@@ -63,7 +63,7 @@ fn open_once(
     manifest: &str,
     location: &Location,
     most: Option<u64>,
-) -> Result<(Kept, Opened)>
+) -> Result<(Kept, Opened), Failure>
     requires short { length manifest.now < 2 ^ 30 }
     ensures fewer { IfOk result (λ o. MakesFewer most o.1) }
 {
@@ -85,7 +85,7 @@ fn open_as_far(
     limit: u64,
     manifest: &str,
     location: &Location,
-) -> Result<(Kept, u64, u64)>
+) -> Result<(Kept, u64, u64), Failure>
     requires short { length manifest.now < 2 ^ 30 }
 {
     let (first, opened) = open_once(rt, limit, manifest, location, None)?;
@@ -105,14 +105,14 @@ fn open_as_far(
 }
 
 // Prints how many changes were made of how many, and answers the lines of the input.
-fn answer_lines<R: Wait, I: BufRead>(
+fn answer_lines<R: Wait, I: LineSource>(
     waits: &R,
     rt: &HostRuntime,
     keeper: &Kept,
     input: &mut I,
     made: u64,
     all: u64,
-) -> Result<()> {
+) -> Result<(), Failure> {
     let alloc = rt.alloc();
     let mut out = Out::new(rt.stdout());
     let text = format!(in alloc; "open {made} of {all}\n")?;
@@ -129,11 +129,13 @@ pub(crate) fn answer_alone<R: Wait>(
     manifest: &str,
     path: &str,
     wanted: Option<u64>,
-) -> Result<()>
+) -> Result<(), Failure>
     requires short { length manifest.now < 2 ^ 30 }
 {
     // What lines are read into is there before the table takes the memory that it can get.
-    let mut input = BufReader::with_capacity(rt.alloc(), ROOM, rt.reader())?;
+    let mut input = In::new(BufReader::with_capacity(rt.alloc(), ROOM, rt.reader())?);
+    // The log isn't opened for a manifest that is refused.
+    drop(observers_of(rt.alloc(), manifest)?);
     let (location, db) = open_at(rt, path)?;
     let limit = limit_there(rt, db, &location, wanted)?;
     let (keeper, made, all) = open_as_far(rt, limit, manifest, &location)?;

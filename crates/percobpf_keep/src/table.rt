@@ -9,11 +9,12 @@ ghost use Rattle.pb_keep.specs.Waits.{IsWaiting};
 ghost use Rattle.pb_registry.specs.Judging.{ReadsManifest};
 ghost use Rattle.sqlite_disk.specs.Disk.{Only};
 
-use anyhow::{Result, bail};
+use crate::failure::{Failure, FileState};
+use crate::file::named;
 use pb_accepted::Observer;
 use pb_base::{MAX_OBSERVERS, Row, Ts};
 use pb_keep::Keeper;
-use pb_keeper::no_stats;
+use pb_keeper::{ObserverStats, no_stats};
 use pb_log::Log;
 use pb_memtablet::ListTablet;
 use pb_registry::Registry;
@@ -22,6 +23,8 @@ use pb_store::Table;
 use sqlite_disk::{Disk, Unknown};
 use sqlite_std_file::FileFrom;
 use std::alloc::Global;
+use std::fs;
+use std::io::{self, Read};
 
 /// A table that is kept in a file of which nothing is supposed.
 pub(crate) type Kept = Keeper<ListTablet, FileFrom<Unknown>>;
@@ -32,18 +35,40 @@ pub(crate) type KeptLog = Log<FileFrom<Unknown>>;
 // The most bytes of a manifest, which the first record of a log has.
 const MAX_MANIFEST: usize = 16_777_216;
 
+// The bytes of a file, up to one more than a manifest may have: the one more shows that there are too many.
+fn first_bytes(rt: &HostRuntime, path: &str) -> io::Result<Vec<u8>> {
+    let mut bytes = Vec::new(rt.alloc());
+    let file = fs::open(rt, path)?;
+    file.take(MAX_MANIFEST as u64 + 1).read_to_end(&mut bytes)?;
+    Ok(bytes)
+}
+
 /// The text of a manifest, unless it is too large.
-pub(crate) fn short_text(text: String) -> Result<String>
+pub(crate) fn short_text(text: String) -> Result<String, Failure>
     ensures short { IfOk result (λ t. length (string_bytes t) < 2 ^ 30) }
 {
     if text.len() > MAX_MANIFEST {
-        bail!("the manifest is too large");
+        return Err(Failure::LargeManifest);
     }
     Ok(text)
 }
 
+/// The text of the manifest in the file of this name.
+pub(crate) fn manifest_at(rt: &HostRuntime, path: &str) -> Result<String, Failure>
+    ensures short { IfOk result (λ t. length (string_bytes t) < 2 ^ 30) }
+{
+    let bytes = named(rt.alloc(), path, first_bytes(rt, path))?;
+    if bytes.len() > MAX_MANIFEST {
+        return Err(Failure::LargeManifest);
+    }
+    match String::from_utf8(bytes) {
+        Ok(text) => short_text(text),
+        Err(_) => Err(Failure::of_file(rt.alloc(), path, FileState::NotText)),
+    }
+}
+
 /// The observers of a manifest. That they are few enough for a table is promised by `Registry::from_json`.
-pub(crate) fn observers_of(alloc: Global, manifest: &str) -> Result<Vec<Observer>>
+pub(crate) fn observers_of(alloc: Global, manifest: &str) -> Result<Vec<Observer>, Failure>
     ensures few { IfOk result (λ v. length v.items ≤ MAX_OBSERVERS) }
     ensures read { IfOk result (λ v. ReadsManifest manifest.now (Ok v.items)) }
 {
@@ -54,7 +79,7 @@ pub(crate) fn observers_of(alloc: Global, manifest: &str) -> Result<Vec<Observer
 }
 
 // An empty table of one tablet, since none is swapped.
-fn table(alloc: Global) -> Result<Table<ListTablet>>
+fn table(alloc: Global) -> Result<Table<ListTablet>, Failure>
     ensures { IfOk result (λ t. t.contents ≡ nothing) }
 {
     let mut tablets = Vec::new(alloc);
@@ -66,7 +91,10 @@ fn table(alloc: Global) -> Result<Table<ListTablet>>
 }
 
 /// A state with no entry, with these observers.
-pub(crate) fn new_state(alloc: Global, observers: Vec<Observer>) -> Result<State<ListTablet>>
+pub(crate) fn new_state(
+    alloc: Global,
+    observers: Vec<Observer>,
+) -> Result<State<ListTablet>, Failure>
     requires few { length observers.items ≤ MAX_OBSERVERS }
     ensures { IfOk result (λ s. s ≡ opening observers.items 1 0) }
 {
@@ -85,13 +113,56 @@ pub(crate) fn close(keeper: Kept) {
     keeper.close();
 }
 
-/// A keeper of a table with no entry, the observers of this manifest and this limit of entries, over this file.
+// A state with no entry, with these observers, and their stats.
+fn table_of(
+    alloc: Global,
+    observers: Vec<Observer>,
+) -> Result<(State<ListTablet>, Vec<ObserverStats>), Failure>
+    requires few { length observers.items ≤ MAX_OBSERVERS }
+    ensures opened { IfOk result (λ t. kept_table t.0 t.1.items ≡ opened_table t.0.observers) }
+    ensures observers { IfOk result (λ t. t.0.observers ≡ observers.items) }
+{
+    let stats = no_stats(alloc, observers.len())?;
+    Ok((new_state(alloc, observers)?, stats))
+}
+
+/// The same with the observers of this manifest.
+pub(crate) fn new_table(
+    alloc: Global,
+    manifest: &str,
+) -> Result<(State<ListTablet>, Vec<ObserverStats>), Failure>
+    ensures opened { IfOk result (λ t. kept_table t.0 t.1.items ≡ opened_table t.0.observers) }
+    ensures manifest { IfOk result (λ t. ReadsManifest manifest.now (Ok t.0.observers)) }
+{
+    table_of(alloc, observers_of(alloc, manifest)?)
+}
+
+/// A keeper of a table with no entry, with these observers and this limit of entries, over this file.
+pub(crate) fn keeper_of(
+    alloc: Global,
+    observers: Vec<Observer>,
+    limit: u64,
+    disk: FileFrom<Unknown>,
+) -> Result<Kept, Failure>
+    requires few { length observers.items ≤ MAX_OBSERVERS }
+    ensures disk { IfOk result (λ k. k.log.disk ≡ disk) }
+    ensures opened { IfOk result (λ k. kept_table k.state k.stats.items
+        ≡ opened_table k.state.observers) }
+    ensures observers { IfOk result (λ k. k.state.observers ≡ observers.items) }
+    ensures waiting { IfOk result (λ k. IsWaiting k.waiting) }
+    ensures limit { IfOk result (λ k. k.limit ≡ limit) }
+{
+    let (state, stats) = table_of(alloc, observers)?;
+    Ok(Keeper::new(alloc, disk, state, stats, limit))
+}
+
+/// The same with the observers of this manifest.
 pub(crate) fn new_keeper(
     alloc: Global,
     manifest: &str,
     limit: u64,
     disk: FileFrom<Unknown>,
-) -> Result<Kept>
+) -> Result<Kept, Failure>
     ensures disk { IfOk result (λ k. k.log.disk ≡ disk) }
     ensures opened { IfOk result (λ k. kept_table k.state k.stats.items
         ≡ opened_table k.state.observers) }
@@ -100,9 +171,8 @@ pub(crate) fn new_keeper(
     ensures limit { IfOk result (λ k. k.limit ≡ limit) }
 {
     let observers = observers_of(alloc, manifest)?;
-    let stats = no_stats(alloc, observers.len())?;
-    let state = new_state(alloc, observers)?;
-    Ok(Keeper::new(alloc, disk, state, stats, limit))
+    let keeper = keeper_of(alloc, observers, limit, disk)?;
+    Ok(keeper)
 }
 
 /// Opens the log of this manifest, whose observers the table has, and returns how many changes it has.
@@ -110,7 +180,7 @@ pub(crate) fn open_log<D: Disk + Drop>(
     alloc: Global,
     keeper: &mut Keeper<ListTablet, D>,
     manifest: &str,
-) -> Result<u64>
+) -> Result<u64, Failure>
     requires usable { IsTrue (D.is_usable keeper.old.log.disk) }
     requires restarted { Only (D.seen keeper.old.log.disk) (D.may_leave keeper.old.log.disk) }
     requires short { length manifest.now < 2 ^ 30 }

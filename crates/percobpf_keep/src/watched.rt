@@ -2,9 +2,9 @@
 ghost use Rattle.std.specs.Prelude.{◌↔◌, ◌||◌, ℕ, codes, is_some, IsTrue};
 ghost use Rattle.memchr.specs.Find.{OccursAt};
 
+use crate::failure::Failure;
 use crate::file::{FileId, check_name};
 use crate::names::Location;
-use anyhow::{Error, Result};
 use memchr::memmem;
 use pb_base::{Out, Sink, SinkFault};
 use std::io::Write;
@@ -18,7 +18,7 @@ pub(crate) struct WatchedOut<'a, W: Write + Drop> {
     log: String,
     id: FileId,
     // Why the file has it no longer.
-    lost: Option<Error>,
+    lost: Option<Failure>,
 }
 
 impl<'a, W: Write + Drop> WatchedOut<'a, W> {
@@ -27,7 +27,7 @@ impl<'a, W: Write + Drop> WatchedOut<'a, W> {
         rt: &'a HostRuntime,
         writer: W,
         location: &Location,
-    ) -> Result<WatchedOut<'a, W>> {
+    ) -> Result<WatchedOut<'a, W>, Failure> {
         Ok(WatchedOut {
             out: Out::new(writer),
             rt,
@@ -43,8 +43,15 @@ impl<'a, W: Write + Drop> WatchedOut<'a, W> {
     }
 
     /// What was done, or why nothing more is written, if the log has lost its name.
-    pub(crate) fn end(self, done: Result<()>) -> Result<()> {
-        match self.lost {
+    pub(crate) fn end(self, done: Result<(), Failure>) -> Result<(), Failure> {
+        let WatchedOut {
+            out: _,
+            rt: _,
+            log: _,
+            id: _,
+            lost,
+        } = self;
+        match lost {
             Some(lost) => Err(lost),
             None => done,
         }

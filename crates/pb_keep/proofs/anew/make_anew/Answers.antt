@@ -4,11 +4,14 @@ use Rattle.std.proofs.lemmas.List.{append_assoc, append-nil, length-append}
 use Rattle.pb_reading.proofs.Readings.{ok_is}
 use Rattle.pb_keep.specs.Words.{Keeps, Writes, kept_table}
 use Rattle.pb_keep.specs.Again.{KeepsMore}
+use Rattle.pb_keep.specs.Causes.{IsOfAnew}
 use Rattle.pb_keep.specs.First.{first_changes, room_after}
 use Rattle.pb_keep.specs.Kept.{reported_count}
+use Rattle.pb_keep.specs.Left.{IsRightOf}
 use Rattle.pb_keeper.proofs.BrokenOff.{nothing_begun}
+use Rattle.pb_keep.proofs.Causing.{script_anew, script_is_right, stopped_anew, stopped_rightly}
 use Rattle.pb_keep.proofs.Firsts.{first_of_none, full_first, one_more_first}
-use Rattle.pb_keep.proofs.Mapping.{on_err}
+use Rattle.pb_keep.proofs.Mapping.{on_err, passed_on}
 use Rattle.pb_keep.proofs.Records.{reported_on}
 use Rattle.pb_keep.proofs.Scripts.{empty_list}
 use Rattle.pb_keep.proofs.anew.make_anew.Goals as goal
@@ -51,6 +54,18 @@ returns-in_err-batches-clause-left g c = on_err c.from_residual.result (record {
   count = grind arith;
 })
 
+pub returns-in_err-batches-clause-why : goal.returns-in_err-batches-clause-why
+returns-in_err-batches-clause-why g c =
+    let r = c.args.record.now in
+    passed_on c.from_residual.result c.from_residual.ensures.1
+    (λ e is. subst (IsOfAnew (r ∷ [])) (sym is) (script_anew r c.in_err-batches.field-0.0 c.in_err-batches.ensures.why))
+
+pub returns-in_err-batches-clause-right : goal.returns-in_err-batches-clause-right
+returns-in_err-batches-clause-right g c = λ first changes k.
+    let r = c.args.record.now in
+    passed_on c.from_residual.result c.from_residual.ensures.1
+    (λ e is. subst (IsRightOf c.args.state.now) (sym is) (script_is_right r c.args.state.now c.in_err-batches.field-0.0 c.in_err-batches.ensures.why))
+
 -- a change of it wasn't made
 pub returns-in_err-make_counted-clause-left : goal.returns-in_err-make_counted-clause-left
 returns-in_err-make_counted-clause-left g c =
@@ -64,6 +79,19 @@ returns-in_err-make_counted-clause-left g c =
       left = c.in_err-make_counted.ensures.left;
       count = i.count;
     })
+
+pub returns-in_err-make_counted-clause-why : goal.returns-in_err-make_counted-clause-why
+returns-in_err-make_counted-clause-why g c =
+    let r = c.args.record.now in
+    passed_on c.from_residual-in_err-make_counted.result c.from_residual-in_err-make_counted.ensures.1
+    (λ e is. subst (IsOfAnew (r ∷ [])) (sym is) (stopped_anew (r ∷ []) c.in_err-make_counted.field-0.0))
+
+pub returns-in_err-make_counted-clause-right : goal.returns-in_err-make_counted-clause-right
+returns-in_err-make_counted-clause-right g c = λ first changes k.
+    let i = c.loop-batch.invariant in
+    passed_on c.from_residual-in_err-make_counted.result c.from_residual-in_err-make_counted.ensures.1
+    (λ e is. subst (IsRightOf c.make_counted.new.state) (sym is)
+    (stopped_rightly c.in_err-make_counted.field-0.0 c.make_counted.new.state (c.in_err-make_counted.ensures.stops first (changes ++ c.loop-batch.yielded) (i.keeps first changes k))))
 
 -- no more may be made
 pub returns-then-is_full-clause-keeps : goal.returns-then-is_full-clause-keeps

@@ -4,10 +4,13 @@ use Rattle.std.proofs.lemmas.List.{append_assoc, append-nil, length-append, map-
 use Rattle.pb_reading.proofs.Readings.{ok_is}
 use Rattle.pb_keep.specs.Words.{Keeps, kept_table, script_of}
 use Rattle.pb_keep.specs.Again.{KeepsMore}
+use Rattle.pb_keep.specs.Causes.{IsOfAnew}
 use Rattle.pb_keep.specs.First.{first_changes, room_after}
 use Rattle.pb_keep.specs.Kept.{changes_of, reported_count}
+use Rattle.pb_keep.specs.Left.{IsRightOf}
+use Rattle.pb_keep.proofs.Causing.{made_among}
 use Rattle.pb_keep.proofs.Firsts.{all_first, first_of_none, first_on, no_more_first}
-use Rattle.pb_keep.proofs.Mapping.{on_err}
+use Rattle.pb_keep.proofs.Mapping.{on_err, passed_on}
 use Rattle.pb_keep.proofs.Records.{changes_parted, map_more, no_changes, records_more, reported_on}
 use Rattle.pb_keep.proofs.Scripts.{empty_list}
 use Rattle.pb_keep.proofs.anew.make_first.Goals as goal
@@ -90,6 +93,24 @@ returns-in_err-make_anew-clause-some g c = λ changes reads.
           (left.keeps first (changes ++ i.0) (subst (λ l. Keeps c.args.limit first (changes ++ l) (kept_table c.loop-record.state c.loop-record.stats.items)) so_far (i.2.keeps first changes k)));
       count = left.count ∙ ap (λ n. reported_count (n + length left.done)) count ∙ reported_on (length i.0) (length left.done) ∙ ap reported_count (sym (length-append i.0 left.done));
     })
+
+-- what stopped one is of a record among all
+pub returns-in_err-make_anew-clause-why : goal.returns-in_err-make_anew-clause-why
+returns-in_err-make_anew-clause-why g c =
+    let rest = into_iter_items c.next.new.self in
+    let e = c.in_err-make_anew.field-0.0 in
+    let records : c.args.records.items ≡ c.loop-record.yielded ++ c.in-Some.record ∷ rest = c.loop-record.invariant.parts ∙ ap (λ l. c.loop-record.yielded ++ l) c.in-Some.ensures.steps.0 in
+    let split = sym (map-append (λ v. v.items) c.loop-record.yielded (c.in-Some.record ∷ rest)) ∙ ap (map (λ v. v.items)) (sym records) in
+    let own = subst (λ b. IsOfAnew (b ∷ []) e) c.deref.ensures.value c.in_err-make_anew.ensures.why in
+    passed_on c.from_residual.result c.from_residual.ensures.1
+    (λ f is. subst (IsOfAnew (map (λ v. v.items) c.args.records.items)) (sym is)
+    (subst (λ l. IsOfAnew l e) split (made_among (map (λ v. v.items) c.loop-record.yielded) c.in-Some.record.items (map (λ v. v.items) rest) e own)))
+
+pub returns-in_err-make_anew-clause-right : goal.returns-in_err-make_anew-clause-right
+returns-in_err-make_anew-clause-right g c = λ first changes k.
+    let i = c.loop-record.invariant.made in
+    passed_on c.from_residual.result c.from_residual.ensures.1
+    (λ f is. subst (IsRightOf c.make_anew.new.state) (sym is) (c.in_err-make_anew.ensures.right first (changes ++ first_changes c.args.most i.0) (i.2.keeps first changes k)))
 
 pub returns-clause-first : goal.returns-clause-first
 returns-clause-first g c = λ changes reads.

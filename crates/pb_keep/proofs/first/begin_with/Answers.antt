@@ -21,6 +21,7 @@ returns-clause-begun g c =
       records_are = ap (λ b. b ∷ []) is;
       first_is = ((c.carry_over.new.self, subst (λ n. IsCarriedOver observers n s.clock s.cells c.carry_over.new.self) (ap (λ t. t.state.seats) c.requires.opened) cells, c.in_ok-mark_behind.ensures.ok), refl);
       since_is = refl;
+      taken_off = λ e. refl;
     }
 
 pub returns-in_err-carry_over-clause-why : goal.returns-in_err-carry_over-clause-why

@@ -8,5 +8,8 @@ returns-clause-ok g c = rw (with_items_is c.args.stats.now c.make.new.stats (sea
 pub returns-clause-keeps : goal.returns-clause-keeps
 returns-clause-keeps g c = rw (with_items_is c.args.stats.now c.make.new.stats (search (rules, places)), ← c.deref_mut.ensures.value) c.make.ensures.keeps
 
+pub returns-clause-stops : goal.returns-clause-stops
+returns-clause-stops g c = rw (← c.deref_mut.ensures.value) c.make.ensures.stops
+
 pub returns-clause-in_time : goal.returns-clause-in_time
 returns-clause-in_time g c = rw (← c.deref_mut.ensures.value) c.make.ensures.in_time

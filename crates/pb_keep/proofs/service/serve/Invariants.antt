@@ -1,5 +1,4 @@
 use Rattle.std.proofs.Common.{◌≡◌, ℕ, List, IsTrue}
-use Rattle.std.specs.Io.Buffered.{reader_remaining}
 use Rattle.pb_keep.specs.Conversations.{keeper_view, Beginning, Serves}
 use Rattle.pb_keep.specs.Served.{ServesRead}
 use Rattle.pb_keep.specs.Waits.{IsWaiting}
@@ -13,5 +12,5 @@ invariant-loop-turn g l = record {
   faultless : g.D.Disk.faults l.keeper.log.disk ≡ g.D.Disk.faults l.initial.keeper.log.disk;
   same : l.keeper.state.observers ≡ l.initial.keeper.state.observers;
   served : (b : Beginning) (lines : List (List ℕ)) → Serves b lines (keeper_view g.D.Disk.seen g.D.Disk.may_leave l.initial.keeper (g.S.Sink.taken l.initial.out))
-      → ServesRead b lines (reader_remaining g.I.Read.remaining l.initial.input) (reader_remaining g.I.Read.remaining l.input) (keeper_view g.D.Disk.seen g.D.Disk.may_leave l.keeper (g.S.Sink.taken l.out));
+      → ServesRead b lines (g.I.LineSource.remaining l.initial.input) (g.I.LineSource.remaining l.input) (keeper_view g.D.Disk.seen g.D.Disk.may_leave l.keeper (g.S.Sink.taken l.out));
 }

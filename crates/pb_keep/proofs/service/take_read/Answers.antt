@@ -1,9 +1,10 @@
-use Rattle.std.proofs.Common.{Err, subst, sym}
+use Rattle.std.proofs.Common.{◌++◌, Err, subst, sym}
 use Rattle.pb_keep.specs.Causes.{WhyNotKept}
 use Rattle.pb_keep.specs.Conversations.{keeper_view}
 use Rattle.pb_keep.specs.Input.{IsLineRead}
 use Rattle.pb_keep.specs.Words.{ScriptCode}
 use Rattle.pb_keep.proofs.Mapping.{passed_on}
+use Rattle.pb_keep.proofs.Putting.{rest_is_shut}
 use Rattle.pb_keep.proofs.Reading.{leaves_line, leaves_none, long_line}
 use Rattle.pb_keep.proofs.Serving.{leaves_served, serves_held}
 use Rattle.pb_keep.proofs.service.take_read.Goals as goal
@@ -27,7 +28,7 @@ returns-in_err-refuse-in-TooLong-clause-crash g c = λ b lines from to r s file 
 
 pub returns-in-End-clause-serves : goal.returns-in-End-clause-serves
 returns-in-End-clause-serves g c = λ b lines from to r s.
-    let ended = subst (λ x. IsLineRead x c.args.bytes.now from to) c.in-End.is r in (ended.1, s)
+    let ended = subst (λ x. IsLineRead x c.args.bytes.now from to) c.in-End.is r in (ended, s)
 
 pub returns-in-End-clause-crash : goal.returns-in-End-clause-crash
 returns-in-End-clause-crash g c = λ b lines from to r s file m. leaves_none from (leaves_served s file m)
@@ -57,3 +58,26 @@ pub returns-in_ok-refuse-in-TooLong-clause-crash : goal.returns-in_ok-refuse-in-
 returns-in_ok-refuse-in-TooLong-clause-crash g c = λ b lines from to r s file m.
     let all = returns-in_ok-refuse-in-TooLong-clause-serves g c b lines from to r s in
     leaves_line all.0 from to all.1 (leaves_served all.2 file m)
+
+-- ---- the gates that a crash leaves
+
+pub returns-in_err-take_bytes-in-Read-clause-shut : goal.returns-in_err-take_bytes-in-Read-clause-shut
+returns-in_err-take_bytes-in-Read-clause-shut g c = λ mixes b lines s file m. c.take_bytes.ensures.shut mixes b lines s file m
+
+pub returns-in_ok-take_bytes-in-Read-clause-shut : goal.returns-in_ok-take_bytes-in-Read-clause-shut
+returns-in_ok-take_bytes-in-Read-clause-shut g c = λ mixes b lines s file m. c.take_bytes.ensures.shut mixes b lines s file m
+
+pub returns-in_err-refuse-in-TooLong-clause-shut : goal.returns-in_err-refuse-in-TooLong-clause-shut
+returns-in_err-refuse-in-TooLong-clause-shut g c = λ mixes b lines s file m.
+    let log = c.args.keeper.now.log in
+    rest_is_shut b.origin (b.changes ++ s.made) (g.D.Disk.seen log.disk) (g.D.Disk.may_leave log.disk) log.end s.log file m
+
+pub returns-in_ok-refuse-in-TooLong-clause-shut : goal.returns-in_ok-refuse-in-TooLong-clause-shut
+returns-in_ok-refuse-in-TooLong-clause-shut g c = λ mixes b lines s file m.
+    let log = c.args.keeper.now.log in
+    rest_is_shut b.origin (b.changes ++ s.made) (g.D.Disk.seen log.disk) (g.D.Disk.may_leave log.disk) log.end s.log file m
+
+pub returns-in-End-clause-shut : goal.returns-in-End-clause-shut
+returns-in-End-clause-shut g c = λ mixes b lines s file m.
+    let log = c.args.keeper.now.log in
+    rest_is_shut b.origin (b.changes ++ s.made) (g.D.Disk.seen log.disk) (g.D.Disk.may_leave log.disk) log.end s.log file m

@@ -1,6 +1,6 @@
-use Rattle.std.proofs.Common.{◌≡◌, ◌≤◌, ℕ, List, [], length, map, ap, sym, ◌∙◌, subst, arith, Vec, Global}
+use Rattle.std.proofs.Common.{◌≡◌, ◌≤◌, ℕ, List, [], inr, length, map, ap, sym, ◌∙◌, subst, arith, Vec, Global}
 use Rattle.pb_log.specs.Records.{IsAtRest, blocks}
-use Rattle.pb_log.proofs.ReadableFiles.{new_crash, new_at_rest, readable_at_rest}
+use Rattle.pb_log.proofs.ReadableFiles.{new_crash, new_at_rest, new_short, unwritten_left, readable_at_rest}
 use Rattle.pb_log.proofs.recovery.recover.Goals as goal
 
 -- ---- a file that isn't new
@@ -39,3 +39,28 @@ returns-clause-at_rest g c clean =
     subst (λ (l : List (Vec ℕ Global)). IsAtRest (g.D.Disk.seen c.sync.new.self) may_leave c.in_ok-records.end (map (λ v. v.items) l)) (sym none)
     (subst (λ (n : ℕ). IsAtRest (g.D.Disk.seen c.sync.new.self) may_leave n []) (sym end)
     (subst (λ (x : List ℕ). IsAtRest x may_leave 0 []) (sym c.sync.ensures.seen) written))
+
+-- ---- the gates that a crash leaves
+
+pub returns-in_err-records-clause-shut : goal.returns-in_err-records-clause-shut
+returns-in_err-records-clause-shut g c clean rs readable f left =
+    unwritten_left (g.D.Disk.seen c.args.disk.now) rs (g.D.Disk.may_leave c.find_records.new.disk) readable (λ x may. c.requires.restarted x (c.find_records.ensures.crash x may)) f left
+
+pub returns-then-len-gt1-clause-shut : goal.returns-then-len-gt1-clause-shut
+returns-then-len-gt1-clause-shut g c clean rs readable f left =
+    unwritten_left (g.D.Disk.seen c.args.disk.now) rs (g.D.Disk.may_leave c.find_records.new.disk) readable (λ x may. c.requires.restarted x (c.find_records.ensures.crash x may)) f left
+
+pub returns-in_err-write_at-clause-shut : goal.returns-in_err-write_at-clause-shut
+returns-in_err-write_at-clause-shut g c clean rs readable f left =
+    let few : length (g.D.Disk.seen c.args.disk.now) ≤ 1 = omega (arith, c.if-len-gt1.false, c.in_ok-records.ensures.bytes (c.write_at.ensures.clean clean)) in
+    inr (new_short (g.D.Disk.seen c.args.disk.now) (g.D.Disk.may_leave c.find_records.new.disk) (g.D.Disk.may_leave c.write_at.new.self) few (λ x may. c.requires.restarted x (c.find_records.ensures.crash x may)) c.write_at.ensures.crash f left)
+
+pub returns-in_err-sync-clause-shut : goal.returns-in_err-sync-clause-shut
+returns-in_err-sync-clause-shut g c clean rs readable f left =
+    let few : length (g.D.Disk.seen c.args.disk.now) ≤ 1 = omega (arith, c.if-len-gt1.false, c.in_ok-records.ensures.bytes (c.write_at.ensures.clean (c.sync.ensures.clean clean))) in
+    inr (new_short (g.D.Disk.seen c.args.disk.now) (g.D.Disk.may_leave c.find_records.new.disk) (g.D.Disk.may_leave c.write_at.new.self) few (λ x may. c.requires.restarted x (c.find_records.ensures.crash x may)) c.write_at.ensures.crash f (c.sync.ensures.crash f left))
+
+pub returns-clause-shut : goal.returns-clause-shut
+returns-clause-shut g c clean rs readable f left =
+    let few : length (g.D.Disk.seen c.args.disk.now) ≤ 1 = omega (arith, c.if-len-gt1.false, c.in_ok-records.ensures.bytes (c.write_at.ensures.clean (c.sync.ensures.clean clean))) in
+    inr (new_short (g.D.Disk.seen c.args.disk.now) (g.D.Disk.may_leave c.find_records.new.disk) (g.D.Disk.may_leave c.write_at.new.self) few (λ x may. c.requires.restarted x (c.find_records.ensures.crash x may)) c.write_at.ensures.crash f (c.sync.ensures.crash f left))

@@ -17,8 +17,11 @@ returns-clause-crash g c = λ b lines s file m.
     let new = keeper_view g.D.Disk.seen g.D.Disk.may_leave c.put_and_make.new.self (g.S.Sink.taken c.put_and_make.new.out) in
     either_way c.put_and_make.result (returns-clause-serves g c b lines s) (c.put_and_make.ensures.err b.origin (b.changes ++ s.made) s.log)
     (λ now. leaves_served now file m)
-    (λ e left. leaves_left s new.table new.written new.may_leave e left file m)
+    (λ e left. leaves_left s c.requires.alone new.table new.written new.may_leave e left file m)
 
 pub returns-clause-cause : goal.returns-clause-cause
 returns-clause-cause g c = λ b lines s. c.put_and_make.ensures.cause b.first (b.changes ++ s.made) s.keeps
     (few_in_time c.args.self.now.waiting.items.items c.args.self.now.state (subst (λ n. n ≤ MAX_CHANGES) c.requires.waiting.count c.requires.waiting.few) s.in_time)
+
+pub returns-clause-shut : goal.returns-clause-shut
+returns-clause-shut g c = λ mixes b lines s file m. c.put_and_make.ensures.shut mixes b.origin (b.changes ++ s.made) s.log file m

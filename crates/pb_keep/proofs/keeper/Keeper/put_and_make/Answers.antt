@@ -96,3 +96,12 @@ returns-clause-cause g c = λ first changes k room.
 
 pub returns-clause-unmade : goal.returns-clause-unmade
 returns-clause-unmade g c = if_err c.make_and_answer-done.result (λ e making of. absurd (not_both e making of)) c.make_and_answer-done.ensures.why
+
+pub returns-in_err-put_script-clause-shut : goal.returns-in_err-put_script-clause-shut
+returns-in_err-put_script-clause-shut g c = λ mixes origin changes log file left. c.put_script.ensures.shut mixes origin changes log file left
+
+pub returns-in_err-write-clause-shut : goal.returns-in_err-write-clause-shut
+returns-in_err-write-clause-shut g c = λ mixes origin changes log file left. c.put_script.ensures.shut mixes origin changes log file left
+
+pub returns-clause-shut : goal.returns-clause-shut
+returns-clause-shut g c = λ mixes origin changes log file left. c.put_script.ensures.shut mixes origin changes log file left

@@ -51,6 +51,7 @@ returns-clause-begun g c = λ clean.
         scripts = [];
         at_rest = subst (λ r. IsAtRest (g.E.Disk.seen log.disk) (g.E.Disk.may_leave log.disk) log.end (header (head c.args.limit c.args.manifest.now) ∷ r ∷ [])) (c.deref.ensures.value ∙ c.in_ok-record.ensures.bytes) (c.in_ok-begin_log.ensures.begun clean);
         make = no_changes;
+        texts = tt;
       };
       room = c.in_ok-snapshot.ensures.room;
       count = (let same = c.in_ok-snapshot.snapshot.cells.ok.0 in omega (arith, c.len.ensures, same));

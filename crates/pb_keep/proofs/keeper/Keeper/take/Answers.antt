@@ -103,3 +103,21 @@ returns-in_err-answer-in-Some-clause-cause g c = λ b lines s.
     let failed = g.S.Sink.failed c.answer.new.out in
     passed_on c.from_residual-in_err-answer-in-Some.result c.from_residual-in_err-answer-in-Some.ensures.1
     (λ e is. subst (λ f. WhyNotKept old (g.D.Disk.faults new.log.disk) failed now f) (sym is) (not_answered old (g.D.Disk.faults new.log.disk) failed now c.in_err-answer-in-Some.field-0.0 c.in_err-answer-in-Some.ensures.why))
+
+pub returns-in_err-keep_if-clause-shut : goal.returns-in_err-keep_if-clause-shut
+returns-in_err-keep_if-clause-shut g c = λ mixes b lines s file m. c.keep_if.ensures.shut mixes b lines s file m
+
+pub returns-in_err-hold-in-None-clause-shut : goal.returns-in_err-hold-in-None-clause-shut
+returns-in_err-hold-in-None-clause-shut g c = λ mixes b lines s file m. c.keep_if.ensures.shut mixes b lines s file m
+
+pub returns-in_ok-hold-in-None-clause-shut : goal.returns-in_ok-hold-in-None-clause-shut
+returns-in_ok-hold-in-None-clause-shut g c = λ mixes b lines s file m. c.keep_if.ensures.shut mixes b lines s file m
+
+pub returns-then-asks_to_compact-clause-shut : goal.returns-then-asks_to_compact-clause-shut
+returns-then-asks_to_compact-clause-shut g c = λ mixes b lines s file m. c.keep_if.ensures.shut mixes b lines s file m
+
+pub returns-in_err-answer-in-Some-clause-shut : goal.returns-in_err-answer-in-Some-clause-shut
+returns-in_err-answer-in-Some-clause-shut g c = λ mixes b lines s file m. c.keep_if.ensures.shut mixes b lines s file m
+
+pub returns-in_ok-answer-in-Some-clause-shut : goal.returns-in_ok-answer-in-Some-clause-shut
+returns-in_ok-answer-in-Some-clause-shut g c = λ mixes b lines s file m. c.keep_if.ensures.shut mixes b lines s file m

@@ -5,6 +5,7 @@ use Rattle.pb_log.specs.Header.{header, WhyNotOurs}
 use Rattle.pb_log.specs.Causes.{IsOfTheFile, WhyNotOpened}
 use Rattle.pb_log.proofs.OpenedFiles.{first_split, has_a_record, no_records, fresh_has_none, others_are_kept, same_readable, header_crash, why_not_found, why_no_header_put, put_is_not_of_file, why_not_ours, err_if, is_zero, is_some_number}
 use Rattle.pb_log.proofs.OneReading.{one_reading}
+use Rattle.pb_log.proofs.ReadableFiles.{shut_or_new}
 use Rattle.pb_log.proofs.log.Log.open.Goals as goal
 
 pub returns-in_err-records-clause-cause : goal.returns-in_err-records-clause-cause
@@ -140,3 +141,30 @@ returns-clause-other g c clean longer =
     let some : 0 < length c.in_ok-records.records.items = omega (arith, is_some_number c.in_ok-records.records.len c.is_empty.result c.is_empty.ensures c.if-is_empty.false, c.in_ok-records.records.ok) in
     let split : own ≡ first ∷ others = first_split c.in_ok-records.records.items c.remove-first.new.self.items c.remove-first.result some c.remove-first.ensures.value c.remove-first.ensures.items in
     has_a_record first others (sym split ∙ (one_reading file own [] (c.in_ok-records.ensures.read clean) longer.none).0)
+
+-- ---- the gates that a crash leaves
+
+pub returns-in_err-records-clause-shut : goal.returns-in_err-records-clause-shut
+returns-in_err-records-clause-shut g c mixes clean rs readable f left = c.recover.ensures.shut clean rs readable f left
+
+pub returns-in_err-put-clause-shut : goal.returns-in_err-put-clause-shut
+returns-in_err-put-clause-shut g c mixes clean rs readable f left =
+    let own = map (λ (v : Vec ℕ Global). v.items) c.in_ok-records.records.items in
+    let none : own ≡ [] = no_records c.in_ok-records.records.items (omega (arith, is_zero c.in_ok-records.records.len c.is_empty.result c.is_empty.ensures c.if-is_empty.true, c.in_ok-records.records.ok)) in
+    let still : IsTrue (g.D.Disk.is_clean c.recover.new.disk) = sym c.put.ensures.clean ∙ clean in
+    let rest : IsAtRest (g.D.Disk.seen c.recover.new.disk) (g.D.Disk.may_leave c.recover.new.disk) c.in_ok-records.end [] = subst (λ (l : List (List ℕ)). IsAtRest (g.D.Disk.seen c.recover.new.disk) (g.D.Disk.may_leave c.recover.new.disk) c.in_ok-records.end l) none (c.in_ok-records.ensures.at_rest still) in
+    shut_or_new [] c.deref.result.now f (c.put.ensures.shut mixes [] rest f left)
+
+pub returns-then-is_empty-clause-shut : goal.returns-then-is_empty-clause-shut
+returns-then-is_empty-clause-shut g c mixes clean rs readable f left =
+    let own = map (λ (v : Vec ℕ Global). v.items) c.in_ok-records.records.items in
+    let none : own ≡ [] = no_records c.in_ok-records.records.items (omega (arith, is_zero c.in_ok-records.records.len c.is_empty.result c.is_empty.ensures c.if-is_empty.true, c.in_ok-records.records.ok)) in
+    let still : IsTrue (g.D.Disk.is_clean c.recover.new.disk) = sym c.put.ensures.clean ∙ clean in
+    let rest : IsAtRest (g.D.Disk.seen c.recover.new.disk) (g.D.Disk.may_leave c.recover.new.disk) c.in_ok-records.end [] = subst (λ (l : List (List ℕ)). IsAtRest (g.D.Disk.seen c.recover.new.disk) (g.D.Disk.may_leave c.recover.new.disk) c.in_ok-records.end l) none (c.in_ok-records.ensures.at_rest still) in
+    shut_or_new [] c.deref.result.now f (c.put.ensures.shut mixes [] rest f left)
+
+pub returns-in_err-compare_header-clause-shut : goal.returns-in_err-compare_header-clause-shut
+returns-in_err-compare_header-clause-shut g c mixes clean rs readable f left = c.recover.ensures.shut clean rs readable f left
+
+pub returns-clause-shut : goal.returns-clause-shut
+returns-clause-shut g c mixes clean rs readable f left = c.recover.ensures.shut clean rs readable f left

@@ -1,7 +1,7 @@
-use Rattle.std.proofs.Common.{◌≡◌, ◌++◌, ◌∷◌, [], ℕ, List, length, inl, ap, sym, ◌∙◌, subst, arith}
+use Rattle.std.proofs.Common.{◌≡◌, ◌+◌, ◌<◌, ◌^◌, ◌++◌, ◌∷◌, [], ℕ, List, length, inl, ap, sym, ◌∙◌, subst, arith}
 use Rattle.sqlite_disk.specs.Disk.{Only, Torn}
 use Rattle.pb_log.specs.Records.{blocks}
-use Rattle.pb_log.proofs.TornBlocks.{first_crash, second_crash, staged_bytes, length-staged, more_of, staged_at, gate_is}
+use Rattle.pb_log.proofs.TornBlocks.{first_crash, first_shut, second_crash, second_shut, staged_bytes, length-staged, more_of, staged_at, gate_is}
 use Rattle.pb_log.proofs.Blocks.{short-push, length-blocks-push}
 use Rattle.pb_log.proofs.log.Log.put.Goals as goal
 
@@ -52,3 +52,34 @@ returns-clause-acknowledged g c rs rest =
       short = short-push rs item rest.short c.requires.short;
       durable = subst (λ (x : List ℕ). Only x (g.D.Disk.may_leave c.sync-2.new.self)) (sym c.sync-2.ensures.seen) c.in_ok-sync-2.ensures.durable;
     }
+
+-- ---- the gates that a crash leaves
+
+pub returns-in_err-write_at-clause-shut : goal.returns-in_err-write_at-clause-shut
+returns-in_err-write_at-clause-shut g c mixes rs rest f left =
+    inl (first_shut rs rest.short (length c.deref.result.now) c.args.self.now.end (g.D.Disk.seen c.args.self.now.disk) (g.D.Disk.may_leave c.args.self.now.disk) (g.D.Disk.may_leave c.write_at.new.self) rest c.write_at.ensures.crash f left)
+
+pub returns-in_err-sync-clause-shut : goal.returns-in_err-sync-clause-shut
+returns-in_err-sync-clause-shut g c mixes rs rest f left =
+    inl (first_shut rs rest.short (length c.deref.result.now) c.args.self.now.end (g.D.Disk.seen c.args.self.now.disk) (g.D.Disk.may_leave c.args.self.now.disk) (g.D.Disk.may_leave c.write_at.new.self) rest c.write_at.ensures.crash f (c.sync.ensures.crash f left))
+
+pub returns-in_err-write_at-2-clause-shut : goal.returns-in_err-write_at-2-clause-shut
+returns-in_err-write_at-2-clause-shut g c mixes rs rest f left =
+    let end = c.args.self.now.end in let item = c.args.item.now in
+    let bytes : c.deref.result.now ≡ staged_bytes rs rest.short end rest.ends_at item c.requires.short = c.deref.ensures.value ∙ c.in_ok-bytes.ensures in
+    let is = staged_at rs rest.short end rest.ends_at item c.requires.short (g.D.Disk.seen c.args.self.now.disk) (g.D.Disk.seen c.write_at.new.self) c.deref.result.now rest.torn rest.is bytes c.in_ok-write_at.ensures.written c.write_at.ensures.others in
+    second_shut rs rest.short end rest.ends_at item c.requires.short (more_of rs rest.short end rest.ends_at item c.requires.short (g.D.Disk.seen c.write_at.new.self)) (g.D.Disk.may_leave c.sync.new.self) (g.D.Disk.may_leave c.write_at-2.new.self) (subst (λ (x : List ℕ). Only x (g.D.Disk.may_leave c.sync.new.self)) is c.in_ok-sync.ensures.durable) (c.write_at-2.ensures.mixed (mixes c.sync.new.self) (omega (arith, c.if-self-ge-MAX_END.false))) f left
+
+pub returns-in_err-sync-2-clause-shut : goal.returns-in_err-sync-2-clause-shut
+returns-in_err-sync-2-clause-shut g c mixes rs rest f left =
+    let end = c.args.self.now.end in let item = c.args.item.now in
+    let bytes : c.deref.result.now ≡ staged_bytes rs rest.short end rest.ends_at item c.requires.short = c.deref.ensures.value ∙ c.in_ok-bytes.ensures in
+    let is = staged_at rs rest.short end rest.ends_at item c.requires.short (g.D.Disk.seen c.args.self.now.disk) (g.D.Disk.seen c.write_at.new.self) c.deref.result.now rest.torn rest.is bytes c.in_ok-write_at.ensures.written c.write_at.ensures.others in
+    second_shut rs rest.short end rest.ends_at item c.requires.short (more_of rs rest.short end rest.ends_at item c.requires.short (g.D.Disk.seen c.write_at.new.self)) (g.D.Disk.may_leave c.sync.new.self) (g.D.Disk.may_leave c.write_at-2.new.self) (subst (λ (x : List ℕ). Only x (g.D.Disk.may_leave c.sync.new.self)) is c.in_ok-sync.ensures.durable) (c.write_at-2.ensures.mixed (mixes c.sync.new.self) (omega (arith, c.if-self-ge-MAX_END.false))) f (c.sync-2.ensures.crash f left)
+
+pub returns-clause-shut : goal.returns-clause-shut
+returns-clause-shut g c mixes rs rest f left =
+    let end = c.args.self.now.end in let item = c.args.item.now in
+    let bytes : c.deref.result.now ≡ staged_bytes rs rest.short end rest.ends_at item c.requires.short = c.deref.ensures.value ∙ c.in_ok-bytes.ensures in
+    let is = staged_at rs rest.short end rest.ends_at item c.requires.short (g.D.Disk.seen c.args.self.now.disk) (g.D.Disk.seen c.write_at.new.self) c.deref.result.now rest.torn rest.is bytes c.in_ok-write_at.ensures.written c.write_at.ensures.others in
+    second_shut rs rest.short end rest.ends_at item c.requires.short (more_of rs rest.short end rest.ends_at item c.requires.short (g.D.Disk.seen c.write_at.new.self)) (g.D.Disk.may_leave c.sync.new.self) (g.D.Disk.may_leave c.write_at-2.new.self) (subst (λ (x : List ℕ). Only x (g.D.Disk.may_leave c.sync.new.self)) is c.in_ok-sync.ensures.durable) (c.write_at-2.ensures.mixed (mixes c.sync.new.self) (omega (arith, c.if-self-ge-MAX_END.false))) f (c.sync-2.ensures.crash f left)
