@@ -47,6 +47,7 @@ CALLS = {
     "stats": (lambda table: table.stats(), (b"made 2 runs 1\n", b"quiet\n", b"log 5\n")),
     "is_quiet": (lambda table: table.is_quiet(), (b"made 2 runs 1\n", b"absent\n", b"end\n", b"quiet 1\n")),
     "compact": (lambda table: table.compact(), (b"made 2 runs 1\n", b"quiet\n", b"absent\n")),
+    "copy": (lambda table: table.copy(7), (b"made 2 runs 1\n", b"compacted 3\n", b"quiet\n")),
 }
 
 MOST = TOO_HIGH - 1
@@ -62,7 +63,7 @@ KNOWN = (
     (b"refused 70", "3 0 0 70", ""), (b"refused 77 8", "3 8 0 77", ""), (b"value 2a commit 4", "4 4 0 0", "2a"),
     (b"value " + b"f0" * 32 + b" commit 4", "4 4 0 0", "f0" * 32), (f"value {DISTINCT} commit {MOST}".encode(), f"4 {MOST} 0 0", DISTINCT),
     (b"deleted commit 6", "5 6 0 0", ""), (b"absent", "6 0 0 0", ""),
-    (b"compacted 5", "7 0 0 0", ""), (b"marks 1 locks 0", "7 0 0 0", ""), (b"cell 7 0 commit 2 value 2a", "7 0 0 0", ""),
+    (b"compacted 5", "7 0 0 0", ""), (b"copied 5", "7 0 0 0", ""), (b"marks 1 locks 0", "7 0 0 0", ""), (b"cell 7 0 commit 2 value 2a", "7 0 0 0", ""),
     (b"stats co-py1 runs 1 nonzero 0 conflicts 0 asks 0 instructions 16080", "7 0 0 0", ""), (b"end", "7 0 0 0", ""),
     (LONGEST_CELL.encode(), "7 0 0 0", ""), (LONGEST_STATS.encode(), "7 0 0 0", ""),
 )  # fmt: skip

@@ -1,12 +1,13 @@
 // Preloaded into a program that keeps a log: fails, cuts short or stops at one of its calls that change a file or a folder.
 //
 // FAULT_AT names the call, counted from 1: those of pwrite, fdatasync, fsync and ftruncate on descriptors above 2, of open where it
-// may make a file, of rename and of unlink. FAULT_KIND is what happens there: `kill` (before it), `after` (after it), `torn` (half of
+// may make a file, of rename, of link and of unlink. FAULT_KIND is what happens there: `kill` (before it), `after` (after it), `torn` (half of
 // a write, then killed), `short` (half is written, and returned; other calls fail or, on names, are made), `enospc` or `eio`.
 //
-// FAULT_TRACE names a file to which each call is written after it: `W AT HEX NAME`, `S 0 - NAME`, `T LENGTH - NAME`, and `R 0 FROM TO`
-// or `U 0 - NAME` of a rename or an unlink that was made. FAULT_MEANWHILE is a command that is run before the first lock is taken.
+// FAULT_TRACE names a file to which each call is written after it: `W AT HEX NAME`, `S 0 - NAME`, `T LENGTH - NAME`, and `R 0 FROM TO`,
+// `L 0 FROM TO` or `U 0 - NAME` of a rename, a link or an unlink that was made. FAULT_MEANWHILE is a command that is run before the first lock is taken.
 // FAULT_SWAP is a file: before a call that gives a new log to somebody, by its name or its descriptor, its name becomes a link to that.
+// FAULT_GIVE is `fchown` or `fchmod`, of which each call for a new log fails then.
 #define _GNU_SOURCE
 #include <dlfcn.h>
 #include <errno.h>
@@ -143,6 +144,16 @@ int rename(const char *from, const char *to) {
     return done;
 }
 
+int link(const char *from, const char *to) {
+    int (*real)(const char *, const char *) = dlsym(RTLD_NEXT, "link");
+    const char *kind = kind_here();
+    if (is_failed(kind)) return -1;
+    int done = real(from, to);
+    if (done == 0) write_line("L", 0, from, to);
+    if (!strcmp(kind, "after")) stop();
+    return done;
+}
+
 int unlink(const char *name) {
     int (*real)(const char *) = dlsym(RTLD_NEXT, "unlink");
     const char *kind = kind_here();
@@ -161,10 +172,18 @@ static void swap(const char *name) {
     if (real(name) || symlink(victim, name)) abort();
 }
 
-static void swap_of(int fd) {
-    char link[64], name[PATH_MAX + 1] = "";
+// The name of an open file.
+static const char *name_of(int fd, char name[PATH_MAX + 1]) {
+    char link[64];
     snprintf(link, sizeof link, "/proc/self/fd/%d", fd);
-    if (getenv("FAULT_SWAP") && readlink(link, name, PATH_MAX) > 0 && !strstr(name, " (deleted)")) swap(name);
+    ssize_t length = readlink(link, name, PATH_MAX);
+    name[length < 0 ? 0 : length] = 0;
+    return name;
+}
+
+static void swap_of(int fd) {
+    char name[PATH_MAX + 1];
+    if (getenv("FAULT_SWAP") && *name_of(fd, name) && !strstr(name, " (deleted)")) swap(name);
 }
 
 int chown(const char *name, uid_t owner, gid_t group) {
@@ -179,14 +198,25 @@ int chmod(const char *name, mode_t mode) {
     return real(name, mode);
 }
 
+// Whether a call that gives a new log to somebody fails.
+static int is_kept(const char *call, int fd) {
+    const char *given = getenv("FAULT_GIVE"), *end = "~new";
+    char name[PATH_MAX + 1];
+    if (!given || strcmp(given, call) || strlen(name_of(fd, name)) < strlen(end)) return 0;
+    errno = EIO;
+    return !strcmp(name + strlen(name) - strlen(end), end);
+}
+
 int fchown(int fd, uid_t owner, gid_t group) {
     int (*real)(int, uid_t, gid_t) = dlsym(RTLD_NEXT, "fchown");
+    if (is_kept("fchown", fd)) return -1;
     swap_of(fd);
     return real(fd, owner, group);
 }
 
 int fchmod(int fd, mode_t mode) {
     int (*real)(int, mode_t) = dlsym(RTLD_NEXT, "fchmod");
+    if (is_kept("fchmod", fd)) return -1;
     swap_of(fd);
     return real(fd, mode);
 }

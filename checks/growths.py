@@ -21,8 +21,9 @@ MOST, MOST_TIMES = 1 << 20, 64
 # Methods without arguments that count, and functions that do.
 COUNTS = ("len", "slots", "reads", "writes", "capacity")
 COUNTED = ("puts_in", "marks_in")
-# Members that are compared with a limit before they are a size, each with its file.
-BOUNDED = {("pb_parse/src/schedule/lines.rt", "order.times"): "MAX_EVENTS"}
+# Members that are a size of what is there, each with its file, and by what they are so: a limit that they are compared with before, or a
+# definition that a clause holds them to.
+BOUNDED = {("pb_parse/src/schedule/lines.rt", "order.times"): "MAX_EVENTS", ("pb_log/src/copying.rt", "self.end"): "IsAtRest"}
 # A growth, with which of its arguments is the size; of `vec!` it is the last of three.
 GROWTHS = {"reserve": 0, "reserve_exact": 0, "try_reserve": 0, "resize": 0, "repeat": 0, "with_capacity": 1, "from_elem": 2}
 GROWTH = re.compile(rf"\b(?P<name>{'|'.join(GROWTHS)})\s*(?:::<[^>]*>)?(?=\()|\bvec!\s*(?=[(\[])")

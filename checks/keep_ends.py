@@ -164,10 +164,10 @@ class SmallDisk:
     def __exit__(self, *_ended):
         _, self.errors = self.holder.communicate()
 
-    def shell(self, script):
-        """The output of a script that is run in the folder."""
+    def shell(self, script, text=b""):
+        """The output of a script that is run in the folder, with this input."""
         words = [*self.words, "sh", "-ec", f'cd "$1"; {script}', "sh", self.folder]
-        return subprocess.run(words, stdout=subprocess.PIPE, check=True).stdout
+        return subprocess.run(words, input=text, stdout=subprocess.PIPE, check=True).stdout
 
     def fill(self, free):
         """Leaves about so many bytes free."""

@@ -7,8 +7,11 @@
 - links: a log is opened where a link leads, and none is made there.
 - lost: a log that is removed, renamed or replaced while it is served. Its program answers no change from then on, and leaves what has
   the name as it is.
-- given: the rights and the owner of a log are those of the new one, and nobody else's file gets them.
+- given: the rights and the owner of a log are those of the new one, and nobody else's file gets them. Where a call that gives it them
+  fails, the log stays. A log that is made has the rights that the umask leaves of 0644.
+- mounted: a file system that is mounted over a log's folder, with a file of the log's number in its place.
 - closed: standard streams that are closed. What is written to them doesn't get into a log.
+- few: a process that may open few files. What was answered before it ended, at its compaction or before, is in the log.
 """
 from __future__ import annotations
 
@@ -22,8 +25,8 @@ from contextlib import ExitStack
 
 import logs
 from keep_compactions import compacted, from_size, goes_on
-from keep_ends import ask, expect
-from keep_room import beside, left_of, line_of, new_names
+from keep_ends import SmallDisk, ask, expect
+from keep_room import beside, left_of, line_of, made_in, new_names
 from left_out import note_left_out
 
 LOST = "the log was removed, renamed or replaced"
@@ -307,6 +310,55 @@ def try_given(room, its):
         count += 1
     if os.geteuid() != 0:
         note_left_out("keep", "logs of another owner: only root gives files away")
+    for call in ("fchown", "fchmod"):
+        log = room.log("kept")
+        log.write_bytes(its.before)
+        refused = line_of(f"{new_names(log)[0]}: Input/output error (os error 5)")
+        for came in (room.compact(log, LD_PRELOAD=str(room.shim), FAULT_GIVE=call), served_as(room, log, "compact", FAULT_GIVE=call)):
+            expect(f"a compaction whose {call} fails", (*came, log.read_bytes(), left_of(log)), (1, f"open {its.changes}\n", refused, its.before, []))
+        count += 1
+    return count
+
+
+def served_as(room, log, line, **more):
+    """How a program ends that is sent one line, as `compact` of the room has it."""
+    status, out, errors = room.run(log, [line], LD_PRELOAD=str(room.shim), **more)
+    return status, "".join(f"{it}\n" for it in out), errors
+
+
+def try_made(room):
+    """Makes logs under umasks. Answers how many there were."""
+    masks = {0o000: 0o644, 0o022: 0o644, 0o027: 0o640, 0o077: 0o600}
+    for umask, mode in masks.items():
+        log = room.log("made-under")
+        with room.start(log, umask=umask) as running:
+            expect(f"a log under the umask {umask:03o}", (*running.communicate(), running.returncode), (b"open 0\n", b"", 0))
+        expect("its rights", oct(rights(log)[0]), oct(mode))
+    return len(masks)
+
+
+# Mounted
+
+# Prints the number of a log; and mounts another file system over its folder, with a log of these bytes, whose number is printed.
+NUMBER = 'stat -c %i "$1/table.log"'
+MOUNT = f'mount -t tmpfs -o size=256k other "$1" && cat >"$1/table.log" && {NUMBER}'
+
+
+def try_mounted(room, its):
+    """A log over whose folder another file system is mounted, in which its name leads to a file of the same number: by its device it is
+    another one. Answers how many there were."""
+    count = 0
+    with SmallDisk("tmpfs", room.folder) as disk:
+        if disk.is_there:
+            log = disk.folder / "table.log"
+            with room.run_by(disk.words).start(log) as running:
+                expect("a log on a file system", (running.stdout.readline(), ask(running, b"put 7 0 2a")[:5]), (b"open 0\n", b"made "))
+                count += disk.shell(NUMBER) == disk.shell(MOUNT, its.before)
+                came = running.communicate(b"put 8 0 2b\nquiet?\n")
+            expect("a log over which another one is mounted", (*came, running.returncode), (b"", line_of(f"{log}: {LOST}").encode(), 1))
+    disk.folder.rmdir()
+    if not count:
+        note_left_out("keep", "a file of the same number on another file system: none may be mounted, or numbers go on over all of them")
     return count
 
 
@@ -330,9 +382,33 @@ def try_closed(room, its):
     return 3 * len(sets)
 
 
+# Few
+
+# How many files a process may open: with the first it reads no manifest, and with the last it compacts its log.
+DESCRIPTORS = range(4, 16)
+
+
+def try_few(room, its):
+    """Serves and compacts a log by programs that may open few files. Answers how many ended for want of one."""
+    count = 0
+    for most in DESCRIPTORS:
+        log = room.log("few")
+        log.write_bytes(its.before)
+        few = room.run_by(["prlimit", f"--nofile={most}:{most}"])
+        status, out, errors = few.run(log, ["put 3 0 2a", "compact", "put 4 0 2b"])
+        is_said = (status, errors) == (0, "") if made_in(out) == 2 else status == 1 and len(errors.splitlines()) == 1
+        expect(f"a program of {most} files: status {status}, {errors!r}", is_said, True)
+        found = [line.split(" ")[:2] for line in room.run(log, ["get 3 0", "get 4 0"])[1][1:]]
+        wanted = [["value", "2a"], ["value", "2b"]][: made_in(out)]
+        expect(f"the log of a program of {most} files", found[: len(wanted)], wanted)
+        count += status == 1
+    return count
+
+
 def try_all(room, its, pool):
     """Tries all of it, and answers what was met, in words and as numbers."""
     met = Counter({"tables near": try_near(room, its), "in the way": try_in_the_way(room, its), "locked beside": try_locked(room, its)})
     met["names refused"], met["links"], met["names lost"] = try_reserved(room, its), try_links(room, its), try_lost(room, its, pool)
     met["swapped"], met["given"], met["closed"] = try_swapped(room, its), try_given(room, its), try_closed(room, its)
+    met["made under umasks"], met["mounted over"], met["files wanted"] = try_made(room), try_mounted(room, its), try_few(room, its)
     return met

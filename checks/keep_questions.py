@@ -34,9 +34,9 @@ ASKED = ("list", "quiet?", "stats", "since 0", "since 40", "since 18446744073709
 
 # Lines that aren't answered, and their codes.
 REFUSED = {
-    **dict.fromkeys(("put 7 0 2a", "del 7 0; put 8 0 2b", "put", "if 7 0 0; put 7 0 2a", "begin", "end", "compact"), 76),
-    **dict.fromkeys(("", "gets 7 0", "get 7", "get 7 0 0", "list 7", "if 7 0 0", "since", "compact 1", "#", "x" * 5000), 70),
-    **dict.fromkeys(("get 7 16", "since 18446744073709551616"), 71),
+    **dict.fromkeys(("put 7 0 2a", "del 7 0; put 8 0 2b", "put", "if 7 0 0; put 7 0 2a", "begin", "end", "compact", "copy 7"), 76),
+    **dict.fromkeys(("", "gets 7 0", "get 7", "get 7 0 0", "list 7", "if 7 0 0", "since", "compact 1", "copy", "#", "x" * 5000), 70),
+    **dict.fromkeys(("get 7 16", "since 18446744073709551616", "copy 18446744073709551616"), 71),
 }
 
 # How many changes the log has whose table wants memory, how many of them are sent alone, and of how many a group is.

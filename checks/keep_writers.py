@@ -4,9 +4,12 @@ with it.
 - fronts: an input ends after each byte of a line of a change, before its newline. So do lines of other kinds, in a group too, and where
   questions alone are answered.
 - killed: a client that writes lines of 16 cells to a pipe is killed. The lines that came whole are made, and nothing else.
+- parted: a client sends the front of its next line with each, and waits for the answer before it goes on.
 """
 from __future__ import annotations
 
+import os
+import select
 import subprocess
 import sys
 from collections import Counter
@@ -30,7 +33,8 @@ while True:
 """
 CAME, KILLS = 3_000, 12
 
-SECONDS = 60
+# What a client sends that waits for each answer, and how long it waits.
+IN_TURN, SECONDS = (b"put 9 5 01", b"get 9 5", b"nothing", b"put 9 5 02", b"begin", b"end", b"quiet?"), 20
 
 
 def is_left_out(room, what, text, printed, made, options=()):
@@ -78,8 +82,35 @@ def try_killed(room):
     return whole, parts
 
 
+def came_of(running, count):
+    """What a program prints, up to so many lines, or as much as comes in time."""
+    came = b""
+    while came.count(b"\n") < count and select.select([running.stdout], [], [], SECONDS)[0]:
+        some = os.read(running.stdout.fileno(), 4096)
+        if not some:
+            break
+        came += some
+    return came
+
+
+def try_parted(room):
+    """Sends lines so. Answers how many answers came while the front of the next line was there. Those of a group come after its `end`."""
+    count, held = 0, b""
+    with room.start(room.log("parted")) as running:
+        expect("a client that waits", came_of(running, 1), b"open 0\n")
+        for line, following in zip(IN_TURN, (*IN_TURN[1:], b"")):
+            front, wanted = following[: len(following) // 2], {b"begin": 0, b"end": 2}.get(line, 1)
+            running.stdin.write(line[len(held) :] + b"\n" + front)
+            running.stdin.flush()
+            held = front
+            came = came_of(running, wanted)
+            expect(f"the answers to {line!r} while a front of the next line waits: {came!r}", came.count(b"\n"), wanted)
+            count += wanted
+    return count
+
+
 def try_all(room):
     """Tries all of it, and counts what was met."""
-    met = Counter({"inputs that end within a line": try_fronts(room)})
+    met = Counter({"inputs that end within a line": try_fronts(room), "answers before a line is whole": try_parted(room)})
     met["lines of clients that were killed"], met["parts of a line"] = try_killed(room)
     return met

@@ -13,7 +13,7 @@ from faults import LAST, Fault, number, read_change, taken
 from logs import Snapshot, Version
 
 MOST_BYTES, MOST_CHANGES = 4096, 10_000
-OUT_OF_PLACE, TOO_MANY, GONE, NOT_COMPACTED, FULL = 76, 75, 77, 78, 79
+OUT_OF_PLACE, TOO_MANY, GONE, NOT_MADE, FULL = 76, 75, 77, 78, 79
 # How many runs follow a change at most, and how many entries a run leaves at most: of 16 cells and of an acknowledgment, two of each.
 MOST_RUNS, MOST_OF_RUN = 100_000, 2 * (16 + 1)
 # The last timestamp after which no change is taken: each of 10,000 changes may need two, and each of its runs.
@@ -50,7 +50,7 @@ def read_request(line):
         return "change", text
     if verb == "get":
         operands = read_cell(words)
-    elif verb == "since":
+    elif verb in ("since", "copy"):
         operands = (read_commit(words),)
     elif verb == "if" and semicolon:
         operands = (*read_cell(words), read_commit(words), operations)
@@ -104,6 +104,8 @@ class KeptTable:
         self.size, self.least, self.large = 0, LAST, LAST
         self.log_has([])
         self.before = [0] * len(self.observers)
+        # the copies of its log, by their numbers
+        self.copies = {}
         # the answers of a group that hasn't ended, and the changes of it
         self.waiting, self.changes = None, []
 
@@ -232,6 +234,13 @@ class KeptTable:
         self.large = max(self.least, 2 * self.size)
         return versions
 
+    def copy(self, number):
+        """The log is copied, where no copy has this number yet. A copy has the changes of now, and this limit."""
+        if number in self.copies:
+            return f"refused {NOT_MADE}"
+        self.copies[number] = self.manifest, self.limit, self.begun, [*self.lines]
+        return f"copied {len(self.lines)}"
+
     def start(self, least=LAST):
         """A program is started, by which its log is compacted from so many bytes on."""
         self.least, self.large = least, least
@@ -335,9 +344,11 @@ class KeptTable:
             return [self.left()]
         if verb == "stats":
             return self.stats()
+        if verb == "copy":
+            return [self.copy(*operands)]
         if verb == "compact":
             versions = self.compact()
-            return [f"refused {NOT_COMPACTED}" if versions is None else f"compacted {versions}"]
+            return [f"refused {NOT_MADE}" if versions is None else f"compacted {versions}"]
         return self.get(*operands) if verb == "get" else self.since(*operands)
 
     def take(self, line, has_more=False):

@@ -17,7 +17,7 @@ ENDLESS = "endless"
 NO_OBSERVERS = TOP / "examples/no-observers.json"
 
 # How often a line of each kind comes, and how often within a group.
-QUESTIONS = {"get": 12, "since": 7, "list": 4, "quiet?": 4, "stats": 4, "compact": 2}
+QUESTIONS = {"get": 12, "since": 7, "list": 4, "quiet?": 4, "stats": 4, "compact": 2, "copy": 2}
 ALONE = {"change": 34, "condition": 16, "begin": 8, **QUESTIONS, "faulty": 12, "turned": 4, "long": 1}
 GROUPED = {"change": 70, "condition": 4, "begin": 2, **QUESTIONS, "faulty": 14, "turned": 6, "long": 1, "end": 30}
 
@@ -32,6 +32,8 @@ FAULTY = (
     *("list; list", "since -1", "since 01", "since 18446744073709551616", "since 1 2", "since x", "since 99999999999999999999 9"),
     *("since  1", "since 1; list", "stat", "stats ", "stats 7", "stats; stats", " stats", "Stats"),
     *("compact ", " compact", "compact 7", "compacts", "Compact", "compact; compact", "--compact"),
+    *("copy", "copy ", "copy 7 8", "copy  7", "copy 07", "copy -7", "copy x", "copy /tmp/7", "copy ../7", "Copy 7", "copy 7; copy 8"),
+    *("copy 18446744073709551616", "copy 99999999999999999999 9"),
     *("if", "if 7 0 0; end", "if 7 0 0; begin", "if 7 0; put 7 0 2a", "if 7 0 0", "if 7 16 0", "if 7 0 0; ", "if 7 0 0;"),
     *("if 7 0 x; put 7 0 2a", "if 7 0 18446744073709551616; put 7 0 2a", "if 7 0 0; get 7 0", "if 7 0 0; # put 7 0 2a"),
     *("if 7 0 0; put 7 0 2", "if 7 0 0; if 7 1 0; put 7 0 2a", "if 7 0 0 0; put 7 0 2a", "if 7 0 9; put 7 16 2a"),
@@ -121,6 +123,8 @@ def line_from(pick, field, kept):
         return kind, "get {} {}".format(*cell_from(pick, field)).encode()
     if kind == "since":
         return kind, since_from(pick, kept).encode()
+    if kind == "copy":
+        return kind, f"copy {len(kept.copies)}".encode()
     if kind == "faulty":
         return kind, faulty_from(pick, field)
     if kind == "turned":

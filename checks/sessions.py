@@ -91,7 +91,7 @@ class Session:
     def start(self, least=LAST):
         """Starts the program; from so many bytes on, it compacts the log."""
         self.is_in_turn, options = least != LAST, [] if least == LAST else ["--compact-at", str(least)]
-        options = [*self.limit_words(), *options]
+        options = [*self.limit_words(), "--copies", str(self.folder), *options]
         self.kept.size, generation = self.size(), self.kept.generation
         self.kept.start(least)
         self.met["compacted by a start"] += self.kept.generation - generation
@@ -153,11 +153,21 @@ class Session:
         self.compare("the log", logs.changes_in(file, self.manifest.read_bytes()), self.kept.lines)
         self.compare("the log's limit", logs.limit_in(file), self.kept.limit)
         self.compare("groups that stand in two records", self.parted_groups(file), [])
+        self.kept.copies = {number: copied and self.compare_copy(number, *copied) for number, copied in self.kept.copies.items()}
         places = {(self.kept.generation, *place) for place in logs.places_in(file)}
         of_others = {it for it in self.reported if it[0] == self.kept.generation} - places
         self.compare("sizes of the log where no record of it ends", of_others, set())
         if self.is_in_turn:
             self.compare("the size of the log", self.kept.size, self.size())
+
+    def compare_copy(self, number, manifest, limit, begun, lines):
+        """A copy is a whole log of these changes, after a snapshot where the table began anew."""
+        file = (self.folder / f"{number}.log").read_bytes()
+        snapshot, scripts = logs.parts_of(file, manifest.encode())
+        came = [line for script in scripts for line in script.decode().splitlines()]
+        self.compare("a copy", (snapshot.clock if snapshot else 0, came, logs.limit_in(file)), (begun, lines, limit))
+        self.compare("what follows the records of a copy", file, logs.log_of([item for _, item in logs.records_in(file)]))
+        self.met["copies"] += 1
 
     def parted_groups(self, file):
         """The groups within which a record of the log ends."""

@@ -22,6 +22,7 @@ static const struct {
     {"deleted commit #", PERCOBPF_DELETED},
     {"absent", PERCOBPF_ABSENT},
     {"compacted #", PERCOBPF_OTHER},
+    {"copied #", PERCOBPF_OTHER},
     {"quiet", PERCOBPF_OTHER},
     {"marks # locks #", PERCOBPF_OTHER},
     {"begun", PERCOBPF_OTHER},

@@ -25,7 +25,7 @@ enum percobpf_answer {
     PERCOBPF_VALUE,   /* the newest write of a cell: its commit and its value */
     PERCOBPF_DELETED, /* the newest write of a cell deleted it: its commit */
     PERCOBPF_ABSENT,  /* a cell was never written */
-    PERCOBPF_OTHER,   /* an answer of another kind, as a line, such as that to `compact` */
+    PERCOBPF_OTHER,   /* an answer of another kind, as a line, such as that to `compact` or `copy` */
     PERCOBPF_GONE,    /* the program ended, or the connection did, or what came is no answer */
     PERCOBPF_UNSENT   /* the line has a newline in it, and wasn't sent */
 };

@@ -41,6 +41,7 @@ REPORT = re.compile(f"{WRITE}|runs {NAME} {NUMBER}|{TO_DO.pattern}")
 COUNTS = " ".join(f"{what} {NUMBER}" for what in ("runs", "nonzero", "conflicts", "asks", "instructions"))
 STATS = re.compile(f"stats {NAME} {COUNTS}|(?:log|entries) {NUMBER}")
 COMPACTED = re.compile(f"compacted {NUMBER}")
+COPIED = re.compile(f"copied {NUMBER}")
 
 
 class Gone(ConnectionError):
@@ -66,6 +67,10 @@ class Compacted(Refused):
 
 class NotCompacted(Refused):
     """The log can't be compacted, and is as it was: the table has no timestamp left, or is too large."""
+
+
+class NotCopied(Refused):
+    """The log can't be copied, and goes on as it was: something has the name, or a call of the file system failed."""
 
 
 class Unmade(Exception):
@@ -110,11 +115,11 @@ class Table:
         self._is_owed, self._is_closed, self._user = False, False, os.getpid()
 
     @classmethod
-    def start(cls, manifest, log, program="./percobpf_keep", compact_at: int | None = None, limit: int | None = None) -> Table:
+    def start(cls, manifest, log, program="./percobpf_keep", compact_at: int | None = None, limit: int | None = None, copies=None) -> Table:
         """Starts the program over this log; it has made the log's changes again when this returns. With `compact_at` it compacts the log
         by itself, from so many bytes on. The table of a new log may have `limit` entries, and one that is there has its own number:
-        `Gone` is raised if this is another."""
-        named = {"--compact-at": compact_at, "--limit": limit}
+        `Gone` is raised if this is another. `copies` is the folder into which clients may have the log copied."""
+        named = {"--limit": limit, "--copies": copies and os.fspath(copies), "--compact-at": compact_at}
         options = [it for name, value in named.items() if value is not None for it in (name, str(value))]
         words = [os.fspath(program), *options, os.fspath(manifest), os.fspath(log)]
         # a socket has an end even if a process that was forked meanwhile holds it too
@@ -243,6 +248,17 @@ class Table:
         found = matched(COMPACTED, answer)
         if not found:
             raise self._refusal("compact", answer)
+        return int(found[1])
+
+    def copy(self, number: int) -> int:
+        """Copies the log to NUMBER.log in the folder of copies, and returns how many changes it has since it was compacted. `NotCopied` is
+        raised where that can't be done, as where a copy has this number."""
+        line = f"copy {number}"
+        answer = self._ask(line)
+        found = matched(COPIED, answer)
+        if not found:
+            fault = self._refusal(line, answer)
+            raise NotCopied(78, line) if isinstance(fault, NotCompacted) else fault
         return int(found[1])
 
     # a call begins, and is whole once it has all of its answers

@@ -207,4 +207,10 @@ OF_SUBCOMMANDS = [
     *helps("percobpf_story", FRAMES, ["frames", "i", "--profile", "2", "--record", "2", "-h"]),
 ]
 
-TABLES: Tables = {"of programs": OF_PROGRAMS, "of subcommands": OF_SUBCOMMANDS}
+# a help that can't be printed
+UNWRITTEN = [
+    Row(words, status=1, err=b"cannot write the output\n", program=program, to="/dev/full")
+    for program, words in (("percobpf", ["--help"]), ("percobpf", ["help", "run"]), ("percobpf_story", ["--help"]), ("percobpf_story", ["trial", "-h"]))
+]
+
+TABLES: Tables = {"of programs": OF_PROGRAMS, "of subcommands": OF_SUBCOMMANDS, "that can't be printed": UNWRITTEN}

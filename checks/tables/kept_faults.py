@@ -5,9 +5,11 @@ a failed call of the system leads to is in checks/keep and checks/clients.
 """
 from __future__ import annotations
 
+import struct
+
 import logs
 from logs import NO_LIMIT, Version
-from tables import BESIDE, COPIED, FOLDER, KEEP_PROGRAM, NOBODY, TOO_LARGE, Row, Tables, files_of, in_time, manifest_of, observer, within
+from tables import BESIDE, COPIED, FOLDER, KEEP_PROGRAM, NOBODY, TOO_LARGE, WATCHED, Row, Tables, files_of, in_time, manifest_of, observer, within
 from tables.kept_logs import OF_COPY, OF_ONE, OF_TWO, WHOLE, over, snapshot
 from tables.lines import HEADED, PUT, UP, log
 
@@ -29,6 +31,8 @@ def unopened(manifest: str, bytes_of_log: bytes, fault: str) -> Row:
 DAMAGED = "the log is damaged at byte {}"
 NO_SNAPSHOT = "the snapshot of the log is damaged"
 HIDDEN = bytes([logs.CLOSED]) + log(NOBODY, PUT)[1:]
+EMPTY_AND_PUT = log(NOBODY, "", PUT)
+HIDDEN_NOTHING = EMPTY_AND_PUT[: HEADED + len(NOBODY)] + bytes([logs.CLOSED]) + EMPTY_AND_PUT[HEADED + len(NOBODY) + 1 :]
 NOT_TEXT = logs.log_of([logs.header(b"\xff")])
 
 
@@ -82,6 +86,18 @@ LOGS = [
     over(["--questions"], COPIED, WHOLE, (1, "", "Error: the log is of another manifest\n"), WHOLE),
     over(["--questions"], NOBODY, b"", (1, "", f"Error: {AT_LOG}: no log was begun in it\n"), b""),
     over(["--questions"], NOBODY, b"\0" + log(NOBODY)[1:], (1, "", f"Error: {AT_LOG}: no log was begun in it\n"), b"\0" + log(NOBODY)[1:]),
+    # a record of no byte whose gate was closed after it was open
+    unopened(NOBODY, HIDDEN_NOTHING, DAMAGED.format(HEADED + len(NOBODY))),
+    # the same where it is to be copied, or its manifest is wanted
+    fails(["--copy", "l", "p"], f"{AT_LOG}: no log was begun in it", written=BESIDE, l=b""),
+    fails(["--copy", "l", "p"], DAMAGED.format(len(WHOLE) - 1), written=BESIDE, l=WHOLE[:-1]),
+    fails(["--manifest", "l"], f"{AT_LOG}: no log was begun in it", written=BESIDE, l=b""),
+    fails(["--manifest", "l"], f"{AT_LOG}: its manifest is not text", written=BESIDE, l=NOT_TEXT),
+    # after the first record, one whose gate was closed after it was open
+    unopened(NOBODY, WHOLE[: HEADED + len(NOBODY)] + bytes([logs.CLOSED]) + log(NOBODY, PUT, PUT)[HEADED + len(NOBODY) + 1 :], DAMAGED.format(HEADED + len(NOBODY))),
+    # a kind of version that there isn't, which has the bytes of an acknowledgment, and one of an observer 32
+    unopened(COPIED, log(COPIED, OF_COPY.replace(struct.pack("<BQBQQ", 2, 7, 0, 3, 4), struct.pack("<BQBQQ", 3, 7, 0, 3, 4))), NO_SNAPSHOT),
+    unopened(COPIED, log(COPIED, OF_COPY.replace(struct.pack("<QQB", 3, 4, 0), struct.pack("<QQB", 3, 4, 32))), NO_SNAPSHOT),
 ]
 
 WATCHER = observer()
@@ -140,6 +156,16 @@ PATHS = [
     fails(["m", f"{LONG}~new"], f"{LONG}~new: names ending in ~new or ~new-wal are reserved", m=NOBODY),
     fails(["m", f"{LONG}/.."], f"{LONG}/..: {NO_FILE}", m=NOBODY),
     fails(["--compact", "m", NAME], f"{FOLDER.decode()}/{NAME}: its manifest is not text", written={f"{NAME}-wal": b""}, m=NOBODY, **{NAME: NOT_TEXT}),
+    # what has the name of a copy stays
+    fails(["--copy", "l", "p"], "p: it is there already", written=BESIDE, l=WHOLE, p=b"x"),
+    fails(["--copy", "l", "l"], "l: it is there already", written=BESIDE, l=WHOLE),
+    fails(["--copy", "l", "p~new"], "p~new: names ending in ~new or ~new-wal are reserved", written=BESIDE, l=WHOLE),
+    fails(["--copy", "l", "none/p"], f"none/p.1~new: {NO_FILE}", written=BESIDE, l=WHOLE),
+    fails(["--copy", "l", "p"], f"l: {NO_FILE}"),
+    fails(["--manifest", "l"], f"l: {NO_FILE}"),
+    # no log is made
+    fails(["--copies", "c", "m", "l"], f"c: {NO_FILE}", m=NOBODY),
+    fails(["--copies", "c", "m", "l"], "c: it is no folder", m=NOBODY, c=b"x"),
     # what has all names of a new log, and begins as none, stays
     fails(
         ["--compact", "m", "l"],
@@ -161,6 +187,9 @@ PATHS = [
 ]
 
 TWO_WORDS = f"two words are wanted, MANIFEST and LOG: {HAS_MORE}"
+LOG_AND_PATH = f"two words are wanted, LOG and PATH: {HAS_MORE}"
+ONE_WORD = f"one word is wanted, LOG: {HAS_MORE}"
+NOT_TOGETHER = f"these options don't go together: {HAS_MORE}"
 
 
 def no_number(name: str, word: str) -> str:
@@ -179,6 +208,20 @@ WORDS = [
     fails(["--limit"], TWO_WORDS),
     fails(["--limit", "1"], TWO_WORDS),
     fails(["--limit", "1", "m"], TWO_WORDS, m=NOBODY),
+    fails(["--copies"], TWO_WORDS),
+    fails(["--copies", "."], TWO_WORDS),
+    fails(["--copies", ".", "m"], TWO_WORDS, m=NOBODY),
+    fails(["--copy"], LOG_AND_PATH),
+    fails(["--copy", "l"], LOG_AND_PATH, l=WHOLE),
+    fails(["--copy", "l", "p", "p"], LOG_AND_PATH, l=WHOLE),
+    fails(["--manifest"], ONE_WORD),
+    fails(["--manifest", "l", "l"], ONE_WORD, l=WHOLE),
+    fails(["--limit", "1", "--copy", "l", "p"], NOT_TOGETHER, l=WHOLE),
+    fails(["--copies", ".", "--copy", "l", "p"], NOT_TOGETHER, l=WHOLE),
+    fails(["--limit", "1", "--manifest", "l"], NOT_TOGETHER, l=WHOLE),
+    fails(["--copies", ".", "--manifest", "l"], NOT_TOGETHER, l=WHOLE),
+    fails(["--copies", ".", "--compact", "m", "l"], NOT_TOGETHER, m=NOBODY, l=WHOLE),
+    fails(["--copies", ".", "--questions", "m", "l"], NOT_TOGETHER, m=NOBODY, l=WHOLE),
     fails(["--compact-at", "01", "m", "l"], no_number("BYTES", "01"), m=NOBODY),
     fails(["--compact-at", "", "m", "l"], no_number("BYTES", ""), m=NOBODY),
     fails(["--compact-at", "18446744073709551616", "m", "l"], no_number("BYTES", "18446744073709551616"), m=NOBODY),
@@ -208,6 +251,9 @@ TOO_LONG_FILE = "the disk: File too large (os error 27)"
 AFTER = log(NOBODY, PUT, PUT_8)
 CLOSED_AFTER = WHOLE + AFTER[len(WHOLE) :]
 
+# A log of more cells than an observer is run on after one change.
+OF_MANY = log(NOBODY, "".join("; ".join(f"del {row} 0" for row in range(first, first + 16)) + "\n" for first in range(0, 100_016, 16)))
+
 # A file may have no more bytes than these. Of a record that isn't on the disk the gate is closed.
 DISKS = [
     kept([], TOO_LONG_FILE, b"", None, b"", room=0),
@@ -218,6 +264,8 @@ DISKS = [
     kept([], TOO_LONG_FILE, b"open 1\nmade 4 runs 0\nquiet\n", WHOLE, AFTER, f"{PUT_8}quiet?\n{PUT_8}", room=len(AFTER)),
     # a new log that isn't whole is removed
     kept(["--compact"], TOO_LONG_FILE, b"open 2\n", OF_TWO, OF_TWO, room=100),
+    # nor is one of an observer that came: it is run for all cells that there are, however many those are
+    in_time(30, kept(["--compact"], TOO_LONG_FILE, b"open 6251\nadded 1 runs 100016 gone 0\n", OF_MANY, OF_MANY, room=len(OF_MANY), manifest=WATCHED)),
 ]
 
 INPUTS = [
@@ -226,6 +274,7 @@ INPUTS = [
     kept([], "cannot write the output", b"", WHOLE, WHOLE, "quiet?\n", room=7, to="o", its=OPEN_1),
     kept(["--questions"], "cannot write the output", b"", WHOLE, WHOLE, "quiet?\n", room=12, to="o", its={"o": b"open 1 of 1\n"}),
     kept(["--compact"], "No space left on device (os error 28)", b"", WHOLE, WHOLE, to="/dev/full"),
+    Row(["--help"], status=1, err=b"Error: No space left on device (os error 28)\n", to="/dev/full", program=KEEP_PROGRAM),
     # a folder in the place of lines
     Row(["m", "l"], files_of(m=NOBODY, l=WHOLE), 1, b"open 1\n", b"Error: cannot read the input\n", BESIDE, program=KEEP_PROGRAM, input=None),
     Row(
@@ -242,6 +291,7 @@ INPUTS = [
 
 # A hundred thousand runs follow each change where nothing bounds them, and take some 150 MB.
 UNBOUNDED = log(UP, PUT, limit=NO_LIMIT)
+UNBOUNDED_TWICE = log(UP, PUT, PUT, limit=NO_LIMIT)
 
 MEMORY = [
     # for the manifest
@@ -249,6 +299,7 @@ MEMORY = [
     # what was put into the log is made at the next start
     within(64, in_time(30, kept(["--limit", str(NO_LIMIT)], "no memory", b"open 0\n", None, UNBOUNDED, PUT, UP))),
     within(64, in_time(30, kept([], "no memory: 0 of 1 changes were made", b"", UNBOUNDED, UNBOUNDED, "", UP))),
+    within(180, in_time(60, kept([], "no memory: 1 of 2 changes were made", b"", UNBOUNDED_TWICE, UNBOUNDED_TWICE, "", UP))),
 ]
 
 TABLES: Tables = {

@@ -7,8 +7,8 @@ from __future__ import annotations
 
 import logs
 from logs import DEFAULT_LIMIT, NO_LIMIT, Snapshot, Version
-from tables import BESIDE, COPIED, KEEP_PROGRAM, NOBODY, Row, Tables, files_of, in_time, within
-from tables.lines import CELLS, ENDLESS, HEADED, MADE, OF_PUT, PUT, UP, log, served
+from tables import BESIDE, COPIED, COPY, FOLDER, KEEP_PROGRAM, NOBODY, WATCHED, Row, Tables, files_of, in_time, manifest_of, observer, within
+from tables.lines import BOTH, CELLS, ENDLESS, HEADED, MADE, OF_PUT, PUT, THREE as THREE_OBSERVERS, UP, log, served
 
 # The greatest timestamp, and the greatest last timestamp of a table that takes a change.
 LAST = 2**64 - 1
@@ -55,6 +55,9 @@ def value(byte: int) -> bytes:
     return bytes([byte]) + bytes(31)
 
 
+# as long as the manifest of `copy`
+COPE = COPIED.replace("copy", "cope")
+
 FIRST = Version(1, (7, 0, 0, 0), 2, value(0x2A))
 COPY_OF_FIRST = Version(3, (7, 1, 0, 0), 4, value(0x2A))
 ACKNOWLEDGED = Version(3, (7, 0, 1, 0), 4, 3)
@@ -67,6 +70,8 @@ EMPTY = snapshot(0)
 # what it leaves with an observer that writes the same cell: all versions, since that one isn't up to date on them
 AGAIN_AND_AGAIN = [Version(2 * run + 1, (7, 0, 0, 0), 2 * run + 2, value(0x2A)) for run in range(1, 1001)]
 OF_ENDLESS = snapshot(2002, FIRST, *AGAIN_AND_AGAIN, Version(2001, (7, 0, 1, 0), 2002, 2001), stats=((1000, 0, 0, 0, 16_000),))
+
+OF_THREE = snapshot(6, FIRST, ACKNOWLEDGED, Version(5, (7, 0, 1, 1), 6, 5), stats=((1, 0, 0, 1, 7), (1, 1, 0, 0, 2), (0, 0, 0, 0, 0)))
 
 COMPACTIONS = [
     served(NOBODY, "compact\n", "compacted 0\n", EMPTY),
@@ -97,11 +102,28 @@ COMPACTIONS = [
     # no timestamp is left for a change, and so for the table that would go on
     goes_on(NOBODY, (snapshot(LAST),), 0, "compact\nquiet?\n", "refused 78\nquiet\n", snapshot(LAST)),
     goes_on(NOBODY, (snapshot(LAST - 1),), 0, "compact\n", "compacted 0\n", snapshot(LAST - 1)),
+    # what the runs of each observer did, of which one asked once, and one ended with 1
+    served(THREE_OBSERVERS, "put 7 0 2a\ncompact\n", "made 2 runs 2\ncompacted 3\n", OF_THREE),
 ]
 
 WHOLE = log(NOBODY, PUT)
 OF_COPIED = log(COPIED, PUT)
 WITH_BLANK = f"{COPIED}\n"
+
+# of the same observer once more, with as many runs again
+AND_AGAIN = [Version(2 * run + 1, (7, 0, 0, 0), 2 * run + 2, value(0x2A)) for run in range(1, 2001)]
+OF_ENDLESS_TWICE = snapshot(4002, FIRST, *AND_AGAIN, Version(4001, (7, 0, 1, 0), 4002, 4001), stats=((2000, 0, 0, 0, 32_000),))
+
+# of `copy` and `watch`, of which the second has a run of two instructions; and of a `watch` of another column
+SWAPPED = manifest_of(observer("watch", 0), observer("copy", 0, "2", COPY))
+ELSEWHERE = manifest_of(observer("watch", 3))
+OF_WATCH = snapshot(6, FIRST, COPY_OF_FIRST, Version(5, (7, 0, 1, 0), 6, 5), stats=((1, 0, 0, 0, 2),))
+OF_SWAPPED = snapshot(
+    6, FIRST, Version(3, (7, 0, 1, 1), 4, 3), COPY_OF_FIRST, Version(5, (7, 0, 1, 0), 6, 5), stats=((1, 0, 0, 0, 2), (1, 0, 0, 0, 16))
+)
+# `copy` is tried first, which takes the start 5 and has nothing to run for
+OF_BOTH = snapshot(7, FIRST, ACKNOWLEDGED, COPY_OF_FIRST, Version(6, (7, 0, 1, 1), 7, 6), stats=((1, 0, 0, 0, 16), (1, 0, 0, 0, 2)))
+OF_FIRST_COMMIT = snapshot(1, Version(0, (7, 0, 0, 0), 1, value(0x2A)))
 
 BY_WORDS = [
     compacts([], NOBODY, WHOLE, "open 1\ncompacted 1\n", log(NOBODY, OF_ONE)),
@@ -150,9 +172,46 @@ BY_WORDS = [
         log(NOBODY, snapshot(LAST)),
         "quiet?\n",
     ),
+    # another observer, by a text of as many bytes: its run has 5 and 6
+    compacts(
+        [],
+        COPE,
+        OF_COPIED,
+        "open 1\nadded 1 runs 1 gone 1\ncompacted 3\n",
+        log(COPE, snapshot(6, FIRST, Version(5, (7, 0, 1, 0), 6, 5), Version(5, (7, 1, 0, 0), 6, value(0x2A)), stats=((1, 0, 0, 0, 16),))),
+    ),
+    # one that never comes to rest catches up within a thousand passes
+    compacts([], ENDLESS, WHOLE, "open 1\nadded 1 runs 1000 gone 0\ncompacted 1002\n", log(ENDLESS, OF_ENDLESS)),
+    # the log has just as many bytes once the line is answered
+    over(
+        ["--compact-at", str(len(log(NOBODY, PUT, "put 7 0 2b\n")) - 1)],
+        NOBODY,
+        WHOLE,
+        (0, "open 1\nmade 4 runs 0\n", ""),
+        log(NOBODY, snapshot(4, Version(3, (7, 0, 0, 0), 4, value(0x2B)))),
+        "put 7 0 2b\n",
+    ),
+    # no timestamp is left for other observers
+    over(["--compact"], COPIED, log(NOBODY, snapshot(LAST)), (1, "open 0\n", "Error: no timestamp is left\n"), log(NOBODY, snapshot(LAST))),
+    # an observer that stays, and isn't up to date, is run again, for as many passes as after a change
+    compacts([], f"{ENDLESS}\n", log(ENDLESS, PUT), "open 1\nadded 0 runs 1000 gone 0\ncompacted 2002\n", log(f"{ENDLESS}\n", OF_ENDLESS_TWICE)),
+    # the first of two goes, the two change places, and a second one comes: each keeps what it acknowledged, and what its runs did
+    compacts([], WATCHED, log(BOTH, PUT), "open 1\nadded 0 runs 0 gone 1\ncompacted 3\n", log(WATCHED, OF_WATCH)),
+    compacts([], SWAPPED, log(BOTH, PUT), "open 1\nadded 0 runs 0 gone 0\ncompacted 4\n", log(SWAPPED, OF_SWAPPED)),
+    compacts([], BOTH, OF_COPIED, "open 1\nadded 1 runs 1 gone 0\ncompacted 4\n", log(BOTH, OF_BOTH)),
+    # of the same name and program, and another column
+    compacts([], ELSEWHERE, log(WATCHED, PUT), "open 1\nadded 1 runs 0 gone 1\ncompacted 1\n", log(ELSEWHERE, snapshot(4, FIRST, stats=((0, 0, 0, 0, 0),)))),
+    # the first commit that there may be
+    compacts([], NOBODY, log(NOBODY, OF_FIRST_COMMIT), "open 0\ncompacted 1\n", log(NOBODY, OF_FIRST_COMMIT)),
 ]
 
+OF_ONE_BEHIND = snapshot(4, FIRST, ACKNOWLEDGED, COPY_OF_FIRST, stats=((1, 0, 0, 0, 16), (0, 0, 0, 0, 0)))
+
 TWO = "del 7 0\nput 8 0 01\n"
+
+# as many changes as a record has, and a manifest of more than a mebibyte
+MANY = "del 7 0\n" * 10_000
+LARGE = NOBODY.ljust(1_100_000)
 
 STARTS = [
     goes_on(NOBODY, (), 0, "get 7 0\n", "absent\n"),
@@ -176,6 +235,31 @@ STARTS = [
     # a file of the name that a journal would have, which has nothing to play back
     Row(["m", "l"], files_of(m=NOBODY, l=WHOLE, **{"l-journal": b""}), out=b"open 1\n", written=BESIDE, program=KEEP_PROGRAM),
     Row(["m", "l"], files_of(m=NOBODY, l=WHOLE, **{"l-journal": b"\0x"}), out=b"open 1\n", written=BESIDE, program=KEEP_PROGRAM),
+    # a snapshot without a version has a clock, too
+    goes_on(NOBODY, (snapshot(9),), 0, "since 8\nsince 9\n", "refused 77 9\nend\n", snapshot(9)),
+    # a record of two bytes, which is a script of no change
+    goes_on(NOBODY, ("#\n",), 0, "put 7 0 2a\n", MADE, "#\n", PUT),
+    # more than a hundred thousand changes
+    in_time(30, goes_on(NOBODY, (MANY,) * 10 + (PUT,), 100_001, "get 7 0\n", "value 2a commit 200002\n", *((MANY,) * 10), PUT)),
+    # a manifest is read whole, and compared whole
+    goes_on(LARGE, (), 0, "put 7 0 2a\n", MADE, PUT),
+    # seven records with the first
+    goes_on(NOBODY, (PUT,) * 6, 6, "get 7 0\n", "value 2a commit 12\n", *(PUT,) * 6),
+    # after a snapshot with an odd clock, the start of a change is even, and its commit odd
+    goes_on(
+        NOBODY,
+        (snapshot(5),),
+        0,
+        "put 7 0 2a\nsince 4\nsince 6\nsince 7\n",
+        "made 7 runs 0\nrefused 77 5\ncell 7 0 commit 7 value 2a\nend\nend\n",
+        snapshot(5),
+        PUT,
+    ),
+    # seven records after the first, and sixteen changes of one record
+    goes_on(NOBODY, (PUT,) * 7, 7, "get 7 0\n", "value 2a commit 14\n", *(PUT,) * 7),
+    goes_on(NOBODY, (PUT * 16,), 16, "get 7 0\n", "value 2a commit 32\n", PUT * 16),
+    # the second of two observers is behind, and the first has nothing to run for
+    goes_on(BOTH, (OF_ONE_BEHIND,), 0, "quiet?\nput 5 5 2a\nquiet?\n", "marks 1 locks 0\nmade 6 runs 1\nquiet\n", OF_ONE_BEHIND, "put 5 5 2a\n"),
 ]
 
 ZEROED = log(NOBODY)[:-1] + bytes(1 + len(WHOLE) - len(log(NOBODY)))
@@ -254,6 +338,29 @@ LIMITS = [
     goes_on(NOBODY, (snapshot(MAX_CLOCK),), 0, PUT, f"made {MAX_CLOCK + 2} runs 0\n", snapshot(MAX_CLOCK), PUT),
     goes_on(NOBODY, (snapshot(MAX_CLOCK + 1),), 0, PUT, FULL, snapshot(MAX_CLOCK + 1)),
     goes_on(NOBODY, (snapshot(LAST),), 0, f"{PUT}get 7 0\n", f"{FULL}absent\n", snapshot(LAST), limit=NO_LIMIT),
+    # room for one run, of which each pass has one
+    limited(
+        34,
+        ENDLESS,
+        "put 7 0 2a\nstats\n",
+        "made 2 unquiet\nstats again runs 1 nonzero 0 conflicts 0 asks 0 instructions 16\n"
+        f"log {len(log(ENDLESS, PUT, limit=34)) - 1}\nentries 6\nend\n",
+        PUT,
+    ),
+    goes_on(NOBODY, (PUT,), 1, PUT_2B, "made 4 runs 0\n", PUT, PUT_2B, limit=NO_LIMIT - 1),
+    # no room for the run of a change that is made again
+    goes_on(COPIED, (PUT,), 1, "quiet?\n", "marks 1 locks 0\n", PUT, limit=33),
+    # room for one run, which is tried of the first of two observers, also where that has nothing to run for
+    limited(
+        60,
+        BOTH,
+        "put 7 0 2a\nquiet?\nput 5 5 2a\nquiet?\n",
+        "made 2 unquiet\nmarks 1 locks 0\nmade 6 unquiet\nmarks 1 locks 0\n",
+        PUT,
+        "put 5 5 2a\n",
+    ),
+    # room for one run, and then, with six entries, for none
+    limited(34, COPIED, "put 7 0 2a\nput 8 0 2b\nquiet?\n", "made 2 runs 1\nmade 6 unquiet\nmarks 1 locks 0\n", PUT + "put 8 0 2b\n"),
 ]
 
 # Each change has two timestamps, and so has the run after it. There are as many left as two of each take.
@@ -276,6 +383,41 @@ ALONE = [
     within(180, in_time(60, asked(UP, log(UP, PUT, PUT, limit=NO_LIMIT), "1 of 2", "get 8 0\n", "value 2a commit 4\n"))),
 ]
 
+
+def copied(lines: str, answers: str, copies: dict[str, bytes], *records: str | bytes, had: tuple = (), err: str = "") -> Row:
+    """A log of the records that it had, whose copies have a folder: these lines have these answers, and these copies are there then."""
+    files, written = files_of(m=NOBODY), {"l": log(NOBODY, *records), **BESIDE, **copies}
+    if had:
+        files |= {"l": log(NOBODY, *had)}
+    words = ["--copies", ".", "m", "l"]
+    return Row(words, files, 0, f"open 0\n{answers}".encode(), err.encode(), written, program=KEEP_PROGRAM, input=lines.encode())
+
+
+def printed(words: list[str], had: bytes, said: str, **written: bytes) -> Row:
+    """These words, with a log that has these bytes, print this and leave it as it is, and this is there then, too."""
+    return Row(words, files_of(l=had), out=said.encode(), written={**BESIDE, **written}, program=KEEP_PROGRAM)
+
+
+NOT_COPIED = f"{FOLDER.decode()}/l: not copied: ./7.log: it is there already\n"
+
+COPIES = [
+    copied(f"{PUT}copy 7\nput 8 0 2b\n", f"{MADE}copied 1\nmade 4 runs 0\n", {"7.log": log(NOBODY, PUT)}, PUT, "put 8 0 2b\n"),
+    copied("copy 0\ncopy 18446744073709551615\n", "copied 0\ncopied 0\n", {"0.log": log(NOBODY), "18446744073709551615.log": log(NOBODY)}),
+    # one that begins with a snapshot
+    copied("copy 7\n", "copied 0\n", {"7.log": log(NOBODY, OF_ONE)}, OF_ONE, had=(OF_ONE,)),
+    # a copy stays where a second one is asked for
+    copied(f"copy 7\n{PUT}copy 7\nquiet?\n", f"copied 0\n{MADE}refused 78\nquiet\n", {"7.log": log(NOBODY)}, PUT, err=NOT_COPIED),
+    printed(["--copy", "l", "p"], log(NOBODY), "copied 0\n", p=log(NOBODY)),
+    printed(["--copy", "l", "p"], WHOLE, "copied 1\n", p=WHOLE),
+    printed(["--copy", "l", "p"], log(NOBODY, OF_ONE), "copied 0\n", p=log(NOBODY, OF_ONE)),
+    # byte by byte, with the blanks that it was given with
+    printed(["--manifest", "l"], WHOLE, NOBODY),
+    printed(["--manifest", "l"], log(f"\n {COPIED}\n\n", limit=NO_LIMIT), f"\n {COPIED}\n\n"),
+    printed(["--manifest", "l"], log(NOBODY, OF_ONE, limit=5), NOBODY),
+    # none is made within a group
+    copied(f"begin\n{PUT}copy 7\nend\n", f"begun\n{MADE}refused 76\nended\n", {}, PUT),
+]
+
 TABLES: Tables = {
     "compactions by lines": COMPACTIONS,
     "compactions by words": BY_WORDS,
@@ -283,4 +425,5 @@ TABLES: Tables = {
     "logs that a crash left": CUT,
     "limits of entries": LIMITS,
     "questions alone": ALONE,
+    "copies and manifests": COPIES,
 }

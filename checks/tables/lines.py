@@ -28,6 +28,10 @@ WIDE = "; ".join(f"put {row} {column} {row:02x}" for row in range(4) for column 
 # observes the same cells as `copy`, and has no effect
 BOTH = manifest_of(observer("copy", 0, "2", COPY), observer("watch", 0))
 
+# writes the changed value to column 0 of its row. `down` does so for column 1, so that the next pass comes to the cell of column 0
+AGAIN = COPY.replace("b702000001000000", "b702000000000000")
+DOWN = manifest_of(observer("down", 1, "2", AGAIN), observer("watch", 0))
+
 CHANGES = [
     served(NOBODY, PUT, MADE, PUT),
     # start 1 and commit 2, and then start 3 and commit 4 of the run
@@ -49,10 +53,11 @@ CHANGES = [
     served(COPIED, "put 7 1 2a\n", MADE, "put 7 1 2a\n"),
     # no line, no record
     served(NOBODY, "", ""),
+    # two passes with a run each
+    served(DOWN, "put 7 1 2a\n", "made 2 runs 2\n", "put 7 1 2a\n"),
 ]
 
 # writes the changed value to its own cell, so that it is marked again, for ever
-AGAIN = COPY.replace("b702000001000000", "b702000000000000")
 ENDLESS = manifest_of(observer("again", 0, "2", AGAIN))
 
 # writes the cell of the next row, which it is run on next in the same pass; 13 instructions
@@ -126,6 +131,10 @@ REFUSED = [
         ("begin 1", 70),
         ("end 1", 70),
         ("compact 1", 70),
+        ("copy", 70),
+        ("copy x", 70),
+        ("copy 07", 70),
+        ("copy 7 8", 70),
         ("if", 70),
         ("if 7 0; put 7 0 2a", 70),
         ("if 7 0 0", 70),
@@ -138,6 +147,7 @@ REFUSED = [
         ("get 18446744073709551616 0", 71),
         ("get 7 16", 71),
         ("since 18446744073709551616", 71),
+        ("copy 18446744073709551616", 71),
         ("if 7 16 0; put 7 0 2a", 71),
         ("if 7 0 18446744073709551616; put 7 0 2a", 71),
         ("if 7 0 0; put 7 16 2a", 71),
@@ -149,6 +159,8 @@ REFUSED = [
         ("put 7 0 2a; del 7 0", 73),
         ("; ".join(f"del {row} 0" for row in range(17)), 74),
         ("end", 76),
+        # there is no folder of copies
+        ("copy 7", 76),
     )
 ]
 
@@ -164,6 +176,12 @@ BYTES = [
     served(NOBODY, "x" * 100_000 + "\n" + PUT, f"refused 70\n{MADE}", PUT),
     # a refusal waits with the others, so that answers stand in the order of lines
     served(NOBODY, "put 7 0 2a\nx\nput 8 0 2b\n", "made 2 runs 0\nrefused 70\nmade 4 runs 0\n", "put 7 0 2a\nput 8 0 2b\n"),
+    # the longest line is read, and its value is too long; of one with a byte more nothing is
+    served(NOBODY, f"put 7 0 {'2a' * 2_044}\n", "refused 72\n"),
+    served(NOBODY, f"put 77 0 {'2a' * 2_044}\n", "refused 70\n"),
+    # what stands after the last newline is no line, however long it is
+    served(NOBODY, "put 7 0 2a\nput 8 0 2b", MADE, PUT),
+    served(NOBODY, "put 7 0 2a\n" + "x" * 5_000, MADE, PUT),
 ]
 
 CONDITIONS = [
@@ -181,6 +199,10 @@ CONDITIONS = [
     served(COPIED, "put 7 0 2a\nif 7 1 4; put 7 2 2b\n", "made 2 runs 1\nmade 6 runs 0\n", PUT, "put 7 2 2b\n"),
     # the first of two is made before the second is looked at
     served(NOBODY, "if 7 0 0; put 7 0 2a\nif 7 0 0; put 7 0 2b\n", "made 2 runs 0\nunmade commit 2\n", PUT),
+    # the form is looked at before the condition, which isn't met
+    served(NOBODY, "if 7 0 2; put 7 0 2\n", "refused 72\n"),
+    # a change that isn't made has no place in the record of the next one
+    served(NOBODY, "if 7 0 2; put 7 0 2a\nput 8 0 2b\n", f"unmade commit 0\n{MADE}", "put 8 0 2b\n"),
 ]
 
 CELLS = "cell 7 0 commit 2 value 2a\ncell 7 1 commit 4 value 2a\n"
@@ -252,20 +274,22 @@ GROUPS = [
     # each line has its answer, and none but changes stand there
     served(
         NOBODY,
-        "begin\nput 7 0 2a\nget 7 0\nif 7 0 2; put 7 0 2b\nbegin\nlist\nquiet?\nstats\nsince 0\ncompact\nput 7 16 2a\nx\nend\n",
-        f"begun\n{MADE}" + "refused 76\n" * 8 + "refused 71\nrefused 70\nended\n",
+        "begin\nput 7 0 2a\nget 7 0\nif 7 0 2; put 7 0 2b\nbegin\nlist\nquiet?\nstats\nsince 0\ncompact\ncopy 7\nput 7 16 2a\nx\nend\n",
+        f"begun\n{MADE}" + "refused 76\n" * 9 + "refused 71\nrefused 70\nended\n",
         PUT,
     ),
-    # a record has at most 10,000 changes
+    # a record has at most 10,000 changes, and a group of more lines is one still
     in_time(
         30,
         served(
             NOBODY,
-            "begin\n" + "del 7 0\n" * 10_001 + "end\n",
-            "begun\n" + "".join(f"made {2 * number} runs 0\n" for number in range(1, 10_001)) + "refused 75\nended\n",
+            "begin\n" + "del 7 0\n" * 10_001 + "compact\nend\n",
+            "begun\n" + "".join(f"made {2 * number} runs 0\n" for number in range(1, 10_001)) + "refused 75\nrefused 76\nended\n",
             "del 7 0\n" * 10_000,
         ),
     ),
+    # what waits before a group is answered, also where that is a refusal alone
+    served(NOBODY, "x\nbegin\nput 8 0 2b\n", "refused 70\n"),
 ]
 
 TABLES: Tables = {

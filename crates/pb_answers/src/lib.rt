@@ -27,6 +27,6 @@ pub use laws::answers_show_history;
 pub use list::answer_list;
 pub use newest::newest_of;
 pub use pb_script::Newest;
-pub use quiet::{answer_quiet, is_quiet};
+pub use quiet::answer_quiet;
 pub use stats::{answer_stats, entries_of};
 pub use writes::answer_since;

@@ -1,5 +1,5 @@
 //! The answer to `quiet?`, and what it counts.
-ghost use Rattle.std.specs.Prelude.{◌≡◌, ◌+◌, IfOk, OnOk, true, false, length, string_bytes, if◌then◌else◌};
+ghost use Rattle.std.specs.Prelude.{◌≡◌, ◌+◌, IfOk, OnOk, length, string_bytes, if◌then◌else◌};
 ghost use Rattle.std.specs.FinMap as map;
 ghost use Rattle.pb_steps.specs.Readings.{is_lock, lock_count};
 ghost use Rattle.pb_script.specs.ReportLines.{last_line};
@@ -69,14 +69,4 @@ pub fn answer_quiet<T: Tablet>(alloc: Global, state: &State<T>) -> Result<String
 {
     let text = last_line(alloc, marks_of(alloc, state)?, locks_of(alloc, state)?)?;
     Ok(text)
-}
-
-/// Whether no cell is marked and no lock stands.
-pub fn is_quiet<T: Tablet>(alloc: Global, state: &State<T>) -> Result<bool, NoMemory>
-    ensures quiet { IfOk result (λ b. b ≡ true → (map.len state.now.marks ≡ 0)
-        × (lock_count state.now.entries ≡ 0)) }
-    ensures unquiet { IfOk result (λ b. b ≡ false → map.len state.now.marks ≡ 0
-        → lock_count state.now.entries ≡ 0 → ⊥) }
-{
-    Ok(marks_of(alloc, state)? == 0 && locks_of(alloc, state)? == 0)
 }

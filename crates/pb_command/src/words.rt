@@ -1,5 +1,7 @@
 //! The words of a command line, and what both programs print before they know what is asked for.
-ghost use Rattle.std.specs.Prelude.{◌≡◌, IfOk, MatchResult, map, string_bytes};
+ghost use Rattle.std.specs.Prelude.{◌≡◌, ◌≢◌, ◌⊎◌, IfOk, MatchResult, map, string_bytes};
+ghost use Rattle.clap.specs.Words.{kind_of};
+ghost use Rattle.clap.specs.declared.error.kind.ErrorKind.TheVariants.{DisplayHelp, DisplayVersion};
 ghost use Rattle.pb_reading.specs.Reading.{texts_of};
 
 use clap::error::ErrorKind;
@@ -35,14 +37,33 @@ pub fn lent<'a>(alloc: Global, owned: &'a [String]) -> Result<Vec<&'a str>, NoMe
     Ok(words)
 }
 
-/// Prints what is wrong with a command line, or the help that it asks for.
-pub fn refuse(rt: &HostRuntime, error: &clap::Error) -> Result<u8, NoMemory> {
+// Reports that a help can't be printed.
+fn unprinted(rt: &HostRuntime) -> u8
+    ensures { result ≡ 1 }
+{
+    let _ = eprintln!(rt; "cannot write the output");
+    1
+}
+
+/// Prints what is wrong with a command line, or the help that it asks for, and returns the status: 2 for a mistake, and for a help
+/// 0, or 1 where it can't be printed.
+pub fn refuse(rt: &HostRuntime, error: &clap::Error) -> Result<u8, NoMemory>
+    ensures mistake { kind_of error.now ≢ DisplayHelp → kind_of error.now ≢ DisplayVersion
+        → IfOk result (λ s. s ≡ 2) }
+    ensures shown { kind_of error.now ≡ DisplayHelp → IfOk result (λ s. (s ≡ 0) ⊎ (s ≡ 1)) }
+{
     match error.kind() {
         ErrorKind::OutOfMemory => return Err(NoMemory::from(AllocError)),
         _ => {}
     }
-    let _ = error.print(rt);
-    Ok(error.exit_code() as u8)
+    let printed = error.print(rt);
+    if error.use_stderr() {
+        return Ok(2);
+    }
+    match printed {
+        Ok(()) => Ok(0),
+        Err(_) => Ok(unprinted(rt)),
+    }
 }
 
 // Reports a refused growth. Where even that can't be written, the status says it alone.

@@ -3,7 +3,7 @@ use Rattle.std.proofs.Common.{arith, ◌≡◌, ℕ, ◌+◌, ◌<◌, ◌≤◌
 use Rattle.std.specs.List.{onto_first}
 use Rattle.pb_parse.specs.ScriptLines.{operations_left}
 use Rattle.pb_requests.specs.declared.parse.TheConstants.{MAX_LINE}
-use Rattle.pb_requests.specs.Requests.{alone_in, conditional, get_of, question_of, request_by, since_of}
+use Rattle.pb_requests.specs.Requests.{alone_in, conditional, copy_request_of, get_of, of_log, question_of, request_by, since_of}
 use Rattle.pb_keep.specs.Words.{cut, Condition, Request, asked_by}
 
 -- ---- a line that is read has few bytes
@@ -30,9 +30,17 @@ not_alone : (words : List (List ℕ)) (condition : Condition) (request : Request
 unfolding alone_in
 not_alone words condition request other h = grind (arith, other)
 
+not_copy : (words : List (List ℕ)) (condition : Condition) → copy_request_of words ≡ Ok (Request.ChangeIf condition) → ⊥
+unfolding copy_request_of
+not_copy words condition h = grind arith
+
+not_of_log : (verb : List ℕ) (words : List (List ℕ)) (condition : Condition) → of_log verb words ≡ Ok (Request.ChangeIf condition) → ⊥
+unfolding of_log
+not_of_log verb words condition h = grind (arith, not_copy, not_alone)
+
 not_asked : (verb : List ℕ) (words : List (List ℕ)) (condition : Condition) → question_of verb words ≡ Ok (Request.ChangeIf condition) → ⊥
 unfolding question_of
-not_asked verb words condition h = grind (arith, not_get, not_since, not_alone)
+not_asked verb words condition h = grind (arith, not_get, not_since, not_alone, not_of_log)
 
 by_its_verb : (line verb : List ℕ) (words : List (List ℕ)) (condition : Condition) → request_by line verb words ≡ Ok (Request.ChangeIf condition) → conditional (cut line) ≡ Ok (Request.ChangeIf condition)
 unfolding request_by

@@ -63,6 +63,7 @@ fits_within full w l Request.List = tt
 fits_within full w l Request.IsQuiet = tt
 fits_within full w l Request.Stats = tt
 fits_within full w l Request.Compact = tt
+fits_within full w l (Request.Copy number) = tt
 
 -- where nothing waits each line has room
 first_room : (changes bytes line : ℕ) → changes ≡ 0 → bytes ≡ 0 → line ≤ MAX_LINE → has_line_room changes bytes line ≡ true
@@ -101,6 +102,7 @@ ready_idle w line (Ok Request.List) none e = λ a. none
 ready_idle w line (Ok Request.IsQuiet) none e = λ a. none
 ready_idle w line (Ok Request.Stats) none e = λ a. none
 ready_idle w line (Ok Request.Compact) none e = λ a. none
+ready_idle w line (Ok (Request.Copy number)) none e = λ a. none
 
 -- what waits was kept, or need not be
 pub ready_now : (before : Bool) (old now : Waiting) (line : List ℕ) (read : Result Request ScriptCode) → (before ≡ false → IsLineReady old (length line) read) → (before ≡ false → now ≡ old) → (before ≡ true → IsNoLine now) → asked_by line ≡ read

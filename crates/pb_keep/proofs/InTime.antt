@@ -62,6 +62,7 @@ not_full full Group.alone state line (Ok Request.List) batch h = absurd h
 not_full full Group.alone state line (Ok Request.IsQuiet) batch h = absurd h
 not_full full Group.alone state line (Ok Request.Stats) batch h = absurd h
 not_full full Group.alone state line (Ok Request.Compact) batch h = absurd h
+not_full full Group.alone state line (Ok (Request.Copy number)) batch h = absurd h
 not_full full (Group.within changes bytes) state line (Ok Request.Change) batch h = taken_if full _ batch h
 not_full full (Group.within changes bytes) state line (Ok Request.End) batch h = absurd cc
 not_full full (Group.within changes bytes) state line (Ok (Request.ChangeIf condition)) batch h = absurd cc
@@ -72,6 +73,7 @@ not_full full (Group.within changes bytes) state line (Ok Request.List) batch h 
 not_full full (Group.within changes bytes) state line (Ok Request.IsQuiet) batch h = absurd cc
 not_full full (Group.within changes bytes) state line (Ok Request.Stats) batch h = absurd cc
 not_full full (Group.within changes bytes) state line (Ok Request.Compact) batch h = absurd cc
+not_full full (Group.within changes bytes) state line (Ok (Request.Copy number)) batch h = absurd cc
 
 has_time : (limit : ℕ) (state : StateOf) → refuses_changes limit true state ≡ false → state.clock ≤ MAX_CLOCK
 has_time limit state e = grind (arith, e)

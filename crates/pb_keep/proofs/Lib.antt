@@ -20,4 +20,5 @@ pub mod Pieces
 pub mod Firsts
 pub mod FirstOpening
 pub mod Asking
+pub mod Copying
 pub mod Replacing

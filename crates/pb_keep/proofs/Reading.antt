@@ -9,9 +9,10 @@ use Rattle.pb_keep.specs.declared.take.Took.{Took}
 use Rattle.pb_keep.specs.declared.waiting.Waiting.{Waiting}
 use Rattle.pb_keep.specs.Conversations.{Beginning, KeeperView, LeavesFirst, Serves}
 use Rattle.pb_keep.specs.Held.{IsReadAs}
+use Rattle.pb_keep.specs.Taken.{IsLeftToCaller, IsLineReady}
 use Rattle.pb_keep.specs.Waits.{IsNoLine, IsWaiting}
 use Rattle.pb_keep.specs.Input.{none, one_more, AreLinesRead, IsNextLine}
-use Rattle.pb_keep.specs.Served.{IsKeptAtEnd, IsPauseAfter, LeavesRead, ServesAll, ServesNext, ServesRead, ServesToAsked, ServesToLarge, ServesUntil}
+use Rattle.pb_keep.specs.Served.{IsKeptAtEnd, IsPauseAfter, LeavesRead, ServesAll, ServesLine, ServesNext, ServesRead, ServesToAsked, ServesToLarge, ServesUntil}
 use Rattle.pb_keep.specs.declared.service.Paused.{Paused}
 use Rattle.std.proofs.lemmas.List.{append_assoc, append-nil}
 
@@ -29,6 +30,15 @@ too_long line long = grind (arith, long)
 
 pub long_line : (line : List ℕ) → MAX_LINE < length line → IsReadAs line (Err ScriptCode.Form)
 long_line line long = record { text = λ u. too_long line long; bytes = λ n. refl }
+
+-- what one asks for that is left to the caller, where it's taken after these
+pub left_to_caller : {b : Beginning} {lines : List (List ℕ)} {k : KeeperView} (s : Serves b lines k) (line : List ℕ) (read : Result Request ScriptCode) (took : Took) → IsLineReady k.waiting (length line) read → IsUtf8 line → asked_by line ≡ read
+    → IsLeftToCaller k.waiting read took → ServesLine b lines line k took
+left_to_caller {b} {lines} {k} s line read Took.Served ready u e left = absurd left
+left_to_caller {b} {lines} {k} s line read Took.Asked ready u e left =
+    record { serves = s; idle = subst (λ r. IsLineReady k.waiting (length line) r) left.0 ready left.1; asks = read_as line (Ok Request.Compact) u (e ∙ left.0) }
+left_to_caller {b} {lines} {k} s line read (Took.Copy number) ready u e left =
+    record { serves = s; idle = subst (λ r. IsLineReady k.waiting (length line) r) left.0 ready left.1; asks = read_as line (Ok (Request.Copy number)) u (e ∙ left.0) }
 
 pub is_read : (r read : Result Request ScriptCode) → Gives (λ e. false) (λ x. x) r read → read ≡ r
 is_read (Ok x) read h = h
@@ -75,9 +85,12 @@ module _ {b : Beginning} {lines : List (List ℕ)} {from between : Option (List 
     serves = subst (λ z. Serves b z now) (append_assoc lines before.more (t.0 ∷ [])) t.2;
   }
 
-  -- or one that asks for a compaction
-  serves_to_asked : (to : Option (List ℕ)) (now : KeeperView) → ServesNext b (lines ++ before.more) between to now (Went.Line Took.Asked) → ServesToAsked b lines from to now
+  -- or one that asks for a compaction, or for a copy of the log
+  serves_to_asked : (to : Option (List ℕ)) (now : KeeperView) → ServesNext b (lines ++ before.more) between to now (Went.Line Took.Asked) → ServesToAsked b lines Request.Compact from to now
   serves_to_asked to now t = record { more = before.more; between = between; read = before.read; line = t.0; next = t.1; asked = t.2 }
+
+  serves_to_copy : (number : ℕ) (to : Option (List ℕ)) (now : KeeperView) → ServesNext b (lines ++ before.more) between to now (Went.Line (Took.Copy number)) → ServesToAsked b lines (Request.Copy number) from to now
+  serves_to_copy number to now t = record { more = before.more; between = between; read = before.read; line = t.0; next = t.1; asked = t.2 }
 
   -- one more, after which the log is large
   serves_to_large : (to : Option (List ℕ)) (now : KeeperView) (limit : ℕ) → IsNoLine now.waiting → limit ≤ now.end → ServesNext b (lines ++ before.more) between to now (Went.Line Took.Served) → ServesToLarge b lines limit from to now
@@ -100,6 +113,7 @@ module _ {b : Beginning} {lines : List (List ℕ)} {from between : Option (List 
   serves_until to now limit turn large Paused.Ended is idle end kept waits t =
       serves_to_the_end to now (subst (λ w. ServesNext b (lines ++ before.more) between to now w) is t) (subst (λ w. IsKeptAtEnd w now.waiting) is kept) waits
   serves_until to now limit turn large Paused.Asked is idle end kept waits t = serves_to_asked to now (subst (λ w. ServesNext b (lines ++ before.more) between to now w) is t)
+  serves_until to now limit turn large (Paused.Copy number) is idle end kept waits t = serves_to_copy number to now (subst (λ w. ServesNext b (lines ++ before.more) between to now w) is t)
   serves_until to now limit turn large Paused.Large is idle end kept waits t = serves_to_large to now limit (idle is.1) (end is.1) (subst (λ w. ServesNext b (lines ++ before.more) between to now w) is.0 t)
 
 -- ---- a line more
@@ -109,18 +123,21 @@ module _ {b : Beginning} {k : KeeperView} (lines : List (List ℕ)) (from to : O
       → ((all : List (List ℕ)) → Serves b all k → LeavesFirst b all now file) → LeavesRead b lines from now file
   turn_leaves (Went.Line Took.Served) now file t leaves = leaves_line t.0 from to t.1 (leaves (lines ++ t.0 ∷ []) t.2)
   turn_leaves (Went.Line Took.Asked) now file t leaves = leaves_none from (leaves lines t.2.serves)
+  turn_leaves (Went.Line (Took.Copy number)) now file t leaves = leaves_none from (leaves lines t.2.serves)
   turn_leaves Went.End now file t leaves = leaves_none from (leaves lines t.1)
 
   -- what holds after any lines holds after these
   pub after_turn : {P : Type 0} (turn : Went) → ServesNext b lines from to k turn → ((all : List (List ℕ)) → Serves b all k → P) → P
   after_turn (Went.Line Took.Served) t on = on (lines ++ t.0 ∷ []) t.2
   after_turn (Went.Line Took.Asked) t on = on lines t.2.serves
+  after_turn (Went.Line (Took.Copy number)) t on = on lines t.2.serves
   after_turn Went.End t on = on lines t.1
 
   -- what waits may be kept after it
   pub turn_kept : (turn : Went) (now : KeeperView) → ServesNext b lines from to k turn → ((all : List (List ℕ)) → Serves b all k → Serves b all now) → (IsNoLine k.waiting → IsNoLine now.waiting) → ServesNext b lines from to now turn
   turn_kept (Went.Line Took.Served) now t on idle = (t.0, t.1, on (lines ++ t.0 ∷ []) t.2)
   turn_kept (Went.Line Took.Asked) now t on idle = (t.0, t.1, record { serves = on lines t.2.serves; idle = idle t.2.idle; asks = t.2.asks })
+  turn_kept (Went.Line (Took.Copy number)) now t on idle = (t.0, t.1, record { serves = on lines t.2.serves; idle = idle t.2.idle; asks = t.2.asks })
   turn_kept Went.End now t on idle = (t.0, on lines t.1)
 
 -- where the input has ended, what waits was kept, unless it is a group

@@ -52,6 +52,7 @@ same_condition full Group.alone state s line (Ok Request.List) item h same = abs
 same_condition full Group.alone state s line (Ok Request.IsQuiet) item h same = absurd h
 same_condition full Group.alone state s line (Ok Request.Stats) item h same = absurd h
 same_condition full Group.alone state s line (Ok Request.Compact) item h same = absurd h
+same_condition full Group.alone state s line (Ok (Request.Copy number)) item h same = absurd h
 
 held_in_any : (limit : ℕ) (is_first : Bool) (group : Group) (state s : StateOf) (line : List ℕ) (read : Result Request ScriptCode) (item : Waits) → IsHeldAs (refuses_changes limit is_first state) group state line read item
     → (is_first ≡ true → s ≡ state) → ((condition : Condition) → group ≡ Group.alone → read ≡ Ok (Request.ChangeIf condition) → s ≡ state) → IsHeldAs (refuses_changes limit is_first s) group s line read item
@@ -83,6 +84,7 @@ none_before_question waiting n (Request.ChangeIf condition) q r = absurd cc
 none_before_question waiting n Request.Begin q r = absurd cc
 none_before_question waiting n Request.End q r = absurd cc
 none_before_question waiting n Request.Compact q r = absurd cc
+none_before_question waiting n (Request.Copy number) q r = absurd cc
 
 -- ---- what a log and a table have
 

@@ -51,7 +51,7 @@ pub record IsLineHeldIf (full : Bool) (state : StateOf) (condition : Condition) 
   pub parts : cut line ≡ first ∷ cut operations
   pub held : IsHeldIf full state condition operations item
 
--- as what a line waits; no question waits, and no line that asks for a compaction
+-- as what a line waits; no question waits, and no line that asks something of the log
 abbrev pub IsHeldAlone : Bool → StateOf → List ℕ → Request → Waits → Type 0
 IsHeldAlone full state line Request.Change item = item ≡ unless_full full (waits_for (change_as_line line))
 IsHeldAlone full state line (Request.ChangeIf condition) item = IsLineHeldIf full state condition line item
@@ -63,6 +63,7 @@ IsHeldAlone full state line Request.List item = ⊥
 IsHeldAlone full state line Request.IsQuiet item = ⊥
 IsHeldAlone full state line Request.Stats item = ⊥
 IsHeldAlone full state line Request.Compact item = ⊥
+IsHeldAlone full state line (Request.Copy number) item = ⊥
 
 -- ---- in a group
 
@@ -83,6 +84,7 @@ waits_within full changes bytes line Request.List = Waits.Refused OUT_OF_PLACE
 waits_within full changes bytes line Request.IsQuiet = Waits.Refused OUT_OF_PLACE
 waits_within full changes bytes line Request.Stats = Waits.Refused OUT_OF_PLACE
 waits_within full changes bytes line Request.Compact = Waits.Refused OUT_OF_PLACE
+waits_within full changes bytes line (Request.Copy number) = Waits.Refused OUT_OF_PLACE
 
 -- ---- lines
 
@@ -127,6 +129,7 @@ IsAnswerTo since (Request.ChangeIf condition) table text = ⊥
 IsAnswerTo since Request.Begin table text = ⊥
 IsAnswerTo since Request.End table text = ⊥
 IsAnswerTo since Request.Compact table text = ⊥
+IsAnswerTo since (Request.Copy number) table text = ⊥
 
 -- a line is a question, and this its answer
 pub record IsAsked (since : ℕ) (table : KeptTable) (line text : List ℕ) : Type 0 where

@@ -17,4 +17,5 @@ pub mod Anew
 pub mod Replaced
 pub mod Folders
 pub mod Changed
+pub mod Copies
 pub mod Laws

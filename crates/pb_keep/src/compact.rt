@@ -114,15 +114,15 @@ fn begin_log<E: Disk + Drop>(
     log: &mut Log<E>,
     limit: u64,
     manifest: &[u8],
-    record: &[u8],
+    item: &[u8],
 ) -> Result<(), SnapshotFault>
     requires usable { IsTrue (E.is_usable log.old.disk) }
     requires restarted { Only (E.seen log.old.disk) (E.may_leave log.old.disk) }
     requires short { length manifest.now < 2 ^ 30 }
-    requires small { length record.now < 2 ^ 32 }
+    requires small { length item.now < 2 ^ 32 }
     ensures begun { OnOk result (IsTrue (E.is_clean log.new.disk)
         → IsAtRest (E.seen log.new.disk) (E.may_leave log.new.disk) log.new.end
-        (header (head limit manifest.now) ∷ record.now ∷ [])) }
+        (header (head limit manifest.now) ∷ item.now ∷ [])) }
     ensures why { IfErr result (λ e. IsTrue (E.is_clean log.new.disk)
         → WhyNotBegun (head limit manifest.now) (E.faults log.old.disk)
         (E.faults log.new.disk) (E.seen log.old.disk) e) }
@@ -131,7 +131,7 @@ fn begin_log<E: Disk + Drop>(
     if !log.open(alloc, &head)?.is_empty() {
         return Err(SnapshotFault::NotNew);
     }
-    log.put(alloc, record)?;
+    log.put(alloc, item)?;
     Ok(())
 }
 

@@ -17,7 +17,7 @@ use std::alloc::Global;
 const MARK: u8 = 0xff;
 
 // Whether the first of the records is a snapshot's.
-fn has_snapshot(records: &[Vec<u8>]) -> bool
+pub(crate) fn has_snapshot(records: &[Vec<u8>]) -> bool
     ensures { result ≡ begins_as_snapshot (map (λ v. v.items) records.now) }
 {
     match records.first() {

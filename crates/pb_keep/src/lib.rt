@@ -11,6 +11,7 @@
 
 mod anew;
 mod compact;
+mod copies;
 mod fault;
 mod first;
 mod folder;
@@ -31,6 +32,7 @@ mod waiting;
 
 pub use anew::make_records_anew;
 pub use compact::SnapshotFault;
+pub use copies::{copy_log, count_log};
 pub use fault::KeepFault;
 pub use folder::{Folder, NamedLog};
 pub use head::split_head;

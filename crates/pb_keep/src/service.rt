@@ -32,6 +32,8 @@ pub enum Paused {
     Ended,
     /// A line asked for a compaction. Everything before it is answered.
     Asked,
+    /// The same of a copy of the log, which this number names.
+    Copy(u64),
     /// The log has as many bytes as the limit. Everything before is answered.
     Large,
 }
@@ -212,11 +214,12 @@ fn pause_after(went: Went, is_large: bool) -> Option<Paused>
         Went::Line(Took::Served) if is_large => Some(Paused::Large),
         Went::Line(Took::Served) => None,
         Went::Line(Took::Asked) => Some(Paused::Asked),
+        Went::Line(Took::Copy(number)) => Some(Paused::Copy(number)),
         Went::End => Some(Paused::Ended),
     }
 }
 
-/// Takes lines and answers each, until the input ends, a line asks for a compaction, or the log has `limit` bytes, which is
+/// Takes lines and answers each, until the input ends, a line asks for a compaction or a copy, or the log has `limit` bytes, which is
 /// looked at after each line after which none waits. While a whole line more was read that isn't taken yet, what came
 /// before it waits; so no line waits for one that hasn't come. What waits when the input ends is kept, but for a group
 /// without its `end`. After a pause the caller answers, and calls this again for the rest of the input.

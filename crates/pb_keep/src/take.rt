@@ -6,7 +6,7 @@ ghost use Rattle.pb_base.specs.Sink.{AppendsPart};
 ghost use Rattle.pb_base.specs.declared.cell.Cell.TheVariants.{Data};
 ghost use Rattle.pb_answers.specs.Seen.{IsSeenIn};
 ghost use Rattle.pb_requests.specs.Requests.{asked_by};
-ghost use Rattle.pb_requests.specs.declared.request.Request.TheVariants.{Change, ChangeIf, Compact};
+ghost use Rattle.pb_requests.specs.declared.request.Request.TheVariants.{Change, ChangeIf};
 ghost use Rattle.pb_script.specs.declared.reports.lines.Newest.{Newest};
 ghost use Rattle.pb_keep.specs.declared.fault.KeepFault.TheVariants as ends;
 ghost use Rattle.pb_keeper.specs.Stats.{kept_table};
@@ -15,7 +15,7 @@ ghost use Rattle.pb_keep.specs.Served.{ServesLine};
 ghost use Rattle.pb_keep.specs.Held.{change_as_line, commit_seen, refuses_changes, unless_full, waits_for, waits_within, IsAnswerTo, IsHeldIf, IsSinceAnswer};
 ghost use Rattle.pb_keep.specs.Causes.{IsOfAnswer, WhyNotKept};
 ghost use Rattle.pb_keep.specs.Kept.{IsShutFile};
-ghost use Rattle.pb_keep.specs.Taken.{is_compaction, is_question, IsLineReady, IsNoCompaction, IsNoQuestion, IsReadyFor, MayHaveAnswered, NamesLog, WaitsNow};
+ghost use Rattle.pb_keep.specs.Taken.{is_of_log, is_question, IsLeftToCaller, IsLineReady, IsNoQuestion, IsNotOfLog, IsReadyFor, MayHaveAnswered, NamesLog, WaitsNow};
 ghost use Rattle.pb_keep.specs.Waits.{IsNoLine, IsWaiting};
 
 use crate::fault::KeepFault;
@@ -49,6 +49,8 @@ pub enum Took {
     Served,
     /// It asks for a compaction, and is left to the caller. All before it is answered.
     Asked,
+    /// The same of a copy of the log, which this number names.
+    Copy(u64),
 }
 
 // Whether a text has a newline.
@@ -185,7 +187,7 @@ fn hold_if<T: Tablet>(
     }
 }
 
-// A line that is neither a question nor asks for a compaction waits.
+// A line that is neither a question nor asks something of the log waits.
 fn hold_request<T: Tablet>(
     alloc: Global,
     state: &State<T>,
@@ -199,7 +201,7 @@ fn hold_request<T: Tablet>(
     requires ready { IsReadyFor waiting.old (length line.now) request }
     requires alone { waiting.old.is_group ≡ false }
     requires no_question { is_question request ≡ false }
-    requires no_compaction { is_compaction request ≡ false }
+    requires not_of_log { is_of_log request ≡ false }
     ensures waiting { OnOk result (IsWaiting waiting.new) }
     ensures held { OnOk result
         (WaitsNow limit state.now line.now (Ok request) waiting.old waiting.new) }
@@ -230,7 +232,7 @@ fn hold<T: Tablet>(
     requires read { asked_by line.now ≡ read }
     requires ready { IsLineReady waiting.old (length line.now) read }
     requires no_question { IsNoQuestion waiting.old read }
-    requires no_compaction { IsNoCompaction waiting.old read }
+    requires not_of_log { IsNotOfLog waiting.old read }
     ensures waiting { OnOk result (IsWaiting waiting.new) }
     ensures held { OnOk result (WaitsNow limit state.now line.now read waiting.old waiting.new) }
 {
@@ -281,12 +283,16 @@ fn question_in(waiting: &Waiting, read: &Result<Request, ScriptCode>) -> Option<
     }
 }
 
-// Whether a line asks for a compaction, as none in a group does.
-fn asks_to_compact(waiting: &Waiting, read: &Result<Request, ScriptCode>) -> bool
-    ensures asks { result ≡ true → (read.now ≡ Ok Compact) × (waiting.now.is_group ≡ false) }
-    ensures other { result ≡ false → IsNoCompaction waiting.now read.now }
+// What a line asks of the log, which is left to the caller. One in a group asks for nothing.
+fn left_to_caller(waiting: &Waiting, read: &Result<Request, ScriptCode>) -> Option<Took>
+    ensures some { IfSome result (IsLeftToCaller waiting.now read.now) }
+    ensures none { result ≡ None → IsNotOfLog waiting.now read.now }
 {
-    !waiting.is_group && matches!(read, Ok(Request::Compact))
+    match read {
+        Ok(Request::Compact) if !waiting.is_group => Some(Took::Asked),
+        Ok(Request::Copy(number)) if !waiting.is_group => Some(Took::Copy(*number)),
+        _ => None,
+    }
 }
 
 // Whether what waits is kept before this line is taken: it speaks of the table in which all of that is made, or the record has
@@ -407,7 +413,7 @@ impl<T: Tablet, D: Disk + Drop> Keeper<T, D> {
     }
 
     /// Takes one line. A change waits, and so does the answer to a line that is refused; a question is answered after all that
-    /// waits is kept. A line that asks for a compaction is answered by the caller.
+    /// waits is kept. A line that asks for a compaction, or for a copy of the log, is answered by the caller.
     pub fn take<S: Sink>(
         &mut self,
         alloc: Global,
@@ -446,8 +452,8 @@ impl<T: Tablet, D: Disk + Drop> Keeper<T, D> {
         let read = parse_request(line);
         let before = is_kept_before(&self.waiting, line, &read);
         self.keep_if(alloc, out, before)?;
-        if asks_to_compact(&self.waiting, &read) {
-            return Ok(Took::Asked);
+        if let Some(took) = left_to_caller(&self.waiting, &read) {
+            return Ok(took);
         }
         match question_in(&self.waiting, &read) {
             Some(question) => self.answer(alloc, out, question)?,

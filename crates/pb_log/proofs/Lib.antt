@@ -4,3 +4,4 @@ pub mod OneReading
 pub mod TornBlocks
 pub mod ReadableFiles
 pub mod OpenedFiles
+pub mod Copies

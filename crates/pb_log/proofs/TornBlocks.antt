@@ -25,7 +25,7 @@ written_after front q bytes new holds torn =
     kept ∙ ap (λ (x : List ℕ). front ++ x) (here ∙ ap (λ (x : List ℕ). bytes ++ x) (drop-drop (length bytes) n new))
 
 -- one byte was written
-one_byte : (p q c : List ℕ) (g : ℕ) → Torn (length p) 1 (p ++ g ∷ q) c → c ≡ p ++ get_or c (length p) 0 ∷ q
+pub one_byte : (p q c : List ℕ) (g : ℕ) → Torn (length p) 1 (p ++ g ∷ q) c → c ≡ p ++ get_or c (length p) 0 ∷ q
 one_byte p q c g torn =
     let old = p ++ g ∷ q in
     let long : length old ≡ length p + (1 + length q) = omega (arith, length-append p (g ∷ q)) in
@@ -45,7 +45,7 @@ one_byte p q c g torn =
 
 module _ (rs : List (List ℕ)) (shorts : AreShort rs) where
   -- after a gate that isn't open nothing counts
-  shut_gate : (gate : ℕ) (rest c : List ℕ) → gate ≢ 165 → c ≡ blocks 0 rs ++ gate ∷ rest → IsLog c rs
+  pub shut_gate : (gate : ℕ) (rest c : List ℕ) → gate ≢ 165 → c ≡ blocks 0 rs ++ gate ∷ rest → IsLog c rs
   shut_gate gate rest c closed is = record {
     tail = gate ∷ rest;
     is = is;

@@ -68,6 +68,13 @@ WhyNotOpened manifest old new file (Damaged at) = IsDamaged file at
 WhyNotOpened manifest old new file NoHeader = HasOther manifest file NoHeader ⊎ IsNoLog manifest file
 WhyNotOpened manifest old new file e = HasOther manifest file e
 
+-- why a log that ends there isn't copied into this file: a call of one of both disks failed, the log isn't open, or the file isn't empty
+abbrev pub WhyNotCopied : ℕ → ℕ → ℕ → ℕ → ℕ → List ℕ → LogFault → Type 0
+WhyNotCopied old new old_copy new_copy end file (NoMemory n) = Unit {0}
+WhyNotCopied old new old_copy new_copy end file (Disk e) = MoreFaults old new ⊎ MoreFaults old_copy new_copy
+WhyNotCopied old new old_copy new_copy end file NoHeader = (end ≡ 0) ⊎ (0 < length file)
+WhyNotCopied old new old_copy new_copy end file _ = ⊥
+
 -- why the manifest of a log isn't read
 abbrev pub WhyNoManifest : ℕ → ℕ → List ℕ → LogFault → Type 0
 WhyNoManifest old new file NewerVersion = HasFirst (λ first. WhyNoHeader first NewerVersion) file

@@ -6,10 +6,11 @@
 //! where it begins, shows damage. The contracts promise that a file stands for one list of records. They promise that a crash
 //! at any moment of a call leaves the records of before, with the new one or without it. They also promise that a file that
 //! is damaged is reported, with the place, and that each fault has a cause: a failed call of the disk, a refused growth, or
-//! what the file holds. The first record is the header, with the version of the log and the manifest, byte by byte. So a log
+//! what the file holds. A copy of a log has its records, and no part of them until it has all. The first record is the header, with the version of the log and the manifest, byte by byte. So a log
 //! of the manifest `{}` begins with the byte `0xa5`, and its first record is `percobpf log 1`, a line feed and `{}`.
 #![tactic(auto)]
 
+mod copying;
 mod fault;
 mod header;
 mod laws;

@@ -32,6 +32,14 @@ since_of words = do
   end ← no_word ScriptCode.Form commit.1
   Ok (Request.Since (record { 0 = commit.0 }))
 
+-- `copy N`, after its verb
+unfoldable pub copy_request_of : List (List ℕ) → Result Request ScriptCode
+copy_request_of words = do
+  word ← next_word ScriptCode.Form words
+  number ← number_upto (2 ^ 64 - 1) word.0
+  end ← no_word ScriptCode.Form word.1
+  Ok (Request.Copy number)
+
 -- `if ROW COL C`, after its verb: the cell, and the commit that its newest write is to have
 unfoldable pub condition_in : List (List ℕ) → Result Condition ScriptCode
 condition_in words = do
@@ -52,6 +60,13 @@ conditional (first ∷ operations) = if length operations == 0 then Err ScriptCo
   condition ← condition_of first
   Ok (Request.ChangeIf condition)
 
+-- a line that asks something of the log, by its verb
+unfoldable pub of_log : List ℕ → List (List ℕ) → Result Request ScriptCode
+of_log verb words =
+    if bytes_eq verb (codes "compact") then alone_in Request.Compact words
+    else if bytes_eq verb (codes "copy") then copy_request_of words
+    else Err ScriptCode.Form
+
 -- a line that changes nothing, by its verb
 unfoldable pub question_of : List ℕ → List (List ℕ) → Result Request ScriptCode
 question_of verb words =
@@ -62,8 +77,7 @@ question_of verb words =
     else if bytes_eq verb (codes "end") then alone_in Request.End words
     else if bytes_eq verb (codes "quiet?") then alone_in Request.IsQuiet words
     else if bytes_eq verb (codes "stats") then alone_in Request.Stats words
-    else if bytes_eq verb (codes "compact") then alone_in Request.Compact words
-    else Err ScriptCode.Form
+    else of_log verb words
 
 -- a line by its verb and the words after it
 unfoldable pub request_by : List ℕ → List ℕ → List (List ℕ) → Result Request ScriptCode

@@ -2,7 +2,7 @@
 ghost use Rattle.std.specs.Prelude.{◌≡◌, false};
 ghost use Rattle.pb_reading.specs.Reading.{Gives, words_left};
 ghost use Rattle.pb_parse.specs.ScriptLines.{cut};
-ghost use Rattle.pb_requests.specs.Requests.{commit_of, alone_in, get_of, since_of, condition_in, condition_of, conditional, question_of, request_by, asked_by};
+ghost use Rattle.pb_requests.specs.Requests.{commit_of, alone_in, get_of, since_of, copy_request_of, condition_in, condition_of, conditional, of_log, question_of, request_by, asked_by};
 
 use crate::request::{Condition, Request};
 use pb_base::Ts;
@@ -48,6 +48,16 @@ fn since_of(words: &mut LineWords) -> Result<Request, ScriptCode>
     Ok(Request::Since(commit))
 }
 
+#[tactic(auto, unfolding(crate::specs::Requests::copy_request_of))]
+fn copy_request_of(words: &mut LineWords) -> Result<Request, ScriptCode>
+    ensures { Gives (λ _. false) (λ r. r) result (copy_request_of (words_left words.old.rest)) }
+{
+    let word = words.next_word(ScriptCode::Form)?;
+    let number = numeral_upto(ScriptCode::Form, ScriptCode::Range, u64::MAX, word)?;
+    words.no_word(ScriptCode::Form)?;
+    Ok(Request::Copy(number))
+}
+
 // The condition `if ROW COL C`, after its verb.
 #[tactic(auto, unfolding(crate::specs::Requests::condition_in))]
 fn condition_in(words: &mut LineWords) -> Result<Condition, ScriptCode>
@@ -83,7 +93,19 @@ fn conditional(line: &str) -> Result<Request, ScriptCode>
     }
 }
 
-// A question, a line around changes, or one about the log, by its verb.
+// A line that asks something of the log, by its verb.
+#[tactic(auto, unfolding(crate::specs::Requests::of_log))]
+fn of_log(verb: &str, words: &mut LineWords) -> Result<Request, ScriptCode>
+    ensures { Gives (λ _. false) (λ r. r) result (of_log verb.now (words_left words.old.rest)) }
+{
+    match verb {
+        "compact" => alone_in(Request::Compact, words),
+        "copy" => copy_request_of(words),
+        _ => Err(ScriptCode::Form),
+    }
+}
+
+// A question, a line around changes, or one that asks something of the log, by its verb.
 #[tactic(auto, unfolding(crate::specs::Requests::question_of))]
 fn question_of(verb: &str, words: &mut LineWords) -> Result<Request, ScriptCode>
     ensures { Gives (λ _. false) (λ r. r) result
@@ -97,8 +119,7 @@ fn question_of(verb: &str, words: &mut LineWords) -> Result<Request, ScriptCode>
         "end" => alone_in(Request::End, words),
         "quiet?" => alone_in(Request::IsQuiet, words),
         "stats" => alone_in(Request::Stats, words),
-        "compact" => alone_in(Request::Compact, words),
-        _ => Err(ScriptCode::Form),
+        _ => of_log(verb, words),
     }
 }
 
@@ -118,7 +139,7 @@ fn request_by(line: &str, verb: &str, words: &mut LineWords) -> Result<Request, 
 }
 
 /// What a line asks for, by its first word at fault where that isn't known: 70 not of the form, or of over 4,096 bytes; 71 a
-/// row, a column or a commit out of range. The operations of a change aren't read here.
+/// row, a column, a commit or the number of a copy out of range. The operations of a change aren't read here.
 #[tactic(auto, unfolding(crate::specs::Requests::asked_by))]
 pub fn parse_request(line: &str) -> Result<Request, ScriptCode>
     ensures { Gives (λ _. false) (λ r. r) result (asked_by line.now) }

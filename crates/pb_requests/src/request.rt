@@ -33,4 +33,6 @@ pub enum Request {
     Stats,
     /// The log is to begin anew, with a snapshot of the table.
     Compact,
+    /// The log is to be copied. The number names the copy.
+    Copy(u64),
 }

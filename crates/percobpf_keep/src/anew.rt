@@ -1,5 +1,5 @@
 //! A log that is compacted before any line, also for another manifest than its own.
-ghost use Rattle.std.specs.Prelude.{◌≡◌, ◌≤◌, ◌<◌, ◌+◌, ◌++◌, ◌^◌, ℕ, List, Some, true, length, slice_get, string_bytes, IfNone, IfOk, IfSome, Ok, OnOk, IsTrue};
+ghost use Rattle.std.specs.Prelude.{◌≡◌, ◌≤◌, ◌<◌, ◌+◌, ◌-◌, ◌++◌, ◌^◌, ℕ, List, Some, true, length, slice_get, string_bytes, IfNone, IfOk, IfSome, Ok, OnOk, IsTrue};
 ghost use Rattle.sqlite_disk.specs.Disk.{Only};
 ghost use Rattle.pb_base.specs.declared.limits.TheConstants.{MAX_OBSERVERS};
 ghost use Rattle.pb_generations.specs.Chosen.{AreChosen};
@@ -14,6 +14,7 @@ use crate::compact::compact;
 use crate::failure::{Failure, FileState};
 use crate::head::{Head, limit_of, next_limit, read_head};
 use crate::names::{Location, open_at};
+use crate::printed::Printed;
 use crate::table::{Kept, close, new_keeper, new_log, new_state, observers_of, open_log};
 use pb_accepted::Observer;
 use pb_keep::Keeper;
@@ -60,8 +61,41 @@ fn change_observers<D: Disk + Drop>(
     Ok(keeper.change_observers(alloc, state, &places, added)?)
 }
 
-// Goes on with those of these observers that the table has, and then with the others, which catch up. Prints how many these are, how
-// many runs were committed meanwhile, and how many observers are gone.
+// What became of a table's observers.
+#[derive(Clone, Copy)]
+struct ObserverCounts {
+    // How many came.
+    added: usize,
+    // How many runs were committed while these caught up.
+    runs: u64,
+    // How many are gone.
+    gone: usize,
+}
+
+// Goes on with those of these observers that the table has, and then with the others, which catch up.
+fn change_for<D: Disk + Drop>(
+    alloc: Global,
+    keeper: &mut Keeper<ListTablet, D>,
+    observers: Vec<Observer>,
+    location: &Location,
+) -> Result<ObserverCounts, Failure>
+    requires few { length observers.items ≤ MAX_OBSERVERS }
+    ensures log { keeper.new.log ≡ keeper.old.log }
+    ensures waiting { keeper.new.waiting ≡ keeper.old.waiting }
+    ensures observers { IfOk result (λ counts. (known others : List ObserverOf)
+        × IsSplit keeper.old.state.observers observers.items known others
+        × (keeper.new.state.observers ≡ known ++ others)
+        × (counts.added ≡ length others)
+        × (counts.gone ≡ length keeper.old.state.observers - length known)) }
+{
+    let before = keeper.state.observers().len();
+    let (staying, others) = split_known(alloc, keeper.state.observers(), observers)?;
+    let (added, gone) = (others.len(), before.saturating_sub(staying.len()));
+    let runs = change_observers(alloc, keeper, staying, others, location)?;
+    Ok(ObserverCounts { added, runs, gone })
+}
+
+// The same, and prints what became of them.
 fn observe_others<D: Disk + Drop>(
     rt: &HostRuntime,
     keeper: &mut Keeper<ListTablet, D>,
@@ -75,12 +109,9 @@ fn observe_others<D: Disk + Drop>(
         × IsSplit keeper.old.state.observers observers.items known others
         × (keeper.new.state.observers ≡ known ++ others)) }
 {
-    let alloc = rt.alloc();
-    let before = keeper.state.observers().len();
-    let (staying, added) = split_known(alloc, keeper.state.observers(), observers)?;
-    let (count, gone) = (added.len(), before.saturating_sub(staying.len()));
-    let runs = change_observers(alloc, keeper, staying, added, location)?;
-    print!(rt; "added {count} runs {runs} gone {gone}\n")?;
+    let counts = change_for(rt.alloc(), keeper, observers, location)?;
+    let line = Printed::Changed(counts.added, counts.runs, counts.gone);
+    print!(rt; "{line}")?;
     Ok(())
 }
 
@@ -168,13 +199,16 @@ fn open_and_compact(
     requires waiting { IsWaiting keeper.old.waiting }
     requires own_manifest { ReadsManifest own.now (Ok keeper.old.state.observers) }
     requires same { IfNone observers (own.now ≡ manifest.now) }
+    ensures limit { OnOk result (keeper.new.limit ≡ limit) }
+    ensures manifest { OnOk result
+        (ReadsManifest manifest.now (Ok keeper.new.state.observers)) }
 {
     let found = open_log(rt.alloc(), keeper, own)?;
-    print!(rt; "open {found}\n")?;
+    print!(rt; "{}", Printed::Opened(found))?;
     observe_manifest(rt, keeper, manifest, observers, location)?;
     match compact(rt, keeper, limit, manifest, location)? {
         Ok(versions) => {
-            print!(rt; "compacted {versions}\n")?;
+            print!(rt; "{}", Printed::Compacted(versions))?;
             Ok(())
         }
         Err(why) => Err(why.into()),
@@ -251,7 +285,7 @@ fn compact_at(
         (⟦<FileFrom<Unknown> as Disk>⟧.may_leave disk) }
 {
     let mut log = new_log(disk);
-    match read_head(rt, &mut log, location)? {
+    match read_head(rt.alloc(), &mut log, location)? {
         Some(head) if head.manifest.as_str() != manifest => {
             compact_other(rt, log.disk, &head, manifest, observers, wanted, location)
         }

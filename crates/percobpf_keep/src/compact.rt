@@ -1,7 +1,9 @@
 //! A log that begins with a snapshot, put in the place of one that has each change ever made.
-ghost use Rattle.std.specs.Prelude.{◌≡◌, ◌<◌, ◌^◌, true, length, IfOk, Ok, OnOk, IfErr, IsTrue};
+ghost use Rattle.std.specs.Prelude.{◌≡◌, ◌<◌, ◌^◌, true, length, IfOk, Ok, OnErr, OnOk, IfErr, IsTrue};
 ghost use Rattle.pb_keep.specs.Waits.{IsWaiting};
 ghost use Rattle.pb_registry.specs.Judging.{ReadsManifest};
+ghost use Rattle.pb_keep.specs.declared.replace.ReplaceFault.TheVariants as faults;
+ghost use Rattle.percobpf_keep.specs.Failures.{IsOfReplacing};
 ghost use Rattle.percobpf_keep.specs.Refused.{is_refused};
 
 use crate::failure::Failure;
@@ -25,7 +27,9 @@ fn is_refused(fault: &SnapshotFault) -> bool
 
 // Why such a table can't be compacted, or else the fault.
 fn refused(fault: ReplaceFault<Failure>) -> Result<SnapshotFault, Failure>
-    ensures { IfOk result (λ why. is_refused why ≡ true) }
+    ensures refused { IfOk result (λ why. is_refused why ≡ true) }
+    ensures same { IfOk result (λ why. fault ≡ faults.Snapshot why) }
+    ensures failure { IfErr result (IsOfReplacing fault) }
 {
     match fault {
         ReplaceFault::Snapshot(why) if is_refused(&why) => Ok(why),
@@ -51,10 +55,11 @@ fn replace(
     ensures waiting { IsWaiting keeper.new.waiting }
     ensures manifest { IfOk result (λ done. OnOk done
         (ReadsManifest manifest.now (Ok keeper.new.state.observers))) }
+    ensures limit { IfOk result (λ done. OnOk done (keeper.new.limit ≡ limit)) }
     ensures refused { IfOk result (λ done. IfErr done (λ why.
         (is_refused why ≡ true) × (keeper.new ≡ keeper.old))) }
 {
-    let new = make_new_file(rt, location)?;
+    let new = make_new_file(rt, location.log.as_str())?;
     let mut folder = LogFolder::new(rt, location, &new)?;
     let (state, stats) = new_table(rt.alloc(), manifest)?;
     let bytes = manifest.as_bytes();
@@ -83,8 +88,13 @@ pub(crate) fn compact(
     ensures waiting { OnOk result (IsWaiting keeper.new.waiting) }
     ensures manifest { OnOk result
         (ReadsManifest manifest.now (Ok keeper.new.state.observers)) }
+    ensures limit { IfOk result (λ done. OnOk done (keeper.new.limit ≡ limit)) }
     ensures refused { IfOk result (λ done. IfErr done (λ why.
         (is_refused why ≡ true) × (keeper.new ≡ keeper.old))) }
+    ensures place { IfOk result (λ done. OnErr done (location.new ≡ location.old)) }
+    ensures names { (location.new.log ≡ location.old.log)
+        × (location.new.folder ≡ location.old.folder)
+        × (location.new.copies ≡ location.old.copies) }
 {
     let why = match replace(rt, keeper, limit, manifest, location) {
         Ok(Ok((file, versions))) => {
@@ -94,6 +104,9 @@ pub(crate) fn compact(
         Ok(Err(why)) => Ok(why),
         Err(fault) => Err(fault),
     };
-    remove_new(rt, location.log.as_str())?;
-    Ok(Err(why?))
+    let removed = remove_new(rt, location.log.as_str());
+    // Of two faults the first one is reported.
+    let why = why?;
+    removed?;
+    Ok(Err(why))
 }

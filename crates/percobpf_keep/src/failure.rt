@@ -1,7 +1,8 @@
 //! Why the program ends with status 1, and the line that reports it.
 ghost use Rattle.std.specs.Prelude.{◌≡◌, MatchResult};
 ghost use Rattle.pb_base.specs.Growths.{refused_growth};
-ghost use Rattle.percobpf_keep.specs.Failures.{IsOfCall, IsOfFile, IsOfOpening};
+ghost use Rattle.pb_registry.specs.Judging.{memory_in};
+ghost use Rattle.percobpf_keep.specs.Failures.{of_refusal, IsOfCall, IsOfFile, IsOfManifest, IsOfOpening, IsOfSystem};
 ghost use Rattle.percobpf_keep.specs.declared.failure.Failure.TheVariants as ends;
 
 use pb_base::{NoMemory, Refusal, SinkFault};
@@ -19,6 +20,12 @@ pub(crate) enum Failure {
     NoMemory(NoMemory),
     /// A word of the command line is missing, or is one too many.
     Words,
+    /// The same after `--copy`.
+    CopyWords,
+    /// The same after `--manifest`.
+    ManifestWords,
+    /// These options of the command line don't go together.
+    Options,
     /// This number is wanted, and this word is none.
     NoNumber(Wanted, String),
     /// A call of the system failed for the file of this name, and not for want of memory.
@@ -73,6 +80,10 @@ pub(crate) enum FileState {
     NotBegun,
     /// Its table has two observers that are the same.
     SameObservers,
+    /// It is there, where a copy is to be made.
+    Taken,
+    /// It is no folder, and copies are to be made in it.
+    NoFolder,
 }
 
 impl fmt::Display for Wanted {
@@ -106,6 +117,8 @@ impl fmt::Display for FileState {
             FileState::OtherLimit => write!(f, "its limit is another one: --compact changes it"),
             FileState::NotBegun => write!(f, "no log was begun in it"),
             FileState::SameObservers => write!(f, "two of its observers are the same"),
+            FileState::Taken => write!(f, "it is there already"),
+            FileState::NoFolder => write!(f, "it is no folder"),
         }
     }
 }
@@ -121,6 +134,18 @@ impl fmt::Display for Failure {
             Failure::Words => write!(
                 f,
                 "two words are wanted, MANIFEST and LOG: `percobpf_keep --help` has more"
+            ),
+            Failure::CopyWords => write!(
+                f,
+                "two words are wanted, LOG and PATH: `percobpf_keep --help` has more"
+            ),
+            Failure::ManifestWords => write!(
+                f,
+                "one word is wanted, LOG: `percobpf_keep --help` has more"
+            ),
+            Failure::Options => write!(
+                f,
+                "these options don't go together: `percobpf_keep --help` has more"
             ),
             Failure::NoNumber(wanted, word) => write!(
                 f,
@@ -207,6 +232,8 @@ impl<T: Drop> From<AllocFailed<T>> for Failure {
 }
 
 impl From<io::Error> for Failure {
+    ghost from_gives = { λ e f. IsOfSystem e f };
+
     fn from(e: io::Error) -> Failure {
         match e.kind() {
             io::ErrorKind::OutOfMemory => Failure::NoMemory(NoMemory::from(AllocError)),
@@ -216,24 +243,32 @@ impl From<io::Error> for Failure {
 }
 
 impl From<SinkFault> for Failure {
+    ghost from_gives = { λ e f. f ≡ ends.Output e };
+
     fn from(e: SinkFault) -> Failure {
         Failure::Output(e)
     }
 }
 
 impl From<KeepFault> for Failure {
+    ghost from_gives = { λ e f. f ≡ ends.Keep e };
+
     fn from(e: KeepFault) -> Failure {
         Failure::Keep(e)
     }
 }
 
 impl From<LogFault> for Failure {
+    ghost from_gives = { λ e f. f ≡ ends.Log e };
+
     fn from(e: LogFault) -> Failure {
         Failure::Log(e)
     }
 }
 
 impl From<SnapshotFault> for Failure {
+    ghost from_gives = { λ e f. f ≡ ends.Snapshot e };
+
     fn from(e: SnapshotFault) -> Failure {
         Failure::Snapshot(e)
     }
@@ -241,6 +276,8 @@ impl From<SnapshotFault> for Failure {
 
 // A manifest that isn't read for want of memory has no fault.
 impl From<RegistryFault> for Failure {
+    ghost from_gives = { λ e f. IsOfManifest (memory_in e) f };
+
     fn from(e: RegistryFault) -> Failure {
         match e.memory() {
             Ok(refused) => Failure::NoMemory(refused),
@@ -250,6 +287,8 @@ impl From<RegistryFault> for Failure {
 }
 
 impl From<Refusal> for Failure {
+    ghost from_gives = { λ e f. f ≡ of_refusal e.0 };
+
     fn from(e: Refusal) -> Failure {
         match e.memory() {
             Ok(refused) => Failure::NoMemory(refused),

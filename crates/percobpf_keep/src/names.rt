@@ -19,6 +19,8 @@ pub(crate) struct Location {
     pub folder: String,
     /// Its file.
     pub file: LogFile,
+    /// The folder of its copies, if lines may ask for some.
+    pub copies: Option<String>,
 }
 
 // Whether such a name is left to new logs, and to what stands beside these.
@@ -56,5 +58,14 @@ pub(crate) fn open_at(
     let folder = String::from_str(alloc, real.as_str())?;
     let file = named(alloc, log.as_str(), open_there(rt, log.as_str()))?;
     let db = open_locked(rt, &file, log.as_str())?;
-    Ok((Location { log, folder, file }, db))
+    let copies = None;
+    Ok((
+        Location {
+            log,
+            folder,
+            file,
+            copies,
+        },
+        db,
+    ))
 }

@@ -1,17 +1,22 @@
 //! The file of a new log, from a name that no table has to the place of the old log.
-ghost use Rattle.std.specs.Prelude.{◌≡◌, ◌↔◌, [], false, IfOk, IfSome, IsTrue, string_bytes};
+ghost use Rattle.std.specs.Prelude.{◌≡◌, ◌↔◌, [], bit_and, false, IfErr, IfOk, IfSome, IsTrue, OnOk, string_bytes};
+ghost use Rattle.std.specs.Fs.{metadata_mode, permissions_mode};
 ghost use Rattle.pb_keep.specs.declared.folder.NamedLog.TheVariants as files;
+ghost use Rattle.sqlite_std_file.specs.File.{IsFresh};
 ghost use Rattle.percobpf_keep.specs.Names.{name_beside, new_name, AreNewNames};
 ghost use Rattle.percobpf_keep.specs.Left.{IsBeginning, MayHave};
+ghost use Rattle.percobpf_keep.specs.Files.{IsDenied, IsOtherFault};
 
 use crate::failure::{Failure, FileState};
-use crate::file::{LogFile, check_name, make_there, named, open_locked, open_there};
+use crate::file::{
+    FileId, LogFile, Rights, check_name, make_there, named, open_locked, open_there,
+};
 use crate::names::Location;
 use pb_keep::Folder;
 use sqlite_disk::{Disk, Unknown};
 use sqlite_std_file::FileFrom;
 use std::alloc::{AllocError, Global};
-use std::fs::{self, File};
+use std::fs::{self, File, Metadata, Permissions};
 use std::io;
 use std::os::unix::fs::{FileExt, MetadataExt, PermissionsExt, fchown};
 
@@ -135,26 +140,45 @@ pub(crate) fn remove_new(rt: &HostRuntime, log: &str) -> Result<Option<(String, 
 }
 
 fn make(rt: &HostRuntime, path: &str) -> io::Result<LogFile> {
-    LogFile::new(make_there(rt, path, 0o600)?)
+    let made = LogFile::new(make_there(rt, path, Rights::OwnerAlone)?);
+    if made.is_err() {
+        // What was made is taken away: it is empty, and nobody has it open.
+        let _ = is_free(rt, path);
+    }
+    made
 }
 
-/// Makes the file of a new log, which nobody else may open yet.
-pub(crate) fn make_new_file(rt: &HostRuntime, location: &Location) -> Result<NewFile, Failure>
-    ensures { IfOk result (λ new. AreNewNames (string_bytes location.now.log)
+/// Makes the file of a new log, which nobody else may open yet, for one of this name.
+pub(crate) fn make_new_file(rt: &HostRuntime, log: &str) -> Result<NewFile, Failure>
+    ensures { IfOk result (λ new. AreNewNames log.now
         (string_bytes new.path) (string_bytes new.beside)) }
 {
-    let Some((path, beside)) = remove_new(rt, location.log.as_str())? else {
-        return Err(Failure::of_file(rt.alloc(), location.log.as_str(), FileState::NamesTaken));
+    let Some((path, beside)) = remove_new(rt, log)? else {
+        return Err(Failure::of_file(rt.alloc(), log, FileState::NamesTaken));
     };
     let file = named(rt.alloc(), path.as_str(), make(rt, path.as_str()))?;
     Ok(NewFile { path, beside, file })
 }
 
-fn unless_denied(given: io::Result<()>) -> io::Result<()> {
+// A call that was done, or that the system denies this user.
+fn unless_denied(given: io::Result<()>) -> io::Result<()>
+    ensures ok { OnOk result (IfErr given IsDenied) }
+    ensures err { IfErr result (IsOtherFault given) }
+{
     match given {
-        Err(fault) if fault.kind() == io::ErrorKind::PermissionDenied => Ok(()),
-        given => given,
+        Ok(()) => Ok(()),
+        Err(fault) => match fault.kind() {
+            io::ErrorKind::PermissionDenied => Ok(()),
+            _ => Err(fault),
+        },
     }
+}
+
+// The rights of a file of which this was found: who may read, write and run it, and nothing else of its mode.
+fn rights_of(found: &Metadata) -> Permissions
+    ensures { permissions_mode result ≡ bit_and (metadata_mode found.now) 0o777 }
+{
+    Permissions::from_mode(found.mode() & 0o777)
 }
 
 // Gives a file to the group and the owner of another one, with the same rights. It is the file that is given, and not what has
@@ -164,7 +188,73 @@ fn give(file: &File, other: &File) -> io::Result<()> {
     // Only root sets another owner, and a member of the group may set that.
     unless_denied(fchown(file, None, Some(found.gid())))?;
     unless_denied(fchown(file, Some(found.uid()), None))?;
-    file.set_permissions(fs::Permissions::from_mode(found.mode() & 0o777))
+    file.set_permissions(rights_of(&found))
+}
+
+// Takes this name from the file, which has the other one too, and waits until that is on the disk.
+fn unlink_synced(
+    rt: &HostRuntime,
+    folder: &File,
+    id: FileId,
+    path: &str,
+    other: &str,
+) -> io::Result<()> {
+    // The name may have led to another file as the other one was given to it.
+    if !id.has_name(rt, other)? {
+        return Err(io::ErrorKind::Unsupported.into());
+    }
+    fs::remove_file(rt, path)?;
+    folder.sync_all()
+}
+
+// Gives the file of this name another one, which nothing may have, in the place of this one. At a fault it doesn't have the other one.
+fn link_synced(rt: &HostRuntime, id: FileId, path: &str, other: &str) -> io::Result<()> {
+    let mut real = fs::canonicalize(rt, path)?;
+    real.pop();
+    let folder = File::open(rt, real.as_str())?;
+    fs::hard_link(rt, path, other)?;
+    let done = unlink_synced(rt, &folder, id, path, other);
+    if done.is_err() && matches!(id.has_name(rt, other), Ok(true)) {
+        let _ = fs::remove_file(rt, other);
+    }
+    done
+}
+
+impl NewFile {
+    /// Opens it as a log, locked.
+    pub(crate) fn open(&self, rt: &HostRuntime) -> Result<FileFrom<Unknown>, Failure>
+        ensures usable { IfOk result (λ db. IsTrue (⟦<FileFrom<Unknown> as Disk>⟧.is_usable db)) }
+        ensures fresh { IfOk result (λ db. IsFresh false db) }
+    {
+        open_locked(rt, &self.file, self.path.as_str())
+    }
+
+    /// Gives it to those who may read and write the file of another log.
+    pub(crate) fn give_as(&self, alloc: Global, other: &LogFile) -> Result<(), Failure> {
+        named(
+            alloc,
+            self.path.as_str(),
+            give(&self.file.file, &other.file),
+        )
+    }
+
+    /// Gives it a name that nothing may have in the place of its own, and waits until that is on the disk. The file beside it is removed before,
+    /// so that nothing is left to do once it has the name. At a fault it doesn't have it.
+    pub(crate) fn move_to(&self, rt: &HostRuntime, path: &str) -> Result<(), Failure> {
+        let (id, own) = (self.file.id, self.path.as_str());
+        check_name(rt, id, own)?;
+        is_name_free(rt, self.beside.as_str())?;
+        named(rt.alloc(), path, link_synced(rt, id, own, path))
+    }
+
+    /// Removes it, and the file beside it. Memory isn't wanted for that.
+    pub(crate) fn remove(self, rt: &HostRuntime) {
+        let NewFile { path, beside, file } = self;
+        // Its lock goes with it, as a file that is locked isn't removed.
+        drop(file);
+        let _ = is_free(rt, path.as_str());
+        let _ = is_free(rt, beside.as_str());
+    }
 }
 
 /// The folder of a log, in which a new one takes its place. Its contracts know nothing of what its calls do, since no contract of the
@@ -216,13 +306,8 @@ impl Folder for LogFolder<'_> {
 
     // It is locked, and belongs to those who may read and write the old log.
     fn open_new(&mut self) -> Result<FileFrom<Unknown>, Failure> {
-        let path = self.new.path.as_str();
-        let file = open_locked(self.rt, &self.new.file, path)?;
-        named(
-            self.rt.alloc(),
-            path,
-            give(&self.new.file.file, &self.location.file.file),
-        )?;
+        let file = self.new.open(self.rt)?;
+        self.new.give_as(self.rt.alloc(), &self.location.file)?;
         Ok(file)
     }
 

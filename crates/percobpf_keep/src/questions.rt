@@ -1,14 +1,22 @@
 //! Questions alone, about a log of which as many changes are made as can be.
-ghost use Rattle.std.specs.Prelude.{◌≡◌, ◌<◌, ◌^◌, length, IfOk, IsTrue};
+ghost use Rattle.std.specs.Prelude.{◌≡◌, ◌<◌, ◌^◌, ℕ, List, Ok, Option, length, IfOk, IsTrue, OnOk};
+ghost use Rattle.std.specs.Io.KnownBytes.{Appends};
 ghost use Rattle.sqlite_disk.specs.Disk.{Only};
 ghost use Rattle.pb_keeper.specs.Keeps.{opened_table};
 ghost use Rattle.pb_keeper.specs.Stats.{kept_table};
-ghost use Rattle.pb_keep.specs.FirstOpened.{MakesFewer};
+ghost use Rattle.pb_accepted.specs.Observers.{ObserverOf};
+ghost use Rattle.pb_keep.specs.Conversations.{keeper_view};
+ghost use Rattle.pb_keep.specs.FirstOpened.{IsOpenedFirst, IsOpenedTo, MakesFewer};
+ghost use Rattle.pb_keep.specs.Questions.{AnswersAll};
+ghost use Rattle.pb_registry.specs.Judging.{ReadsManifest};
+ghost use Rattle.percobpf_keep.specs.Printed.{printed_text};
+ghost use Rattle.percobpf_keep.specs.declared.printed.Printed.TheVariants.{OpenedFirst};
 
-use crate::failure::{Failure, FileState};
+use crate::failure::Failure;
 use crate::file::open_locked;
-use crate::head::{limit_of, read_head};
+use crate::head::{head_there, limit_of};
 use crate::names::{Location, open_at};
+use crate::printed::{Printed, write_line};
 use crate::table::{Kept, close, new_keeper, new_log, observers_of};
 use pb_base::{Out, Sink};
 use pb_keep::{In, Keeper, LineSource, Opened, answer_questions};
@@ -32,11 +40,8 @@ fn limit_there(
     requires usable { IsTrue (⟦<FileFrom<Unknown> as Disk>⟧.is_usable disk) }
 {
     let mut log = new_log(disk);
-    let own = read_head(rt, &mut log, location)?;
-    if own.is_none() {
-        return Err(Failure::of_file(rt.alloc(), location.log.as_str(), FileState::NotBegun));
-    }
-    limit_of(rt.alloc(), &own, wanted, location)
+    let head = head_there(rt.alloc(), &mut log, location)?;
+    limit_of(rt.alloc(), &Some(head), wanted, location)
 }
 
 // Opens the log of this manifest, whose observers the table has, and makes its first changes again, as many as may be.
@@ -52,6 +57,10 @@ fn open_first<D: Disk + Drop>(
     requires opened { kept_table keeper.old.state keeper.old.stats.items
         ≡ opened_table keeper.old.state.observers }
     ensures fewer { IfOk result (MakesFewer most) }
+    ensures made { (written : Option (List ℕ)) → IfOk result (λ opened.
+        IsTrue (D.is_clean keeper.new.log.disk)
+        → IsOpenedTo keeper.old.state.observers manifest.now (D.seen keeper.old.log.disk) most
+        (keeper_view D.seen D.may_leave keeper.new written) opened) }
 {
     Ok(keeper.open_first(alloc, manifest.as_bytes(), most)?)
 }
@@ -66,6 +75,12 @@ fn open_once(
 ) -> Result<(Kept, Opened), Failure>
     requires short { length manifest.now < 2 ^ 30 }
     ensures fewer { IfOk result (λ o. MakesFewer most o.1) }
+    ensures made { (written : Option (List ℕ)) → IfOk result (λ o.
+        IsTrue (⟦<FileFrom<Unknown> as Disk>⟧.is_clean o.0.log.disk)
+        → (observers : List ObserverOf) × ReadsManifest manifest.now (Ok observers)
+        × ((file : List ℕ) × IsOpenedTo observers manifest.now file most
+        (keeper_view (⟦<FileFrom<Unknown> as Disk>⟧.seen)
+        (⟦<FileFrom<Unknown> as Disk>⟧.may_leave) o.0 written) o.1)) }
 {
     let db = open_locked(rt, &location.file, location.log.as_str())?;
     let mut keeper = new_keeper(rt.alloc(), manifest, limit, db)?;
@@ -87,6 +102,14 @@ fn open_as_far(
     location: &Location,
 ) -> Result<(Kept, u64, u64), Failure>
     requires short { length manifest.now < 2 ^ 30 }
+    // The table has the first changes of its log: so many of so many.
+    ensures made { (written : Option (List ℕ)) → IfOk result (λ o.
+        IsTrue (⟦<FileFrom<Unknown> as Disk>⟧.is_clean o.0.log.disk)
+        → (observers : List ObserverOf) × ReadsManifest manifest.now (Ok observers)
+        × ((file : List ℕ) × (most : Option ℕ)
+        × IsOpenedFirst observers manifest.now file most o.1 o.2
+        (keeper_view (⟦<FileFrom<Unknown> as Disk>⟧.seen)
+        (⟦<FileFrom<Unknown> as Disk>⟧.may_leave) o.0 written))) }
 {
     let (first, opened) = open_once(rt, limit, manifest, location, None)?;
     let mut most = match opened {
@@ -104,20 +127,23 @@ fn open_as_far(
     }
 }
 
-// Prints how many changes were made of how many, and answers the lines of the input.
-fn answer_lines<R: Wait, I: LineSource>(
+// Writes how many changes were made of how many, and answers the lines of the input.
+fn answer_lines<R: Wait, I: LineSource, S: Sink>(
     waits: &R,
-    rt: &HostRuntime,
+    alloc: Global,
     keeper: &Kept,
     input: &mut I,
+    out: &mut S,
     made: u64,
     all: u64,
-) -> Result<(), Failure> {
-    let alloc = rt.alloc();
-    let mut out = Out::new(rt.stdout());
-    let text = format!(in alloc; "open {made} of {all}\n")?;
-    out.write_all(text.as_bytes())?;
-    answer_questions(waits, alloc, keeper, input, &mut out)?;
+) -> Result<(), Failure>
+    ensures { OnOk result ((begun : Option (List ℕ))
+        × Appends (S.taken out.old) begun (printed_text (OpenedFirst made all))
+        × AnswersAll keeper.now.since.0 (kept_table keeper.now.state keeper.now.stats.items)
+        keeper.now.log.end (I.remaining input.old) begun (S.taken out.new)) }
+{
+    write_line(alloc, out, Printed::OpenedFirst(made, all))?;
+    answer_questions(waits, alloc, keeper, input, out)?;
     Ok(())
 }
 
@@ -139,7 +165,8 @@ pub(crate) fn answer_alone<R: Wait>(
     let (location, db) = open_at(rt, path)?;
     let limit = limit_there(rt, db, &location, wanted)?;
     let (keeper, made, all) = open_as_far(rt, limit, manifest, &location)?;
-    let done = answer_lines(waits, rt, &keeper, &mut input, made, all);
+    let mut out = Out::new(rt.stdout());
+    let done = answer_lines(waits, rt.alloc(), &keeper, &mut input, &mut out, made, all);
     close(keeper);
     done
 }

@@ -1,13 +1,17 @@
 //! The table that is kept, from the manifest's text to the changes of its log.
-ghost use Rattle.std.specs.Prelude.{◌≡◌, ◌≤◌, ◌<◌, ◌^◌, length, string_bytes, IfOk, Ok, OnOk, IsTrue};
+ghost use Rattle.std.specs.Prelude.{◌≡◌, ◌≤◌, ◌<◌, ◌+◌, ◌^◌, ℕ, List, Option, length, string_bytes, take, IfErr, IfOk, IfSome, Ok, OnOk, IsTrue};
 ghost use Rattle.pb_base.specs.declared.limits.TheConstants.{MAX_OBSERVERS};
 ghost use Rattle.pb_store.specs.Contents.{nothing};
 ghost use Rattle.pb_steps.specs.State.{opening};
 ghost use Rattle.pb_keeper.specs.Keeps.{opened_table};
 ghost use Rattle.pb_keeper.specs.Stats.{kept_table};
+ghost use Rattle.pb_keep.specs.Conversations.{keeper_view};
+ghost use Rattle.pb_keep.specs.Opened.{IsOpenedLog};
 ghost use Rattle.pb_keep.specs.Waits.{IsWaiting};
 ghost use Rattle.pb_registry.specs.Judging.{ReadsManifest};
 ghost use Rattle.sqlite_disk.specs.Disk.{Only};
+ghost use Rattle.percobpf_keep.specs.Failures.{IsOfManifestBytes};
+ghost use Rattle.percobpf_keep.specs.declared.failure.Failure.TheVariants.{LargeManifest};
 
 use crate::failure::{Failure, FileState};
 use crate::file::named;
@@ -35,17 +39,29 @@ pub(crate) type KeptLog = Log<FileFrom<Unknown>>;
 // The most bytes of a manifest, which the first record of a log has.
 const MAX_MANIFEST: usize = 16_777_216;
 
-// The bytes of a file, up to one more than a manifest may have: the one more shows that there are too many.
-fn first_bytes(rt: &HostRuntime, path: &str) -> io::Result<Vec<u8>> {
-    let mut bytes = Vec::new(rt.alloc());
-    let file = fs::open(rt, path)?;
-    file.take(MAX_MANIFEST as u64 + 1).read_to_end(&mut bytes)?;
+// The bytes of a reader, up to one more than a manifest may have: the one more shows that there are too many.
+fn read_first<R: Read + Drop>(alloc: Global, reader: R) -> io::Result<Vec<u8>>
+    ensures { IfOk result (λ v. IfSome (R.remaining reader) (λ all.
+        v.items ≡ take (2 ^ 24 + 1) all)) }
+{
+    let mut bytes = Vec::new(alloc);
+    reader
+        .take(MAX_MANIFEST as u64 + 1)
+        .read_to_end(&mut bytes)?;
     Ok(bytes)
+}
+
+// The same of the file of this name.
+fn first_bytes(rt: &HostRuntime, path: &str) -> io::Result<Vec<u8>> {
+    read_first(rt.alloc(), fs::open(rt, path)?)
 }
 
 /// The text of a manifest, unless it is too large.
 pub(crate) fn short_text(text: String) -> Result<String, Failure>
     ensures short { IfOk result (λ t. length (string_bytes t) < 2 ^ 30) }
+    ensures same { IfOk result (λ t. (t ≡ text) × (length (string_bytes text) ≤ 2 ^ 24)) }
+    ensures large { IfErr result (λ e. (e ≡ LargeManifest)
+        × (2 ^ 24 < length (string_bytes text))) }
 {
     if text.len() > MAX_MANIFEST {
         return Err(Failure::LargeManifest);
@@ -53,18 +69,27 @@ pub(crate) fn short_text(text: String) -> Result<String, Failure>
     Ok(text)
 }
 
+// The text of a manifest that was read from the file of this name, of which these are the bytes.
+fn manifest_text(alloc: Global, path: &str, bytes: Vec<u8>) -> Result<String, Failure>
+    ensures text { IfOk result (λ t. string_bytes t ≡ bytes.items) }
+    ensures short { IfOk result (λ t. length (string_bytes t) < 2 ^ 30) }
+    ensures fault { IfErr result (IsOfManifestBytes path.now bytes.items) }
+{
+    if bytes.len() > MAX_MANIFEST {
+        return Err(Failure::LargeManifest);
+    }
+    match String::from_utf8(bytes) {
+        Ok(text) => Ok(text),
+        Err(_) => Err(Failure::of_file(alloc, path, FileState::NotText)),
+    }
+}
+
 /// The text of the manifest in the file of this name.
 pub(crate) fn manifest_at(rt: &HostRuntime, path: &str) -> Result<String, Failure>
     ensures short { IfOk result (λ t. length (string_bytes t) < 2 ^ 30) }
 {
     let bytes = named(rt.alloc(), path, first_bytes(rt, path))?;
-    if bytes.len() > MAX_MANIFEST {
-        return Err(Failure::LargeManifest);
-    }
-    match String::from_utf8(bytes) {
-        Ok(text) => short_text(text),
-        Err(_) => Err(Failure::of_file(rt.alloc(), path, FileState::NotText)),
-    }
+    manifest_text(rt.alloc(), path, bytes)
 }
 
 /// The observers of a manifest. That they are few enough for a table is promised by `Registry::from_json`.
@@ -192,6 +217,11 @@ pub(crate) fn open_log<D: Disk + Drop>(
     ensures limit { keeper.new.limit ≡ keeper.old.limit }
     ensures observers { OnOk result
         (keeper.new.state.observers ≡ keeper.old.state.observers) }
+    // So many are its changes, which were all made again.
+    ensures opened { (written : Option (List ℕ)) → IfOk result (λ n.
+        IsTrue (D.is_clean keeper.new.log.disk)
+        → IsOpenedLog manifest.now (D.seen keeper.old.log.disk) keeper.old.state.observers n
+        (keeper_view D.seen D.may_leave keeper.new written)) }
 {
     Ok(keeper.open(alloc, manifest.as_bytes())?)
 }

@@ -1,6 +1,7 @@
 //! Answers, of which those to changes are written only while the log has its name.
-ghost use Rattle.std.specs.Prelude.{◌↔◌, ◌||◌, ℕ, codes, is_some, IsTrue};
+ghost use Rattle.std.specs.Prelude.{◌≡◌, ◌↔◌, ◌||◌, ℕ, codes, is_some, string_bytes, IfOk, IsTrue};
 ghost use Rattle.memchr.specs.Find.{OccursAt};
+ghost use Rattle.percobpf_keep.specs.Failures.{ended_with};
 
 use crate::failure::Failure;
 use crate::file::{FileId, check_name};
@@ -27,7 +28,10 @@ impl<'a, W: Write + Drop> WatchedOut<'a, W> {
         rt: &'a HostRuntime,
         writer: W,
         location: &Location,
-    ) -> Result<WatchedOut<'a, W>, Failure> {
+    ) -> Result<WatchedOut<'a, W>, Failure>
+        ensures name { IfOk result (λ w. string_bytes w.log ≡ string_bytes location.now.log) }
+        ensures file { IfOk result (λ w. w.id ≡ location.now.file.id) }
+    {
         Ok(WatchedOut {
             out: Out::new(writer),
             rt,
@@ -38,12 +42,19 @@ impl<'a, W: Write + Drop> WatchedOut<'a, W> {
     }
 
     /// From now on the log has this file.
-    pub(crate) fn follow(&mut self, location: &Location) {
+    pub(crate) fn follow(&mut self, location: &Location)
+        ensures file { self.new.id ≡ location.now.file.id }
+        ensures out { self.new.out ≡ self.old.out }
+        ensures name { self.new.log ≡ self.old.log }
+        ensures lost { self.new.lost ≡ self.old.lost }
+    {
         self.id = location.file.id;
     }
 
     /// What was done, or why nothing more is written, if the log has lost its name.
-    pub(crate) fn end(self, done: Result<(), Failure>) -> Result<(), Failure> {
+    pub(crate) fn end(self, done: Result<(), Failure>) -> Result<(), Failure>
+        ensures { result ≡ ended_with self.entry.lost done }
+    {
         let WatchedOut {
             out: _,
             rt: _,

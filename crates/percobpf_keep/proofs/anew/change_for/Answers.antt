@@ -1,7 +1,7 @@
 use Rattle.std.proofs.Common.{List, subst, sym}
 use Rattle.pb_accepted.specs.Observers.{ObserverOf}
 use Rattle.pb_keeper.specs.Choosing.{IsOneOf}
-use Rattle.percobpf_keep.proofs.anew.observe_others.Goals as goal
+use Rattle.percobpf_keep.proofs.anew.change_for.Goals as goal
 
 -- those that the table lacks are new to it
 pub change_observers-requires-clause-new : goal.change_observers-requires-clause-new
