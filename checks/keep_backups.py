@@ -5,7 +5,7 @@
 - refused: where there is no folder of copies, in a group, and where something has the name, no copy is made, and the log is served.
 - alone: `--copy` copies a log that isn't served.
 - interrupted: at each call of a program that makes a change, copies its log and makes another change, it is killed, or the call fails. What
-  has the name of a copy is whole.
+  has the name of a copy is whole. A copy that is refused hasn't the name, and nothing is left of it.
 
 A log has the bytes afterwards that it had.
 """
@@ -258,7 +258,9 @@ def interrupted(room, before, stages, kind, at):
         wrong = "the copy isn't whole"
     elif len(errors.splitlines()) != (status == 1) + is_refused or is_refused != ("not copied" in errors):
         wrong = f"errors {errors!r}"
-    elif status == 0 and not is_refused and others:
+    elif is_refused and copy.exists():
+        wrong = "the copy was refused, and has its name"
+    elif status == 0 and others:
         wrong = f"it left {others}"
     ended = "whole" if status == 0 and not is_refused else "not copied" if is_refused else "failed" if status == 1 else "killed"
     again = room.run(log, ["copy 8"], options=(COPIES, folder))

@@ -24,7 +24,7 @@ false_or_true e = absurd cc
 text_unmarked : (b : ℕ) (rest : List ℕ) → IsUtf8 (b ∷ rest) → (b == 255) ≡ true → ⊥
 text_unmarked b rest text e = no_text rest (subst (λ n. IsUtf8 (n ∷ rest)) ((Decides-eqb b 255).0 e) text)
 
-texts_unmarked : (rs : List (List ℕ)) → AreTexts rs → begins_as_snapshot rs ≡ true → ⊥
+pub texts_unmarked : (rs : List (List ℕ)) → AreTexts rs → begins_as_snapshot rs ≡ true → ⊥
 texts_unmarked [] texts e = false_or_true e
 texts_unmarked ([] ∷ rs) texts e = false_or_true e
 texts_unmarked ((b ∷ rest) ∷ rs) texts e = text_unmarked b rest texts.0 e

@@ -19,6 +19,11 @@ pub all_ok : {T E P Q R S : Type 0} (r : Result T E) → OnOk r P → OnOk r Q �
 all_ok (Ok x) p q s f = f p q s
 all_ok (Err e) p q s f = tt
 
+-- what holds where it succeeded, if it did
+pub any_ok : {T E P : Type 0} (r : Result T E) → P → OnOk r P
+any_ok (Ok x) p = p
+any_ok (Err e) p = tt
+
 -- what holds where it failed, if it did
 pub on_err : {T E P : Type 0} (r : Result T E) → P → OnErr r P
 on_err (Ok x) p = tt

@@ -2,7 +2,7 @@
 use Rattle.std.proofs.Common.{◌≡◌, ◌⊎◌, inl, inr, ℕ, ◌≤◌, List, [], ◌∷◌, ◌++◌, length, Ok, Option, refl, ap, sym, subst, ◌∙◌}
 use Rattle.std.specs.Prelude.{string_bytes, IsUtf8}
 use Rattle.pb_log.specs.Records.{IsBeforeOrAfter, IsLog, IsShutBeforeOrAfter}
-use Rattle.pb_keep.specs.Words.{HasRecords, SnapshotOf, Writes, MAX_CHANGES, header, script_of}
+use Rattle.pb_keep.specs.Words.{HasRecords, IsAtRest, SnapshotOf, Writes, MAX_CHANGES, header, script_of}
 use Rattle.pb_keep.specs.declared.waiting.Waiting.{Waiting}
 use Rattle.pb_keep.specs.Kept.{changes_of, head, head_of, origin_of, snapshot_records, AreTexts, FitsIfAny, HasChanges, IsLogOf, IsShutFile, Origin}
 use Rattle.pb_keep.specs.Waits.{changes_in, IsWaiting}
@@ -34,13 +34,15 @@ before_or_after origin scripts changes more item c fits m s texts text (inr l) =
 shut : (torn bytes : List ℕ) → 0 ∷ torn ≡ 165 ∷ bytes → ⊥
 shut torn bytes e = absurd cc
 
+pub rest_is_log : (seen : List ℕ) (may_leave : List ℕ → Type 0) (end : ℕ) (rs : List (List ℕ)) → IsAtRest seen may_leave end rs → IsLog seen rs
+rest_is_log seen may_leave end rs r = record { tail = 0 ∷ r.torn; is = r.is; ends = λ b. shut r.torn _ b.is; short = r.short }
+
 pub log_has_changes : (origin : Origin) (changes : List Writes) (seen : List ℕ) (may_leave : List ℕ → Type 0) (end : ℕ) → IsLogOf origin changes seen may_leave end → HasChanges origin changes seen
 log_has_changes origin changes seen may_leave end log =
-    let r = log.at_rest in
     record {
       fits = log.fits;
       scripts = log.scripts;
-      has = inl (record { tail = 0 ∷ r.torn; is = r.is; ends = λ b. shut r.torn _ b.is; short = r.short });
+      has = inl (rest_is_log seen may_leave end (header (head_of origin) ∷ (snapshot_records origin.snapshot ++ log.scripts)) log.at_rest);
       make = log.make;
       texts = log.texts;
     }

@@ -98,7 +98,7 @@ no_script_among rs r ss lacks changes texts h =
 
 -- ---- the changes of a file
 
-rest_of : (a b : List ℕ) (rs ss : List (List ℕ)) → a ∷ rs ≡ b ∷ ss → rs ≡ ss
+pub rest_of : (a b : List ℕ) (rs ss : List (List ℕ)) → a ∷ rs ≡ b ∷ ss → rs ≡ ss
 rest_of a b rs ss e = cc
 
 pub none_or_some : (a : List ℕ) (rs : List (List ℕ)) → a ∷ rs ≡ [] → ⊥

@@ -64,5 +64,5 @@ module _ (one : FilesHaveOneList) (limit : ℕ) (manifest : List ℕ) (table : K
   pub begins_next : SnapshotsBegin → observers ≡ table.state.observers → (own : ℕ) (past changes : List Writes) (first : KeptTable) → IsFirstTable past first → KeepsFrom own first changes table → IsFirstTable (past ++ changes) k.table
   begins_next begin same own past changes first began leads =
       let f : IsFirstOf table.state.observers (Some b.snapshot) o.first = subst (λ v. IsFirstOf v (Some b.snapshot) o.first) same (subst (λ s. IsFirstOf observers s o.first) one_origin.0 o.first_is) in
-      let next : IsFirstTable (past ++ changes) o.first = begin own past changes first table o.first b.snapshot f.0.0 began leads b.room b.taken f.0.1 f.0.2 f.1 in
+      let next : IsFirstTable (past ++ changes) o.first = begin own past changes first table o.first b.snapshot f.0.0 began leads b.room b.taken f.0.1 f.0.2 f.1.0 in
       subst (λ t. IsFirstTable (past ++ changes) t) (sym (only_first k.limit o.first o.changes k.table (o.keeps (past ++ changes) next) one_origin.1)) next

@@ -1,5 +1,7 @@
 -- A log that begins anew: with a snapshot of the table, in the place of all that led to it.
-use Rattle.std.specs.Prelude.{◌≡◌, ◌≢◌, ℕ, ◌<◌, ◌≤◌, ◌^◌, false, List, [], length, Some}
+use Rattle.std.specs.Prelude.{◌≡◌, ◌≢◌, ℕ, ◌<◌, ◌≤◌, ◌^◌, false, List, [], length, map, Some}
+use Rattle.std.specs.List.Sorted.{IsStrictlySortedBy}
+use Rattle.pb_snapshots.specs.VersionWalks.{commit_cmp, commit_of_version}
 use Rattle.pb_keep.specs.Words.{HasRecords, IsSnapshotTaken, KeptTable, SnapshotOf, WhyNotOpened, are_of_their_cells, last_timestamp, snapshot_bytes}
 use Rattle.pb_keep.specs.declared.compact.SnapshotFault.{SnapshotFault}
 use Rattle.pb_keep.specs.declared.waiting.Waits.{Waits}
@@ -12,6 +14,13 @@ pub record BeginsAnew (limit : ℕ) (manifest : List ℕ) (table : KeptTable) (n
   pub taken : IsSnapshotTaken table snapshot
   pub log : IsLogOf (origin_of limit manifest (Some snapshot)) [] seen may_leave end
   pub room : table.state.clock < last_timestamp
+  pub count : n ≡ length snapshot.cells
+
+-- a snapshot of this table has so many versions, no two of them of one commit of a cell
+pub record HasVersions (table : KeptTable) (n : ℕ) : Type 0 where
+  pub snapshot : SnapshotOf
+  pub taken : IsSnapshotTaken table snapshot
+  pub rising : IsStrictlySortedBy commit_cmp (map commit_of_version snapshot.cells)
   pub count : n ≡ length snapshot.cells
 
 -- a snapshot of the table with which something is amiss

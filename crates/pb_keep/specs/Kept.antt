@@ -71,11 +71,12 @@ since_in (Some s) = s.clock
 abbrev pub kept_since : Origin → ℕ
 kept_since origin = since_in origin.snapshot
 
--- the table with which the first change finds itself: as opened, or as the snapshot has it, with a mark on each cell that an observer
--- isn't up to date on
+-- the table with which the first change finds itself: as opened, or as the snapshot has it, with stats for each observer, and a mark on
+-- each cell that one isn't up to date on
 abbrev pub IsFirstOf : List ObserverOf → Option SnapshotOf → KeptTable → Type 0
 IsFirstOf observers None first = first ≡ opened_table observers
-IsFirstOf observers (Some s) first = ((over : StateOf) × IsCarriedOver observers 1 s.clock s.cells over × IsMarkedBehind over first.state) × (first.stats ≡ s.stats)
+IsFirstOf observers (Some s) first =
+    ((over : StateOf) × IsCarriedOver observers 1 s.clock s.cells over × IsMarkedBehind over first.state) × ((first.stats ≡ s.stats) × (length s.stats ≡ length observers))
 
 -- a table with these observers can begin with this snapshot, and this is its record
 pub record IsSnapshotFor (observers : List ObserverOf) (bytes : List ℕ) (s : SnapshotOf) : Type 0 where

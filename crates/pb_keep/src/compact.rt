@@ -5,7 +5,7 @@ ghost use Rattle.sqlite_disk.specs.Disk.{Only};
 ghost use Rattle.pb_snapshots.specs.Snapshot.{snapshot_value};
 ghost use Rattle.pb_snapshots.specs.VersionWalks.{commit_cmp, commit_of_version};
 ghost use Rattle.pb_keeper.specs.Stats.{kept_table};
-ghost use Rattle.pb_keep.specs.Anew.{BeginsAnew, WhyNoRecord, WhyNotAnew, WhyNotBegun};
+ghost use Rattle.pb_keep.specs.Anew.{BeginsAnew, HasVersions, WhyNoRecord, WhyNotAnew, WhyNotBegun};
 ghost use Rattle.pb_keep.specs.Kept.{head};
 ghost use Rattle.pb_keep.specs.Changed.{why_refused, why_stopped, WhyNotChanged};
 ghost use Rattle.pb_keep.specs.Words.{FitsSnapshot, IsAtRest, IsSnapshotTaken, header, last_timestamp, snapshot_bytes};
@@ -180,6 +180,8 @@ impl<T: Tablet, D: Disk + Drop> Keeper<T, D> {
         ensures begun { IfOk result (λ n. IsTrue (E.is_clean log.new.disk)
             → BeginsAnew limit manifest.now (kept_table self.now.state self.now.stats.items) n
             (E.seen log.new.disk) (E.may_leave log.new.disk) log.new.end) }
+        ensures versions { IfOk result
+            (HasVersions (kept_table self.now.state self.now.stats.items)) }
         // A fault has its cause.
         ensures cause { IfErr result (λ e. IsTrue (E.is_clean log.new.disk)
             → WhyNotAnew self.now.waiting.items.items

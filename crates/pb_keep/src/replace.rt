@@ -4,6 +4,7 @@ ghost use Rattle.sqlite_disk.specs.Disk.{Only};
 ghost use Rattle.pb_base.specs.Batch.{Writes};
 ghost use Rattle.pb_keeper.specs.Keeps.{opened_table, IsFirstTable, KeepsFrom};
 ghost use Rattle.pb_keeper.specs.Stats.{kept_table, KeptTable};
+ghost use Rattle.pb_keep.specs.Anew.{HasVersions};
 ghost use Rattle.pb_keep.specs.Conversations.{keeper_view};
 ghost use Rattle.pb_keep.specs.Opened.{IsOpenedLog};
 ghost use Rattle.pb_keep.specs.Replaced.{HasBegunAnew, IsReplacedBy};
@@ -52,6 +53,8 @@ fn write_new<T: Tablet, F: Folder>(
     ensures begun { IfOk result (λ n. IsTrue (F.is_known folder.new)
         → HasBegunAnew limit manifest.now (kept_table keeper.now.state keeper.now.stats.items) n
         (F.seen folder.new) (F.may_leave folder.new)) }
+    ensures versions { IfOk result
+        (HasVersions (kept_table keeper.now.state keeper.now.stats.items)) }
 {
     let file = match folder.open_new() {
         Ok(file) => file,
@@ -159,6 +162,8 @@ pub fn replace_log<T: Tablet, F: Folder>(
         → (F.named folder.new ≡ files.New) × IsReplacedBy limit manifest.now
         (kept_table keeper.old.state keeper.old.stats.items) n
         (keeper_view F.LogDisk.seen F.LogDisk.may_leave keeper.new written)) }
+    ensures versions { IfOk result
+        (HasVersions (kept_table keeper.old.state keeper.old.stats.items)) }
     // With the same observers, a table that keeps changes begins the next generation.
     ensures begins { state.observers ≡ keeper.old.state.observers
         → (own : ℕ) (past changes : List Writes) (first : KeptTable) → IsFirstTable past first

@@ -1,5 +1,5 @@
 //! Lines taken as they come, until the input ends or the log is to be compacted.
-ghost use Rattle.std.specs.Prelude.{◌≡◌, ◌≤◌, ◌∷◌, ◌++◌, [], ℕ, List, Option, None, Err, true, false, IfOk, IfErr, IfSome, OnOk, IsTrue};
+ghost use Rattle.std.specs.Prelude.{◌≡◌, ◌≤◌, ◌<◌, ◌∷◌, ◌++◌, [], ℕ, List, Option, None, Err, true, false, IfOk, IfErr, IfSome, OnOk, IsTrue};
 ghost use Rattle.pb_parse.specs.declared.script.code.ScriptCode.TheVariants.{Form};
 ghost use Rattle.pb_steps.specs.State.{StateOf};
 ghost use Rattle.pb_keep.specs.Conversations.{keeper_view, Beginning, LeavesFirst, Serves};
@@ -201,6 +201,7 @@ fn is_large<T: Tablet, D: Disk + Drop>(keeper: &Keeper<T, D>, limit: u64) -> boo
     requires waiting { IsWaiting keeper.now.waiting }
     ensures idle { result ≡ true → IsNoLine keeper.now.waiting }
     ensures large { result ≡ true → limit ≤ keeper.now.log.end }
+    ensures small { result ≡ false → IsNoLine keeper.now.waiting → keeper.now.log.end < limit }
 {
     keeper.waiting.items.is_empty() && keeper.log.end as u64 >= limit
 }
@@ -209,6 +210,7 @@ fn is_large<T: Tablet, D: Disk + Drop>(keeper: &Keeper<T, D>, limit: u64) -> boo
 fn pause_after(went: Went, is_large: bool) -> Option<Paused>
     ensures some { IfSome result (IsPauseAfter went is_large) }
     ensures none { result ≡ None → went ≡ turns.Line Served }
+    ensures small { result ≡ None → is_large ≡ false }
 {
     match went {
         Went::Line(Took::Served) if is_large => Some(Paused::Large),

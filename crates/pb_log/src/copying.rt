@@ -1,5 +1,5 @@
 //! A copy of a log, in another file.
-ghost use Rattle.std.specs.Prelude.{◌≡◌, ◌⊎◌, ◌<◌, ◌∷◌, [], ℕ, List, length, IfOk, IfErr, OnOk, IsTrue};
+ghost use Rattle.std.specs.Prelude.{◌≡◌, ◌≢◌, ◌⊎◌, ◌<◌, ◌∷◌, [], ℕ, List, length, IfOk, IfErr, OnOk, IsTrue};
 ghost use Rattle.sqlite_disk.specs.Disk.{Holds, Only};
 ghost use Rattle.pb_log.specs.Records.{IsAtRest, IsLog, IsReadable};
 ghost use Rattle.pb_log.specs.Causes.{WhyNotCopied, WhyNotRead};
@@ -77,6 +77,11 @@ impl<D: Disk> Log<D> {
             → IsReadable (E.seen copy.new.disk) rs) }
         ensures durable { OnOk result
             (Only (E.seen copy.new.disk) (E.may_leave copy.new.disk)) }
+        // A file that has bytes is none for a copy, and is left as it is.
+        ensures empty { OnOk result (IsTrue (E.is_clean copy.new.disk)
+            → E.seen copy.old.disk ≡ []) }
+        ensures kept_copy { IsTrue (E.is_clean copy.new.disk) → E.seen copy.old.disk ≢ []
+            → E.seen copy.new.disk ≡ E.seen copy.old.disk }
         // On every path a crash leaves no record in the copy, or all of them.
         ensures crash { (rs : List (List ℕ))
             → IsAtRest (D.seen self.old.disk) (D.may_leave self.old.disk) self.old.end rs
@@ -96,6 +101,7 @@ impl<D: Disk> Log<D> {
             → WhyNotCopied (D.faults self.old.disk) (D.faults self.new.disk)
             (E.faults copy.old.disk) (E.faults copy.new.disk) self.old.end
             (E.seen copy.old.disk) e) }
+        ensures faultless { OnOk result (E.faults copy.new.disk ≡ E.faults copy.old.disk) }
     {
         if self.end == 0 {
             return Err(LogFault::NoHeader);

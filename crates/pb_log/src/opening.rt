@@ -53,6 +53,11 @@ impl<D: Disk> Log<D> {
             (D.seen self.old.disk) e) }
         ensures kept { IfErr result (λ e. IsOfTheFile e
             → D.seen self.new.disk ≡ D.seen self.old.disk) }
+        // A log that has its header is read alone.
+        ensures read_alone { OnOk result (IsTrue (D.is_clean self.new.disk)
+            → (first : List ℕ) (others : List (List ℕ))
+            → IsLog (D.seen self.old.disk) (first ∷ others)
+            → D.seen self.new.disk ≡ D.seen self.old.disk) }
         ensures faultless { OnOk result (D.faults self.new.disk ≡ D.faults self.old.disk) }
     {
         let (mut records, end, len) = recover(alloc, &mut self.disk)?;

@@ -5,4 +5,5 @@ pub mod Files
 pub mod Limits
 pub mod Refused
 pub mod Printed
+pub mod Copied
 pub mod Options

@@ -1,5 +1,7 @@
 //! A log that begins with a snapshot, put in the place of one that has each change ever made.
 ghost use Rattle.std.specs.Prelude.{◌≡◌, ◌<◌, ◌^◌, true, length, IfOk, Ok, OnErr, OnOk, IfErr, IsTrue};
+ghost use Rattle.pb_keeper.specs.Stats.{kept_table};
+ghost use Rattle.pb_keep.specs.Anew.{HasVersions};
 ghost use Rattle.pb_keep.specs.Waits.{IsWaiting};
 ghost use Rattle.pb_registry.specs.Judging.{ReadsManifest};
 ghost use Rattle.pb_keep.specs.declared.replace.ReplaceFault.TheVariants as faults;
@@ -11,6 +13,7 @@ use crate::file::LogFile;
 use crate::names::Location;
 use crate::new_file::{LogFolder, make_new_file, remove_new};
 use crate::table::{Kept, new_table};
+use pb_decode::either_program_or_fault;
 use pb_keep::{ReplaceFault, SnapshotFault, replace_log};
 use sqlite_disk::{Disk, Unknown};
 use sqlite_std_file::FileFrom;
@@ -40,7 +43,8 @@ fn refused(fault: ReplaceFault<Failure>) -> Result<SnapshotFault, Failure>
     }
 }
 
-// Replaces the log, and returns the file of the new one, and how many versions its snapshot has.
+// Replaces the log, and returns the file of the new one, and how many versions its snapshot has. The manifest is the one of the table's
+// observers, before and after.
 fn replace(
     rt: &HostRuntime,
     keeper: &mut Kept,
@@ -51,14 +55,21 @@ fn replace(
     requires short { length manifest.now < 2 ^ 30 }
     requires usable { IsTrue (⟦<FileFrom<Unknown> as Disk>⟧.is_usable keeper.old.log.disk) }
     requires waiting { IsWaiting keeper.old.waiting }
+    requires manifest { ReadsManifest manifest.now (Ok keeper.old.state.observers) }
     ensures usable { IsTrue (⟦<FileFrom<Unknown> as Disk>⟧.is_usable keeper.new.log.disk) }
     ensures waiting { IsWaiting keeper.new.waiting }
     ensures manifest { IfOk result (λ done. OnOk done
         (ReadsManifest manifest.now (Ok keeper.new.state.observers))) }
+    ensures observers { IfOk result (λ done. OnOk done
+        (keeper.new.state.observers ≡ keeper.old.state.observers)) }
+    ensures versions { IfOk result (λ done. IfOk done (λ made.
+        HasVersions (kept_table keeper.old.state keeper.old.stats.items) made.1)) }
     ensures limit { IfOk result (λ done. OnOk done (keeper.new.limit ≡ limit)) }
     ensures refused { IfOk result (λ done. IfErr done (λ why.
         (is_refused why ≡ true) × (keeper.new ≡ keeper.old))) }
 {
+    // For the proof: a manifest has one list of observers.
+    either_program_or_fault();
     let new = make_new_file(rt, location.log.as_str())?;
     let mut folder = LogFolder::new(rt, location, &new)?;
     let (state, stats) = new_table(rt.alloc(), manifest)?;
@@ -88,6 +99,11 @@ pub(crate) fn compact(
     ensures waiting { OnOk result (IsWaiting keeper.new.waiting) }
     ensures manifest { OnOk result
         (ReadsManifest manifest.now (Ok keeper.new.state.observers)) }
+    // So the table has the same observers.
+    ensures observers { OnOk result
+        (keeper.new.state.observers ≡ keeper.old.state.observers) }
+    ensures versions { IfOk result (λ done. IfOk done
+        (HasVersions (kept_table keeper.old.state keeper.old.stats.items))) }
     ensures limit { IfOk result (λ done. OnOk done (keeper.new.limit ≡ limit)) }
     ensures refused { IfOk result (λ done. IfErr done (λ why.
         (is_refused why ≡ true) × (keeper.new ≡ keeper.old))) }

@@ -1,13 +1,16 @@
 //! What lines pause for: a compaction or a copy of the log that is served.
 ghost use Rattle.std.specs.Prelude.{◌≡◌, ◌≤◌, ◌<◌, ◌^◌, ℕ, Bool, List, false, true, length, string_bytes, IfOk, MatchResult, Ok, OnOk, IsTrue};
 ghost use Rattle.std.specs.Io.KnownBytes.{Appends};
+ghost use Rattle.pb_keeper.specs.Stats.{kept_table};
+ghost use Rattle.pb_keep.specs.Anew.{HasVersions};
 ghost use Rattle.pb_keep.specs.Waits.{IsWaiting};
 ghost use Rattle.pb_registry.specs.Judging.{ReadsManifest};
+ghost use Rattle.percobpf_keep.specs.Copied.{HasCopy, IsCopyOf};
 ghost use Rattle.percobpf_keep.specs.Limits.{limit_after, next_bytes};
-ghost use Rattle.percobpf_keep.specs.Printed.{compact_answer, next_limit_at, IsCompactAnswer, IsCopyAnswer, IsCopyLine, IsPauseAnswered};
+ghost use Rattle.percobpf_keep.specs.Printed.{compact_answer, next_limit_at, IsCompactAnswer, IsCopyAnswer, IsPauseAnswered};
 
 use crate::compact::compact;
-use crate::copy::{copy_name, copy_to};
+use crate::copy::{Copied, close_copy, copy_name, copy_to};
 use crate::failure::Failure;
 use crate::names::Location;
 use crate::printed::{Printed, write_line};
@@ -77,6 +80,34 @@ fn write_compacted<S: Sink>(
     }
 }
 
+// Compacts the log, which the output follows. Returns how many versions the snapshot of the new one has, or why there is none.
+fn compact_and_follow<'a, W: Write + Drop>(
+    rt: &HostRuntime,
+    keeper: &mut Kept,
+    manifest: &str,
+    location: &mut Location,
+    out: &mut WatchedOut<'a, W>,
+) -> Result<Result<usize, SnapshotFault>, Failure>
+    requires short { length manifest.now < 2 ^ 30 }
+    requires usable { IsTrue (⟦<FileFrom<Unknown> as Disk>⟧.is_usable keeper.old.log.disk) }
+    requires waiting { IsWaiting keeper.old.waiting }
+    requires manifest { ReadsManifest manifest.now (Ok keeper.old.state.observers) }
+    ensures usable { OnOk result
+        (IsTrue (⟦<FileFrom<Unknown> as Disk>⟧.is_usable keeper.new.log.disk)) }
+    ensures waiting { OnOk result (IsWaiting keeper.new.waiting) }
+    ensures manifest { OnOk result
+        (ReadsManifest manifest.now (Ok keeper.new.state.observers)) }
+    ensures versions { IfOk result (λ done. IfOk done
+        (HasVersions (kept_table keeper.old.state keeper.old.stats.items))) }
+    ensures unwritten { ⟦<WatchedOut<'a, W> as Sink>⟧.taken out.new
+        ≡ ⟦<WatchedOut<'a, W> as Sink>⟧.taken out.old }
+{
+    let limit = keeper.limit;
+    let done = compact(rt, keeper, limit, manifest, location)?;
+    out.follow(location);
+    Ok(done)
+}
+
 // Compacts the log, and writes the answer. Returns whether it is compacted.
 fn answer_compact<'a, W: Write + Drop>(
     rt: &HostRuntime,
@@ -94,13 +125,12 @@ fn answer_compact<'a, W: Write + Drop>(
     ensures waiting { OnOk result (IsWaiting keeper.new.waiting) }
     ensures manifest { OnOk result
         (ReadsManifest manifest.now (Ok keeper.new.state.observers)) }
-    ensures answer { IfOk result (λ is_done. (text : List ℕ) × IsCompactAnswer is_done text
+    ensures answer { IfOk result (λ is_done. (text : List ℕ) × IsCompactAnswer
+        (kept_table keeper.old.state keeper.old.stats.items) is_done text
         × Appends (⟦<WatchedOut<'a, W> as Sink>⟧.taken out.old)
         (⟦<WatchedOut<'a, W> as Sink>⟧.taken out.new) text) }
 {
-    let limit = keeper.limit;
-    let done = compact(rt, keeper, limit, manifest, location)?;
-    out.follow(location);
+    let done = compact_and_follow(rt, keeper, manifest, location, out)?;
     write_compacted(rt.alloc(), out, done)
 }
 
@@ -132,7 +162,7 @@ fn compact_large(
     }
 }
 
-// Copies the log to this folder, under this number. Returns the line that is printed of the copy.
+// Copies the log to this folder, under this number. Returns the copy, which is still open.
 fn copy_numbered(
     rt: &HostRuntime,
     keeper: &mut Kept,
@@ -140,13 +170,15 @@ fn copy_numbered(
     location: &Location,
     folder: &str,
     number: u64,
-) -> Result<String, Failure>
+) -> Result<Copied, Failure>
     requires short { length manifest.now < 2 ^ 30 }
     requires usable { IsTrue (⟦<FileFrom<Unknown> as Disk>⟧.is_usable keeper.old.log.disk) }
     ensures usable { IsTrue (⟦<FileFrom<Unknown> as Disk>⟧.is_usable keeper.new.log.disk) }
     ensures waiting { keeper.new.waiting ≡ keeper.old.waiting }
     ensures state { keeper.new.state ≡ keeper.old.state }
-    ensures line { IfOk result (λ line. IsCopyLine (string_bytes line)) }
+    ensures copied { IfOk result (λ made. IsCopyOf (⟦<FileFrom<Unknown> as Disk>⟧.seen)
+        (⟦<FileFrom<Unknown> as Disk>⟧.may_leave) (⟦<FileFrom<Unknown> as Disk>⟧.is_clean)
+        keeper.old.log keeper.new.log made.log (string_bytes made.line)) }
 {
     let path = copy_name(rt.alloc(), folder, number)?;
     let limit = keeper.limit;
@@ -174,7 +206,10 @@ fn answer_copy<S: Sink>(
     ensures usable { IsTrue (⟦<FileFrom<Unknown> as Disk>⟧.is_usable keeper.new.log.disk) }
     ensures waiting { keeper.new.waiting ≡ keeper.old.waiting }
     ensures state { keeper.new.state ≡ keeper.old.state }
-    ensures answer { OnOk result ((text : List ℕ) × IsCopyAnswer location.now.copies text
+    ensures answer { OnOk result ((text : List ℕ)
+        × IsCopyAnswer (HasCopy (⟦<FileFrom<Unknown> as Disk>⟧.seen)
+        (⟦<FileFrom<Unknown> as Disk>⟧.may_leave) (⟦<FileFrom<Unknown> as Disk>⟧.is_clean)
+        keeper.old.log keeper.new.log) location.now.copies text
         × Appends (S.taken out.old) (S.taken out.new) text) }
 {
     let Some(folder) = &location.copies else {
@@ -182,7 +217,8 @@ fn answer_copy<S: Sink>(
         return Ok(());
     };
     match copy_numbered(rt, keeper, manifest, location, folder.as_str(), number) {
-        Ok(line) => {
+        Ok(copied) => {
+            let line = close_copy(copied);
             out.write_all(line.as_bytes())?;
             Ok(())
         }
@@ -212,8 +248,11 @@ fn answer_pause<'a, W: Write + Drop>(
     ensures waiting { OnOk result (IsWaiting keeper.new.waiting) }
     ensures manifest { OnOk result
         (ReadsManifest manifest.now (Ok keeper.new.state.observers)) }
-    ensures answered { IfOk result (λ is_done. IsPauseAnswered location.old.copies paused is_done
-        (⟦<WatchedOut<'a, W> as Sink>⟧.taken out.old)
+    ensures answered { IfOk result (λ is_done. IsPauseAnswered
+        (kept_table keeper.old.state keeper.old.stats.items)
+        (HasCopy (⟦<FileFrom<Unknown> as Disk>⟧.seen) (⟦<FileFrom<Unknown> as Disk>⟧.may_leave)
+        (⟦<FileFrom<Unknown> as Disk>⟧.is_clean) keeper.old.log keeper.new.log)
+        location.old.copies paused is_done (⟦<WatchedOut<'a, W> as Sink>⟧.taken out.old)
         (⟦<WatchedOut<'a, W> as Sink>⟧.taken out.new)) }
 {
     match paused {
@@ -251,9 +290,11 @@ pub(crate) fn handle_pause<'a, W: Write + Drop>(
     ensures waiting { OnOk result (IsWaiting keeper.new.waiting) }
     ensures manifest { OnOk result
         (ReadsManifest manifest.now (Ok keeper.new.state.observers)) }
-    ensures answered { IfOk result (λ next. (is_done : Bool)
-        × IsPauseAnswered location.old.copies paused is_done
-        (⟦<WatchedOut<'a, W> as Sink>⟧.taken out.old)
+    ensures answered { IfOk result (λ next. (is_done : Bool) × IsPauseAnswered
+        (kept_table keeper.old.state keeper.old.stats.items)
+        (HasCopy (⟦<FileFrom<Unknown> as Disk>⟧.seen) (⟦<FileFrom<Unknown> as Disk>⟧.may_leave)
+        (⟦<FileFrom<Unknown> as Disk>⟧.is_clean) keeper.old.log keeper.new.log)
+        location.old.copies paused is_done (⟦<WatchedOut<'a, W> as Sink>⟧.taken out.old)
         (⟦<WatchedOut<'a, W> as Sink>⟧.taken out.new)
         × (next ≡ next_limit_at paused is_done least keeper.new.log.end limit)) }
 {

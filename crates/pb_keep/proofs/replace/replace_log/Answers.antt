@@ -37,3 +37,6 @@ returns-in-Err-put_in_place-clause-left g c = λ known.
     let seen : g.F.Folder.seen c.close_new.new.self ≡ g.F.LogDisk.Disk.seen new.log.disk = c.close_new.ensures.seen known ∙ ap (λ l. g.F.LogDisk.Disk.seen l.disk) c.close-log.ensures in
     let leaves : (file : List ℕ) → g.F.Folder.may_leave c.close_new.new.self file → g.F.LogDisk.Disk.may_leave new.log.disk file = λ file m. subst (λ l. g.F.LogDisk.Disk.may_leave l.disk file) c.close-log.ensures (c.close_new.ensures.may_leave known file m) in
     inr (c.in-Ok.versions, (new.log.end, begun_with_fewer _ _ _ _ _ _ _ _ _ seen leaves replaced.log))
+
+pub returns-in-Ok-put_in_place-clause-versions : goal.returns-in-Ok-put_in_place-clause-versions
+returns-in-Ok-put_in_place-clause-versions g c = c.in-Ok.ensures.versions

@@ -56,3 +56,11 @@ returns-clause-begun g c = λ clean.
       room = c.in_ok-snapshot.ensures.room;
       count = (let same = c.in_ok-snapshot.snapshot.cells.ok.0 in omega (arith, c.len.ensures, same));
     }
+
+pub returns-clause-versions : goal.returns-clause-versions
+returns-clause-versions g c = record {
+  snapshot = snapshot_value c.in_ok-snapshot.snapshot;
+  taken = c.in_ok-snapshot.ensures.taken;
+  rising = c.in_ok-snapshot.ensures.rising;
+  count = (let same = c.in_ok-snapshot.snapshot.cells.ok.0 in omega (arith, c.len.ensures, same));
+}

@@ -68,6 +68,26 @@ returns-clause-readable g c rs rest clean clean_copy =
     let none : g.E.Disk.seen c.args.copy.now.disk ≡ [] = nil_from_length (g.E.Disk.seen c.args.copy.now.disk) (omega (arith, c.if-len-gt0.false, c.in_ok-len.ensures.len still)) in
     copy_readable rs (g.D.Disk.seen log.disk) (g.D.Disk.may_leave log.disk) log.end rest some bytes size holds (g.E.Disk.seen c.write_whole.new.disk) (c.in_ok-write_whole.ensures.written (c.len.ensures.seen ∙ none))
 
+-- ---- the file was empty
+
+pub returns-in_err-write_whole-clause-kept_copy : goal.returns-in_err-write_whole-clause-kept_copy
+returns-in_err-write_whole-clause-kept_copy g c clean_copy some =
+    let still : IsTrue (g.E.Disk.is_clean c.len.new.self) = sym c.write_whole.ensures.clean ∙ clean_copy in
+    let none : g.E.Disk.seen c.args.copy.now.disk ≡ [] = nil_from_length (g.E.Disk.seen c.args.copy.now.disk) (omega (arith, c.if-len-gt0.false, c.in_ok-len.ensures.len still)) in
+    absurd (some none)
+
+pub returns-clause-empty : goal.returns-clause-empty
+returns-clause-empty g c clean_copy =
+    let still : IsTrue (g.E.Disk.is_clean c.len.new.self) = sym c.write_whole.ensures.clean ∙ clean_copy in
+    let none : g.E.Disk.seen c.args.copy.now.disk ≡ [] = nil_from_length (g.E.Disk.seen c.args.copy.now.disk) (omega (arith, c.if-len-gt0.false, c.in_ok-len.ensures.len still)) in
+    none
+
+pub returns-clause-kept_copy : goal.returns-clause-kept_copy
+returns-clause-kept_copy g c clean_copy some =
+    let still : IsTrue (g.E.Disk.is_clean c.len.new.self) = sym c.write_whole.ensures.clean ∙ clean_copy in
+    let none : g.E.Disk.seen c.args.copy.now.disk ≡ [] = nil_from_length (g.E.Disk.seen c.args.copy.now.disk) (omega (arith, c.if-len-gt0.false, c.in_ok-len.ensures.len still)) in
+    absurd (some none)
+
 -- ---- why nothing is
 
 pub returns-in_err-rest-clause-cause : goal.returns-in_err-rest-clause-cause

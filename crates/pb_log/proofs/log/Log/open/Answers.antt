@@ -86,6 +86,14 @@ returns-then-is_empty-clause-other g c clean longer =
     let items = ap length c.in_ok-header.ensures in
     omega (arith, longer.long, bytes, items, c.len.ensures, c.in_ok-header.header.ok, c.if-len.false)
 
+pub returns-then-is_empty-clause-read_alone : goal.returns-then-is_empty-clause-read_alone
+returns-then-is_empty-clause-read_alone g c clean first others its =
+    let file = g.D.Disk.seen c.args.self.now.disk in
+    let own = map (λ (v : Vec ℕ Global). v.items) c.in_ok-records.records.items in
+    let none : own ≡ [] = no_records c.in_ok-records.records.items (omega (arith, is_zero c.in_ok-records.records.len c.is_empty.result c.is_empty.ensures c.if-is_empty.true, c.in_ok-records.records.ok)) in
+    let still : IsTrue (g.D.Disk.is_clean c.recover.new.disk) = sym c.put.ensures.clean ∙ clean in
+    absurd (has_a_record first others ((one_reading file (first ∷ others) own its (c.in_ok-records.ensures.read still)).0 ∙ none))
+
 -- ---- any other has one
 
 pub returns-in_err-compare_header-clause-cause : goal.returns-in_err-compare_header-clause-cause
@@ -141,6 +149,10 @@ returns-clause-other g c clean longer =
     let some : 0 < length c.in_ok-records.records.items = omega (arith, is_some_number c.in_ok-records.records.len c.is_empty.result c.is_empty.ensures c.if-is_empty.false, c.in_ok-records.records.ok) in
     let split : own ≡ first ∷ others = first_split c.in_ok-records.records.items c.remove-first.new.self.items c.remove-first.result some c.remove-first.ensures.value c.remove-first.ensures.items in
     has_a_record first others (sym split ∙ (one_reading file own [] (c.in_ok-records.ensures.read clean) longer.none).0)
+
+pub returns-clause-read_alone : goal.returns-clause-read_alone
+returns-clause-read_alone g c clean first others its =
+    c.in_ok-records.ensures.read_alone (is_some_number c.in_ok-records.records.len c.is_empty.result c.is_empty.ensures c.if-is_empty.false)
 
 -- ---- the gates that a crash leaves
 
