@@ -1,6 +1,6 @@
 /* Makes changes and asks questions by the client in C, and prints a line for each answer: with three words, the program, a manifest and
  * a log, it starts the program; with one, it reaches a relay at that socket. The lines after three words are sent in place of its own. */
-#include "../clients/percobpf.h"
+#include "../clients/percobpf_client.h"
 
 #include <inttypes.h>
 #include <signal.h>

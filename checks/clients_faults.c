@@ -6,7 +6,7 @@
  *   closed PROGRAM MANIFEST LOG DIGITS   the standard streams of these numbers are closed before
  *
  * A call that takes SECONDS or more ends it by SIGALRM. */
-#include "../clients/percobpf.h"
+#include "../clients/percobpf_client.h"
 
 #include <fcntl.h>
 #include <inttypes.h>

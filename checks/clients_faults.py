@@ -236,7 +236,7 @@ def compiled(folder):
     """The callers in C that have little left."""
     made = folder / "faults"
     words = ["cc", "-std=c11", "-D_DEFAULT_SOURCE", "-Wall", "-Wextra", "-pedantic", "-Werror", "-O2", "-o", made]
-    subprocess.run([*words, TOP / "checks/clients_faults.c", TOP / "clients/percobpf.c"], check=True)
+    subprocess.run([*words, TOP / "checks/clients_faults.c", TOP / "clients/percobpf_client.c"], check=True)
     return made
 
 

@@ -103,7 +103,7 @@ def known_programs(profile, record):
     """Programs that are accepted in this profile for this version of the record."""
     names = ["*.v[13].bin"] if profile == 1 else ["*.bin"]
     paths = sorted(path for name in names for path in (TOP / "examples/c").glob(name))
-    without = ("keeper",) if record == 2 else ("keeper", "indexer")
+    without = () if record == 2 else ("indexer",)
     known = [path.read_bytes().hex() for path in paths if not path.name.startswith(without)]
     return [WATCH, COPY, START, *([KEEP, FLAG] if record == 2 else []), *known]
 

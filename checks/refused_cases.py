@@ -84,7 +84,7 @@ OF_A_MACHINE = {"a preparation": 5, "Vm::start": 2}
 INSTRUCTIONS = {"copy": 16, "copier": 9, "counter": 18, "grader": 14, "meter": 12}
 
 # what is accepted in profile 1 with the change record of version 1 alone is run here
-NO_MACHINES = ("keeper", "indexer", "meter.v4")
+NO_MACHINES = ("indexer", "meter.v4")
 
 COPY = (
     "bf1600000000000079623000000000007b2ae0ff0000000079623800000000007b2ae8ff0000000079624000000000007b2af0ff00000000"

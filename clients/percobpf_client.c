@@ -1,4 +1,4 @@
-#include "percobpf.h"
+#include "percobpf_client.h"
 
 #include <fcntl.h>
 #include <signal.h>
