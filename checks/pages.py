@@ -72,5 +72,5 @@ def page_of(file):
 def commands_of(block):
     """The commands of a block, each with its line."""
     for number, line in block.numbered:
-        if re.match(r"(?:\./|PERCOBPF/|\.ci/|(?:examples|tools|checks|bench)/|(?:rt|echo|clang|llvm-objcopy|readelf) )\S", line):
+        if re.match(r"(?:\./|PERCOBPF/|\.ci/|(?:examples|tools|checks|bench)/|(?:rt|echo|printf|clang|llvm-objcopy|readelf) )\S", line):
             yield number, line

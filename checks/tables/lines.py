@@ -5,6 +5,9 @@ which has nothing of the program. All lines of a row come at once, so that chang
 """
 from __future__ import annotations
 
+import re
+from pathlib import Path
+
 import logs
 from tables import BESIDE, COPIED, COPY, KEEP_PROGRAM, NOBODY, WATCH, Row, Tables, encoded, files_of, in_time, manifest_of, observer
 
@@ -292,6 +295,20 @@ GROUPS = [
     served(NOBODY, "x\nbegin\nput 8 0 2b\n", "refused 70\n"),
 ]
 
+# The session that the page shows: a row of a line and the lines of its answer.
+PAGE = Path(__file__).resolve().parent.parent.parent / "docs/KEEPING.md"
+SHOWN = re.compile(r"^\| `([^`]+)` \| (`.*`) \|$", re.M)
+
+
+def shown() -> Row:
+    """The session, of which the page has each line with its answer, and this row what it leaves in the log."""
+    table = PAGE.read_text(encoding="utf-8").partition("| Line | Answer |\n")[2].partition("\n\n")[0]
+    rows = SHOWN.findall(table)
+    lines = "".join(f"{line}\n" for line, _ in rows)
+    answers = "".join(f"{answer}\n" for _, its in rows for answer in re.findall(r"`([^`]+)`", its))
+    return served(COPIED, lines, answers, PUT, "put 7 0 2b\n", "put 8 0 2d\n", "del 7 1\n")
+
+
 TABLES: Tables = {
     "changes": CHANGES,
     "tables that don't come to rest": UNQUIET,
@@ -301,4 +318,5 @@ TABLES: Tables = {
     "questions": QUESTIONS,
     "stats": STATS,
     "groups": GROUPS,
+    "the session of the page": [shown()],
 }
